@@ -1,9 +1,16 @@
 use super::*;
 use named_requests::{refuse_request, was_refused};
 use std::alloc::{AllocError, Global};
+use std::fmt::Debug;
 use std::io;
 use std::io::{Read, Write};
+use std::process::Abort;
 use std::test::Fail;
+
+/// Compares two values. The proof of this call takes no time, and that of `assert_eq!` seconds.
+fn same<T: PartialEq + Debug + Drop>(rt: &impl Abort, found: T, expected: T) {
+    assert_eq!(rt; found, expected);
+}
 
 /// The calls of a device: how many come before one fails, and whether those after it fail too.
 #[derive(Drop)]
@@ -251,8 +258,8 @@ fn writes_damage(rt: HostRuntime) -> Result<(), Fail> {
         ("g4 0 0 -", [0x80].as_slice(), Done::Good, "ok 0 0 0\n"),
     ] {
         let (answer, written) = ran_for_damage(rt.alloc(), line, input)?;
-        assert_eq!(rt; answer, Ok(want), "at {line}");
-        assert_eq!(rt; written.as_slice(), text.as_bytes(), "at {line}");
+        same(&rt, (line, answer), (line, Ok(want)));
+        same(&rt, (line, written.as_slice()), (line, text.as_bytes()));
     }
     Ok(())
 }
@@ -270,11 +277,11 @@ fn fails_at_each_write_of_damage(rt: HostRuntime) -> Result<(), Fail> {
         let answer = run_damage(rt.alloc(), words.as_slice(), &mut reader, &mut writer);
         let written = writer.into_inner().bytes;
         if writes < text.len() {
-            assert_eq!(rt; answer, Err(RunFault::Write), "at {writes}");
-            assert_eq!(rt; written.as_slice(), &text[..writes], "at {writes}");
+            same(&rt, (writes, answer), (writes, Err(RunFault::Write)));
+            same(&rt, (writes, written.as_slice()), (writes, &text[..writes]));
         } else {
-            assert_eq!(rt; answer, Ok(Done::Good), "at {writes}");
-            assert_eq!(rt; written.as_slice(), text, "at {writes}");
+            same(&rt, (writes, answer), (writes, Ok(Done::Good)));
+            same(&rt, (writes, written.as_slice()), (writes, text));
         }
     }
     Ok(())
@@ -347,11 +354,19 @@ fn writes_rows_and_the_outcome(rt: HostRuntime) -> Result<(), Fail> {
         ),
     ] {
         let (answer, written) = ran(rt.alloc(), line, input)?;
-        assert_eq!(rt; answer, Ok(want), "at {line}");
-        assert_eq!(rt; written.as_slice(), text.as_bytes(), "at {line}");
+        same(&rt, (line, answer), (line, Ok(want)));
+        same(&rt, (line, written.as_slice()), (line, text.as_bytes()));
         let (answer, written) = ran_by_row(rt.alloc(), line, input)?;
-        assert_eq!(rt; answer, Ok(want), "by row at {line}");
-        assert_eq!(rt; written.as_slice(), text.as_bytes(), "by row at {line}");
+        same(
+            &rt,
+            ("by row at", line, answer),
+            ("by row at", line, Ok(want)),
+        );
+        same(
+            &rt,
+            ("by row at", line, written.as_slice()),
+            ("by row at", line, text.as_bytes()),
+        );
     }
     Ok(())
 }
@@ -367,8 +382,8 @@ fn writes_a_bitmap_in_either_order(rt: HostRuntime) -> Result<(), Fail> {
         let mut writer = Device::new(Vec::new(rt.alloc()));
         let answer = run_packed(rt.alloc(), words.as_slice(), &mut reader, &mut writer);
         let written: Vec<u8> = writer.into_inner();
-        assert_eq!(rt; answer, Ok(Ok(())), "at {line}");
-        assert_eq!(rt; written.as_slice(), [0x18].as_slice(), "at {line}");
+        same(&rt, (line, answer), (line, Ok(Ok(()))));
+        same(&rt, (line, written.as_slice()), (line, [0x18].as_slice()));
     }
     Ok(())
 }
@@ -425,10 +440,14 @@ fn knows_bad_words(rt: HostRuntime) -> Result<(), Fail> {
         "g4 8 1 --",
     ] {
         let (answer, written) = ran(rt.alloc(), line, [0x31, 0xC0].as_slice())?;
-        assert_eq!(rt; answer, Err(RunFault::BadArguments), "at {line}");
+        same(&rt, (line, answer), (line, Err(RunFault::BadArguments)));
         assert!(rt; written.is_empty(), "at {line}");
         let (answer, written) = ran_by_row(rt.alloc(), line, [0x31, 0xC0].as_slice())?;
-        assert_eq!(rt; answer, Err(RunFault::BadArguments), "by row at {line}");
+        same(
+            &rt,
+            ("by row at", line, answer),
+            ("by row at", line, Err(RunFault::BadArguments)),
+        );
         assert!(rt; written.is_empty(), "by row at {line}");
     }
     Ok(())
@@ -448,15 +467,15 @@ fn fails_at_each_read(rt: HostRuntime) -> Result<(), Fail> {
             let answer = run(rt.alloc(), words.as_slice(), &mut reader, &mut writer);
             let written: Vec<u8> = writer.into_inner();
             if reads < 3 {
-                assert_eq!(rt; answer, Err(RunFault::Read), "at {reads}");
+                same(&rt, (reads, answer), (reads, Err(RunFault::Read)));
                 assert!(rt; written.is_empty(), "at {reads}");
-                assert_eq!(rt; reader.into_inner().place, reads, "at {reads}");
+                same(&rt, (reads, reader.into_inner().place), (reads, reads));
             } else {
-                assert_eq!(rt; answer, Ok(Done::Good), "at {reads}");
-                assert_eq!(rt;
-                    written.as_slice(),
-                    b"r 3 5\nok 2\n".as_slice(),
-                    "at {reads}"
+                same(&rt, (reads, answer), (reads, Ok(Done::Good)));
+                same(
+                    &rt,
+                    (reads, written.as_slice()),
+                    (reads, b"r 3 5\nok 2\n".as_slice()),
                 );
             }
         }
@@ -478,11 +497,11 @@ fn fails_at_each_write(rt: HostRuntime) -> Result<(), Fail> {
             let answer = run(rt.alloc(), words.as_slice(), &mut reader, &mut writer);
             let written = writer.into_inner().bytes;
             if writes < text.len() {
-                assert_eq!(rt; answer, Err(RunFault::Write), "at {writes}");
-                assert_eq!(rt; written.as_slice(), &text[..writes], "at {writes}");
+                same(&rt, (writes, answer), (writes, Err(RunFault::Write)));
+                same(&rt, (writes, written.as_slice()), (writes, &text[..writes]));
             } else {
-                assert_eq!(rt; answer, Ok(Done::Good), "at {writes}");
-                assert_eq!(rt; written.as_slice(), text.as_slice(), "at {writes}");
+                same(&rt, (writes, answer), (writes, Ok(Done::Good)));
+                same(&rt, (writes, written.as_slice()), (writes, text.as_slice()));
             }
         }
     }
@@ -502,11 +521,11 @@ fn fails_at_each_write_by_row(rt: HostRuntime) -> Result<(), Fail> {
         let answer = run_by_row(rt.alloc(), words.as_slice(), &mut reader, &mut writer);
         let written = writer.into_inner().bytes;
         if writes < text.len() {
-            assert_eq!(rt; answer, Err(RunFault::Write), "at {writes}");
-            assert_eq!(rt; written.as_slice(), &text[..writes], "at {writes}");
+            same(&rt, (writes, answer), (writes, Err(RunFault::Write)));
+            same(&rt, (writes, written.as_slice()), (writes, &text[..writes]));
         } else {
-            assert_eq!(rt; answer, Ok(Done::Good), "at {writes}");
-            assert_eq!(rt; written.as_slice(), text.as_slice(), "at {writes}");
+            same(&rt, (writes, answer), (writes, Ok(Done::Good)));
+            same(&rt, (writes, written.as_slice()), (writes, text.as_slice()));
         }
     }
     Ok(())
@@ -525,13 +544,21 @@ fn asks_a_stalled_writer_once(rt: HostRuntime) -> Result<(), Fail> {
         });
         let answer = run(rt.alloc(), words.as_slice(), &mut reader, &mut writer);
         let writer: Stalling = writer.into_inner();
-        assert_eq!(rt; answer, Err(RunFault::Write), "at {stalls_after}");
-        assert_eq!(rt;
-            writer.bytes.as_slice(),
-            &text[..stalls_after],
-            "at {stalls_after}"
+        same(
+            &rt,
+            (stalls_after, answer),
+            (stalls_after, Err(RunFault::Write)),
         );
-        assert_eq!(rt; writer.writes, stalls_after + 1, "at {stalls_after}");
+        same(
+            &rt,
+            (stalls_after, writer.bytes.as_slice()),
+            (stalls_after, &text[..stalls_after]),
+        );
+        same(
+            &rt,
+            (stalls_after, writer.writes),
+            (stalls_after, stalls_after + 1),
+        );
     }
     Ok(())
 }
@@ -545,13 +572,15 @@ fn prints_faults(rt: HostRuntime) -> Result<(), Fail> {
         (RunFault::TooLong, "input too long"),
         (RunFault::Write, "cannot write"),
     ] {
-        assert_eq!(rt;
+        same(
+            &rt,
             String::format(rt.alloc(), format_args!("{fault}"))?.as_str(),
-            text
+            text,
         );
-        assert_eq!(rt;
+        same(
+            &rt,
             String::format(rt.alloc(), format_args!("{fault:>20}"))?.as_str(),
-            text
+            text,
         );
     }
     Ok(())
@@ -562,7 +591,7 @@ fn sink_without_memory(rt: HostRuntime) {
     refuse_request(rt.alloc(), 1);
     let sink = TextSink::new(rt.alloc());
     assert!(rt; !was_refused(rt.alloc()));
-    assert_eq!(rt; sink.text(), [0u8; 0].as_slice());
+    same(&rt, sink.text(), [0u8; 0].as_slice());
 }
 
 /// A writer that allocates nothing: it compares what it is given with what is expected, and counts how much was equal.

@@ -2,7 +2,7 @@
 
 ghost use Rattle.std.specs.Prelude.{◌≡◌};
 
-use super::{bytes_of, decodes_in, settings_of};
+use super::{bytes_of, decodes_in, same, settings_of};
 use hayro_ccitt::{
     DecodeSettings, DecoderContext, EncodingMode, bits_fit, body_is_local, rows_reached,
 };
@@ -36,7 +36,7 @@ fn is_local(
     };
     assert!(rt; bits_fit(&data));
     let found = body_is_local(&data, ctx, from, to);
-    assert_eq!(rt; (digits, from, to, found), (digits, from, to, Ok(local)));
+    same(rt, (digits, from, to, found), (digits, from, to, Ok(local)));
 }
 
 #[test]
@@ -171,81 +171,84 @@ fn damage_ends_at_a_one_dimensional_line(rt: HostRuntime) -> std::result::Result
     Ok(())
 }
 
-/// Random lines with EOLs between them, and random offsets.
+/// Random lines with EOLs between them, and random offsets: the encoding, the columns, the flags, the data, the offsets at which
+/// the body begins and ends, and whether it is local.
+const LINES: [(&str, u32, &str, &str, usize, usize, bool); 67] = [
+    ("1d", 16, "b", "120D0E0CD603C002", 0, 51, true),
+    ("1d", 0, "bla", "0018908B8008", 12, 33, true),
+    ("1d", 64, "la", "41043A", 21, 23, false),
+    ("1d", 64, "", "1000C00008", 29, 4, false),
+    ("1d", 16, "a", "001E0127001001", 39, 5, false),
+    ("1d", 16, "as", "D4A0", 12, 14, false),
+    ("1d", 2, "b", "74080040", 0, 18, false),
+    ("1d", 16, "", "16116002", 0, 19, true),
+    ("1d", 8, "a", "6C81C814000268", 0, 40, false),
+    ("1d", 2, "bla", "0016B98001", 12, 27, true),
+    ("1d", 8, "la", "001D8004", 17, 25, false),
+    ("1d", 8, "bl", "001803A0003C0010", 43, 48, true),
+    ("1d", 1, "b", "E002003194A68008", 26, 48, false),
+    ("1d", 4294967295, "l", "6D86967B4002", 0, 34, true),
+    ("1d", 8, "a", "001550E6A0660008", 12, 48, true),
+    ("1d", 16, "bl", "0010203A80004004", 12, 34, true),
+    ("1d", 2560, "ba", "8000B836B40008", 18, 40, false),
+    ("1d", 64, "", "01E0208067", 32, 6, false),
+    ("1d", 64, "bl", "00188001C01080", 23, 17, false),
+    ("2d", 64, "", "001701600020", 40, 2, false),
+    ("1d", 200, "bla", "0156001001", 17, 34, false),
+    ("1d", 64, "", "781108180080", 20, 3, false),
+    ("1d", 2560, "bla", "00157087040040", 12, 38, true),
+    ("1d", 3, "bla", "0010202D000040", 12, 33, true),
+    ("1d", 2560, "la", "0019000040", 12, 16, true),
+    ("1d", 3, "ba", "B4B8002631C001", 52, 43, false),
+    ("1d", 2, "", "800002002380", 0, 3, true),
+    ("1d", 200, "ba", "0011C37001", 26, 22, false),
+    ("1d", 64, "", "E120", 2, 14, false),
+    ("1d", 0, "ls", "01403AAD80", 35, 14, false),
+    ("1d", 200, "a", "804005B20001", 22, 31, true),
+    ("1d", 0, "bl", "6C8002", 0, 9, true),
+    ("1d", 8, "b", "380040", 0, 6, true),
+    ("1d", 3, "a", "00122600", 19, 2, false),
+    ("1d", 3, "la", "060AEDA0120400", 56, 35, false),
+    ("1d", 2, "ba", "001C700274FC", 12, 23, false),
+    ("1d", 8, "la", "08002002", 6, 13, false),
+    ("1d", 2, "bla", "D068538008", 1, 30, false),
+    ("1d", 3, "b", "8C280020", 0, 13, true),
+    ("1d", 4294967295, "", "00112009A9D80080", 12, 45, true),
+    ("2d", 8, "l", "00136C", 4, 23, false),
+    ("1d", 8, "l", "001D515FC004", 7, 4, false),
+    ("1d", 16, "ba", "001B0010", 12, 16, true),
+    ("1d", 4294967295, "la", "0010800080", 11, 17, false),
+    ("1d", 2, "la", "7EDB620020", 1, 28, false),
+    ("1d", 16, "l", "350008", 0, 9, true),
+    ("1d", 3, "ba", "DEC00020", 0, 9, false),
+    ("1d", 64, "b", "701D01260002", 0, 33, true),
+    ("1d", 64, "bla", "4640040003EC0040", 0, 15, false),
+    ("1d", 200, "ba", "00119140480010", 12, 37, true),
+    ("1d", 16, "la", "00125E88004004", 45, 34, false),
+    ("1d", 8, "la", "0014D06F08D80040", 12, 46, true),
+    ("1d", 2, "la", "00104CD20010", 13, 33, false),
+    ("1d", 64, "la", "80DC000205A00080", 0, 15, true),
+    ("1d", 16, "ba", "DA60", 7, 14, false),
+    ("1d", 2, "b", "0CF0DB40", 5, 24, false),
+    ("1d", 1, "la", "0011F33001260020", 22, 46, false),
+    ("2d", 8, "a", "3AD34F00", 31, 17, false),
+    ("1d", 3, "a", "0011001B00", 22, 4, false),
+    ("1d", 1, "", "91800080", 0, 13, true),
+    ("1d", 64, "bl", "806400070001", 6, 24, false),
+    ("1d", 2560, "bla", "70DD341AE00010", 0, 44, false),
+    ("1d", 200, "b", "0011C0", 13, 22, false),
+    ("1d", 2560, "b", "6902CEA052001001", 0, 39, true),
+    ("1d", 2560, "l", "7039930DE00010", 0, 35, true),
+    ("1d", 8, "bl", "35032258C004", 13, 1, false),
+    ("1d", 200, "b", "03004280", 26, 7, false),
+];
+
 #[test]
 fn bodies_of_random_lines(rt: HostRuntime) -> std::result::Result<(), Fail> {
-    for (encoding, columns, flags, digits, from, to, local) in [
-        ("1d", 16, "b", "120D0E0CD603C002", 0, 51, true),
-        ("1d", 0, "bla", "0018908B8008", 12, 33, true),
-        ("1d", 64, "la", "41043A", 21, 23, false),
-        ("1d", 64, "", "1000C00008", 29, 4, false),
-        ("1d", 16, "a", "001E0127001001", 39, 5, false),
-        ("1d", 16, "as", "D4A0", 12, 14, false),
-        ("1d", 2, "b", "74080040", 0, 18, false),
-        ("1d", 16, "", "16116002", 0, 19, true),
-        ("1d", 8, "a", "6C81C814000268", 0, 40, false),
-        ("1d", 2, "bla", "0016B98001", 12, 27, true),
-        ("1d", 8, "la", "001D8004", 17, 25, false),
-        ("1d", 8, "bl", "001803A0003C0010", 43, 48, true),
-        ("1d", 1, "b", "E002003194A68008", 26, 48, false),
-        ("1d", 4294967295, "l", "6D86967B4002", 0, 34, true),
-        ("1d", 8, "a", "001550E6A0660008", 12, 48, true),
-        ("1d", 16, "bl", "0010203A80004004", 12, 34, true),
-        ("1d", 2560, "ba", "8000B836B40008", 18, 40, false),
-        ("1d", 64, "", "01E0208067", 32, 6, false),
-        ("1d", 64, "bl", "00188001C01080", 23, 17, false),
-        ("2d", 64, "", "001701600020", 40, 2, false),
-        ("1d", 200, "bla", "0156001001", 17, 34, false),
-        ("1d", 64, "", "781108180080", 20, 3, false),
-        ("1d", 2560, "bla", "00157087040040", 12, 38, true),
-        ("1d", 3, "bla", "0010202D000040", 12, 33, true),
-        ("1d", 2560, "la", "0019000040", 12, 16, true),
-        ("1d", 3, "ba", "B4B8002631C001", 52, 43, false),
-        ("1d", 2, "", "800002002380", 0, 3, true),
-        ("1d", 200, "ba", "0011C37001", 26, 22, false),
-        ("1d", 64, "", "E120", 2, 14, false),
-        ("1d", 0, "ls", "01403AAD80", 35, 14, false),
-        ("1d", 200, "a", "804005B20001", 22, 31, true),
-        ("1d", 0, "bl", "6C8002", 0, 9, true),
-        ("1d", 8, "b", "380040", 0, 6, true),
-        ("1d", 3, "a", "00122600", 19, 2, false),
-        ("1d", 3, "la", "060AEDA0120400", 56, 35, false),
-        ("1d", 2, "ba", "001C700274FC", 12, 23, false),
-        ("1d", 8, "la", "08002002", 6, 13, false),
-        ("1d", 2, "bla", "D068538008", 1, 30, false),
-        ("1d", 3, "b", "8C280020", 0, 13, true),
-        ("1d", 4294967295, "", "00112009A9D80080", 12, 45, true),
-        ("2d", 8, "l", "00136C", 4, 23, false),
-        ("1d", 8, "l", "001D515FC004", 7, 4, false),
-        ("1d", 16, "ba", "001B0010", 12, 16, true),
-        ("1d", 4294967295, "la", "0010800080", 11, 17, false),
-        ("1d", 2, "la", "7EDB620020", 1, 28, false),
-        ("1d", 16, "l", "350008", 0, 9, true),
-        ("1d", 3, "ba", "DEC00020", 0, 9, false),
-        ("1d", 64, "b", "701D01260002", 0, 33, true),
-        ("1d", 64, "bla", "4640040003EC0040", 0, 15, false),
-        ("1d", 200, "ba", "00119140480010", 12, 37, true),
-        ("1d", 16, "la", "00125E88004004", 45, 34, false),
-        ("1d", 8, "la", "0014D06F08D80040", 12, 46, true),
-        ("1d", 2, "la", "00104CD20010", 13, 33, false),
-        ("1d", 64, "la", "80DC000205A00080", 0, 15, true),
-        ("1d", 16, "ba", "DA60", 7, 14, false),
-        ("1d", 2, "b", "0CF0DB40", 5, 24, false),
-        ("1d", 1, "la", "0011F33001260020", 22, 46, false),
-        ("2d", 8, "a", "3AD34F00", 31, 17, false),
-        ("1d", 3, "a", "0011001B00", 22, 4, false),
-        ("1d", 1, "", "91800080", 0, 13, true),
-        ("1d", 64, "bl", "806400070001", 6, 24, false),
-        ("1d", 2560, "bla", "70DD341AE00010", 0, 44, false),
-        ("1d", 200, "b", "0011C0", 13, 22, false),
-        ("1d", 2560, "b", "6902CEA052001001", 0, 39, true),
-        ("1d", 2560, "l", "7039930DE00010", 0, 35, true),
-        ("1d", 8, "bl", "35032258C004", 13, 1, false),
-        ("1d", 200, "b", "03004280", 26, 7, false),
-    ] {
-        let settings = settings_by(encoding, columns, flags);
+    for (encoding, columns, flags, digits, from, to, local) in &LINES {
+        let settings = settings_by(encoding, *columns, flags);
         let mut ctx = DecoderContext::new(rt.alloc(), settings)?;
-        is_local(&rt, &mut ctx, digits, from, to, local);
+        is_local(&rt, &mut ctx, digits, *from, *to, *local);
     }
     Ok(())
 }
@@ -292,7 +295,7 @@ fn rows_that_damage_reaches(rt: HostRuntime) -> std::result::Result<(), Fail> {
         let data = bytes_of(rt.alloc(), digits)?;
         assert!(rt; bits_fit(&data));
         let found = rows_reached(&data, &mut ctx, to);
-        assert_eq!(rt; (digits, to, found), (digits, to, rows));
+        same(&rt, (digits, to, found), (digits, to, rows));
     }
     Ok(())
 }

@@ -1,12 +1,14 @@
 //! What no clause says: that allocations succeed, and that the bytes are those of the standards. They were worked out
 //! from T.4 and T.6, apart from the encoder.
 
-use crate::round_trip::settings_to_the_end;
-use crate::{
+use crate::same;
+use fax_encode::{
     BitmapSink, EncodeError, bitmap_by_group3, bitmap_by_group4, encode_1d, encode_bitmap_1d,
     encode_bitmap_g4, encode_g4, paint_row,
 };
-use hayro_ccitt::{DecodeError, Decoder, DecoderContext, EncodingMode, bits_fit, decode};
+use hayro_ccitt::{
+    DecodeError, DecodeSettings, Decoder, DecoderContext, EncodingMode, bits_fit, decode,
+};
 use named_requests::{made_at_last, refuse_request, was_refused};
 use std::alloc::{AllocError, AllocGlobal, Global};
 use std::process::Abort;
@@ -35,7 +37,7 @@ fn encodes_g4(
     let Ok(encoded) = encode_g4(rt.alloc(), columns, lists.as_slice(), aligned) else {
         panic!(rt; "rows are refused");
     };
-    assert_eq!(rt; encoded.as_slice(), bytes);
+    same(rt, encoded.as_slice(), bytes);
 }
 
 /// Encodes rows as one-dimensional Group 3, and compares the bytes.
@@ -46,7 +48,7 @@ fn encodes_1d(rt: &(impl Abort + AllocGlobal), columns: u32, rows: &[&[u32]], by
     let Ok(encoded) = encode_1d(rt.alloc(), columns, lists.as_slice()) else {
         panic!(rt; "rows are refused");
     };
-    assert_eq!(rt; encoded.as_slice(), bytes);
+    same(rt, encoded.as_slice(), bytes);
 }
 
 /// Encodes rows as Group 4, decodes them, and compares the bitmap.
@@ -60,7 +62,11 @@ fn packs(
     let Ok(sink) = bitmap_by_group4(rt.alloc(), columns, lists, aligned) else {
         panic!(rt; "no bitmap");
     };
-    assert_eq!(rt; (columns, aligned, sink.bytes()), (columns, aligned, bytes));
+    same(
+        rt,
+        (columns, aligned, sink.bytes()),
+        (columns, aligned, bytes),
+    );
 }
 
 /// Encodes rows as one-dimensional Group 3, decodes them in a context, and compares the bitmap.
@@ -77,9 +83,10 @@ fn packs_1d(
     assert!(rt; bits_fit(&encoded));
     let mut sink = BitmapSink::new(rt.alloc(), columns);
     let read = decode(&encoded, &mut sink, ctx);
-    assert_eq!(rt;
+    same(
+        rt,
         (columns, read, sink.bytes()),
-        (columns, Ok(encoded.len()), bytes)
+        (columns, Ok(encoded.len()), bytes),
     );
 }
 
@@ -158,14 +165,14 @@ fn refusals(rt: HostRuntime) -> Result<(), Fail> {
         false,
     ).err();
     let one = |columns, rows: &Vec<Vec<u32>>| encode_1d(alloc, columns, rows.as_slice()).err();
-    assert_eq!(&rt; g4(0, &twice), Some(EncodeError::NoColumns));
-    assert_eq!(&rt; g4(8, &twice), Some(EncodeError::NotARow(0)));
-    assert_eq!(&rt; g4(8, &second_is_wide), Some(EncodeError::NotARow(1)));
-    assert_eq!(&rt; one(0, &none), Some(EncodeError::NoColumns));
-    assert_eq!(&rt; one(8, &none), Some(EncodeError::NoRows));
-    assert_eq!(&rt; one(8, &twice), Some(EncodeError::NotARow(0)));
+    same(&rt, g4(0, &twice), Some(EncodeError::NoColumns));
+    same(&rt, g4(8, &twice), Some(EncodeError::NotARow(0)));
+    same(&rt, g4(8, &second_is_wide), Some(EncodeError::NotARow(1)));
+    same(&rt, one(0, &none), Some(EncodeError::NoColumns));
+    same(&rt, one(8, &none), Some(EncodeError::NoRows));
+    same(&rt, one(8, &twice), Some(EncodeError::NotARow(0)));
     let text = format!(in alloc; "{}", EncodeError::NotARow(12))?;
-    assert_eq!(&rt; text.as_str(), "row 12 is not a list of changes");
+    same(&rt, text.as_str(), "row 12 is not a list of changes");
     Ok(())
 }
 
@@ -196,8 +203,8 @@ fn bitmaps(rt: HostRuntime) -> Result<(), Fail> {
     );
     let mut sink = BitmapSink::new(alloc, 8);
     let taken: Result<(), DecodeError> = sink.push_row(&[7]);
-    assert_eq!(&rt; taken, Ok(()));
-    assert_eq!(&rt; sink.bytes(), [0x01u8].as_slice());
+    same(&rt, taken, Ok(()));
+    same(&rt, sink.bytes(), [0x01u8].as_slice());
     Ok(())
 }
 
@@ -210,14 +217,14 @@ fn paints_over_words(rt: HostRuntime) -> Result<(), Fail> {
     painted[8] = 0x7F;
     painted[16] = 0x00;
     painted[17] = 0x00;
-    assert_eq!(&rt; row, painted);
+    same(&rt, row, painted);
     paint_row(&mut row, 140, &[139]);
     let mut last = [0u8; 18];
     last[17] = 0x10;
-    assert_eq!(&rt; row, last);
+    same(&rt, row, last);
     let mut eight = [0x55u8; 8];
     paint_row(&mut eight, 64, &[0]);
-    assert_eq!(&rt; eight, [0xFFu8; 8]);
+    same(&rt, eight, [0xFFu8; 8]);
     Ok(())
 }
 
@@ -240,7 +247,15 @@ fn every_small_picture(rt: HostRuntime) -> Result<(), Fail> {
     let alloc = rt.alloc();
     for columns in 1..5u32 {
         let last = 4 - columns;
-        let settings = settings_to_the_end(columns, EncodingMode::Group3_1D, false);
+        let settings = DecodeSettings {
+            columns,
+            rows: 0,
+            end_of_block: true,
+            end_of_line: true,
+            rows_are_byte_aligned: false,
+            encoding: EncodingMode::Group3_1D,
+            strict: true,
+        };
         let Ok(mut ctx) = DecoderContext::new(alloc, settings) else {
             panic!(&rt; "no memory");
         };
@@ -279,7 +294,7 @@ fn refused_memory(rt: HostRuntime) -> Result<(), Fail> {
         &rt, "requests",
     );
     let t6 = [0x31, 0xFF, 0xFF, 0xFF, 0xFF, 0xFF, 0xFE, 0x00, 0x20, 0x02];
-    assert_eq!(rt; g4.as_slice(), t6.as_slice());
+    same(&rt, g4.as_slice(), t6.as_slice());
 
     let one = made_at_last(alloc, &|| encode_1d(alloc, 8, rows), &is_want).expect(&rt, "requests");
     let four_lines = [
@@ -290,16 +305,16 @@ fn refused_memory(rt: HostRuntime) -> Result<(), Fail> {
         t4.extend_from_slice(&four_lines)?;
     }
     t4.extend_from_slice(&[0x00, 0x10, 0x01, 0x00, 0x10, 0x01, 0x00, 0x10, 0x01])?;
-    assert_eq!(rt; one, t4);
+    same(&rt, &one, &t4);
 
     let sink = made_at_last(alloc, &|| bitmap_by_group4(alloc, 8, rows, true), &is_want).expect(
         &rt, "requests",
     );
-    assert_eq!(rt; sink.bytes(), [0x18u8; 16].as_slice());
+    same(&rt, sink.bytes(), [0x18u8; 16].as_slice());
     let sink = made_at_last(alloc, &|| bitmap_by_group3(alloc, 8, rows), &is_want).expect(
         &rt, "requests",
     );
-    assert_eq!(rt; sink.bytes(), [0x18u8; 16].as_slice());
+    same(&rt, sink.bytes(), [0x18u8; 16].as_slice());
 
     let bitmap = sink.into_bytes();
     let again = made_at_last(
@@ -308,11 +323,11 @@ fn refused_memory(rt: HostRuntime) -> Result<(), Fail> {
         &is_want,
     )
     .expect(&rt, "requests");
-    assert_eq!(rt; again.as_slice(), t6.as_slice());
+    same(&rt, again.as_slice(), t6.as_slice());
     let again = made_at_last(alloc, &|| encode_bitmap_1d(alloc, 8, &bitmap), &is_want).expect(
         &rt, "requests",
     );
-    assert_eq!(rt; again, t4);
+    same(&rt, again, t4);
     Ok(())
 }
 
@@ -321,5 +336,5 @@ fn sink_without_memory(rt: HostRuntime) {
     refuse_request(rt.alloc(), 1);
     let sink = BitmapSink::new(rt.alloc(), u32::MAX);
     assert!(rt; !was_refused(rt.alloc()));
-    assert_eq!(rt; sink.bytes(), [0u8; 0].as_slice());
+    same(&rt, sink.bytes(), [0u8; 0].as_slice());
 }

@@ -2,6 +2,7 @@
 
 ghost use Rattle.std.specs.Prelude.{◌≡◌};
 
+use super::same;
 use hayro_ccitt::tables::{
     BLACK_MAKEUP, BLACK_TERMINATING, COMMON_MAKEUP, Lookup, WHITE_MAKEUP, WHITE_TERMINATING,
     build_lookup,
@@ -44,10 +45,10 @@ fn compare_all(
     for index in 0..8192u32 {
         let entry = lookup.entry(index as usize).map(u32::from);
         let wanted = scanned(index, terminating, makeup);
-        assert_eq!(rt; (index, entry), (index, Some(wanted)));
+        same(rt, (index, entry), (index, Some(wanted)));
     }
-    assert_eq!(rt; lookup.entry(8192), None);
-    assert_eq!(rt; lookup.entry(usize::MAX), None);
+    same(rt, lookup.entry(8192), None);
+    same(rt, lookup.entry(usize::MAX), None);
 }
 
 #[test]
@@ -62,7 +63,7 @@ fn white_entries(rt: HostRuntime) -> std::result::Result<(), Fail> {
         (1696, 0x8000),
         (4096, 0x4003),
     ] {
-        assert_eq!(rt; (index, white.entry(index)), (index, Some(entry)));
+        same(&rt, (index, white.entry(index)), (index, Some(entry)));
     }
     compare_all(&rt, &white, &WHITE_TERMINATING, &WHITE_MAKEUP);
     Ok(())
@@ -79,7 +80,7 @@ fn black_entries(rt: HostRuntime) -> std::result::Result<(), Fail> {
         (440, 0xA000),
         (6144, 0x2002),
     ] {
-        assert_eq!(rt; (index, black.entry(index)), (index, Some(entry)));
+        same(&rt, (index, black.entry(index)), (index, Some(entry)));
     }
     compare_all(&rt, &black, &BLACK_TERMINATING, &BLACK_MAKEUP);
     Ok(())

@@ -4,7 +4,8 @@
 //! With 8 columns a row whose pixels 3 and 4 are black is, below a white one, horizontal mode, a white run of 3, a black run of 2
 //! and V0: 001 1000 11 1. Below a row like itself it is three times V0: 111. EOFB is 000000000001 twice.
 
-use crate::{
+use crate::same;
+use fax_callers::{
     BlackPixels, FirstRows, count_black, decode_first_rows, decode_once, group4_pages, is_blank,
     page_end, page_ends, strip_to_bitmap,
 };
@@ -42,68 +43,93 @@ fn takes_first(
         panic!(rt; "no memory");
     };
     let mut first = FirstRows::new(BitmapSink::new(rt.alloc(), 8), most);
-    assert_eq!(rt;
-        decode_first_rows(HighestFirst, data, &mut first, &mut ctx),
-        answer,
-        "at most {most} rows"
+    same(
+        rt,
+        (
+            "rows at most",
+            most,
+            decode_first_rows(HighestFirst, data, &mut first, &mut ctx),
+        ),
+        ("rows at most", most, answer),
     );
-    assert_eq!(rt; first.rows, bitmap.len() as u64, "at most {most} rows");
-    assert_eq!(rt; first.sink.bytes(), bitmap, "at most {most} rows");
+    same(
+        rt,
+        ("rows at most", most, first.rows),
+        ("rows at most", most, bitmap.len() as u64),
+    );
+    same(
+        rt,
+        ("rows at most", most, first.sink.bytes()),
+        ("rows at most", most, bitmap),
+    );
 }
 
 #[test]
 fn settings_of_pages(rt: HostRuntime) {
     let settings = group4_pages(8);
-    assert_eq!(&rt; (settings.columns, settings.rows), (8, 0));
-    assert_eq!(&rt; settings.encoding, EncodingMode::Group4);
-    assert_eq!(&rt; (settings.end_of_block, settings.strict), (true, true));
-    assert_eq!(&rt;
+    same(&rt, (settings.columns, settings.rows), (8, 0));
+    same(&rt, settings.encoding, EncodingMode::Group4);
+    same(&rt, (settings.end_of_block, settings.strict), (true, true));
+    same(
+        &rt,
         (settings.end_of_line, settings.rows_are_byte_aligned),
-        (false, false)
+        (false, false),
     );
 }
 
 #[test]
 fn black_pixels(rt: HostRuntime) {
     let alloc = rt.alloc();
-    assert_eq!(&rt;
+    same(
+        &rt,
         count_black(alloc, group4_pages(8), HighestFirst, &ONE_ROW),
-        Ok(2)
+        Ok(2),
     );
-    assert_eq!(&rt;
+    same(
+        &rt,
         count_black(alloc, group4_pages(8), HighestFirst, &TWO_ROWS),
-        Ok(4)
+        Ok(4),
     );
-    assert_eq!(&rt;
+    same(
+        &rt,
         count_black(alloc, group4_pages(8), HighestFirst, &CUT_ROW),
-        Err(UnexpectedEof)
+        Err(UnexpectedEof),
     );
     let mut sink = BlackPixels::new(8);
-    assert_eq!(&rt;
+    same(
+        &rt,
         decode_once(alloc, group4_pages(8), HighestFirst, &TWO_PAGES, &mut sink),
-        Ok(5)
+        Ok(5),
     );
-    assert_eq!(&rt; sink.black(), 2);
+    same(&rt, sink.black(), 2);
     let taken: Result<()> = sink.push_row(&[]);
-    assert_eq!(&rt; (taken, sink.black()), (Ok(()), 2), "a white row");
+    same(
+        &rt,
+        ("a white row", (taken, sink.black())),
+        ("a white row", (Ok(()), 2)),
+    );
     let taken: Result<()> = sink.push_row(&[0]);
-    assert_eq!(&rt; (taken, sink.black()), (Ok(()), 10), "a black row");
+    same(
+        &rt,
+        ("a black row", (taken, sink.black())),
+        ("a black row", (Ok(()), 10)),
+    );
     let taken: Result<()> = sink.push_row(&[0, 1, 7]);
-    assert_eq!(&rt;
-        (taken, sink.black()),
-        (Ok(()), 12),
-        "its first and last pixel"
+    same(
+        &rt,
+        ("its first and last pixel", (taken, sink.black())),
+        ("its first and last pixel", (Ok(()), 12)),
     );
 }
 
 #[test]
 fn bitmaps_of_strips(rt: HostRuntime) -> std::result::Result<(), Fail> {
     let one = strip_to_bitmap(rt.alloc(), group4_pages(8), HighestFirst, &ONE_ROW)?;
-    assert_eq!(&rt; one.as_slice(), [0x18u8].as_slice());
+    same(&rt, one.as_slice(), [0x18u8].as_slice());
     let two = strip_to_bitmap(rt.alloc(), group4_pages(8), HighestFirst, &TWO_ROWS)?;
-    assert_eq!(&rt; two.as_slice(), [0x18u8, 0x18].as_slice());
+    same(&rt, two.as_slice(), [0x18u8, 0x18].as_slice());
     let cut = strip_to_bitmap(rt.alloc(), group4_pages(8), HighestFirst, &CUT_ROW);
-    assert_eq!(&rt; cut.err(), Some(UnexpectedEof));
+    same(&rt, cut.err(), Some(UnexpectedEof));
     Ok(())
 }
 
@@ -112,13 +138,17 @@ fn blank_images(rt: HostRuntime) {
     let alloc = rt.alloc();
     let blank = |data: &[u8], order| is_blank(alloc, group4_pages(8), order, data);
     // V0 twice, and EOFB: 11 000000000001 000000000001.
-    assert_eq!(&rt; blank(&[0xC0, 0x04, 0x00, 0x40], HighestFirst), Ok(true));
-    assert_eq!(&rt; blank(&[0x03, 0x20, 0x00, 0x02], LowestFirst), Ok(true));
-    assert_eq!(&rt; blank(&ONE_ROW, HighestFirst), Ok(false));
+    same(
+        &rt,
+        blank(&[0xC0, 0x04, 0x00, 0x40], HighestFirst),
+        Ok(true),
+    );
+    same(&rt, blank(&[0x03, 0x20, 0x00, 0x02], LowestFirst), Ok(true));
+    same(&rt, blank(&ONE_ROW, HighestFirst), Ok(false));
     // A white row, and one whose pixels 3 and 4 are black: what follows it doesn't matter.
-    assert_eq!(&rt; blank(&[0x98, 0xE0], HighestFirst), Ok(false));
+    same(&rt, blank(&[0x98, 0xE0], HighestFirst), Ok(false));
     // A white row, and no code word.
-    assert_eq!(&rt; blank(&[0x80, 0x00], HighestFirst), Err(InvalidCode));
+    same(&rt, blank(&[0x80, 0x00], HighestFirst), Err(InvalidCode));
 }
 
 #[test]
@@ -136,11 +166,12 @@ fn rows_that_are_refused(rt: HostRuntime) -> std::result::Result<(), Fail> {
     let mut ctx = DecoderContext::new(rt.alloc(), group4_pages(8))?;
     let one = FirstRows::new(BitmapSink::new(rt.alloc(), 8), 1);
     let mut first = FirstRows::new(one, 3);
-    assert_eq!(&rt;
+    same(
+        &rt,
         decode_first_rows(HighestFirst, &TWO_ROWS, &mut first, &mut ctx),
-        Err(Refused)
+        Err(Refused),
     );
-    assert_eq!(&rt; first.sink.sink.bytes(), [0x18u8].as_slice());
+    same(&rt, first.sink.sink.bytes(), [0x18u8].as_slice());
     let mut one = FirstRows::new(BitmapSink::new(rt.alloc(), 8), 1);
     let answer = decode_once(
         rt.alloc(),
@@ -149,32 +180,40 @@ fn rows_that_are_refused(rt: HostRuntime) -> std::result::Result<(), Fail> {
         &TWO_ROWS,
         &mut one,
     );
-    assert_eq!(&rt; answer, Err(Refused));
+    same(&rt, answer, Err(Refused));
     Ok(())
 }
 
 #[test]
 fn pages(rt: HostRuntime) -> std::result::Result<(), Fail> {
     let alloc = rt.alloc();
-    assert_eq!(&rt; page_end(alloc, 8, HighestFirst, &ONE_ROW), Ok(5));
-    assert_eq!(&rt; page_end(alloc, 8, HighestFirst, &TWO_PAGES), Ok(5));
-    assert_eq!(&rt;
+    same(&rt, page_end(alloc, 8, HighestFirst, &ONE_ROW), Ok(5));
+    same(&rt, page_end(alloc, 8, HighestFirst, &TWO_PAGES), Ok(5));
+    same(
+        &rt,
         page_end(alloc, 8, HighestFirst, &CUT_ROW),
-        Err(UnexpectedEof)
+        Err(UnexpectedEof),
     );
-    assert_eq!(&rt;
+    same(
+        &rt,
         page_ends(alloc, 8, HighestFirst, &TWO_PAGES)?.as_slice(),
-        [5usize, 10].as_slice()
+        [5usize, 10].as_slice(),
     );
-    assert_eq!(&rt;
-        page_ends(alloc, 8, HighestFirst, &[])?.as_slice(),
-        [].as_slice(),
-        "nothing"
+    same(
+        &rt,
+        (
+            "nothing",
+            page_ends(alloc, 8, HighestFirst, &[])?.as_slice(),
+        ),
+        ("nothing", [].as_slice()),
     );
-    assert_eq!(&rt;
-        page_ends(alloc, 0, HighestFirst, &ONE_ROW)?.as_slice(),
-        [].as_slice(),
-        "no columns"
+    same(
+        &rt,
+        (
+            "no columns",
+            page_ends(alloc, 0, HighestFirst, &ONE_ROW)?.as_slice(),
+        ),
+        ("no columns", [].as_slice()),
     );
     let cut = page_ends(
         alloc,
@@ -182,7 +221,7 @@ fn pages(rt: HostRuntime) -> std::result::Result<(), Fail> {
         HighestFirst,
         &[0x31, 0xC0, 0x04, 0x00, 0x40, 0x31],
     );
-    assert_eq!(&rt; cut.err(), Some(UnexpectedEof));
+    same(&rt, cut.err(), Some(UnexpectedEof));
     Ok(())
 }
 
@@ -207,11 +246,11 @@ fn many_pages(rt: HostRuntime) -> std::result::Result<(), Fail> {
     let data = repeated(rt.alloc(), &[], &ONE_ROW, 10000, &[])?;
     assert!(&rt; bits_fit(&data));
     let ends = page_ends(rt.alloc(), 8, HighestFirst, &data)?;
-    assert_eq!(&rt; ends.len(), 10000);
+    same(&rt, ends.len(), 10000);
     let mut end = 0usize;
     for found in ends.iter() {
         end = end.wrapping_add(ONE_ROW.len());
-        assert_eq!(&rt; *found, end);
+        same(&rt, *found, end);
     }
     Ok(())
 }
@@ -226,20 +265,22 @@ fn long_strips(rt: HostRuntime) -> std::result::Result<(), Fail> {
     assert!(&rt; bits_fit(&data));
     let expected = repeated(alloc, &[0x18; 3], &[0x18; 8], times, &[])?;
     let bitmap = strip_to_bitmap(alloc, group4_pages(8), HighestFirst, &data)?;
-    assert_eq!(&rt; bitmap.len(), expected.len());
+    same(&rt, bitmap.len(), expected.len());
     assert!(&rt; bitmap.as_slice() == expected.as_slice());
-    assert_eq!(&rt;
+    same(
+        &rt,
         count_black(alloc, group4_pages(8), HighestFirst, &data),
-        Ok(2 * expected.len() as u64)
+        Ok(2 * expected.len() as u64),
     );
-    assert_eq!(&rt; page_end(alloc, 8, HighestFirst, &data), Ok(data.len()));
+    same(&rt, page_end(alloc, 8, HighestFirst, &data), Ok(data.len()));
     let mut first = FirstRows::new(BitmapSink::new(alloc, 8), u64::MAX);
     let mut ctx = DecoderContext::new(alloc, group4_pages(8))?;
-    assert_eq!(&rt;
+    same(
+        &rt,
         decode_first_rows(HighestFirst, &data, &mut first, &mut ctx),
-        Ok(false)
+        Ok(false),
     );
-    assert_eq!(&rt; first.rows, expected.len() as u64);
+    same(&rt, first.rows, expected.len() as u64);
     assert!(&rt; first.sink.bytes() == expected.as_slice());
     Ok(())
 }
@@ -254,19 +295,19 @@ fn refused_memory(rt: HostRuntime) {
         &is_want,
     )
     .expect(&rt, "requests");
-    assert_eq!(&rt; black, 4);
+    same(&rt, black, 4);
     let bitmap = made_at_last(
         alloc,
         &|| strip_to_bitmap(alloc, group4_pages(8), HighestFirst, &TWO_ROWS),
         &is_want,
     )
     .expect(&rt, "requests");
-    assert_eq!(&rt; bitmap.as_slice(), [0x18u8, 0x18].as_slice());
+    same(&rt, bitmap.as_slice(), [0x18u8, 0x18].as_slice());
     let ends = made_at_last(
         alloc,
         &|| page_ends(alloc, 8, HighestFirst, &TWO_PAGES),
         &is_want,
     )
     .expect(&rt, "requests");
-    assert_eq!(&rt; ends.as_slice(), [5usize, 10].as_slice());
+    same(&rt, ends.as_slice(), [5usize, 10].as_slice());
 }

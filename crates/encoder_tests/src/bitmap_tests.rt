@@ -1,6 +1,7 @@
 //! Bitmaps: the changes of a row are found, and encoding a bitmap is encoding its changes.
 
-use crate::{
+use crate::same;
+use fax_encode::{
     EncodeError, bitmap_by_group3, encode_1d, encode_bitmap_1d, encode_bitmap_g4, encode_g4,
     rows_of_bitmap,
 };
@@ -16,9 +17,9 @@ fn shows(
     rows: &[&[u32]],
 ) -> Result<(), Fail> {
     let found = rows_of_bitmap(rt.alloc(), columns, bitmap)?;
-    assert_eq!(rt; (columns, found.len()), (columns, rows.len()));
+    same(rt, (columns, found.len()), (columns, rows.len()));
     for (row, expected) in found.iter().zip(rows) {
-        assert_eq!(rt; (columns, row.as_slice()), (columns, *expected));
+        same(rt, (columns, row.as_slice()), (columns, *expected));
     }
     Ok(())
 }
@@ -65,12 +66,34 @@ fn are_alike(
     let (Ok(ours), Ok(theirs)) = (ours, theirs) else {
         panic!(rt; "a picture is refused");
     };
-    assert_eq!(rt; (columns, ours.as_slice()), (columns, theirs.as_slice()));
+    same(rt, (columns, ours.as_slice()), (columns, theirs.as_slice()));
+}
+
+/// Encodes a bitmap and the rows that it shows, and compares the bytes; and the bitmap that the rows are decoded into.
+fn are_encoded_alike(
+    rt: &(impl Abort + AllocGlobal),
+    columns: u32,
+    bitmap: &[u8],
+) -> Result<(), Fail> {
+    let alloc = rt.alloc();
+    let rows = rows_of_bitmap(alloc, columns, bitmap)?;
+    for aligned in [false, true] {
+        let ours = encode_bitmap_g4(alloc, columns, bitmap, aligned);
+        let theirs = encode_g4(alloc, columns, rows.as_slice(), aligned);
+        are_alike(rt, columns, ours, theirs);
+    }
+    let ours = encode_bitmap_1d(alloc, columns, bitmap);
+    let theirs = encode_1d(alloc, columns, rows.as_slice());
+    are_alike(rt, columns, ours, theirs);
+    let Ok(sink) = bitmap_by_group3(alloc, columns, rows.as_slice()) else {
+        panic!(rt; "no bitmap");
+    };
+    same(rt, (columns, sink.bytes()), (columns, bitmap));
+    Ok(())
 }
 
 #[test]
 fn as_lists_are_encoded(rt: HostRuntime) -> Result<(), Fail> {
-    let alloc = rt.alloc();
     for columns in 1..5u32 {
         for picture in 0..1u16 << (3 * columns) {
             let mut bitmap = [0u8; 3];
@@ -79,22 +102,7 @@ fn as_lists_are_encoded(rt: HostRuntime) -> Result<(), Fail> {
                 bitmap[row] = pixels << 4 << (4 - columns);
             }
             for length in 1..4usize {
-                let Some(front) = bitmap.get(..length) else {
-                    panic!(&rt; "fewer rows");
-                };
-                let rows = rows_of_bitmap(alloc, columns, front)?;
-                for aligned in [false, true] {
-                    let ours = encode_bitmap_g4(alloc, columns, front, aligned);
-                    let theirs = encode_g4(alloc, columns, rows.as_slice(), aligned);
-                    are_alike(&rt, columns, ours, theirs);
-                }
-                let ours = encode_bitmap_1d(alloc, columns, front);
-                let theirs = encode_1d(alloc, columns, rows.as_slice());
-                are_alike(&rt, columns, ours, theirs);
-                let Ok(sink) = bitmap_by_group3(alloc, columns, rows.as_slice()) else {
-                    panic!(&rt; "no bitmap");
-                };
-                assert_eq!(&rt; (columns, sink.bytes()), (columns, front));
+                are_encoded_alike(&rt, columns, &bitmap[..length])?;
             }
         }
     }
@@ -104,16 +112,19 @@ fn as_lists_are_encoded(rt: HostRuntime) -> Result<(), Fail> {
 #[test]
 fn bitmaps_that_are_refused(rt: HostRuntime) {
     let alloc = rt.alloc();
-    assert_eq!(&rt;
+    same(
+        &rt,
         encode_bitmap_g4(alloc, 0, &[0xFF], false).err(),
-        Some(EncodeError::NoColumns)
+        Some(EncodeError::NoColumns),
     );
-    assert_eq!(&rt;
+    same(
+        &rt,
         encode_bitmap_1d(alloc, 0, &[]).err(),
-        Some(EncodeError::NoColumns)
+        Some(EncodeError::NoColumns),
     );
-    assert_eq!(&rt;
+    same(
+        &rt,
         encode_bitmap_1d(alloc, 9, &[0xFF]).err(),
-        Some(EncodeError::NoRows)
+        Some(EncodeError::NoRows),
     );
 }

@@ -1,6 +1,6 @@
 //! The calls that Group 3 is made of.
 
-use super::{bytes_of, group_3_1d, group_3_2d, has_rows, sink_of};
+use super::{bytes_of, group_3_1d, group_3_2d, has_rows, same, sink_of};
 use hayro_ccitt::DecodeError::{InvalidCode, OutOfMemory, Refused, UnexpectedEof};
 use hayro_ccitt::bit_reader::BitReader;
 use hayro_ccitt::changes::{append_pixels, b1_index, change_or_end};
@@ -17,13 +17,13 @@ fn looks_for_the_next_eol(rt: HostRuntime) -> std::result::Result<(), Fail> {
     assert!(rt; bits_fit(&data));
     let mut reader = BitReader::new(&data);
     assert!(rt; reader.skip_to_eol(&mut ticks));
-    assert_eq!(rt; reader.bit_pos(), 0);
-    assert_eq!(rt; reader.consume(12), Ok(()));
+    same(&rt, reader.bit_pos(), 0);
+    same(&rt, reader.consume(12), Ok(()));
     assert!(rt; reader.skip_to_eol(&mut ticks));
-    assert_eq!(rt; reader.bit_pos(), 21);
-    assert_eq!(rt; reader.consume(1), Ok(()));
+    same(&rt, reader.bit_pos(), 21);
+    same(&rt, reader.consume(1), Ok(()));
     assert!(rt; !reader.skip_to_eol(&mut ticks));
-    assert_eq!(rt; reader.bit_pos(), 22);
+    same(&rt, reader.bit_pos(), 22);
     Ok(())
 }
 
@@ -40,7 +40,11 @@ fn reads_eols_with_tags(rt: HostRuntime) -> std::result::Result<(), Fail> {
         assert!(rt; bits_fit(&data));
         let mut reader = BitReader::new(&data);
         let found = reader.read_tagged_eols(&mut ticks);
-        assert_eq!(rt; (digits, found, reader.bit_pos()), (digits, count, place));
+        same(
+            &rt,
+            (digits, found, reader.bit_pos()),
+            (digits, count, place),
+        );
     }
     Ok(())
 }
@@ -52,12 +56,12 @@ fn leaves_errors_as_they_are(rt: HostRuntime) -> std::result::Result<(), Fail> {
     let data = [0x8C];
     assert!(rt; bits_fit(&data));
     let mut reader = BitReader::new(&data);
-    assert_eq!(rt; reader.read_bit(), Ok(1));
+    same(&rt, reader.read_bit(), Ok(1));
     for (has_eols, error) in [(false, UnexpectedEof), (true, OutOfMemory), (true, Refused)] {
         ctx.set_has_eols(has_eols);
         let start = BitReader::new(&data);
         let recovered = recover(&mut ctx, &mut reader, start, error);
-        assert_eq!(rt; (recovered, reader.bit_pos()), (Err(error), 1));
+        same(&rt, (recovered, reader.bit_pos()), (Err(error), 1));
     }
     Ok(())
 }
@@ -71,15 +75,19 @@ fn repairs_lines(rt: HostRuntime) -> std::result::Result<(), Fail> {
     assert!(rt; bits_fit(&data));
     let mut reader = BitReader::new(&data);
     ctx.set_has_eols(true);
-    assert_eq!(rt; decode_1d_line(&mut ctx, &mut reader), Err(UnexpectedEof));
+    same(
+        &rt,
+        decode_1d_line(&mut ctx, &mut reader),
+        Err(UnexpectedEof),
+    );
     let start = BitReader::new(&data);
     let recovered = recover(&mut ctx, &mut reader, start, UnexpectedEof);
-    assert_eq!(rt; (recovered, reader.bit_pos()), (Ok(()), 0));
-    assert_eq!(rt; ctx.next_line(&mut sink), Ok(()));
-    assert_eq!(rt; ctx.push_pixels(4), Ok(()));
-    assert_eq!(rt; ctx.fill_white(), Ok(()));
-    assert_eq!(rt; ctx.fill_white(), Ok(()));
-    assert_eq!(rt; ctx.next_line(&mut sink), Ok(()));
+    same(&rt, (recovered, reader.bit_pos()), (Ok(()), 0));
+    same(&rt, ctx.next_line(&mut sink), Ok(()));
+    same(&rt, ctx.push_pixels(4), Ok(()));
+    same(&rt, ctx.fill_white(), Ok(()));
+    same(&rt, ctx.fill_white(), Ok(()));
+    same(&rt, ctx.next_line(&mut sink), Ok(()));
     has_rows(&rt, &sink, &[&[3, 5], &[]], &data);
     Ok(())
 }
@@ -115,14 +123,15 @@ fn looks_behind_a_row(rt: HostRuntime) -> std::result::Result<(), Fail> {
         assert!(rt; bits_fit(&data));
         let mut ctx = DecoderContext::new(rt.alloc(), settings)?;
         let mut sink = sink_of(rt.alloc(), settings.columns, 1);
-        assert_eq!(rt; ctx.next_line(&mut sink), Ok(()));
+        same(&rt, ctx.next_line(&mut sink), Ok(()));
         assert!(rt; ctx.decoded_rows() > 0);
         ctx.set_has_eols(true);
         let mut reader = BitReader::new(&data);
         let found = check_eob(&mut ctx, &mut reader);
-        assert_eq!(rt;
+        same(
+            &rt,
             (digits, found, reader.bit_pos(), ctx.has_eols()),
-            (digits, answer, place, has_eols)
+            (digits, answer, place, has_eols),
         );
     }
     Ok(())
@@ -135,8 +144,8 @@ fn decodes_lines_from_a_reader(rt: HostRuntime) -> std::result::Result<(), Fail>
     let data = bytes_of(rt.alloc(), "001980080080080080080080")?;
     assert!(rt; bits_fit(&data));
     let mut reader = BitReader::new(&data);
-    assert_eq!(rt; decode_1d(&mut ctx, &mut reader, &mut sink), Ok(()));
-    assert_eq!(rt; reader.bit_pos(), 89);
+    same(&rt, decode_1d(&mut ctx, &mut reader, &mut sink), Ok(()));
+    same(&rt, reader.bit_pos(), 89);
     has_rows(&rt, &sink, &[&[]], &data);
     Ok(())
 }
@@ -148,8 +157,8 @@ fn decodes_tagged_lines_from_a_reader(rt: HostRuntime) -> std::result::Result<()
     let data = bytes_of(rt.alloc(), "001CC005001800C006003001800C")?;
     assert!(rt; bits_fit(&data));
     let mut reader = BitReader::new(&data);
-    assert_eq!(rt; decode_2d(&mut ctx, &mut reader, &mut sink), Ok(()));
-    assert_eq!(rt; reader.bit_pos(), 110);
+    same(&rt, decode_2d(&mut ctx, &mut reader, &mut sink), Ok(()));
+    same(&rt, reader.bit_pos(), 110);
     has_rows(&rt, &sink, &[&[], &[]], &data);
     Ok(())
 }
@@ -162,7 +171,7 @@ fn changes_of_a_row(rt: HostRuntime) -> std::result::Result<(), Fail> {
     append_pixels(&mut changes, 0, Color::White, 3)?;
     append_pixels(&mut changes, 3, Color::Black, 2)?;
     append_pixels(&mut changes, 5, Color::White, 3)?;
-    assert_eq!(rt; changes.as_slice(), [3, 5].as_slice());
+    same(&rt, changes.as_slice(), [3, 5].as_slice());
     for (painted, color, b1, b2, known) in [
         (0, Color::White, 3, 5, 0),
         (0, Color::Black, 5, 8, 0),
@@ -171,9 +180,9 @@ fn changes_of_a_row(rt: HostRuntime) -> std::result::Result<(), Fail> {
     ] {
         let mut passed = 0;
         let index = b1_index(&changes, painted, color, 8, &mut passed, &mut ticks);
-        assert_eq!(rt; passed, known);
-        assert_eq!(rt; change_or_end(&changes, index, 8), b1);
-        assert_eq!(rt; change_or_end(&changes, index + 1, 8), b2);
+        same(&rt, passed, known);
+        same(&rt, change_or_end(&changes, index, 8), b1);
+        same(&rt, change_or_end(&changes, index + 1, 8), b2);
     }
     Ok(())
 }

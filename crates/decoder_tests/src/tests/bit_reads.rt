@@ -1,5 +1,6 @@
 //! The reader's calls on data of each length from 0 to 40 bytes, in either order of bits, beside a plain list of its bits.
 
+use super::same;
 use hayro_ccitt::DecodeError::UnexpectedEof;
 use hayro_ccitt::bit_reader::BitReader;
 use hayro_ccitt::bits_fit;
@@ -53,7 +54,11 @@ fn consumes_as_a_list_of_bits(rt: HostRuntime) {
                 };
                 let mut rest = bits;
                 for _ in 0..8 * length / n.max(1) + 2 {
-                    assert_eq!(rt; (n, length, reader.peek_u32()), (n, length, first_32(rest)));
+                    same(
+                        &rt,
+                        (n, length, reader.peek_u32()),
+                        (n, length, first_32(rest)),
+                    );
                     let answer = if n <= rest.len() {
                         Ok(())
                     } else {
@@ -62,7 +67,11 @@ fn consumes_as_a_list_of_bits(rt: HostRuntime) {
                     rest = rest.get(n..).unwrap_or(&[]);
                     let consumed = reader.consume(n);
                     let place = bits.len().checked_sub(rest.len());
-                    assert_eq!(rt; (n, consumed, Some(reader.bit_pos())), (n, answer, place));
+                    same(
+                        &rt,
+                        (n, consumed, Some(reader.bit_pos())),
+                        (n, answer, place),
+                    );
                 }
             }
         }
@@ -89,26 +98,29 @@ fn reads_on_as_a_list_of_bits(rt: HostRuntime) -> std::result::Result<(), Fail> 
                 let bit = rest.first().map(|digit| u32::from(*digit == b'1'));
                 let mut next = reader.clone()?;
                 let behind = rest.get(1..).unwrap_or(&[]);
-                assert_eq!(rt;
+                same(
+                    &rt,
                     (place, next.read_bit(), next.peek_u32()),
-                    (place, bit.ok_or(UnexpectedEof), first_32(behind))
+                    (place, bit.ok_or(UnexpectedEof), first_32(behind)),
                 );
                 let mut whole = reader.clone()?;
                 whole.align();
                 let edge = place.div_ceil(8) * 8;
                 let aligned = bits.get(edge..).unwrap_or(&[]);
-                assert_eq!(rt;
+                same(
+                    &rt,
                     (place, whole.bit_pos(), whole.peek_u32()),
-                    (place, edge, first_32(aligned))
+                    (place, edge, first_32(aligned)),
                 );
                 let zeros = rest.iter().take_while(|digit| **digit == b'0').count();
-                assert_eq!(rt;
+                same(
+                    &rt,
                     (
                         place,
                         reader.zero_run(&mut ticks).0,
-                        reader.consume(1).is_ok()
+                        reader.consume(1).is_ok(),
                     ),
-                    (place, zeros, bit.is_some())
+                    (place, zeros, bit.is_some()),
                 );
             }
         }
@@ -125,15 +137,16 @@ fn counts_zeros(rt: HostRuntime) {
         data[zeros / 8] = 0x80 >> (zeros % 8);
         assert!(rt; bits_fit(&data));
         let (count, after) = BitReader::new(&data).zero_run(&mut ticks);
-        assert_eq!(rt;
+        same(
+            &rt,
             (count, after.map(|after| after.bit_pos())),
-            (zeros, Some(zeros + 1))
+            (zeros, Some(zeros + 1)),
         );
     }
     for length in 0..=17usize {
         let data = &[0; 17][..length];
         assert!(rt; bits_fit(data));
         let (count, after) = BitReader::new(data).zero_run(&mut ticks);
-        assert_eq!(rt; (count, after.is_none()), (8 * length, true));
+        same(&rt, (count, after.is_none()), (8 * length, true));
     }
 }

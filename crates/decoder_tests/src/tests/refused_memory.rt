@@ -3,7 +3,7 @@
 
 ghost use Rattle.std.specs.Prelude.{◌≡◌};
 
-use super::{bytes_of, group_3_1d, group_3_2d, group_4, repeated};
+use super::{bytes_of, group_3_1d, group_3_2d, group_4, repeated, same};
 use hayro_ccitt::DecodeError::{OutOfMemory, Refused};
 use hayro_ccitt::bit_reader::BitReader;
 use hayro_ccitt::context::decode_2d_line;
@@ -78,9 +78,9 @@ fn decodes_known(
 {
     assert!(rt; bits_fit(data));
     let mut sink = sink_for(ctx.settings().columns, &*rows);
-    assert_eq!(rt; decode(data, &mut sink, ctx), answer);
-    assert_eq!(rt; sink.taken, rows.len());
-    assert_eq!(rt; ctx.decoded_rows(), rows.len() as u64);
+    same(rt, decode(data, &mut sink, ctx), answer);
+    same(rt, sink.taken, rows.len());
+    same(rt, ctx.decoded_rows(), rows.len() as u64);
 }
 
 /// Refuses each allocation of a decoding in turn: it returns `OutOfMemory` after the first of the rows, and the same
@@ -101,12 +101,12 @@ fn refuses_each_request(
         refuse_request(rt.alloc(), number);
         let found = decode(data, &mut sink, &mut ctx);
         if !was_refused(rt.alloc()) {
-            assert_eq!(rt; (found, sink.taken), (answer, rows.len()));
+            same(rt, (found, sink.taken), (answer, rows.len()));
             return;
         }
-        assert_eq!(rt; (number, found), (number, Err(OutOfMemory)));
+        same(rt, (number, found), (number, Err(OutOfMemory)));
         assert!(rt; sink.taken < rows.len());
-        assert_eq!(rt; ctx.decoded_rows(), sink.taken as u64);
+        same(rt, ctx.decoded_rows(), sink.taken as u64);
         decodes_known(rt, &mut ctx, data, rows, answer);
     }
     panic!(rt; "each of {MANY} requests was refused");
@@ -128,8 +128,8 @@ fn refuses_each_row(
             panic!(rt; "no memory");
         };
         let mut sink = sink_for(settings.columns, &rows[..count]);
-        assert_eq!(rt; decode(data, &mut sink, &mut ctx), Err(Refused));
-        assert_eq!(rt; (sink.taken, ctx.decoded_rows()), (count, count as u64));
+        same(rt, decode(data, &mut sink, &mut ctx), Err(Refused));
+        same(rt, (sink.taken, ctx.decoded_rows()), (count, count as u64));
         decodes_known(rt, &mut ctx, next, next_rows, next_answer);
     }
 }
@@ -201,14 +201,14 @@ fn refused_bodies(rt: HostRuntime) -> std::result::Result<(), Fail> {
     for number in 1..MANY {
         let mut ctx = DecoderContext::new(rt.alloc(), group_3_1d(8, 0, "l"))?;
         refuse_request(rt.alloc(), number);
-        assert_eq!(rt; body_is_local(&data, &mut ctx, 12, 17), Ok(true));
+        same(&rt, body_is_local(&data, &mut ctx, 12, 17), Ok(true));
         let found = body_is_local(&data, &mut ctx, 29, 39);
         if !was_refused(rt.alloc()) {
-            assert_eq!(rt; found, Ok(true));
+            same(&rt, found, Ok(true));
             return Ok(());
         }
-        assert_eq!(rt; (number, found), (number, Err(OutOfMemory)));
-        assert_eq!(rt; body_is_local(&data, &mut ctx, 29, 39), Ok(true));
+        same(&rt, (number, found), (number, Err(OutOfMemory)));
+        same(&rt, body_is_local(&data, &mut ctx, 29, 39), Ok(true));
         decodes_known(&rt, &mut ctx, &data, rows, Ok(7));
     }
     panic!(rt; "each of {MANY} requests was refused");
@@ -220,24 +220,25 @@ fn calls_without_memory(rt: HostRuntime) -> std::result::Result<(), Fail> {
     let mut ctx = DecoderContext::new(rt.alloc(), group_4(8, 0, ""))?;
     let data = [0x31, 0xC0];
     assert!(rt; bits_fit(&data));
-    assert_eq!(rt;
+    same(
+        &rt,
         decode_2d_line(&mut ctx, &mut BitReader::new(&data)),
-        Ok(())
+        Ok(()),
     );
     let mut sink = sink_for(8, &[&[3, 5], &[]]);
     refuse_request(rt.alloc(), 1);
-    assert_eq!(rt; ctx.next_line(&mut sink), Ok(()));
-    assert_eq!(rt; (ctx.b1(), ctx.b2()), (3, 5));
-    assert_eq!(rt; ctx.fill_white(), Ok(()));
-    assert_eq!(rt; ctx.next_line(&mut sink), Ok(()));
-    assert_eq!(rt; (ctx.b1(), ctx.b2()), (8, 8));
-    assert_eq!(rt; ctx.next_line(&mut sink), Err(Refused));
+    same(&rt, ctx.next_line(&mut sink), Ok(()));
+    same(&rt, (ctx.b1(), ctx.b2()), (3, 5));
+    same(&rt, ctx.fill_white(), Ok(()));
+    same(&rt, ctx.next_line(&mut sink), Ok(()));
+    same(&rt, (ctx.b1(), ctx.b2()), (8, 8));
+    same(&rt, ctx.next_line(&mut sink), Err(Refused));
     ctx.reset();
-    assert_eq!(rt; (ctx.decoded_rows(), ctx.has_eols()), (0, false));
+    same(&rt, (ctx.decoded_rows(), ctx.has_eols()), (0, false));
     let mut two_dimensional = DecoderContext::new(rt.alloc(), group_3_2d(8, 0, "l"))?;
     let lines = [0x00, 0x1C, 0xC0, 0x05, 0x40, 0x03, 0x98];
     assert!(rt; bits_fit(&lines));
-    assert_eq!(rt; rows_reached(&lines, &mut two_dimensional, 18), Some(2));
+    same(&rt, rows_reached(&lines, &mut two_dimensional, 18), Some(2));
     assert!(rt; !was_refused(rt.alloc()));
     Ok(())
 }
@@ -267,7 +268,7 @@ fn white_rows_without_memory(rt: HostRuntime) -> std::result::Result<(), Fail> {
         let mut ctx = DecoderContext::new(rt.alloc(), settings)?;
         refuse_request(rt.alloc(), 1);
         decodes_known(&rt, &mut ctx, &data, rows, answer);
-        assert_eq!(rt; (digits, was_refused(rt.alloc())), (digits, false));
+        same(&rt, (digits, was_refused(rt.alloc())), (digits, false));
     }
     Ok(())
 }

@@ -1,7 +1,8 @@
 //! Encoding by settings. The bytes of the picture are those of libtiff 4.5.0 where it writes such data; the others were worked
 //! out from T.4 and T.6, apart from the encoder.
 
-use crate::{BitmapSink, EncodeError, EncodeSettings, Encoder, encode, encode_bitmap};
+use crate::same;
+use fax_encode::{BitmapSink, EncodeError, EncodeSettings, Encoder, encode, encode_bitmap};
 use hayro_ccitt::bit_reader::BitOrder;
 use hayro_ccitt::{DecodeSettings, DecoderContext, EncodingMode, bits_fit, decode_in};
 use named_requests::{made_at_last, refuse_request, was_refused};
@@ -77,7 +78,7 @@ fn has_bytes(rt: &impl Abort, encoded: Result<Vec<u8>, EncodeError>, bytes: &[u8
     let Ok(encoded) = encoded else {
         panic!(rt; "the picture is refused");
     };
-    assert_eq!(rt; encoded.as_slice(), bytes);
+    same(rt, encoded.as_slice(), bytes);
 }
 
 /// Encodes the picture from its lists, from its bitmap, and row by row, and compares the bytes.
@@ -185,8 +186,8 @@ fn damage_ends_after_k_rows(rt: HostRuntime) -> Result<(), Fail> {
     let rows = [
         0x18, 0x00, 0x00, 0x10, 0x00, 0x00, 0x0E, 0x00, 0x00, 0x00, 0x00, 0x00, 0xFF, 0x80, 0x00,
     ];
-    assert_eq!(&rt; (read, sink.bytes()), (Ok(25), rows.as_slice()));
-    assert_eq!(&rt; ctx.damaged_rows(), 1);
+    same(&rt, (read, sink.bytes()), (Ok(25), rows.as_slice()));
+    same(&rt, ctx.damaged_rows(), 1);
     Ok(())
 }
 
@@ -206,7 +207,7 @@ fn shorter_line(rt: HostRuntime) -> Result<(), Fail> {
         panic!(&rt; "three rows are refused");
     };
     let expected = [0x8E, 0x87, 0x43, 0xA1, 0xD0, 0xEB, 0x4A, 0x84];
-    assert_eq!(&rt; bytes.as_slice(), expected.as_slice());
+    same(&rt, bytes.as_slice(), expected.as_slice());
     Ok(())
 }
 
@@ -241,32 +242,37 @@ fn refusals(rt: HostRuntime) -> Result<(), Fail> {
     ];
     for settings in unnamed {
         let refused = encode(alloc, 0, lists.as_slice(), settings).err();
-        assert_eq!(&rt; refused, Some(EncodeError::NoEncoding));
+        same(&rt, refused, Some(EncodeError::NoEncoding));
         let refused = encode_bitmap(alloc, 0, &BITMAP, settings).err();
-        assert_eq!(&rt; refused, Some(EncodeError::NoEncoding));
+        same(&rt, refused, Some(EncodeError::NoEncoding));
     }
-    assert_eq!(&rt;
+    same(
+        &rt,
         encode(alloc, 0, lists.as_slice(), one).err(),
-        Some(EncodeError::NoColumns)
+        Some(EncodeError::NoColumns),
     );
-    assert_eq!(&rt;
+    same(
+        &rt,
         encode(alloc, 24, lists.as_slice().get(..0).unwrap_or(&[]), one).err(),
-        Some(EncodeError::NoRows)
+        Some(EncodeError::NoRows),
     );
-    assert_eq!(&rt;
+    same(
+        &rt,
         encode(alloc, 9, lists.as_slice(), one).err(),
-        Some(EncodeError::NotARow(4))
+        Some(EncodeError::NotARow(4)),
     );
-    assert_eq!(&rt;
+    same(
+        &rt,
         encode_bitmap(alloc, 0, &BITMAP, one).err(),
-        Some(EncodeError::NoColumns)
+        Some(EncodeError::NoColumns),
     );
-    assert_eq!(&rt;
+    same(
+        &rt,
         encode_bitmap(alloc, 24, &BITMAP[..2], group4).err(),
-        Some(EncodeError::NoRows)
+        Some(EncodeError::NoRows),
     );
     let text = format!(in alloc; "{}", EncodeError::NoEncoding)?;
-    assert_eq!(&rt; text.as_str(), "no encoding");
+    same(&rt, text.as_str(), "no encoding");
     Ok(())
 }
 
@@ -286,7 +292,7 @@ fn refused_memory(rt: HostRuntime) -> Result<(), Fail> {
         &is_want,
     )
     .expect(&rt, "requests");
-    assert_eq!(&rt; of_lists, of_bitmap);
+    same(&rt, of_lists, of_bitmap);
     Ok(())
 }
 
@@ -295,36 +301,47 @@ fn refusals_row_by_row(rt: HostRuntime) -> Result<(), Fail> {
     let alloc = rt.alloc();
     let one = lines(EncodingMode::Group3_1D);
     let unnamed = with_eols(EncodingMode::Group4);
-    assert_eq!(&rt;
+    same(
+        &rt,
         Encoder::new(alloc, 0, unnamed).err(),
-        Some(EncodeError::NoEncoding)
+        Some(EncodeError::NoEncoding),
     );
-    assert_eq!(&rt;
+    same(
+        &rt,
         Encoder::new(alloc, 0, one).err(),
-        Some(EncodeError::NoColumns)
+        Some(EncodeError::NoColumns),
     );
     let Ok(none) = Encoder::new(alloc, 24, one) else {
         panic!(&rt; "the settings are refused");
     };
     assert!(&rt; none.needs_row());
-    assert_eq!(&rt; none.finish().err(), Some(EncodeError::NoRows));
+    same(&rt, none.finish().err(), Some(EncodeError::NoRows));
     let Ok(mut encoder) = Encoder::new(alloc, 24, one) else {
         panic!(&rt; "the settings are refused");
     };
-    assert_eq!(&rt; encoder.push_changes(&[24]), Err(EncodeError::NotARow(0)));
-    assert_eq!(&rt; encoder.push_changes(&[3, 5]), Ok(()));
-    assert_eq!(&rt; encoder.push_changes(&[5, 3]), Err(EncodeError::NotARow(1)));
-    assert_eq!(&rt;
+    same(
+        &rt,
+        encoder.push_changes(&[24]),
+        Err(EncodeError::NotARow(0)),
+    );
+    same(&rt, encoder.push_changes(&[3, 5]), Ok(()));
+    same(
+        &rt,
+        encoder.push_changes(&[5, 3]),
+        Err(EncodeError::NotARow(1)),
+    );
+    same(
+        &rt,
         encoder.push_packed_row(&[0, 0]),
-        Err(EncodeError::NotARow(1))
+        Err(EncodeError::NotARow(1)),
     );
     assert!(&rt; !encoder.needs_row());
-    assert_eq!(&rt; encoder.rows(), 1);
+    same(&rt, encoder.rows(), 1);
     let Ok(bytes) = encoder.finish() else {
         panic!(&rt; "a row is refused");
     };
     // 1000 11 00001 0111, filled up
-    assert_eq!(&rt; bytes.as_slice(), [0x8C, 0x60].as_slice());
+    same(&rt, bytes.as_slice(), [0x8C, 0x60].as_slice());
     Ok(())
 }
 
@@ -339,7 +356,7 @@ fn refused_memory_row_by_row(rt: HostRuntime) -> Result<(), Fail> {
     let of_packed = made_at_last(alloc, &|| row_by_row(alloc, settings, true), &is_want).expect(
         &rt, "requests",
     );
-    assert_eq!(&rt; of_changes, of_packed);
+    same(&rt, of_changes, of_packed);
     Ok(())
 }
 
@@ -352,10 +369,18 @@ fn wanting_memory_stays(rt: HostRuntime) -> Result<(), Fail> {
     refuse_request(alloc, 1);
     let first = encoder.push_changes(&[3, 5]);
     if was_refused(alloc) {
-        assert_eq!(&rt; first, Err(EncodeError::OutOfMemory));
-        assert_eq!(&rt; encoder.push_changes(&[24]), Err(EncodeError::OutOfMemory));
-        assert_eq!(&rt; encoder.push_packed_row(&[]), Err(EncodeError::OutOfMemory));
-        assert_eq!(&rt; encoder.finish().err(), Some(EncodeError::OutOfMemory));
+        same(&rt, first, Err(EncodeError::OutOfMemory));
+        same(
+            &rt,
+            encoder.push_changes(&[24]),
+            Err(EncodeError::OutOfMemory),
+        );
+        same(
+            &rt,
+            encoder.push_packed_row(&[]),
+            Err(EncodeError::OutOfMemory),
+        );
+        same(&rt, encoder.finish().err(), Some(EncodeError::OutOfMemory));
     }
     Ok(())
 }
@@ -387,7 +412,11 @@ fn comes_back(rt: &(impl Abort + AllocGlobal), settings: EncodeSettings) -> Resu
     let columns = ctx.settings().columns;
     let mut sink = BitmapSink::new(alloc, columns);
     let read = decode_in(settings.order, &bytes, &mut sink, &mut ctx);
-    assert_eq!(rt; (read, sink.bytes()), (Ok(bytes.len()), BITMAP.as_slice()));
+    same(
+        rt,
+        (read, sink.bytes()),
+        (Ok(bytes.len()), BITMAP.as_slice()),
+    );
     let again = encode_bitmap(alloc, 24, sink.bytes(), settings);
     has_bytes(rt, again, &bytes);
     Ok(())

@@ -3,7 +3,10 @@
 //! A row of 2048 columns that is black from 3 to 5, 8 to 16, 17 to 129 and from 1024 on occupies twelve bytes
 //! one-dimensional with its EOL, and as many below a white row; below a row like itself it is eight times V0.
 
-use crate::{BitmapSink, bitmap_by_group3, bitmap_by_group4, encode_1d, encode_g4, rows_of_bitmap};
+use crate::same;
+use fax_encode::{
+    BitmapSink, bitmap_by_group3, bitmap_by_group4, encode_1d, encode_g4, rows_of_bitmap,
+};
 use std::alloc::{AllocError, AllocGlobal, Global};
 use std::process::Abort;
 use std::test::Fail;
@@ -61,7 +64,7 @@ fn bitmap(alloc: Global) -> Result<Vec<u8>, AllocError> {
 
 /// Compares bytes, which are too many to be printed.
 fn are_same(rt: &impl Abort, found: &[u8], expected: &[u8], what: &str) {
-    assert_eq!(rt; found.len(), expected.len(), "{what}");
+    same(rt, (what, found.len()), (what, expected.len()));
     assert!(rt; found == expected, "{what}");
 }
 
@@ -126,9 +129,9 @@ fn large_bitmap_by_group_4(rt: HostRuntime) -> Result<(), Fail> {
 fn rows_of_a_large_bitmap(rt: HostRuntime) -> Result<(), Fail> {
     let bytes = bitmap(rt.alloc())?;
     let rows = rows_of_bitmap(rt.alloc(), COLUMNS, &bytes)?;
-    assert_eq!(&rt; rows.len(), ROWS);
+    same(&rt, rows.len(), ROWS);
     for row in rows.iter() {
-        assert_eq!(&rt; row.as_slice(), CHANGES.as_slice());
+        same(&rt, row.as_slice(), CHANGES.as_slice());
     }
     Ok(())
 }

@@ -21,6 +21,7 @@ use hayro_ccitt::{
     RowReader, bits_fit, decode, decode_low_first, group4,
 };
 use std::alloc::{AllocError, AllocGlobal, Global};
+use std::fmt::Debug;
 use std::process::Abort;
 use std::test::Fail;
 
@@ -112,11 +113,16 @@ fn group_3_2d(columns: u32, rows: u32, flags: &str) -> DecodeSettings
     settings_of(EncodingMode::Group3_2D, columns, rows, flags)
 }
 
+/// Compares two values. The proof of this call takes no time, and that of `assert_eq!` seconds.
+fn same<T: PartialEq + Debug + Drop>(rt: &impl Abort, found: T, expected: T) {
+    assert_eq!(rt; found, expected);
+}
+
 /// Compares the rows of a sink, which are named by data.
 fn has_rows(rt: &impl Abort, sink: &Limited, rows: &[&[u32]], data: &[u8]) {
-    assert_eq!(rt; (data, sink.rows.len()), (data, rows.len()));
+    same(rt, (data, sink.rows.len()), (data, rows.len()));
     for (row, changes) in sink.rows.iter().zip(rows) {
-        assert_eq!(rt; (data, row.as_slice()), (data, *changes));
+        same(rt, (data, row.as_slice()), (data, *changes));
     }
 }
 
@@ -145,13 +151,17 @@ fn decodes_in(
     let mut sink = sink_of(rt.alloc(), ctx.settings().columns, usize::MAX);
     let read = decode(data, &mut sink, ctx);
     let count = rows.len() as u64;
-    assert_eq!(rt; (front, read, ctx.decoded_rows()), (front, answer, count));
+    same(
+        rt,
+        (front, read, ctx.decoded_rows()),
+        (front, answer, count),
+    );
     has_rows(rt, &sink, rows, front);
     let low_first = mirrored(rt, data);
     assert!(rt; bits_fit(&low_first));
     let mut sink = sink_of(rt.alloc(), ctx.settings().columns, usize::MAX);
     let read = decode_low_first(&low_first, &mut sink, ctx);
-    assert_eq!(rt; (front, read), (front, answer));
+    same(rt, (front, read), (front, answer));
     has_rows(rt, &sink, rows, front);
 }
 
@@ -234,10 +244,10 @@ fn refuses_each(
         };
         let mut sink = sink_of(rt.alloc(), settings.columns, limit);
         let refused = decode(data, &mut sink, &mut ctx);
-        assert_eq!(rt; (limit, refused), (limit, Err(Refused)));
+        same(rt, (limit, refused), (limit, Err(Refused)));
         assert!(rt; sink.has_refused);
         has_rows(rt, &sink, &rows[..limit], data);
-        assert_eq!(rt; ctx.decoded_rows(), limit as u64);
+        same(rt, ctx.decoded_rows(), limit as u64);
         decodes_in(rt, &mut ctx, data, rows, answer);
     }
 }
@@ -413,19 +423,19 @@ fn reads_bits(rt: HostRuntime) -> std::result::Result<(), Fail> {
     let data = [0b1010_0101, 0b1000_0000];
     assert!(rt; bits_fit(&data));
     let mut reader = BitReader::new(&data);
-    assert_eq!(rt; reader.read_bit(), Ok(1));
-    assert_eq!(rt; reader.read_bit(), Ok(0));
-    assert_eq!(rt; (reader.bit_pos(), reader.byte_pos()), (2, 0));
-    assert_eq!(rt; reader.peek_u32(), 0b1001_0110 << 24);
+    same(&rt, reader.read_bit(), Ok(1));
+    same(&rt, reader.read_bit(), Ok(0));
+    same(&rt, (reader.bit_pos(), reader.byte_pos()), (2, 0));
+    same(&rt, reader.peek_u32(), 0b1001_0110 << 24);
     let kept = reader.clone()?;
     reader.align();
-    assert_eq!(rt; (reader.bit_pos(), reader.byte_pos()), (8, 1));
-    assert_eq!(rt; reader.consume(7), Ok(()));
+    same(&rt, (reader.bit_pos(), reader.byte_pos()), (8, 1));
+    same(&rt, reader.consume(7), Ok(()));
     assert!(rt; !reader.at_end());
-    assert_eq!(rt; reader.read_bit(), Ok(0));
+    same(&rt, reader.read_bit(), Ok(0));
     assert!(rt; reader.at_end());
-    assert_eq!(rt; reader.read_bit(), Err(UnexpectedEof));
-    assert_eq!(rt; kept.bit_pos(), 2);
+    same(&rt, reader.read_bit(), Err(UnexpectedEof));
+    same(&rt, kept.bit_pos(), 2);
     Ok(())
 }
 
@@ -446,7 +456,11 @@ fn reads_runs(rt: HostRuntime) -> std::result::Result<(), Fail> {
         assert!(rt; bits_fit(&data));
         let mut reader = BitReader::new(&data);
         let found = reader.decode_run(color, &tables, &mut ticks);
-        assert_eq!(rt; (color, found, reader.bit_pos()), (color, Ok(run), place));
+        same(
+            &rt,
+            (color, found, reader.bit_pos()),
+            (color, Ok(run), place),
+        );
     }
     Ok(())
 }
@@ -461,7 +475,7 @@ fn runs_that_are_none(rt: HostRuntime) -> std::result::Result<(), Fail> {
     ] {
         assert!(rt; bits_fit(data));
         let found = BitReader::new(data).decode_run(Color::White, &tables, &mut ticks);
-        assert_eq!(rt; (data, found), (data, Err(error)));
+        same(&rt, (data, found), (data, Err(error)));
     }
     Ok(())
 }
@@ -483,10 +497,10 @@ fn reads_modes(rt: HostRuntime) {
         Mode::Vertical(-2),
         Mode::Vertical(-3),
     ] {
-        assert_eq!(rt; reader.decode_mode(&mut ticks), Ok(mode));
+        same(&rt, reader.decode_mode(&mut ticks), Ok(mode));
     }
-    assert_eq!(rt; reader.bit_pos(), 40);
-    assert_eq!(rt; reader.decode_mode(&mut ticks), Err(UnexpectedEof));
+    same(&rt, reader.bit_pos(), 40);
+    same(&rt, reader.decode_mode(&mut ticks), Err(UnexpectedEof));
 }
 
 #[test]
@@ -496,19 +510,26 @@ fn reads_line_ends(rt: HostRuntime) {
     assert!(rt; bits_fit(&two_and_a_one));
     let mut reader = BitReader::new(&two_and_a_one);
     let (zeros, after) = reader.zero_run(&mut ticks);
-    assert_eq!(rt; (zeros, after.map(|after| after.bit_pos())), (11, Some(12)));
-    assert_eq!(rt;
-        (reader.read_eols(1, &mut ticks), reader.bit_pos()),
-        (1, 12)
+    same(
+        &rt,
+        (zeros, after.map(|after| after.bit_pos())),
+        (11, Some(12)),
     );
-    assert_eq!(rt;
+    same(
+        &rt,
+        (reader.read_eols(1, &mut ticks), reader.bit_pos()),
+        (1, 12),
+    );
+    same(
+        &rt,
         (reader.read_eols(9, &mut ticks), reader.bit_pos()),
-        (1, 24)
+        (1, 24),
     );
     let mut reader = BitReader::new(&two_and_a_one);
-    assert_eq!(rt;
+    same(
+        &rt,
         (reader.read_eol_if_available(&mut ticks), reader.bit_pos()),
-        (2, 24)
+        (2, 24),
     );
     // eight zeros alone, ten zeros and a one, fifteen zeros and a one
     for (data, count, place) in [
@@ -519,7 +540,7 @@ fn reads_line_ends(rt: HostRuntime) {
         assert!(rt; bits_fit(data));
         let mut reader = BitReader::new(data);
         let found = reader.read_eol_if_available(&mut ticks);
-        assert_eq!(rt; (data, found, reader.bit_pos()), (data, count, place));
+        same(&rt, (data, found, reader.bit_pos()), (data, count, place));
     }
     assert!(rt; bits_fit(&[0x00]));
     let (zeros, after) = BitReader::new(&[0x00]).zero_run(&mut ticks);
@@ -528,27 +549,28 @@ fn reads_line_ends(rt: HostRuntime) {
 
 #[test]
 fn colors_and_ticks(rt: HostRuntime) {
-    assert_eq!(rt; Color::White.opposite(), Color::Black);
-    assert_eq!(rt; Color::Black.opposite(), Color::White);
+    same(&rt, Color::White.opposite(), Color::Black);
+    same(&rt, Color::Black.opposite(), Color::White);
     assert!(rt; Color::White.is_white() && !Color::Black.is_white());
-    assert_eq!(rt; std::mem::size_of::<Ticks>(), 0);
+    same(&rt, std::mem::size_of::<Ticks>(), 0);
 }
 
 #[test]
 fn makes_and_resets_a_context(rt: HostRuntime) -> std::result::Result<(), Fail> {
     let mut ctx = DecoderContext::new(rt.alloc(), group_4(8, 2, "s"))?;
     let settings = ctx.settings();
-    assert_eq!(rt;
+    same(
+        &rt,
         (settings.columns, settings.rows, settings.strict),
-        (8, 2, true)
+        (8, 2, true),
     );
-    assert_eq!(rt; (ctx.decoded_rows(), ctx.has_eols()), (0, false));
+    same(&rt, (ctx.decoded_rows(), ctx.has_eols()), (0, false));
     ctx.ticks().tick();
     decodes_in(&rt, &mut ctx, &[0xC0], &[&[], &[]], Ok(1));
     ctx.set_has_eols(true);
-    assert_eq!(rt; (ctx.decoded_rows(), ctx.has_eols()), (2, true));
+    same(&rt, (ctx.decoded_rows(), ctx.has_eols()), (2, true));
     ctx.reset();
-    assert_eq!(rt; (ctx.decoded_rows(), ctx.has_eols()), (0, false));
+    same(&rt, (ctx.decoded_rows(), ctx.has_eols()), (0, false));
     Ok(())
 }
 
@@ -559,17 +581,17 @@ fn draws_lines(rt: HostRuntime) -> std::result::Result<(), Fail> {
     let data = [0x31, 0xC0];
     assert!(rt; bits_fit(&data));
     let mut reader = BitReader::new(&data);
-    assert_eq!(rt; (ctx.b1(), ctx.b2()), (8, 8));
-    assert_eq!(rt; decode_2d_line(&mut ctx, &mut reader), Ok(()));
-    assert_eq!(rt; reader.bit_pos(), 10);
-    assert_eq!(rt; ctx.next_line(&mut sink), Ok(()));
-    assert_eq!(rt; (ctx.b1(), ctx.b2()), (3, 5));
-    assert_eq!(rt; ctx.push_pixels(4), Ok(()));
-    assert_eq!(rt; (ctx.b1(), ctx.b2()), (8, 8));
-    assert_eq!(rt; ctx.next_line(&mut sink), Ok(()));
+    same(&rt, (ctx.b1(), ctx.b2()), (8, 8));
+    same(&rt, decode_2d_line(&mut ctx, &mut reader), Ok(()));
+    same(&rt, reader.bit_pos(), 10);
+    same(&rt, ctx.next_line(&mut sink), Ok(()));
+    same(&rt, (ctx.b1(), ctx.b2()), (3, 5));
+    same(&rt, ctx.push_pixels(4), Ok(()));
+    same(&rt, (ctx.b1(), ctx.b2()), (8, 8));
+    same(&rt, ctx.next_line(&mut sink), Ok(()));
     has_rows(&rt, &sink, &[&[3, 5], &[]], &data);
-    assert_eq!(rt; ctx.decoded_rows(), 2);
-    assert_eq!(rt; ctx.next_line(&mut sink), Err(Refused));
+    same(&rt, ctx.decoded_rows(), 2);
+    same(&rt, ctx.next_line(&mut sink), Err(Refused));
     Ok(())
 }
 
@@ -581,14 +603,18 @@ fn draws_lines_of_runs(rt: HostRuntime) -> std::result::Result<(), Fail> {
     let data = [0x8E, 0x26];
     assert!(rt; bits_fit(&data));
     let mut reader = BitReader::new(&data);
-    assert_eq!(rt; decode_1d_line(&mut ctx, &mut reader), Ok(()));
-    assert_eq!(rt; reader.bit_pos(), 10);
-    assert_eq!(rt; ctx.next_line(&mut sink), Ok(()));
-    assert_eq!(rt; decode_1d_line(&mut ctx, &mut reader), Ok(()));
-    assert_eq!(rt; reader.bit_pos(), 15);
-    assert_eq!(rt; ctx.next_line(&mut sink), Ok(()));
+    same(&rt, decode_1d_line(&mut ctx, &mut reader), Ok(()));
+    same(&rt, reader.bit_pos(), 10);
+    same(&rt, ctx.next_line(&mut sink), Ok(()));
+    same(&rt, decode_1d_line(&mut ctx, &mut reader), Ok(()));
+    same(&rt, reader.bit_pos(), 15);
+    same(&rt, ctx.next_line(&mut sink), Ok(()));
     has_rows(&rt, &sink, &[&[3, 5], &[]], &data);
-    assert_eq!(rt; decode_1d_line(&mut ctx, &mut reader), Err(UnexpectedEof));
+    same(
+        &rt,
+        decode_1d_line(&mut ctx, &mut reader),
+        Err(UnexpectedEof),
+    );
     Ok(())
 }
 
@@ -599,8 +625,12 @@ fn decodes_from_a_reader(rt: HostRuntime) -> std::result::Result<(), Fail> {
     let data = [0x80, 0x08, 0x00, 0x80];
     assert!(rt; bits_fit(&data));
     let mut reader = BitReader::new(&data);
-    assert_eq!(rt; group4::decode(&mut ctx, &mut reader, &mut sink), Ok(()));
-    assert_eq!(rt; reader.bit_pos(), 25);
+    same(
+        &rt,
+        group4::decode(&mut ctx, &mut reader, &mut sink),
+        Ok(()),
+    );
+    same(&rt, reader.bit_pos(), 25);
     has_rows(&rt, &sink, &[&[]], &data);
     Ok(())
 }
@@ -622,33 +652,39 @@ fn reads_rows(
         rt, "memory",
     );
     for (row, start) in rows {
-        assert_eq!(rt;
+        same(
+            rt,
             (reader.next_row(), cursor.next_row(data)),
-            (Ok(true), Ok(true))
+            (Ok(true), Ok(true)),
         );
-        assert_eq!(rt; (reader.row(), reader.line_start()), (*row, *start));
-        assert_eq!(rt; (cursor.row(), cursor.line_start()), (*row, *start));
-        assert_eq!(rt; cursor.damage(), reader.damage());
+        same(rt, (reader.row(), reader.line_start()), (*row, *start));
+        same(rt, (cursor.row(), cursor.line_start()), (*row, *start));
+        same(rt, cursor.damage(), reader.damage());
     }
-    assert_eq!(rt; (reader.next_row(), cursor.next_row(data)), (end, end));
-    assert_eq!(rt;
-        (reader.next_row(), cursor.next_row(data)),
-        (end, end),
-        "it stays at the end"
+    same(rt, (reader.next_row(), cursor.next_row(data)), (end, end));
+    same(
+        rt,
+        (
+            "it stays at the end",
+            (reader.next_row(), cursor.next_row(data)),
+        ),
+        ("it stays at the end", (end, end)),
     );
-    assert_eq!(rt;
+    same(
+        rt,
         (reader.rows_read(), reader.bytes_read()),
-        (rows.len() as u64, bytes)
+        (rows.len() as u64, bytes),
     );
-    assert_eq!(rt;
+    same(
+        rt,
         (
             cursor.rows_read(),
             cursor.bytes_read(),
-            cursor.damaged_rows()
+            cursor.damaged_rows(),
         ),
-        (rows.len() as u64, bytes, reader.damaged_rows())
+        (rows.len() as u64, bytes, reader.damaged_rows()),
     );
-    assert_eq!(rt; cursor.settings().columns, settings.columns);
+    same(rt, cursor.settings().columns, settings.columns);
 }
 
 #[test]
@@ -692,16 +728,17 @@ fn tells_damage(
     let mut reader = RowReader::new(rt.alloc(), data, BitOrder::HighestFirst, settings).expect(
         rt, "memory",
     );
-    assert_eq!(rt; (reader.damage(), reader.damaged_rows()), (None, 0));
+    same(rt, (reader.damage(), reader.damaged_rows()), (None, 0));
     let mut damaged_rows = 0u64;
     for fault in faults {
         if fault.is_some() {
             damaged_rows = damaged_rows.saturating_add(1);
         }
-        assert_eq!(rt; reader.next_row(), Ok(true));
-        assert_eq!(rt;
+        same(rt, reader.next_row(), Ok(true));
+        same(
+            rt,
             (reader.damage(), reader.damaged_rows()),
-            (*fault, damaged_rows)
+            (*fault, damaged_rows),
         );
     }
     assert!(rt; reader.next_row() != Ok(true), "no row more");
@@ -711,10 +748,14 @@ fn tells_damage(
     for _ in 0..2 {
         let mut sink = sink_of(rt.alloc(), ctx.settings().columns, usize::MAX);
         let _ = decode(data, &mut sink, &mut ctx);
-        assert_eq!(rt; ctx.damaged_rows(), damaged_rows, "of each image alone");
+        same(
+            rt,
+            ("of each image alone", ctx.damaged_rows()),
+            ("of each image alone", damaged_rows),
+        );
     }
     ctx.reset();
-    assert_eq!(rt; ctx.damaged_rows(), 0);
+    same(rt, ctx.damaged_rows(), 0);
 }
 
 #[test]
@@ -752,10 +793,14 @@ fn tells_missed(
     for _ in 0..2 {
         let mut sink = sink_of(rt.alloc(), ctx.settings().columns, room);
         let _ = decode(data, &mut sink, &mut ctx);
-        assert_eq!(rt; ctx.missed_eols(), missed, "of each image alone");
+        same(
+            rt,
+            ("of each image alone", ctx.missed_eols()),
+            ("of each image alone", missed),
+        );
     }
     ctx.reset();
-    assert_eq!(rt; ctx.missed_eols(), 0);
+    same(rt, ctx.missed_eols(), 0);
 }
 
 /// How many EOLs a reader and a cursor say were missed, after each row and at the end, and where the last call missed one.
@@ -776,9 +821,10 @@ fn tells_missed_of_rows(
     for (count, place) in missed {
         let _ = reader.next_row();
         let _ = cursor.next_row(data);
-        assert_eq!(rt;
+        same(
+            rt,
             (reader.missed_eols(), cursor.missed_eols()),
-            (*count, *count)
+            (*count, *count),
         );
         assert_eq!(rt; reader.missed_eol(), *place);
     }
@@ -818,23 +864,24 @@ fn fails_at(
         rt, "memory",
     );
     for _ in 0..rows {
-        assert_eq!(rt; reader.next_row(), Ok(true));
+        same(rt, reader.next_row(), Ok(true));
     }
-    assert_eq!(rt; reader.next_row(), Err(InvalidCode));
-    assert_eq!(rt; (reader.rows_read(), reader.line_start()), (rows, place));
+    same(rt, reader.next_row(), Err(InvalidCode));
+    same(rt, (reader.rows_read(), reader.line_start()), (rows, place));
     let Ok(mut ctx) = DecoderContext::new(rt.alloc(), settings) else {
         panic!(rt; "no memory");
     };
     for _ in 0..2 {
         let mut sink = sink_of(rt.alloc(), ctx.settings().columns, usize::MAX);
-        assert_eq!(rt; decode(data, &mut sink, &mut ctx), Err(InvalidCode));
-        assert_eq!(rt;
+        same(rt, decode(data, &mut sink, &mut ctx), Err(InvalidCode));
+        same(
+            rt,
             (ctx.decoded_rows(), ctx.fault_start()),
-            (rows, Some(place))
+            (rows, Some(place)),
         );
     }
     ctx.reset();
-    assert_eq!(rt; ctx.fault_start(), None);
+    same(rt, ctx.fault_start(), None);
 }
 
 /// Where decoding stands after a sink refused the row with this index.
@@ -850,14 +897,15 @@ fn refused_at(
         panic!(rt; "no memory");
     };
     let mut sink = sink_of(rt.alloc(), ctx.settings().columns, index);
-    assert_eq!(rt; decode(data, &mut sink, &mut ctx), Err(Refused));
-    assert_eq!(rt;
+    same(rt, decode(data, &mut sink, &mut ctx), Err(Refused));
+    same(
+        rt,
         (ctx.decoded_rows(), ctx.fault_start()),
-        (index as u64, Some(place))
+        (index as u64, Some(place)),
     );
     let mut all = sink_of(rt.alloc(), ctx.settings().columns, usize::MAX);
     let _ = decode(data, &mut all, &mut ctx);
-    assert_eq!(rt; ctx.fault_start(), None);
+    same(rt, ctx.fault_start(), None);
 }
 
 #[test]
@@ -884,8 +932,8 @@ fn prints_errors(rt: HostRuntime) -> std::result::Result<(), Fail> {
         (OutOfMemory, "out of memory"),
         (Refused, "row refused"),
     ] {
-        assert_eq!(rt; error.to_string(rt.alloc())?.as_str(), text);
+        same(&rt, error.to_string(rt.alloc())?.as_str(), text);
     }
-    assert_eq!(rt; DecodeError::from(AllocError), OutOfMemory);
+    same(&rt, DecodeError::from(AllocError), OutOfMemory);
     Ok(())
 }

@@ -2,7 +2,7 @@
 
 use super::{
     bytes_of, decodes, decodes_in, group_3_1d, group_3_2d, group_4, reads, refuses_each, repeated,
-    sink_of,
+    same, sink_of,
 };
 use hayro_ccitt::DecodeError::{InvalidCode, Overflow, UnexpectedEof};
 use hayro_ccitt::{DecoderContext, bits_fit, decode};
@@ -192,7 +192,7 @@ fn eols_that_were_there(rt: HostRuntime) -> std::result::Result<(), Fail> {
         let mut ctx = DecoderContext::new(rt.alloc(), settings)?;
         let mut sink = sink_of(rt.alloc(), settings.columns, usize::MAX);
         let _ = decode(&data, &mut sink, &mut ctx);
-        assert_eq!(rt; (digits, ctx.has_eols()), (digits, has_eols));
+        same(&rt, (digits, ctx.has_eols()), (digits, has_eols));
     }
     Ok(())
 }
