@@ -17,7 +17,9 @@ ghost use Rattle.hayro_ccitt.specs.Answers.{line_from_1d, line_from_2d};
 use crate::bit_reader::{BitOrder, BitReader, BitsAtHand};
 use crate::changes::{append_pixels, b1_index, change_or_end};
 use crate::codes::{Color, Mode, Ticks};
-use crate::modes::{draw_modes, has_mode, is_white_row, lay_down_row, put_ends, take_ends};
+use crate::modes::{
+    draw_modes, has_mode, has_no_room, is_white_row, lay_down_row, put_ends, take_ends,
+};
 use crate::settings::DecodeSettings;
 use crate::tables::Tables;
 use crate::usual::{draw_runs, lay_down, take_up};
@@ -744,6 +746,10 @@ impl DecoderContext {
         ensures same_bits { reader.new.bits ≡ reader.old.bits }
     {
         if self.draw_white_line(reader) {
+            return;
+        }
+        // The first row with changes is drawn by calls that ask for the room that it needs.
+        if is_white_row(&self.ref_changes) && has_no_room(&self.coding_changes) {
             return;
         }
         self.draw_modes_of(reader);

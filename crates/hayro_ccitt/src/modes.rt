@@ -73,6 +73,14 @@ fn mode_at_hand(hand: &BitsAtHand<'_>) -> (Option<Mode>, usize)
     mode_of(hand.seven())
 }
 
+/// Returns whether a list has no room even for its first change.
+#[inline(always)]
+pub(crate) fn has_no_room(changes: &Vec<u32>) -> bool
+    ensures { result ≡ true → vec_capacity changes.now ≡ 0 }
+{
+    changes.capacity() == 0
+}
+
 /// Draws V0: a change below b1, or the rest of the row. Returns `None`, and draws nothing, if there is no room for a
 /// change.
 #[inline(always)]
