@@ -307,10 +307,13 @@ fn refused_memory(rt: HostRuntime) -> Result<(), Fail> {
     t4.extend_from_slice(&[0x00, 0x10, 0x01, 0x00, 0x10, 0x01, 0x00, 0x10, 0x01])?;
     same(&rt, &one, &t4);
 
-    let sink = made_at_last(alloc, &|| bitmap_by_group4(alloc, 8, rows, true), &is_want).expect(
+    // In data this short a decoder asks for no room that it can do without.
+    let lists = lists_of(alloc, &[row; 4])?;
+    let four = lists.as_slice();
+    let sink = made_at_last(alloc, &|| bitmap_by_group4(alloc, 8, four, true), &is_want).expect(
         &rt, "requests",
     );
-    same(&rt, sink.bytes(), [0x18u8; 16].as_slice());
+    same(&rt, sink.bytes(), [0x18u8; 4].as_slice());
     let sink = made_at_last(alloc, &|| bitmap_by_group3(alloc, 8, rows), &is_want).expect(
         &rt, "requests",
     );
