@@ -1,6 +1,6 @@
 -- A run of one word or of two, which are known one by one.
-use Rattle.hayro_ccitt.proofs.Names.{◌≡◌, ℕ, ◌+◌, ◌<◌, ◌≤◌, length, refl, ◌∙◌, subst, arith, Color, Bits, BitsAt, here, IsWordHere, IsRunHere, moved}
-use Rattle.hayro_ccitt.proofs.Names.{common_steps, codes_of, RunGoesOn}
+use Rattle.hayro_ccitt.proofs.Names.{◌≡◌, ℕ, ◌+◌, ◌<◌, ◌≤◌, length, subst, arith, Color, Bits, BitsAt, here}
+use Rattle.hayro_ccitt.proofs.Names.{IsWordHere, IsRunHere, RunGoesOn, codes_of, common_steps, moved}
 use Rattle.hayro_ccitt.proofs.CodeWords.ReadRuns.{read_code_shorter, words_not_empty, run_ends, run_goes_on}
 use Rattle.hayro_ccitt.proofs.CodeWords.RunWords.{run_found_ends, run_found_on}
 
@@ -48,15 +48,3 @@ run_on_word color at total run width ticks there long fits =
       counted = omega (arith, run_found_on color total run (here at) rest word.read fits long);
       onward = omega (arith, shorter_behind color at run width there);
     }
-
--- a run goes on by no words, and by some and then others
-pub run_on_none : (color : Color) (total : ℕ) (at : Bits) (ticks : ℕ) → RunGoesOn color total at total at ticks ticks
-run_on_none color total at ticks = record { run = refl; counted = refl; onward = omega arith }
-
-pub run_on_twice : (color : Color) (a b c : ℕ) (from between to : Bits) (m n o : ℕ) → RunGoesOn color a from b between m n
-    → RunGoesOn color b between c to n o → RunGoesOn color a from c to m o
-run_on_twice color a b c from between to m n o first second = record {
-  run = first.run ∙ second.run;
-  counted = omega (arith, first.counted, second.counted);
-  onward = omega (arith, first.onward, second.onward);
-}
