@@ -1,7 +1,7 @@
 #!/usr/bin/env bash
 # All tests, in three parts that run in parallel. `rt ci` proves every crate from scratch, here. On a copy of the repository run
 # the edits (checks/edits.py), and, once the crates are checked there, the repository's other checks (checks/run.py), except those
-# of the test programs that `rt ci` builds, which come last. The output of each part is printed when it has ended. The exit status
+# of the test programs that `rt ci` builds, which follow it. The output of each part is printed when it has ended. The exit status
 # is 0 if all passed.
 cd "$(dirname "$0")" || exit 1
 copy=$(mktemp -d) || exit 1
@@ -45,6 +45,13 @@ other_checks() {
     done
     python3 "$copy/checks/run.py" --without built_tests
 }
+# The checks of the test programs, which `rt ci` builds.
+built_tests() {
+    while [ ! -e "$said/ci.end" ]; do
+        sleep 1
+    done
+    python3 checks/run.py built_tests
+}
 # As many tasks of `rt ci` at a time as there are processors, if there is memory: each takes up to 4 GB. Without RT_JOBS it counts
 # 12 GB for the library, and so tries the library's edits last, alone.
 available=$(awk '/^MemAvailable/ { print $2 }' /proc/meminfo)
@@ -56,7 +63,9 @@ part edits nice -n 15 python3 "$copy/checks/edits.py" --ready "$said/ready" &
 edits=$!
 part run other_checks &
 run=$!
-parts+=("$ci" "$edits" "$run")
+part tests built_tests &
+tests=$!
+parts+=("$ci" "$edits" "$run" "$tests")
 
 failed=0
 minutes() {
@@ -76,9 +85,7 @@ end() {
 end "checks/run.py" run "$run"
 end "checks/edits.py" edits "$edits"
 end "rt ci" ci "$ci"
-part tests python3 checks/run.py built_tests &
-parts+=("$!")
-end "checks/run.py built_tests" tests "$!"
+end "checks/run.py built_tests" tests "$tests"
 printf '== all\n'
 printf '%s\n' "${totals[@]}"
 [ "$failed" -eq 0 ] && printf 'passed' || printf 'FAILED'

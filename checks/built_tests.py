@@ -7,8 +7,8 @@ import tempfile
 # The tests of each crate that name allocations: how often each names one, and how many of these were made, and so refused. All
 # others name none. A test that has each allocation refused in turn names one more than there are.
 NAMED = {
-    "fax_callers": {"tests::refused_memory": (11, 8)},
-    "fax_encode": {
+    "encoder_tests": {
+        "callers_tests::refused_memory": (11, 8),
         "settings_tests::refused_memory": (10, 8),
         "settings_tests::refused_memory_row_by_row": (11, 9),
         "settings_tests::wanting_memory_stays": (1, 1),
@@ -17,10 +17,10 @@ NAMED = {
     },
     "faxrows": {
         "tests::refused_memory_by_row": (57, 18),
-        "tests::refused_memory_of_damage": (38, 12),
+        "tests::refused_memory_of_damage": (38, 16),
         "tests::sink_without_memory": (1, 0),
     },
-    "worked_rows": {
+    "decoder_tests": {
         "tests::refused_memory::calls_without_memory": (1, 0),
         "tests::refused_memory::contexts_without_memory": (1, 0),
         "tests::refused_memory::refused_bodies": (2, 1),

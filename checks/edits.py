@@ -19,16 +19,20 @@ function that only calls one that isn't proved, show nothing. If the check's own
 more by `search rules` alone, which ends. A line 'search: GOAL' in the edit names such a goal, and saves the first try.
 
 Edits of different functions are checked together, each batch on a copy of the crate and of what a check of the crate without
-edits stored. A goal of a function isn't searched for while one that it calls isn't proved. So an edit that such a batch doesn't
-refuse for its reason is tried with functions that don't call one another, and then alone.
+edits stored. They start when that check has ended, while the crates above are still checked. A goal of a function isn't
+searched for while one that it calls isn't proved. So an edit that such a batch doesn't refuse for its reason is tried with
+functions that don't call one another, and then alone.
 With --write an edit that another clause of its function refuses gets that clause's name, and one at whose goal the check's own
 searches gave up gets its line 'search: GOAL'. Look at what was written: a clause that has nothing to do with what the edit breaks
 means that the edit is a bad one.
 The last line is 'N refused, M not'.
 """
 import argparse
+import copy
+import functools
 import importlib.machinery
 import importlib.util
+import itertools
 import os
 import queue
 import re
@@ -39,7 +43,7 @@ import sys
 import tempfile
 import threading
 import time
-from concurrent.futures import ThreadPoolExecutor
+from concurrent.futures import Future, ThreadPoolExecutor
 
 sys.dont_write_bytecode = True
 ROOT = os.path.realpath(os.path.join(os.path.dirname(os.path.abspath(__file__)), ".."))
@@ -208,6 +212,24 @@ def batches_of(edits, most, meets):
     return batches
 
 
+def mixed_batches(edits, most):
+    """As many batches as `batches_of` makes of edits that don't overlap, with as few as possible that change what another reaches."""
+    batches = [[] for _ in batches_of(edits, most, Edit.overlaps)]
+    for edit in sorted(edits, key=lambda it: -sum(it.overlaps(other) for other in edits)):
+        fitting = [batch for batch in batches if len(batch) < most and not any(edit.overlaps(other) for other in batch)]
+        if not fitting:
+            batches.append([edit])
+            continue
+        now = {id(batch): len(hidden([*batch, edit])) - len(hidden(batch)) for batch in fitting}
+        min(fitting, key=lambda batch: (now[id(batch)], len(batch))).append(edit)
+    return [batch for batch in batches if batch]
+
+
+def hidden(batch):
+    """The edits of a batch whose function reaches what another one changes."""
+    return [edit for edit in batch if any(other is not edit and other.touched & edit.reaches for other in batch)]
+
+
 # What a check says.
 
 LOST = re.compile(r"is not in scope|has no field|has no `|was not admitted|no such|is no name|not checked: ")
@@ -305,6 +327,30 @@ def judged(edit, said, output):
     edit.other = max(clauses, key=clauses.count, default="")
     weak = [f"{goal}: {why[:150]}" for goal, why in it.weak]
     return False, f"no goal of {edit.function} that names `{edit.clause}` is refused by a value; {'; '.join([*others, *weak]) or it.line[:200]}"
+
+
+class Lanes:
+    """Runs calls in parallel, those of the lowest rank first."""
+
+    def __init__(self, count):
+        self.waiting, self.numbers, self.is_closed = queue.PriorityQueue(), itertools.count(), False
+        for _ in range(count):
+            threading.Thread(target=self.run, daemon=True).start()
+
+    def submit(self, rank, call, *given):
+        future = Future()
+        self.waiting.put((rank, next(self.numbers), future, functools.partial(call, *given)))
+        return future
+
+    def run(self):
+        while True:
+            _, _, future, call = self.waiting.get()
+            try:
+                if self.is_closed:
+                    raise RuntimeError("a crate isn't proved without edits")
+                future.set_result(call())
+            except BaseException as error:  # who waits for the result gets it
+                future.set_exception(error)
 
 
 class Lane:
@@ -431,24 +477,60 @@ def stamps(folder):
     return found
 
 
-def prepare(crates, chosen, kept, jobs):
-    """Checks the crates without edits, lowest first, and keeps what each check stored. This builds their libraries too.
+class Whole:
+    """The checks of crates without edits, each once the libraries below are built."""
 
-    Returns the names of each crate's functions.
-    """
-    functions = {}
-    for crate in crates:
-        if crate.name in chosen:
-            began = time.time()
-            how = {"cwd": crate.folder, "stdout": subprocess.PIPE, "stderr": subprocess.STDOUT, "errors": "replace"}
-            ran = subprocess.run(["rt", "check", "--jobs", str(jobs)], check=False, **how)
-            if ran.returncode:
-                print(ran.stdout[-3000:])
-                sys.exit(f"{crate.name} isn't proved without edits")
-            functions[crate.name] = set(re.findall(rf"^fn {crate.name}::(\S+): ", ran.stdout, re.MULTILINE))
-            shutil.copytree(f"{crate.folder}/out/incremental", f"{kept}/{crate.name}")
-            print(f"{crate.name} without edits: {time.time() - began:.0f} s", flush=True)
-    return functions
+    def __init__(self, rt, crates, chosen, kept, lanes, most):
+        self.rt, self.chosen, self.kept, self.lanes, self.most = rt, chosen, kept, lanes, most
+        self.used = {below for crate in chosen for below in crate.below()}
+        self.crates = [crate for crate in crates if crate in chosen or crate in self.used]
+        self.is_checked, self.is_built = ({crate: Future() for crate in self.crates} for _ in range(2))
+        self.functions = {}
+
+    def check(self, crate):
+        """Checks a crate, keeps what the check stored, and builds the crate's library, if others use it."""
+        try:
+            for below in crate.below():
+                self.is_built[below].result()
+            if crate in self.chosen:
+                self.lanes.submit(0, self.prove, crate).result()
+            self.is_checked[crate].set_result(None)
+            if crate in self.used:
+                self.lanes.submit(0, self.build, crate).result()
+            self.is_built[crate].set_result(None)
+        except Exception as error:  # whoever waits for the crate gets it
+            for future in (self.is_checked[crate], self.is_built[crate]):
+                if not future.done():
+                    future.set_exception(error)
+            raise
+
+    def prove(self, crate):
+        """Checks a crate, with several jobs if no other crate can be checked beside it."""
+        began = time.time()
+        is_alone = all(it is crate or crate in it.below() or it in crate.below() for it in self.chosen)
+        flags = ["--jobs", str(self.most if is_alone else 1)]
+        words = [self.rt.rtlib.RATTLE, "check", *crate.words(flags, keeps=False), "--incremental", "out/incremental"]
+        output = self.run(crate, f"{crate.name} isn't proved without edits", lambda it: it.call(*words))
+        self.functions[crate] = set(re.findall(rf"^fn {crate.name}::(\S+): ", output, re.MULTILINE))
+        shutil.copytree(f"{crate.folder}/out/incremental", f"{self.kept}/{crate.name}")
+        print(f"{crate.name} without edits: {time.time() - began:.0f} s", flush=True)
+
+    def build(self, crate):
+        """Builds a crate's library, over what its check stored."""
+        self.run(crate, f"the library {crate.name} isn't built", lambda it: it.build_rlib(["--jobs", "1"], anew=False))
+
+    @staticmethod
+    def run(crate, failure, call):
+        """What a call of the kit prints that is to return 0."""
+        made = copy.copy(crate)
+        with tempfile.TemporaryFile("w+", errors="replace") as made.out:
+            status = call(made)
+            made.out.seek(0)
+            output = made.out.read()
+        if status:
+            print(output[-3000:])
+            raise RuntimeError(failure)
+        return output
 
 
 def main():
@@ -474,14 +556,14 @@ def main():
     ]
     if not edits:
         sys.exit("no edit has such a name")
-    with tempfile.TemporaryDirectory(prefix="edits-") as room, ThreadPoolExecutor(words.lanes) as pool:
+    chosen = [crate for crate in crates if any(edit.crate is crate for edit in edits)]
+    threads, printing, results, numbers = Lanes(words.lanes), threading.Lock(), {}, []
+    with tempfile.TemporaryDirectory(prefix="edits-") as room, ThreadPoolExecutor(2 * len(crates)) as each:
         os.mkdir(f"{room}/kept")
+        held = rt.rtlib.lock(crates)
         # One processor is left to what runs beside.
-        functions = prepare(crates, {edit.crate.name for edit in edits}, f"{room}/kept", max(words.lanes - 1, 1))
-        if words.ready:
-            with open(words.ready, "w", encoding="utf-8"):
-                pass
-        lanes, printing, results, alone, number_of_batches = queue.SimpleQueue(), threading.Lock(), {}, set(), 0
+        whole = Whole(rt, crates, chosen, f"{room}/kept", threads, max(words.lanes - 1, 1))
+        lanes = queue.SimpleQueue()
         for number in range(words.lanes):
             lanes.put(Lane(f"{room}/{number}", rt, f"{room}/kept"))
             os.mkdir(f"{room}/{number}")
@@ -499,25 +581,47 @@ def main():
             finally:
                 lanes.put(lane)
 
-        for edit in edits:
-            if not edit.function:
-                guess = edit.changed[0].name if edit.changed else "FUNCTION"
-                results[edit] = False, f"it doesn't say what it breaks: add a line 'breaks: {guess}: CLAUSE'"
-            elif edit.function not in functions[edit.crate.name]:
-                last = edit.function.rpartition("::")[2]
-                near = sorted(name for name in functions[edit.crate.name] if name.rpartition("::")[2] == last)
-                results[edit] = False, f"a check names no function {edit.function}: is it {' or '.join(near) or 'another'}?"
-        told = {*results}
-        # First all functions at once, even if one calls another, which decides some; then those that don't call one another; then
-        # each alone.
-        for meets, most in ((Edit.overlaps, words.most), (Edit.meets, words.most), (Edit.overlaps, 1)):
-            left = [it for it in edits if it not in told | alone and not results.get(it, (False,))[0]]
-            batches = [batch for crate in crates for batch in batches_of([it for it in left if it.crate is crate], most, meets)]
-            number_of_batches += len(batches)
-            alone |= {batch[0] for batch in batches if len(batch) == 1 and not batch[0].goals}
-            is_mixed, is_alone = meets is Edit.overlaps and most > 1, most == 1
-            for found in pool.map(lambda batch: work(batch, is_mixed, is_alone), batches):
-                results.update(found)
+        def judge(crate):
+            """Tries the edits of a crate once it is checked."""
+            whole.is_checked[crate].result()
+            own = [edit for edit in edits if edit.crate is crate]
+            for edit in own:
+                if not edit.function:
+                    guess = edit.changed[0].name if edit.changed else "FUNCTION"
+                    results[edit] = False, f"it doesn't say what it breaks: add a line 'breaks: {guess}: CLAUSE'"
+                elif edit.function not in whole.functions[crate]:
+                    last = edit.function.rpartition("::")[2]
+                    near = sorted(name for name in whole.functions[crate] if name.rpartition("::")[2] == last)
+                    results[edit] = False, f"a check names no function {edit.function}: is it {' or '.join(near) or 'another'}?"
+            told, alone = {edit for edit in own if edit in results}, set()
+            # First as few batches as possible, even if one function calls another, which decides most; then functions that don't
+            # call one another; then each alone.
+            for is_mixed, is_alone in ((True, False), (False, False), (False, True)):
+                left = [it for it in own if it not in told | alone and not results.get(it, (False,))[0]]
+                if is_mixed:
+                    batches = mixed_batches(left, words.most)
+                else:
+                    batches = batches_of(left, 1 if is_alone else words.most, Edit.meets)
+                numbers.append(len(batches))
+                alone |= {batch[0] for batch in batches if len(batch) == 1 and not batch[0].goals}
+                for found in [threads.submit(1, work, batch, is_mixed, is_alone) for batch in batches]:
+                    results.update(found.result())
+
+        running = [each.submit(whole.check, crate) for crate in whole.crates]
+        tried = [each.submit(judge, crate) for crate in chosen]
+        try:
+            for it in running:
+                it.result()
+            if words.ready:
+                with open(words.ready, "w", encoding="utf-8"):
+                    pass
+            for folder in held:
+                os.close(folder)
+            for it in tried:
+                it.result()
+        except RuntimeError as error:
+            threads.is_closed = True
+            sys.exit(str(error))
     failed = []
     for edit in edits:
         refused, why = results[edit]
@@ -530,7 +634,7 @@ def main():
         if words.show or not refused:
             print(f"{'refused' if refused else 'NOT REFUSED'}: {edit.label}: {why}")
     used = resource.getrusage(resource.RUSAGE_CHILDREN)
-    print(f"{number_of_batches} batches, {used.ru_utime + used.ru_stime:.0f} s of processor", end=", ")
+    print(f"{sum(numbers)} batches, {used.ru_utime + used.ru_stime:.0f} s of processor", end=", ")
     print(f"{time.time() - began:.0f} s")
     print(f"{len(edits) - len(failed)} refused, {len(failed)} not")
     sys.exit(1 if failed else 0)

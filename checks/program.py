@@ -1,5 +1,6 @@
 """Checks of the built program `faxrows`: real strips, cases with known results, devices, allocation failures."""
 import os
+import random
 import re
 import subprocess
 import tempfile
@@ -37,17 +38,31 @@ def assert_same_by_row(words, data, done):
 
 
 def assert_damage(words, data, lines, status):
-    """With `-d` the program reads as many rows, and ends in the same way. Only lenient data of Group 3 are repaired."""
+    """With `-d` the program reads as many rows, and ends in the same way. Only lenient data of Group 3 are repaired. The line before
+    the last one is that of the strict reading, if it fails: at the first damage, or before it."""
     done = run(["-d", *words], data)
-    *damaged, last = done.stdout.decode().splitlines()
+    *told_of, last = done.stdout.decode().splitlines()
+    damaged = [line for line in told_of if line.startswith("damaged ")]
+    missed = [line for line in told_of if line.startswith("missed ")]
+    strict = [line.partition(" ")[2] for line in told_of[-1:] if line.startswith("strict ")]
+    if strict:
+        told_of.pop()
+        assert "s" not in words[3] and (not told_of or int(strict[0].split()[1]) <= int(told_of[0].split()[2])), ("-d", words, strict)
+    if "r" not in words[3] and "s" not in words[3]:
+        found = run(["-d", *words[:3], words[3].replace("-", "") + "s"], data).stdout.decode().splitlines()[-1]
+        assert strict == [found.partition(" ")[2]] * found.startswith("error "), ("-d", words, strict, found)
     rows, (end, _, told) = len(lines) - 1, lines[-1].partition(" ")
     place = last.split()[2]
     expected = f"ok {rows} {len(damaged)} {told}" if end == "ok" else f"error {rows} {place} {told}"
     assert (done.returncode, last, done.stderr) == (status, expected, b""), ("-d", words, done)
     assert end == "ok" or int(place) <= 8 * len(data), ("-d", words, done)
-    numbers = [int(line.split()[1]) for line in damaged]
-    assert numbers == sorted(set(numbers)) and all(number < rows for number in numbers), ("-d", words, damaged)
-    assert not damaged or (words[0] != "g4" and "s" not in words[3]), ("-d", words, damaged)
+    numbers = [int(line.split()[1]) for line in told_of]
+    places = [int(line.split()[2]) for line in told_of]
+    assert len(told_of) == len(damaged) + len(missed), ("-d", words, told_of)
+    assert numbers == sorted(set(numbers)) and all(number < rows for number in numbers), ("-d", words, told_of)
+    assert places == sorted(places) and all(place <= 8 * len(data) for place in places), ("-d", words, told_of)
+    assert not told_of or strict or "s" in words[3], ("-d", words, told_of)
+    assert not told_of or (words[0] != "g4" and "s" not in words[3]), ("-d", words, told_of)
 
 
 def real_strips():
@@ -186,23 +201,30 @@ def bitmaps():
 
 
 INVALID, CUT = "invalid CCITT code sequence", "unexpected end of input"
-# Arguments after `-d` and data, the lines that the program writes, and its status: data without damage; an EOL that is missed; in a
-# strict reading too, where it is missing at 17; a damaged second line, which begins after its EOL at 17 to 29; the same in a strict
-# reading; a tag that is missing; a fault where nothing is repaired; and a thousand EOLs with a line of four ones after each, the
-# last of which is cut and read again.
+# Arguments after `-d` and data, the lines that the program writes, and its status: data without damage; an EOL that is missed, also
+# before a fault, before RTC and behind a damaged line; a run that is cut; in a strict reading the EOL that is missing at 17; a damaged
+# second line, which begins after its EOL at 17 to 29; the same in a strict reading; a tag that is missing; a fault where nothing is
+# repaired; and a thousand EOLs with a line of four ones after each, the last of which is cut and read again.
 DAMAGE = [
     ("g4 8 1 -", "31C0", ["ok 1 0 2"], 0),
     ("g4 8 1 r", "8C03", ["ok 1 0 2"], 0),
-    ("1d 8 2 l", "0019F800CC", ["ok 2 0 5"], 0),
+    ("1d 8 2 l", "0019F800CC", ["missed 0 17", f"strict 1 17 {INVALID}", "ok 2 0 5"], 0),
+    ("1d 8 0 l", "0019CC", ["missed 0 17", f"strict 1 17 {INVALID}", f"error 2 22 {CUT}"], 1),
+    ("1d 8 0 lb", "0019C0040040040040040040", ["missed 0 17", f"strict 1 17 {INVALID}", "ok 1 0 12"], 0),
+    ("1d 8 4 l", "0019800C400033800CC0", [f"damaged 1 29 {INVALID}", "missed 2 56", f"strict 1 29 {INVALID}", "ok 4 1 10"], 0),
+    ("1d 8 1 l", "001380", [f"strict 0 12 {INVALID}", "ok 1 0 3"], 0),
     ("1d 8 0 sl", "0019CC", [f"error 1 17 {INVALID}"], 1),
-    ("1d 8 0 l", "0019800C400033", [f"damaged 1 29 {INVALID}", "ok 3 1 7"], 0),
+    ("1d 8 0 l", "0019800C400033", [f"damaged 1 29 {INVALID}", f"strict 1 29 {INVALID}", "ok 3 1 7"], 0),
     ("1d 8 0 sl", "0019800C400033", [f"error 1 29 {INVALID}"], 1),
-    ("2d 8 0 l", "", [f"damaged 0 0 {CUT}", "ok 1 1 0"], 0),
-    ("g4 8 0 -", "31C000", [f"error 1 10 {INVALID}"], 1),
+    ("2d 8 0 l", "", [f"damaged 0 0 {CUT}", f"strict 0 0 {CUT}", "ok 1 1 0"], 0),
+    ("g4 8 0 -", "31C000", [f"strict 1 10 {INVALID}", f"error 1 10 {INVALID}"], 1),
     (
         "1d 8 0 l",
         "001F" * 1000,
-        [*[f"damaged {row} {12 + 16 * row} {INVALID}" for row in range(999)], f"damaged 999 15996 {CUT}", f"error 1000 15996 {CUT}"],
+        [
+            *[f"damaged {row} {12 + 16 * row} {INVALID}" for row in range(999)],
+            *[f"damaged 999 15996 {CUT}", f"strict 0 12 {INVALID}", f"error 1000 15996 {CUT}"],
+        ],
         1,
     ),
 ]
@@ -215,6 +237,33 @@ def damage():
     for words in ("-d", "-d -i g4 8 1 -", "-i -d g4 8 1 -", "-d g4 8 1 -d"):
         done = run(words.split(), bytes.fromhex("31C0"))
         assert (done.returncode, done.stdout, done.stderr) == (2, b"", b"faxrows: bad arguments\n"), (words, done)
+
+
+def flips_are_told():
+    """A bit of a small strip of Group 3 with EOLs is flipped, at 300 places: `-d` tells of it exactly where a strict run fails. How many
+    of the pictures that differ it tells of is printed."""
+    with open("corpus/manifest.tsv", encoding="utf-8") as file:
+        lines = [line.rstrip("\n").split("\t") for line in file if not line.startswith("#")]
+    strips = {line[1]: line[2:5] for line in lines if line[2] == "1d" and f"{line[4]}:l" in line[5].split(",")}
+    smallest = sorted(strips, key=lambda name: (os.path.getsize(f"corpus/{name}"), name))[:3]
+    chosen = random.Random(4)
+    differ = told = seen = 0
+    for name in smallest:
+        with open(f"corpus/{name}", "rb") as file:
+            data = file.read()
+        whole = run([*strips[name], "l"], data).stdout
+        for bit in (chosen.randrange(8 * len(data)) for _ in range(100)):
+            flipped = bytearray(data)
+            flipped[bit // 8] ^= 128 >> bit % 8
+            fails = run([*strips[name], "ls"], flipped).returncode == 1
+            tells = b"\nstrict " in b"\n" + run(["-d", *strips[name], "l"], flipped).stdout
+            assert tells == fails, (name, bit)
+            if run([*strips[name], "l"], flipped).stdout != whole:
+                differ += 1
+                told += tells
+            seen += 1
+    assert 0 < told <= differ <= seen
+    print(f"  of {differ} pictures that differ by a flipped bit -d and a strict run tell {told}")
 
 
 def devices_that_fail():
@@ -299,4 +348,16 @@ def refused_memory():
             print(f"  {words}: {len(answers)} allocations refused in turn, {len(expected)} answers")
 
 
-CHECKS = [real_strips, known_cases, statuses, words_alone, bitmaps, damage, devices_that_fail, a_file_and_a_pipe, long_data, refused_memory]
+CHECKS = [
+    real_strips,
+    known_cases,
+    statuses,
+    words_alone,
+    bitmaps,
+    damage,
+    flips_are_told,
+    devices_that_fail,
+    a_file_and_a_pipe,
+    long_data,
+    refused_memory,
+]

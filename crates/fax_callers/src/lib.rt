@@ -18,6 +18,3 @@ pub use first_rows::{FirstRows, decode_first_rows};
 pub use once::decode_once;
 pub use pages::{group4_pages, page_end, page_ends};
 pub use strip::strip_to_bitmap;
-
-#[cfg(test)]
-mod tests;

@@ -30,12 +30,3 @@ pub use error::EncodeError;
 pub use painting::paint_row;
 pub use round_trip::{bitmap_by_group3, bitmap_by_group4};
 pub use settings::EncodeSettings;
-
-#[cfg(test)]
-mod bitmap_tests;
-#[cfg(test)]
-mod large_tests;
-#[cfg(test)]
-mod settings_tests;
-#[cfg(test)]
-mod tests;

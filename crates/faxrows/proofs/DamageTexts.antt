@@ -5,8 +5,8 @@ use Rattle.faxrows.proofs.Names.{IsOk, IsErr, DecodeError, UnexpectedEof, Invali
 use Rattle.faxrows.proofs.Names.{DecodeSettings, Bits, line_starts, failed_at, RowsRead, ReadsNext, at_end_of_rows, AppendsFront}
 use Rattle.faxrows.proofs.Names.{Good, Faulty, Memory, IsDamageText, IsDamageWithoutMemory, damage_after, damage_lines}
 use Rattle.faxrows.proofs.Names.{damage_of_row, line_of_damage, whole_damage, Outcome, EndsAfter, done_of, outcome_of, rows_of}
-use Rattle.faxrows.proofs.Names.{EndsByRow}
-use Rattle.faxrows.proofs.Outputs.{front_of_longer}
+use Rattle.faxrows.proofs.Names.{EndsByRow, line_of_miss, miss_of_row, missed_before, misses_by_line, repair_of_row, start_in}
+use Rattle.faxrows.proofs.Outputs.{front_of_longer, front_of_more}
 
 -- ---- The lines of the rows
 
@@ -35,7 +35,7 @@ front_of_damage a b settings bits rows all few front =
 
 -- the line of a row that was read is that of its index
 line_is : (old new : RowsRead) → ReadsNext old new (Ok true)
-    → line_of_damage (new.taken - 1) new.line_start new.damage ≡ damage_of_row old.settings old.bits old.taken
+    → line_of_damage (new.taken - 1) new.line_start new.damage ≡ repair_of_row old.settings old.bits old.taken
 line_is old new reads =
     let index : new.taken - 1 ≡ old.taken = omega (arith, (reads.more refl).1) in
     ap (λ (n : ℕ). line_of_damage n new.line_start new.damage) index
@@ -43,19 +43,54 @@ line_is old new reads =
     ∙ ap (λ (fault : Option DecodeError). line_of_damage old.taken
     (get_or (line_starts old.settings old.bits) old.taken 0) fault) (reads.damage refl)
 
--- with it there is one more row
+-- the lines of the first n rows, without that of the EOL after the last one, whose gap is passed with the next row
+abbrev pub damage_so_far : DecodeSettings → Bits → ℕ → List ℕ
+damage_so_far settings bits zero = []
+damage_so_far settings bits (suc row) = damage_lines settings bits row ++ repair_of_row settings bits row
+
+-- with it they are all lines of these rows
+miss_added : (settings : DecodeSettings) (bits : Bits) (rows : ℕ)
+    → damage_so_far settings bits rows ++ line_of_miss (rows - 1) (missed_before settings bits rows)
+    ≡ damage_lines settings bits rows
+miss_added settings bits zero = refl
+miss_added settings bits (suc row) =
+    let index : suc row - 1 ≡ row = omega arith in
+    ap (λ (n : ℕ). damage_so_far settings bits (suc row)
+    ++ line_of_miss n (start_in (get_or (misses_by_line settings bits) row []))) index
+    ∙ append_assoc (damage_lines settings bits row) (repair_of_row settings bits row) (miss_of_row settings bits row)
+
+-- a call tells of it
+pub miss_told : (settings : DecodeSettings) (bits : Bits) (old new : RowsRead) (result : Result Bool DecodeError)
+    → old.settings ≡ settings → old.bits ≡ bits → ReadsNext old new result → damage_so_far settings bits old.taken
+    ++ line_of_miss (old.taken - 1) new.missed ≡ damage_lines settings bits old.taken
+miss_told settings bits old new result of_settings of_bits reads =
+    let missed : new.missed ≡ missed_before settings bits old.taken
+    = reads.missed ∙ ap (λ (s : DecodeSettings). missed_before s old.bits old.taken) of_settings
+    ∙ ap (λ (b : Bits). missed_before settings b old.taken) of_bits in
+    ap (λ (m : Option ℕ). damage_so_far settings bits old.taken ++ line_of_miss (old.taken - 1) m) missed
+    ∙ miss_added settings bits old.taken
+
+-- a front of the lines without it is one of all lines
+pub front_so_far : (a b : Option (List ℕ)) (settings : DecodeSettings) (bits : Bits) (rows all : ℕ) → rows ≤ all
+    → AppendsFront a b (damage_so_far settings bits rows) → AppendsFront a b (damage_lines settings bits all)
+front_so_far a b settings bits rows all few front =
+    front_of_damage a b settings bits rows all few (subst (AppendsFront a b) (miss_added settings bits rows)
+    (front_of_more a b (damage_so_far settings bits rows)
+    (line_of_miss (rows - 1) (missed_before settings bits rows)) front))
+
+-- with the line of its damage there is one more row
 pub damage_more : (settings : DecodeSettings) (bits : Bits) (old new : RowsRead) → old.settings ≡ settings
     → old.bits ≡ bits → ReadsNext old new (Ok true) → damage_lines settings bits old.taken
-    ++ line_of_damage (new.taken - 1) new.line_start new.damage ≡ damage_lines settings bits new.taken
+    ++ line_of_damage (new.taken - 1) new.line_start new.damage ≡ damage_so_far settings bits new.taken
 damage_more settings bits old new of_settings of_bits reads =
     let next : suc old.taken ≡ new.taken = omega (arith, (reads.more refl).1) in
     let line = line_of_damage (new.taken - 1) new.line_start new.damage in
-    let here : damage_lines old.settings old.bits old.taken ++ line ≡ damage_lines old.settings old.bits new.taken
+    let here : damage_lines old.settings old.bits old.taken ++ line ≡ damage_so_far old.settings old.bits new.taken
     = ap (λ l. damage_lines old.settings old.bits old.taken ++ l) (line_is old new reads) ∙ ap
-    (damage_lines old.settings old.bits) next in
-    subst (λ (b : Bits). damage_lines settings b old.taken ++ line ≡ damage_lines settings b new.taken) of_bits
+    (damage_so_far old.settings old.bits) next in
+    subst (λ (b : Bits). damage_lines settings b old.taken ++ line ≡ damage_so_far settings b new.taken) of_bits
     (subst (λ (s : DecodeSettings). damage_lines s old.bits old.taken ++ line
-    ≡ damage_lines s old.bits new.taken) of_settings here)
+    ≡ damage_so_far s old.bits new.taken) of_settings here)
 
 -- ---- The place of a fault
 

@@ -4,7 +4,9 @@ pub use Rattle.fax_encode.specs.Packed.{Bitmap, packed, with_packed_row}
 pub use Rattle.fax_program.specs.Devices.{AppendsFront}
 pub use Rattle.faxrows.specs.Arguments.{arguments_of_words}
 pub use Rattle.faxrows.specs.DamageText.{IsDamageText, IsDamageWithoutMemory, damage_after, damage_lines, damage_of_row}
-pub use Rattle.faxrows.specs.DamageText.{end_with_fault, last_line_of_damage, line_of_damage, number_and, numbered, whole_damage}
+pub use Rattle.faxrows.specs.DamageText.{end_with_fault, last_line_of_damage, line_of_damage, line_of_miss, miss_of_row}
+pub use Rattle.faxrows.specs.DamageText.{end_of_damage, fault_after, line_of_strict, strict_fault, strictly}
+pub use Rattle.faxrows.specs.DamageText.{number_and, numbered, repair_of_row, whole_damage}
 pub use Rattle.faxrows.specs.Output.{PassesOn}
 pub use Rattle.faxrows.specs.PackedRuns.{IsPackedOf}
 pub use Rattle.faxrows.specs.Runs.{EndsAfter, IsEndOfRun, IsTextOfWant, OnKnown, Outcome, done_of, outcome_of, rows_of}
@@ -13,10 +15,12 @@ pub use Rattle.faxrows.specs.RunsByRow.{EndsByRow, IsTextByRow, IsTextWithoutMem
 pub use Rattle.faxrows.specs.Text.{line_of_outcome, line_of_row, lines_of_rows, text_of, text_of_change}
 pub use Rattle.faxrows.specs.declared.arguments.Arguments.{Arguments}
 pub use Rattle.faxrows.specs.declared.program.Done.{Done}
+pub use Rattle.faxrows.specs.declared.strict_reading.StrictFault.{StrictFault}
 pub use Rattle.faxrows.specs.declared.program.Done.TheVariants.{Faulty, Good, Memory}
 pub use Rattle.hayro_ccitt.specs.Answers.{meaning_after}
 pub use Rattle.hayro_ccitt.specs.Bits.{Bits, bits_in, bits_of}
 pub use Rattle.hayro_ccitt.specs.Context.{Held}
+pub use Rattle.hayro_ccitt.specs.Damage.{misses_by_line, missed_before, start_in}
 pub use Rattle.hayro_ccitt.specs.Decoding.{SinkState, StopsShort, TakesRows}
 pub use Rattle.hayro_ccitt.specs.PlainReading.{failed_at, line_starts, lines_of, plain}
 pub use Rattle.hayro_ccitt.specs.Rows.{HaveWidth, Row, changes}

@@ -1,12 +1,13 @@
 //! Lines that report damage.
 
-ghost use Rattle.std.specs.Prelude.{◌≡◌, ◌≤◌, ◌++◌, ◌∷◌, [], OnOk, OnErr, IfErr, Some, Ok, Err, drop, codes, true, ℕ};
+ghost use Rattle.std.specs.Prelude.{◌≡◌, ◌≤◌, ◌-◌, ◌++◌, ◌∷◌, [], OnOk, OnErr, IfErr, Some, Ok, Err, drop, codes, true, ℕ};
 ghost use Rattle.fax_program.specs.Devices.{AppendsFront};
-ghost use Rattle.faxrows.specs.DamageText.{end_with_fault, number_and, numbered};
+ghost use Rattle.faxrows.specs.DamageText.{end_with_fault, line_of_miss, line_of_strict, number_and, numbered};
 ghost use Rattle.faxrows.specs.Output.{PassesOn};
 
 use crate::digits::{MOST_DIGITS, put_decimal};
 use crate::output::put;
+use crate::strict_reading::StrictFault;
 use fax_program::{Device, RunFault};
 use hayro_ccitt::DecodeError;
 use std::io::Write;
@@ -43,25 +44,26 @@ pub(crate) fn put_number<W: Write>(
     put(&text[start..], waiting, writer)
 }
 
-/// Puts a word and two numbers, with a space after each number.
+/// Puts a word, a number, a space, and a number and a sign.
 pub(crate) fn put_numbers<W: Write>(
     word: &[u8],
     first: u64,
     second: u64,
+    sign: u8,
     waiting: &mut Vec<u8>,
     writer: &mut Device<W>,
 ) -> std::result::Result<(), RunFault>
     ensures ok { OnOk result (PassesOn (W.contents writer.old.0) (W.contents writer.new.0)
-        waiting.old.items (numbered word.now first second) waiting.new.items) }
+        waiting.old.items (word.now ++ (number_and first 32 ++ number_and second sign)) waiting.new.items) }
     ensures front { OnErr result (AppendsFront (W.contents writer.old.0) (W.contents writer.new.0)
-        (waiting.old.items ++ numbered word.now first second)) }
+        (waiting.old.items ++ (word.now ++ (number_and first 32 ++ number_and second sign)))) }
     ensures flag { OnOk result (writer.new.1 ≡ writer.old.1) }
     ensures failed { OnErr result (writer.new.1 ≡ true) }
     ensures only { IfErr result (λ fault. fault ≡ RunFault.Write) }
 {
     put(word, waiting, writer)?;
     put_number(first, b' ', waiting, writer)?;
-    put_number(second, b' ', waiting, writer)
+    put_number(second, sign, waiting, writer)
 }
 
 /// Returns a fault's text with the line's end.
@@ -94,8 +96,55 @@ pub(crate) fn put_fault<W: Write>(
     ensures failed { OnErr result (writer.new.1 ≡ true) }
     ensures only { IfErr result (λ fault. fault ≡ RunFault.Write) }
 {
-    put_numbers(word, row, start, waiting, writer)?;
+    put_numbers(word, row, start, b' ', waiting, writer)?;
     put(fault_and_end(fault), waiting, writer)
+}
+
+/// Puts the line of an EOL that was missed after the row before this number of rows, if one was.
+pub(crate) fn put_missed<W: Write>(
+    rows: u64,
+    missed: Option<usize>,
+    waiting: &mut Vec<u8>,
+    writer: &mut Device<W>,
+) -> std::result::Result<(), RunFault>
+    ensures ok { OnOk result (PassesOn (W.contents writer.old.0) (W.contents writer.new.0)
+        waiting.old.items (line_of_miss (rows - 1) missed) waiting.new.items) }
+    ensures front { OnErr result (AppendsFront (W.contents writer.old.0) (W.contents writer.new.0)
+        (waiting.old.items ++ line_of_miss (rows - 1) missed)) }
+    ensures flag { OnOk result (writer.new.1 ≡ writer.old.1) }
+    ensures failed { OnErr result (writer.new.1 ≡ true) }
+    ensures only { IfErr result (λ fault. fault ≡ RunFault.Write) }
+{
+    match missed {
+        Some(start) => {
+            let row = rows.saturating_sub(1);
+            put_numbers(b"missed ", row, start as u64, b'\n', waiting, writer)
+        }
+        None => Ok(()),
+    }
+}
+
+/// Puts the line of what a strict reading found, if it found a fault.
+pub(crate) fn put_strict<W: Write>(
+    found: Option<StrictFault>,
+    waiting: &mut Vec<u8>,
+    writer: &mut Device<W>,
+) -> std::result::Result<(), RunFault>
+    ensures ok { OnOk result (PassesOn (W.contents writer.old.0) (W.contents writer.new.0)
+        waiting.old.items (line_of_strict found) waiting.new.items) }
+    ensures front { OnErr result (AppendsFront (W.contents writer.old.0) (W.contents writer.new.0)
+        (waiting.old.items ++ line_of_strict found)) }
+    ensures flag { OnOk result (writer.new.1 ≡ writer.old.1) }
+    ensures failed { OnErr result (writer.new.1 ≡ true) }
+    ensures only { IfErr result (λ fault. fault ≡ RunFault.Write) }
+{
+    match found {
+        Some(found) => {
+            let start = found.start as u64;
+            put_fault(b"strict ", found.row, start, found.fault, waiting, writer)
+        }
+        None => Ok(()),
+    }
 }
 
 /// Puts the last line of a good reading: the rows, the number of them that were repaired, and the byte count.
@@ -114,6 +163,6 @@ pub(crate) fn put_good_end<W: Write>(
     ensures failed { OnErr result (writer.new.1 ≡ true) }
     ensures only { IfErr result (λ fault. fault ≡ RunFault.Write) }
 {
-    put_numbers(b"ok ", rows, damaged, waiting, writer)?;
+    put_numbers(b"ok ", rows, damaged, b' ', waiting, writer)?;
     put_number(count, b'\n', waiting, writer)
 }

@@ -1,9 +1,16 @@
 use super::*;
 use named_requests::{refuse_request, was_refused};
 use std::alloc::{AllocError, Global};
+use std::fmt::Debug;
 use std::io;
 use std::io::{Read, Write};
+use std::process::Abort;
 use std::test::Fail;
+
+/// Compares two values. The proof of this call takes no time, and that of `assert_eq!` seconds.
+fn same<T: PartialEq + Debug + Drop>(rt: &impl Abort, found: T, expected: T) {
+    assert_eq!(rt; found, expected);
+}
 
 /// The calls of a device: how many come before one fails, and whether those after it fail too.
 #[derive(Drop)]
@@ -171,7 +178,16 @@ fn ran_for_damage(
 /// Data of three rows, the second of which is damaged, and what is written of it.
 const DAMAGED_ROWS: [u8; 7] = [0x00, 0x19, 0x80, 0x0C, 0x40, 0x00, 0x33];
 
-const DAMAGE: &str = "damaged 1 29 invalid CCITT code sequence\nok 3 1 7\n";
+/// The same, and behind it a bit, an EOL and a white line.
+const DAMAGED_AND_MISSED: [u8; 10] = [0x00, 0x19, 0x80, 0x0C, 0x40, 0x00, 0x33, 0x80, 0x0C, 0xC0];
+
+/// An EOL, a white line, a bit, and RTC.
+const MISSED_BEFORE_RTC: [u8; 12] = [
+    0x00, 0x19, 0xC0, 0x04, 0x00, 0x40, 0x04, 0x00, 0x40, 0x04, 0x00, 0x40,
+];
+
+const DAMAGE: &str =
+    "damaged 1 29 invalid CCITT code sequence\nstrict 1 29 invalid CCITT code sequence\nok 3 1 7\n";
 
 #[test]
 fn writes_damage(rt: HostRuntime) -> Result<(), Fail> {
@@ -196,6 +212,24 @@ fn writes_damage(rt: HostRuntime) -> Result<(), Fail> {
             "ok 1 0 4\n",
         ),
         (
+            "1d 8 4 l",
+            DAMAGED_AND_MISSED.as_slice(),
+            Done::Good,
+            "damaged 1 29 invalid CCITT code sequence\nmissed 2 56\nstrict 1 29 invalid CCITT code sequence\nok 4 1 10\n",
+        ),
+        (
+            "1d 8 0 l",
+            [0x00, 0x19, 0xCC].as_slice(),
+            Done::Faulty,
+            "missed 0 17\nstrict 1 17 invalid CCITT code sequence\nerror 2 22 unexpected end of input\n",
+        ),
+        (
+            "1d 8 0 lb",
+            MISSED_BEFORE_RTC.as_slice(),
+            Done::Good,
+            "missed 0 17\nstrict 1 17 invalid CCITT code sequence\nok 1 0 12\n",
+        ),
+        (
             "g4 8 2 -",
             [0x31, 0xF8].as_slice(),
             Done::Good,
@@ -205,18 +239,27 @@ fn writes_damage(rt: HostRuntime) -> Result<(), Fail> {
             "2d 8 0 l",
             [].as_slice(),
             Done::Good,
-            "damaged 0 0 unexpected end of input\nok 1 1 0\n",
+            "damaged 0 0 unexpected end of input\nstrict 0 0 unexpected end of input\nok 1 1 0\n",
         ),
         (
             "2d 8 0 -",
             [].as_slice(),
             Done::Faulty,
-            "error 0 0 unexpected end of input\n",
+            "strict 0 0 unexpected end of input\nerror 0 0 unexpected end of input\n",
         ),
+        // A run of ten in eight columns is cut, which only the strict reading tells.
+        (
+            "1d 8 1 l",
+            [0x00, 0x13, 0x80].as_slice(),
+            Done::Good,
+            "strict 0 12 invalid CCITT code sequence\nok 1 0 3\n",
+        ),
+        // In no columns nothing is read.
+        ("g4 0 0 -", [0x80].as_slice(), Done::Good, "ok 0 0 0\n"),
     ] {
         let (answer, written) = ran_for_damage(rt.alloc(), line, input)?;
-        assert_eq!(rt; answer, Ok(want), "at {line}");
-        assert_eq!(rt; written.as_slice(), text.as_bytes(), "at {line}");
+        same(&rt, (line, answer), (line, Ok(want)));
+        same(&rt, (line, written.as_slice()), (line, text.as_bytes()));
     }
     Ok(())
 }
@@ -224,7 +267,7 @@ fn writes_damage(rt: HostRuntime) -> Result<(), Fail> {
 #[test]
 fn fails_at_each_write_of_damage(rt: HostRuntime) -> Result<(), Fail> {
     let text = DAMAGE.as_bytes();
-    for writes in 0..60usize {
+    for writes in 0..100usize {
         let words = words_of(rt.alloc(), "1d 8 0 l")?;
         let mut reader = Device::new(DAMAGED_ROWS.as_slice());
         let mut writer = Device::new(Choking {
@@ -234,11 +277,11 @@ fn fails_at_each_write_of_damage(rt: HostRuntime) -> Result<(), Fail> {
         let answer = run_damage(rt.alloc(), words.as_slice(), &mut reader, &mut writer);
         let written = writer.into_inner().bytes;
         if writes < text.len() {
-            assert_eq!(rt; answer, Err(RunFault::Write), "at {writes}");
-            assert_eq!(rt; written.as_slice(), &text[..writes], "at {writes}");
+            same(&rt, (writes, answer), (writes, Err(RunFault::Write)));
+            same(&rt, (writes, written.as_slice()), (writes, &text[..writes]));
         } else {
-            assert_eq!(rt; answer, Ok(Done::Good), "at {writes}");
-            assert_eq!(rt; written.as_slice(), text, "at {writes}");
+            same(&rt, (writes, answer), (writes, Ok(Done::Good)));
+            same(&rt, (writes, written.as_slice()), (writes, text));
         }
     }
     Ok(())
@@ -311,11 +354,19 @@ fn writes_rows_and_the_outcome(rt: HostRuntime) -> Result<(), Fail> {
         ),
     ] {
         let (answer, written) = ran(rt.alloc(), line, input)?;
-        assert_eq!(rt; answer, Ok(want), "at {line}");
-        assert_eq!(rt; written.as_slice(), text.as_bytes(), "at {line}");
+        same(&rt, (line, answer), (line, Ok(want)));
+        same(&rt, (line, written.as_slice()), (line, text.as_bytes()));
         let (answer, written) = ran_by_row(rt.alloc(), line, input)?;
-        assert_eq!(rt; answer, Ok(want), "by row at {line}");
-        assert_eq!(rt; written.as_slice(), text.as_bytes(), "by row at {line}");
+        same(
+            &rt,
+            ("by row at", line, answer),
+            ("by row at", line, Ok(want)),
+        );
+        same(
+            &rt,
+            ("by row at", line, written.as_slice()),
+            ("by row at", line, text.as_bytes()),
+        );
     }
     Ok(())
 }
@@ -331,8 +382,8 @@ fn writes_a_bitmap_in_either_order(rt: HostRuntime) -> Result<(), Fail> {
         let mut writer = Device::new(Vec::new(rt.alloc()));
         let answer = run_packed(rt.alloc(), words.as_slice(), &mut reader, &mut writer);
         let written: Vec<u8> = writer.into_inner();
-        assert_eq!(rt; answer, Ok(Ok(())), "at {line}");
-        assert_eq!(rt; written.as_slice(), [0x18].as_slice(), "at {line}");
+        same(&rt, (line, answer), (line, Ok(Ok(()))));
+        same(&rt, (line, written.as_slice()), (line, [0x18].as_slice()));
     }
     Ok(())
 }
@@ -389,10 +440,14 @@ fn knows_bad_words(rt: HostRuntime) -> Result<(), Fail> {
         "g4 8 1 --",
     ] {
         let (answer, written) = ran(rt.alloc(), line, [0x31, 0xC0].as_slice())?;
-        assert_eq!(rt; answer, Err(RunFault::BadArguments), "at {line}");
+        same(&rt, (line, answer), (line, Err(RunFault::BadArguments)));
         assert!(rt; written.is_empty(), "at {line}");
         let (answer, written) = ran_by_row(rt.alloc(), line, [0x31, 0xC0].as_slice())?;
-        assert_eq!(rt; answer, Err(RunFault::BadArguments), "by row at {line}");
+        same(
+            &rt,
+            ("by row at", line, answer),
+            ("by row at", line, Err(RunFault::BadArguments)),
+        );
         assert!(rt; written.is_empty(), "by row at {line}");
     }
     Ok(())
@@ -412,15 +467,15 @@ fn fails_at_each_read(rt: HostRuntime) -> Result<(), Fail> {
             let answer = run(rt.alloc(), words.as_slice(), &mut reader, &mut writer);
             let written: Vec<u8> = writer.into_inner();
             if reads < 3 {
-                assert_eq!(rt; answer, Err(RunFault::Read), "at {reads}");
+                same(&rt, (reads, answer), (reads, Err(RunFault::Read)));
                 assert!(rt; written.is_empty(), "at {reads}");
-                assert_eq!(rt; reader.into_inner().place, reads, "at {reads}");
+                same(&rt, (reads, reader.into_inner().place), (reads, reads));
             } else {
-                assert_eq!(rt; answer, Ok(Done::Good), "at {reads}");
-                assert_eq!(rt;
-                    written.as_slice(),
-                    b"r 3 5\nok 2\n".as_slice(),
-                    "at {reads}"
+                same(&rt, (reads, answer), (reads, Ok(Done::Good)));
+                same(
+                    &rt,
+                    (reads, written.as_slice()),
+                    (reads, b"r 3 5\nok 2\n".as_slice()),
                 );
             }
         }
@@ -442,11 +497,11 @@ fn fails_at_each_write(rt: HostRuntime) -> Result<(), Fail> {
             let answer = run(rt.alloc(), words.as_slice(), &mut reader, &mut writer);
             let written = writer.into_inner().bytes;
             if writes < text.len() {
-                assert_eq!(rt; answer, Err(RunFault::Write), "at {writes}");
-                assert_eq!(rt; written.as_slice(), &text[..writes], "at {writes}");
+                same(&rt, (writes, answer), (writes, Err(RunFault::Write)));
+                same(&rt, (writes, written.as_slice()), (writes, &text[..writes]));
             } else {
-                assert_eq!(rt; answer, Ok(Done::Good), "at {writes}");
-                assert_eq!(rt; written.as_slice(), text.as_slice(), "at {writes}");
+                same(&rt, (writes, answer), (writes, Ok(Done::Good)));
+                same(&rt, (writes, written.as_slice()), (writes, text.as_slice()));
             }
         }
     }
@@ -466,11 +521,11 @@ fn fails_at_each_write_by_row(rt: HostRuntime) -> Result<(), Fail> {
         let answer = run_by_row(rt.alloc(), words.as_slice(), &mut reader, &mut writer);
         let written = writer.into_inner().bytes;
         if writes < text.len() {
-            assert_eq!(rt; answer, Err(RunFault::Write), "at {writes}");
-            assert_eq!(rt; written.as_slice(), &text[..writes], "at {writes}");
+            same(&rt, (writes, answer), (writes, Err(RunFault::Write)));
+            same(&rt, (writes, written.as_slice()), (writes, &text[..writes]));
         } else {
-            assert_eq!(rt; answer, Ok(Done::Good), "at {writes}");
-            assert_eq!(rt; written.as_slice(), text.as_slice(), "at {writes}");
+            same(&rt, (writes, answer), (writes, Ok(Done::Good)));
+            same(&rt, (writes, written.as_slice()), (writes, text.as_slice()));
         }
     }
     Ok(())
@@ -489,13 +544,21 @@ fn asks_a_stalled_writer_once(rt: HostRuntime) -> Result<(), Fail> {
         });
         let answer = run(rt.alloc(), words.as_slice(), &mut reader, &mut writer);
         let writer: Stalling = writer.into_inner();
-        assert_eq!(rt; answer, Err(RunFault::Write), "at {stalls_after}");
-        assert_eq!(rt;
-            writer.bytes.as_slice(),
-            &text[..stalls_after],
-            "at {stalls_after}"
+        same(
+            &rt,
+            (stalls_after, answer),
+            (stalls_after, Err(RunFault::Write)),
         );
-        assert_eq!(rt; writer.writes, stalls_after + 1, "at {stalls_after}");
+        same(
+            &rt,
+            (stalls_after, writer.bytes.as_slice()),
+            (stalls_after, &text[..stalls_after]),
+        );
+        same(
+            &rt,
+            (stalls_after, writer.writes),
+            (stalls_after, stalls_after + 1),
+        );
     }
     Ok(())
 }
@@ -509,13 +572,15 @@ fn prints_faults(rt: HostRuntime) -> Result<(), Fail> {
         (RunFault::TooLong, "input too long"),
         (RunFault::Write, "cannot write"),
     ] {
-        assert_eq!(rt;
+        same(
+            &rt,
             String::format(rt.alloc(), format_args!("{fault}"))?.as_str(),
-            text
+            text,
         );
-        assert_eq!(rt;
+        same(
+            &rt,
             String::format(rt.alloc(), format_args!("{fault:>20}"))?.as_str(),
-            text
+            text,
         );
     }
     Ok(())
@@ -526,7 +591,7 @@ fn sink_without_memory(rt: HostRuntime) {
     refuse_request(rt.alloc(), 1);
     let sink = TextSink::new(rt.alloc());
     assert!(rt; !was_refused(rt.alloc()));
-    assert_eq!(rt; sink.text(), [0u8; 0].as_slice());
+    same(&rt, sink.text(), [0u8; 0].as_slice());
 }
 
 /// A writer that allocates nothing: it compares what it is given with what is expected, and counts how much was equal.
@@ -596,7 +661,10 @@ fn refused_memory_of_damage(rt: HostRuntime) -> Result<(), Fail> {
     let words = words_of(rt.alloc(), "1d 8 0 l")?;
     for number in 1..20usize {
         let mut is_known = false;
-        for text in [DAMAGE, "error 1 29 out of memory\n"] {
+        for text in [
+            DAMAGE,
+            "strict 1 29 invalid CCITT code sequence\nerror 1 29 out of memory\n",
+        ] {
             let mut reader = Device::new(DAMAGED_ROWS.as_slice());
             let mut writer = Device::new(Comparing {
                 wanted: text.as_bytes(),

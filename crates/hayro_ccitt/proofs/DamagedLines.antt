@@ -11,6 +11,7 @@ pub mod LinesBeforeEol
 pub mod LinesByEols
 pub mod LinesPassed
 pub mod LocalByTests
+pub mod PassedWork
 pub mod PastEol
 pub mod RunsAlike
 pub mod SoughtTurns

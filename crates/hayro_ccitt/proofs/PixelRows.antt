@@ -1,4 +1,5 @@
 pub mod B1ByParity
+pub mod EndedPlaces
 pub mod ChangePlaces
 pub mod ChangesAndPixels
 pub mod Painting

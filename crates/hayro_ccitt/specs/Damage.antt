@@ -1,6 +1,6 @@
 -- Damage that a lenient reading of Group 3 data with EOLs passes: rows that it repairs, and EOLs that it misses (T.4, 4.1.2).
-use Rattle.std.specs.Prelude.{ℕ, ◌+◌, ◌-◌, Bool, not, ◌&&◌, ◌||◌, List, [], ◌∷◌, ◌++◌, length, flat_map, ◌==◌, Option, Some}
-use Rattle.std.specs.Prelude.{None, if◌then◌else◌}
+use Rattle.std.specs.Prelude.{ℕ, zero, suc, ◌+◌, ◌-◌, Bool, not, ◌&&◌, ◌||◌, List, [], ◌∷◌, ◌++◌, length, flat_map, ◌==◌}
+use Rattle.std.specs.Prelude.{Option, Some, None, if◌then◌else◌, get_or}
 use Rattle.hayro_ccitt.specs.declared.error.DecodeError.{DecodeError}
 use Rattle.hayro_ccitt.specs.declared.error.DecodeError.TheVariants.{InvalidCode}
 use Rattle.hayro_ccitt.specs.declared.settings.DecodeSettings.{DecodeSettings}
@@ -67,6 +67,16 @@ misses_by_line settings bits = if settings.columns == 0 then [] else gathered_of
 -- The EOLs that the plain reading misses, in order (T.4, 4.1.2).
 abbrev pub misses_of : DecodeSettings → Bits → List Damaged
 misses_of settings bits = flat_map (λ missed. missed) (misses_by_line settings bits)
+
+-- the offset of what is missed after a line, if anything is
+abbrev pub start_in : List Damaged → Option ℕ
+start_in [] = None
+start_in (missed ∷ more) = Some missed.start
+
+-- where the EOL was missed in the gap before the line after this number of rows, if it was (T.4, 4.1.2)
+abbrev pub missed_before : DecodeSettings → Bits → ℕ → Option ℕ
+missed_before settings bits zero = None
+missed_before settings bits (suc row) = start_in (get_or (misses_by_line settings bits) row [])
 
 -- ---- All damage
 

@@ -6,16 +6,18 @@ use Rattle.hayro_ccitt.specs.declared.row_cursor.RowCursor.TheInside.{Inside}
 use Rattle.hayro_ccitt.specs.declared.row_reader.Stand.{Stand}
 use Rattle.hayro_ccitt.specs.Bits.{Bits}
 use Rattle.hayro_ccitt.specs.Context.{Held}
-use Rattle.hayro_ccitt.specs.RowsRead.{RowsRead, ReaderStands, DamageIsCounted, WorkIsPaid, read_so_far}
+use Rattle.hayro_ccitt.specs.RowsRead.{RowsRead, ReaderStands, DamageIsCounted, MissIsTold, WorkIsPaid, read_so_far}
 
 -- what is kept of a reading whose data is elsewhere: the context, the order of the bits, the offset of the next bit, that of the
--- last row's line and its fault where it was repaired, where the reading is, and the work of all calls
+-- last row's line and its fault where it was repaired, that of an EOL that the last gap lacked, where the reading is, and the
+-- work of all calls
 pub record Paused : Type 0 where
   pub held : Held
   pub order : BitOrder
   pub place : ℕ
   pub line_start : ℕ
   pub damage : Option DecodeError
+  pub missed : Option ℕ
   pub stand : Stand
   pub ticks : ℕ
 
@@ -26,6 +28,7 @@ paused_of r = record {
   place = r.place;
   line_start = r.rows.started_at;
   damage = r.rows.damage;
+  missed = r.rows.missed;
   stand = r.rows.stand;
   ticks = r.rows.ctx.ticks;
 }
@@ -33,7 +36,7 @@ paused_of r = record {
 -- what was read of these bits
 abbrev pub rows_over : Bits → Paused → RowsRead
 rows_over bits paused = read_so_far paused.held paused.ticks (record { bits = bits; place = paused.place }) paused.line_start
-    paused.damage paused.stand
+    paused.damage paused.missed paused.stand
 
 -- It is a reading of these bits: its rows so far are those of the plain reading.
 pub record IsReadingOf (bits : Bits) (paused : Paused) : Type 0 where
@@ -41,3 +44,4 @@ pub record IsReadingOf (bits : Bits) (paused : Paused) : Type 0 where
   pub stands : ReaderStands paused.stand paused.held.settings bits paused.held paused.place
   pub damage : DamageIsCounted paused.stand paused.held.settings bits paused.held
   pub work : WorkIsPaid paused.stand paused.held.settings bits paused.held paused.place paused.ticks
+  pub missed : MissIsTold paused.stand paused.held.settings bits paused.held.taken paused.missed

@@ -13,7 +13,7 @@ use Rattle.hayro_ccitt.specs.declared.settings.DecodeSettings.{DecodeSettings}
 use Rattle.hayro_ccitt.specs.Answers.{IsFault, PaintsBlack}
 use Rattle.hayro_ccitt.specs.Bits.{Bits, BitsAt}
 use Rattle.hayro_ccitt.specs.Context.{Held, Repairs}
-use Rattle.hayro_ccitt.specs.Damage.{fault_in, repairs_by_line, misses_by_line}
+use Rattle.hayro_ccitt.specs.Damage.{fault_in, missed_before, repairs_by_line, misses_by_line}
 use Rattle.hayro_ccitt.specs.Decoding.{repairs_with}
 use Rattle.hayro_ccitt.specs.Lines.{Line}
 use Rattle.hayro_ccitt.specs.PlainReading.{Progress, row_before, with_row, first_gap, move_on, row_of_line, line_here}
@@ -39,7 +39,8 @@ is_at_line AtEnd = false
 is_at_line (AtFault error) = false
 
 -- what is read and with which settings, the number of rows read, the last one, the offset of its line and its fault if it was
--- repaired, how the reading has ended, whether there is a line here, the offset of the next bit, and the work of all calls
+-- repaired, the offset at which the last gap lacked an EOL, how the reading has ended, whether there is a line here, the offset
+-- of the next bit, and the work of all calls
 pub record RowsRead : Type 0 where
   pub settings : DecodeSettings
   pub bits : Bits
@@ -47,19 +48,21 @@ pub record RowsRead : Type 0 where
   pub row : Row
   pub line_start : ℕ
   pub damage : Option DecodeError
+  pub missed : Option ℕ
   pub end : Option (Result (Unit {0}) DecodeError)
   pub at_line : Bool
   pub place : ℕ
   pub ticks : ℕ
 
-abbrev pub read_so_far : Held → ℕ → BitsAt → ℕ → Option DecodeError → Stand → RowsRead
-read_so_far held ticks reader line_start damage stand = record {
+abbrev pub read_so_far : Held → ℕ → BitsAt → ℕ → Option DecodeError → Option ℕ → Stand → RowsRead
+read_so_far held ticks reader line_start damage missed stand = record {
   settings = held.settings;
   bits = reader.bits;
   taken = held.taken;
   row = held.reference;
   line_start = line_start;
   damage = damage;
+  missed = missed;
   end = ended stand;
   at_line = is_at_line stand;
   place = reader.place;
@@ -68,7 +71,7 @@ read_so_far held ticks reader line_start damage stand = record {
 
 -- what a reading keeps between two rows, and the bits from here on
 abbrev pub seen : RowState → BitsAt → RowsRead
-seen rows reader = read_so_far rows.ctx.held rows.ctx.ticks reader rows.started_at rows.damage rows.stand
+seen rows reader = read_so_far rows.ctx.held rows.ctx.ticks reader rows.started_at rows.damage rows.missed rows.stand
 
 abbrev pub rows_read_of : Inside → RowsRead
 rows_read_of r = seen r.rows r.reader
@@ -87,6 +90,10 @@ stand_after (Err error) = AtFault error
 -- the fault of the last row, if it was repaired: if more rows are repaired now than before it
 abbrev pub damage_since : Repairs → ℕ → Option DecodeError
 damage_since repairs before = if repairs.rows == before then None else Some repairs.fault
+
+-- the offset of a gap if its EOL was missed: if more EOLs were missed after it than before
+abbrev pub missed_since : Repairs → ℕ → ℕ → Option ℕ
+missed_since repairs before place = if repairs.missed == before then None else Some place
 
 -- where the line of the last row begins, or after a faulty gap, the offset of that gap
 abbrev pub start_after : Result Bool DecodeError → ℕ → ℕ → ℕ
@@ -136,6 +143,8 @@ pub record ReadsNext (old new : RowsRead) (result : Result Bool DecodeError) : T
   pub error : IfErr result (λ e. (new.end ≡ Some (Err e)) × (new.taken ≡ old.taken) × HasFailed old.settings old.bits new.taken e)
   -- the offset of the fault: the first bit of the line that couldn't be read, or where its EOL is missing (T.4, 4.1.2)
   pub fault_start : old.end ≡ None → OnErr result (new.line_start ≡ failed_at old.settings old.bits old.taken)
+  -- where the EOL was missed in the gap after the last row, if it was (T.4, 4.1.2)
+  pub missed : new.missed ≡ missed_before old.settings old.bits old.taken
   -- no row was read: the last row and its fault are unchanged, and at the end so is the offset of its line
   pub last : result ≢ Ok true → (new.row ≡ old.row) × (new.damage ≡ old.damage)
   pub last_start : result ≡ Ok false → new.line_start ≡ old.line_start
@@ -151,6 +160,7 @@ pub record ReachesNextLine (old new : RowsRead) (result : Result Bool DecodeErro
   pub end : result ≡ Ok false → (new.end ≡ Some (Ok tt)) × HasEnded old.settings old.bits new.taken new.place
   pub error : IfErr result (λ e. (new.end ≡ Some (Err e)) × HasFailed old.settings old.bits new.taken e)
   pub fault_start : OnErr result (new.line_start ≡ failed_at old.settings old.bits old.taken)
+  pub missed : new.missed ≡ missed_before old.settings old.bits old.taken
   -- the last row and its fault are unchanged, and so is the offset of its line if the gap has no fault
   pub last : (new.row ≡ old.row) × (new.damage ≡ old.damage)
   pub last_start : IfOk result (λ line. new.line_start ≡ old.line_start)
@@ -231,6 +241,13 @@ pub record DamageIsCounted (stand : Stand) (settings : DecodeSettings) (bits : B
   pub counted : held.repairs.rows ≡ sum_by length (take held.taken (repairs_by_line settings bits))
   pub misses : Misses stand settings bits held
 
+-- once a gap was passed, it is known where it lacked an EOL (T.4, 4.1.2)
+abbrev pub MissIsTold : Stand → DecodeSettings → Bits → ℕ → Option ℕ → Type 0
+MissIsTold AtLine settings bits taken missed = missed ≡ missed_before settings bits taken
+MissIsTold BehindRow settings bits taken missed = Unit {0}
+MissIsTold AtEnd settings bits taken missed = missed ≡ missed_before settings bits taken
+MissIsTold (AtFault error) settings bits taken missed = missed ≡ missed_before settings bits taken
+
 -- What was counted up to a line is paid, from a first line before which this much was counted; where EOLs are sought, what
 -- ceasing to seek them costs is left.
 pub record PaidAtLine (settings : DecodeSettings) (bits : Bits) (held : Held) (rest : Bits) (ticks : ℕ) : Type 0 where
@@ -271,6 +288,7 @@ IsStanding rows reader =
     ReaderStands rows.stand rows.ctx.held.settings reader.bits rows.ctx.held reader.place
     × DamageIsCounted rows.stand rows.ctx.held.settings reader.bits rows.ctx.held
     × WorkIsPaid rows.stand rows.ctx.held.settings reader.bits rows.ctx.held reader.place rows.ctx.ticks
+    × MissIsTold rows.stand rows.ctx.held.settings reader.bits rows.ctx.held.taken rows.missed
 
 -- at the first bit of a line
 abbrev pub IsStandingAtLine : RowState → BitsAt → Type 0

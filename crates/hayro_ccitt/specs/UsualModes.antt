@@ -1,13 +1,26 @@
 -- Modes that are drawn with the index of b1 at hand. This is not part of the trusted specification: no contract of a public
 -- call cites it.
-use Rattle.std.specs.Prelude.{◌≡◌, ◌+◌, ◌*◌, ◌%◌, ◌<◌, ◌≤◌, Bool, ℕ, List, length, get_or}
+use Rattle.std.specs.Prelude.{◌≡◌, ◌+◌, ◌-◌, ◌*◌, ◌%◌, ◌<◌, ◌≤◌, ◌++◌, ◌∷◌, [], Bool, ℕ, List, length, take, get_or}
 use Rattle.hayro_ccitt.specs.declared.codes.Color.{Color}
 use Rattle.hayro_ccitt.specs.declared.codes.Color.TheVariants.{White, Black}
 use Rattle.hayro_ccitt.specs.Bits.{BitsAt}
 use Rattle.hayro_ccitt.specs.Lines.{Pen, draw_2d, drawn, words_drawn}
-use Rattle.hayro_ccitt.specs.Rows.{Row, AreChanges, opposite}
+use Rattle.hayro_ccitt.specs.Rows.{Row, AreChanges, opposite, pixels}
 use Rattle.hayro_ccitt.specs.UsualRuns.{IsRunHere}
 use Rattle.hayro_ccitt.specs.Window.{moved}
+
+-- Places are the changes of a row, and twice its end behind them, so that b1 is always among them: the changes
+abbrev pub changes_in : List ℕ → List ℕ
+changes_in places = take (length places - 2) places
+
+-- the row
+abbrev pub row_in : ℕ → List ℕ → Row
+row_in columns places = pixels columns (changes_in places)
+
+-- that places are so
+pub record AreEnded (columns : ℕ) (places : List ℕ) : Type 0 where
+  pub lawful : AreChanges columns (changes_in places)
+  pub ended : places ≡ changes_in places ++ columns ∷ columns ∷ []
 
 -- the change at an index turns the row from this colour to the other one
 abbrev pub TurnsFrom : ℕ → Color → Type 0

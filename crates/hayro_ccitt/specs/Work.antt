@@ -1,13 +1,21 @@
 -- What decoding counts: the words that its lines find, and how much at most.
-use Rattle.std.specs.Prelude.{ℕ, Bool, ◌+◌, ◌-◌, ◌*◌, ◌≤◌, List, [], length, take, drop, sum_by, ◌==◌, if◌then◌else◌}
+use Rattle.std.specs.Prelude.{ℕ, Bool, ◌+◌, ◌-◌, ◌*◌, ◌≤◌, Result, Ok, Err, List, [], ◌++◌, length, take, drop, sum_by, ◌==◌}
+use Rattle.std.specs.Prelude.{if◌then◌else◌}
+use Rattle.hayro_ccitt.specs.declared.codes.Color.{Color}
+use Rattle.hayro_ccitt.specs.declared.codes.Mode.{Mode}
+use Rattle.hayro_ccitt.specs.declared.codes.Mode.TheVariants.{Pass, Horizontal, Vertical}
+use Rattle.hayro_ccitt.specs.declared.error.DecodeError.{DecodeError}
 use Rattle.hayro_ccitt.specs.declared.settings.DecodeSettings.{DecodeSettings}
 use Rattle.hayro_ccitt.specs.declared.settings.EncodingMode.{EncodingMode}
 use Rattle.hayro_ccitt.specs.declared.settings.EncodingMode.TheVariants.{Group4, Group3_1D, Group3_2D}
 use Rattle.hayro_ccitt.specs.Bits.{Bits}
+use Rattle.hayro_ccitt.specs.CodeLists.{mode_codes}
+use Rattle.hayro_ccitt.specs.CodeReading.{read_code}
 use Rattle.hayro_ccitt.specs.Lines.{found_1d, line_found}
 use Rattle.hayro_ccitt.specs.PlainReading.{Progress, row_before, gathered_of}
-use Rattle.hayro_ccitt.specs.Rows.{Row}
-use Rattle.hayro_ccitt.specs.Ticks.{looked, looked_ahead}
+use Rattle.hayro_ccitt.specs.Rows.{Row, opposite}
+use Rattle.hayro_ccitt.specs.Runs.{read_run}
+use Rattle.hayro_ccitt.specs.Ticks.{looked, looked_ahead, run_found, word_found}
 
 -- ---- auxiliary: the words that the lines of a reading find, line by line
 
@@ -58,6 +66,33 @@ pub record CountsWork (settings : DecodeSettings) (bits : Bits) (taken ticks : �
 abbrev pub most_for_body : DecodeSettings → Bits → ℕ → ℕ → ℕ
 most_for_body settings bits from to =
     4 * (to - from) + 5 * looked (drop to bits) + length (found_1d settings.strict settings.columns (drop from bits)) + 13
+
+-- ---- how much is counted if lines are passed
+
+-- auxiliary: the words of the second run of a horizontal mode, if the first one is read (T.4, 4.2.1.3)
+abbrev pub second_run_found : Color → Result (ℕ × Bits) DecodeError → List Bits
+second_run_found color (Ok run) = run_found (opposite color) (0, run.1)
+second_run_found color (Err fault) = []
+
+-- auxiliary: the words of the runs behind the word of a mode (T.4, 4.2.1.3)
+abbrev pub runs_found : Color → Mode → Bits → List Bits
+runs_found color Pass rest = []
+runs_found color (Vertical k) rest = []
+runs_found color Horizontal rest = run_found color (0, rest) ++ second_run_found color (read_run color rest)
+
+-- auxiliary: the same, if the word is read
+abbrev pub runs_found_behind : Color → Result (Mode × Bits) DecodeError → List Bits
+runs_found_behind color (Ok mode) = runs_found color mode.0 mode.1
+runs_found_behind color (Err fault) = []
+
+-- the words that the mode here finds in a line of this colour, with those of its runs, even if one is broken (T.4, 4.2.1.3)
+abbrev pub mode_found : Color → Bits → List Bits
+mode_found color here = word_found mode_codes here ++ runs_found_behind color (read_code mode_codes here)
+
+-- The most that passing lines counts, as long as each is two-dimensional and ends before the next EOL, with this number
+-- of bits from the first EOL on: the zeros of an EOL and the bits of a line are examined a few times (T.4, 4.1.2 and 4.2).
+abbrev pub most_for_lines : ℕ → ℕ
+most_for_lines bits = 6 * bits + 3
 
 -- ---- The account between two rows: not part of the trusted specification
 

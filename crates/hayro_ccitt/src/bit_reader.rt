@@ -433,6 +433,7 @@ impl<'a> BitsAtHand<'a> {
     pub(crate) fn refill(&mut self) -> bool
         ensures same { self.new.at ≡ self.old.at }
         ensures enough { result ≡ true → 57 ≤ self.new.left }
+        ensures most { result ≡ true → self.new.left ≤ 64 }
         ensures unchanged { result ≡ false → self.new ≡ self.old }
     {
         let place = self.limit - self.left;

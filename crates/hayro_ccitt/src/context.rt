@@ -1,8 +1,9 @@
 //! What a decoder keeps from line to line, and the lines themselves.
 
 ghost use Rattle.std.specs.Prelude.{◌≡◌, ◌+◌, ◌*◌, ◌^◌, ◌<◌, ◌≤◌, ◌⊎◌, ◌↔◌, ℕ, Ok, Err, OnOk, OnErr, IfOk, IfErr, true, false};
-ghost use Rattle.std.specs.Prelude.{IsOkUnless, IsTrue, option_map, length, get_or, []};
+ghost use Rattle.std.specs.Prelude.{IsOkUnless, IsTrue, if◌then◌else◌, is_some, option_map, length, get_or, []};
 ghost use Rattle.hayro_ccitt.specs.LocalityByK.{behind_mode};
+ghost use Rattle.hayro_ccitt.specs.{Ticks.run_found, Work.mode_found};
 ghost use Rattle.hayro_ccitt.specs.Runs.{read_run};
 ghost use Rattle.hayro_ccitt.specs.Rows.{AreChanges, right_of, b1, b2, changes, opposite};
 ghost use Rattle.hayro_ccitt.specs.Bits.{here};
@@ -16,7 +17,9 @@ ghost use Rattle.hayro_ccitt.specs.Answers.{line_from_1d, line_from_2d};
 use crate::bit_reader::{BitOrder, BitReader, BitsAtHand};
 use crate::changes::{append_pixels, b1_index, change_or_end};
 use crate::codes::{Color, Mode, Ticks};
-use crate::modes::{draw_modes, has_no_room, is_white_row, lay_down_row};
+use crate::modes::{
+    draw_modes, has_mode, has_no_room, is_white_row, lay_down_row, put_ends, take_ends,
+};
 use crate::settings::DecodeSettings;
 use crate::tables::Tables;
 use crate::usual::{draw_runs, lay_down, take_up};
@@ -486,6 +489,8 @@ impl DecoderContext {
         ensures same_bits { reader.new.bits ≡ reader.old.bits }
         ensures held { self.new.held ≡ self.old.held }
         ensures counts { self.old.ticks ≤ self.new.ticks }
+        ensures at_most { self.new.ticks
+            ≤ self.old.ticks + length (run_found color (0, here reader.old)) + (if result then 0 else 1) }
     {
         match reader.decode_run(color, &self.tables, &mut self.ticks) {
             Ok(_) => true,
@@ -501,6 +506,8 @@ impl DecoderContext {
         ensures same_bits { reader.new.bits ≡ reader.old.bits }
         ensures held { self.new.held ≡ self.old.held }
         ensures counts { self.old.ticks ≤ self.new.ticks }
+        ensures at_most { self.new.ticks
+            ≤ self.old.ticks + length (mode_found color (here reader.old)) + (if is_some result then 0 else 1) }
     {
         let Ok(mode) = reader.decode_mode(&mut self.ticks) else {
             return None;
@@ -635,6 +642,7 @@ impl DecoderContext {
     /// Draws modes from the start of a line as long as they are usual.
     #[inline(always)]
     fn draw_modes_at_hand(&mut self, hand: &mut BitsAtHand<'_>)
+        requires empty { hand.old.left ≡ 0 }
         requires begins { self.old.held.front ≡ [] }
         requires white { self.old.held.color ≡ Color.White }
         requires none { self.old.passed ≡ 0 }
@@ -648,6 +656,12 @@ impl DecoderContext {
         if self.settings.columns == 0 {
             return;
         }
+        if !has_mode(hand, &mut self.coding_changes) {
+            return;
+        }
+        if !put_ends(&mut self.ref_changes, self.settings.columns) {
+            return;
+        }
         let ticks = &mut self.ticks;
         let (place, index, color) = draw_modes(
             hand,
@@ -659,6 +673,7 @@ impl DecoderContext {
             self.tables.lookup(Color::Black),
             ticks,
         );
+        take_ends(&mut self.ref_changes);
         lay_down_row(&mut self.coding_changes, place, self.settings.columns);
         self.pixels_decoded = place;
         self.color = color;
@@ -733,7 +748,7 @@ impl DecoderContext {
         if self.draw_white_line(reader) {
             return;
         }
-        // Before the first change is stored, room is made for it by a call that may fail.
+        // The first row with changes is drawn by calls that ask for the room that it needs.
         if is_white_row(&self.ref_changes) && has_no_room(&self.coding_changes) {
             return;
         }

@@ -9,7 +9,7 @@ ghost use Rattle.hayro_ccitt.specs.CodeReading.{read_code};
 ghost use Rattle.hayro_ccitt.specs.LookUps.{AreEntries};
 ghost use Rattle.hayro_ccitt.specs.Rows.{AreChanges, pixels, opposite};
 ghost use Rattle.hayro_ccitt.specs.Runs.{codes_of};
-ghost use Rattle.hayro_ccitt.specs.UsualModes.{IsB1, IsStroke, AreRunsHere, GoesOn2d};
+ghost use Rattle.hayro_ccitt.specs.UsualModes.{AreEnded, changes_in, row_in, IsB1, IsStroke, AreRunsHere, GoesOn2d};
 ghost use Rattle.hayro_ccitt.specs.UsualRuns.{pen_at};
 ghost use Rattle.hayro_ccitt.specs.Window.{moved};
 
@@ -17,19 +17,45 @@ use crate::bit_reader::BitsAtHand;
 use crate::changes::change_or_end;
 use crate::codes::{Color, Mode, Ticks, mode_of};
 use crate::usual::{
-    b1_after_left, has_room, is_next, lay_down, run_at_hand, seek_b1, turn_at, word_at_hand,
+    b1_after_left, change_at, has_room, is_next, lay_down, run_at_hand, seek_b1, turn_at,
+    word_at_hand,
 };
 
-/// Fills the window if it has fewer than 32 bits; returns false if it can't be filled.
+/// Asks for room for as many changes as the window has bits, and returns whether there is.
+#[cold]
+#[inline(never)]
+fn make_room_for_window(row: &mut Vec<u32>) -> bool
+    ensures room { result ≡ true → vec_len row.new + 64 ≤ vec_capacity row.new }
+    ensures same { row.new.items ≡ row.old.items }
+{
+    row.reserve(64).is_ok()
+}
+
+/// Returns whether there is room for as many changes as the window has bits: a code word stores no more changes than it has
+/// bits.
 #[inline(always)]
-fn has_mode(hand: &mut BitsAtHand<'_>) -> bool
+fn has_room_for_window(row: &Vec<u32>) -> bool
+    ensures { result ≡ true → vec_len row.now + 64 ≤ vec_capacity row.now }
+{
+    row.capacity() - row.len() >= 64
+}
+
+/// Fills the window if it has fewer than 32 bits; returns false if it can't be filled, or there is no room for its changes.
+#[inline(always)]
+pub(crate) fn has_mode(hand: &mut BitsAtHand<'_>, row: &mut Vec<u32>) -> bool
+    requires room { vec_len row.old + hand.old.left ≤ vec_capacity row.old }
     ensures same { hand.new.at ≡ hand.old.at }
+    ensures same_row { row.new.items ≡ row.old.items }
     ensures enough { result ≡ true → 32 ≤ hand.new.left }
+    ensures room { result ≡ true → vec_len row.new + hand.new.left ≤ vec_capacity row.new }
 {
     if hand.left() >= 32 {
         return true;
     }
-    hand.refill()
+    if !hand.refill() {
+        return false;
+    }
+    has_room_for_window(row) || make_room_for_window(row)
 }
 
 /// Returns the mode whose code word is here, if there is one, and the number of its bits.
@@ -45,14 +71,6 @@ fn mode_at_hand(hand: &BitsAtHand<'_>) -> (Option<Mode>, usize)
     ensures there { hand.now.at.place < length hand.now.at.bits }
 {
     mode_of(hand.seven())
-}
-
-/// Returns whether there is room for a change.
-#[inline(always)]
-fn has_place(changes: &Vec<u32>) -> bool
-    ensures { result ≡ true → vec_len changes.now < vec_capacity changes.now }
-{
-    changes.capacity() > changes.len()
 }
 
 /// Returns whether a list has no room even for its first change.
@@ -79,24 +97,23 @@ fn draw_v0(
 ) -> Option<(u32, usize, Color)>
     requires mode { read_code mode_codes (here hand.old.at) ≡ Ok (Mode.Vertical (pos 0), here (moved 1 hand.old.at)) }
     requires enough { 1 ≤ hand.old.left }
+    requires room { vec_len row.old + hand.old.left ≤ vec_capacity row.old }
     requires open { painted < columns }
-    requires lawful { AreChanges columns places.now }
-    requires stroke { IsStroke columns places.now painted index color row.old.items }
-    ensures drawn { IfSome result (λ on. GoesOn2d _strict columns (pixels columns places.now) (pen_at painted row.old.items color hand.old.at)
-        (pen_at on.0 row.new.items on.2 hand.new.at) ticks.old ticks.new (index - 1) (on.1 - 1)) }
-    ensures stroke { IfSome result (λ on. IsStroke columns places.now on.0 on.1 on.2 row.new.items) }
+    requires ended { AreEnded columns places.now }
+    requires stroke { IsStroke columns (changes_in places.now) painted index color row.old.items }
+    ensures drawn { IfSome result (λ reached. GoesOn2d _strict columns (row_in columns places.now) (pen_at painted row.old.items color hand.old.at)
+        (pen_at reached.0 row.new.items reached.2 hand.new.at) ticks.old ticks.new (index - 1) (reached.1 - 1)) }
+    ensures stroke { IfSome result (λ reached. IsStroke columns (changes_in places.now) reached.0 reached.1 reached.2 row.new.items) }
     ensures same_bits { hand.new.at.bits ≡ hand.old.at.bits }
-    ensures onward { IfSome result (λ on. hand.old.at.place < hand.new.at.place) }
+    ensures onward { IfSome result (λ reached. (hand.old.at.place < hand.new.at.place)
+        × (vec_len row.new + hand.new.left ≤ vec_capacity row.new)) }
     ensures left { IfNone result ((hand.new.at ≡ hand.old.at) × (row.new.items ≡ row.old.items) × (ticks.new ≡ ticks.old)) }
 {
-    let place = change_or_end(places, index, columns);
+    let place = change_at(places, index, columns);
     if place >= columns {
         hand.pass(1);
         ticks.tick_times(2);
         return Some((columns, index, color.opposite()));
-    }
-    if !has_place(row) {
-        return None;
     }
     hand.pass(1);
     ticks.tick_times(2);
@@ -121,19 +138,20 @@ fn draw_to_end(
 ) -> Option<(u32, usize, Color)>
     requires mode { read_code mode_codes (here hand.old.at) ≡ Ok (Mode.Vertical (pos more), here (moved width hand.old.at)) }
     requires some { 0 < more }
-    requires bits { (0 < width) × (width < 64) }
-    requires enough { width ≤ hand.old.left }
+    requires bits { (0 < width) × (width < 64) × (width ≤ hand.old.left) }
+    requires room { vec_len row.old + hand.old.left ≤ vec_capacity row.old }
     requires open { painted < columns }
-    requires lawful { AreChanges columns places.now }
-    requires stroke { IsStroke columns places.now painted index color row.old.items }
-    ensures drawn { IfSome result (λ on. GoesOn2d _strict columns (pixels columns places.now) (pen_at painted row.old.items color hand.old.at)
-        (pen_at on.0 row.new.items on.2 hand.new.at) ticks.old ticks.new (index - 1) (on.1 - 1)) }
-    ensures stroke { IfSome result (λ on. IsStroke columns places.now on.0 on.1 on.2 row.new.items) }
+    requires ended { AreEnded columns places.now }
+    requires stroke { IsStroke columns (changes_in places.now) painted index color row.old.items }
+    ensures drawn { IfSome result (λ reached. GoesOn2d _strict columns (row_in columns places.now) (pen_at painted row.old.items color hand.old.at)
+        (pen_at reached.0 row.new.items reached.2 hand.new.at) ticks.old ticks.new (index - 1) (reached.1 - 1)) }
+    ensures stroke { IfSome result (λ reached. IsStroke columns (changes_in places.now) reached.0 reached.1 reached.2 row.new.items) }
     ensures same_bits { hand.new.at.bits ≡ hand.old.at.bits }
-    ensures onward { IfSome result (λ on. hand.old.at.place < hand.new.at.place) }
+    ensures onward { IfSome result (λ reached. (hand.old.at.place < hand.new.at.place)
+        × (vec_len row.new + hand.new.left ≤ vec_capacity row.new)) }
     ensures left { IfNone result ((hand.new.at ≡ hand.old.at) × (row.new.items ≡ row.old.items) × (ticks.new ≡ ticks.old)) }
 {
-    let b1 = change_or_end(places, index, columns);
+    let b1 = change_at(places, index, columns);
     if columns - b1 != more {
         return None;
     }
@@ -160,26 +178,24 @@ fn draw_right(
 ) -> Option<(u32, usize, Color)>
     requires mode { read_code mode_codes (here hand.old.at) ≡ Ok (Mode.Vertical (pos more), here (moved width hand.old.at)) }
     requires some { 0 < more }
-    requires bits { (0 < width) × (width < 64) }
-    requires enough { width ≤ hand.old.left }
+    requires bits { (0 < width) × (width < 64) × (width ≤ hand.old.left) }
+    requires room { vec_len row.old + hand.old.left ≤ vec_capacity row.old }
     requires open { painted < columns }
-    requires lawful { AreChanges columns places.now }
-    requires stroke { IsStroke columns places.now painted index color row.old.items }
-    ensures drawn { IfSome result (λ on. GoesOn2d _strict columns (pixels columns places.now) (pen_at painted row.old.items color hand.old.at)
-        (pen_at on.0 row.new.items on.2 hand.new.at) ticks.old ticks.new (index - 1) (on.1 - 1)) }
-    ensures stroke { IfSome result (λ on. IsStroke columns places.now on.0 on.1 on.2 row.new.items) }
+    requires ended { AreEnded columns places.now }
+    requires stroke { IsStroke columns (changes_in places.now) painted index color row.old.items }
+    ensures drawn { IfSome result (λ reached. GoesOn2d _strict columns (row_in columns places.now) (pen_at painted row.old.items color hand.old.at)
+        (pen_at reached.0 row.new.items reached.2 hand.new.at) ticks.old ticks.new (index - 1) (reached.1 - 1)) }
+    ensures stroke { IfSome result (λ reached. IsStroke columns (changes_in places.now) reached.0 reached.1 reached.2 row.new.items) }
     ensures same_bits { hand.new.at.bits ≡ hand.old.at.bits }
-    ensures onward { IfSome result (λ on. hand.old.at.place < hand.new.at.place) }
+    ensures onward { IfSome result (λ reached. (hand.old.at.place < hand.new.at.place)
+        × (vec_len row.new + hand.new.left ≤ vec_capacity row.new)) }
     ensures left { IfNone result ((hand.new.at ≡ hand.old.at) × (row.new.items ≡ row.old.items) × (ticks.new ≡ ticks.old)) }
 {
-    let b1 = change_or_end(places, index, columns);
+    let b1 = change_at(places, index, columns);
     if columns - b1 <= more {
         return draw_to_end(
             hand, row, painted, columns, _strict, color, places, index, more, width, ticks,
         );
-    }
-    if !has_place(row) {
-        return None;
     }
     let place = b1 + more;
     hand.pass(width);
@@ -207,16 +223,17 @@ fn draw_to_edge(
 ) -> Option<(u32, usize, Color)>
     requires mode { read_code mode_codes (here hand.old.at) ≡ Ok (Mode.Vertical (negsuc (less - 1)), here (moved width hand.old.at)) }
     requires some { 0 < less }
-    requires bits { (0 < width) × (width < 64) }
-    requires enough { width ≤ hand.old.left }
+    requires bits { (0 < width) × (width < 64) × (width ≤ hand.old.left) }
+    requires room { vec_len row.old + hand.old.left ≤ vec_capacity row.old }
     requires open { painted < columns }
-    requires lawful { AreChanges columns places.now }
-    requires stroke { IsStroke columns places.now painted index color row.old.items }
-    ensures drawn { IfSome result (λ on. GoesOn2d _strict columns (pixels columns places.now) (pen_at painted row.old.items color hand.old.at)
-        (pen_at on.0 row.new.items on.2 hand.new.at) ticks.old ticks.new (index - 1) (on.1 - 1)) }
-    ensures stroke { IfSome result (λ on. IsStroke columns places.now on.0 on.1 on.2 row.new.items) }
+    requires ended { AreEnded columns places.now }
+    requires stroke { IsStroke columns (changes_in places.now) painted index color row.old.items }
+    ensures drawn { IfSome result (λ reached. GoesOn2d _strict columns (row_in columns places.now) (pen_at painted row.old.items color hand.old.at)
+        (pen_at reached.0 row.new.items reached.2 hand.new.at) ticks.old ticks.new (index - 1) (reached.1 - 1)) }
+    ensures stroke { IfSome result (λ reached. IsStroke columns (changes_in places.now) reached.0 reached.1 reached.2 row.new.items) }
     ensures same_bits { hand.new.at.bits ≡ hand.old.at.bits }
-    ensures onward { IfSome result (λ on. hand.old.at.place < hand.new.at.place) }
+    ensures onward { IfSome result (λ reached. (hand.old.at.place < hand.new.at.place)
+        × (vec_len row.new + hand.new.left ≤ vec_capacity row.new)) }
     ensures left { IfNone result ((hand.new.at ≡ hand.old.at) × (row.new.items ≡ row.old.items) × (ticks.new ≡ ticks.old)) }
 {
     if painted > 0 {
@@ -225,11 +242,8 @@ fn draw_to_edge(
     if !color.is_white() {
         return None;
     }
-    let b1 = change_or_end(places, index, columns);
+    let b1 = change_at(places, index, columns);
     if b1 != less {
-        return None;
-    }
-    if !has_place(row) {
         return None;
     }
     hand.pass(width);
@@ -256,26 +270,24 @@ fn draw_left(
 ) -> Option<(u32, usize, Color)>
     requires mode { read_code mode_codes (here hand.old.at) ≡ Ok (Mode.Vertical (negsuc (less - 1)), here (moved width hand.old.at)) }
     requires some { 0 < less }
-    requires bits { (0 < width) × (width < 64) }
-    requires enough { width ≤ hand.old.left }
+    requires bits { (0 < width) × (width < 64) × (width ≤ hand.old.left) }
+    requires room { vec_len row.old + hand.old.left ≤ vec_capacity row.old }
     requires open { painted < columns }
-    requires lawful { AreChanges columns places.now }
-    requires stroke { IsStroke columns places.now painted index color row.old.items }
-    ensures drawn { IfSome result (λ on. GoesOn2d _strict columns (pixels columns places.now) (pen_at painted row.old.items color hand.old.at)
-        (pen_at on.0 row.new.items on.2 hand.new.at) ticks.old ticks.new (index - 1) (on.1 - 1)) }
-    ensures stroke { IfSome result (λ on. IsStroke columns places.now on.0 on.1 on.2 row.new.items) }
+    requires ended { AreEnded columns places.now }
+    requires stroke { IsStroke columns (changes_in places.now) painted index color row.old.items }
+    ensures drawn { IfSome result (λ reached. GoesOn2d _strict columns (row_in columns places.now) (pen_at painted row.old.items color hand.old.at)
+        (pen_at reached.0 row.new.items reached.2 hand.new.at) ticks.old ticks.new (index - 1) (reached.1 - 1)) }
+    ensures stroke { IfSome result (λ reached. IsStroke columns (changes_in places.now) reached.0 reached.1 reached.2 row.new.items) }
     ensures same_bits { hand.new.at.bits ≡ hand.old.at.bits }
-    ensures onward { IfSome result (λ on. hand.old.at.place < hand.new.at.place) }
+    ensures onward { IfSome result (λ reached. (hand.old.at.place < hand.new.at.place)
+        × (vec_len row.new + hand.new.left ≤ vec_capacity row.new)) }
     ensures left { IfNone result ((hand.new.at ≡ hand.old.at) × (row.new.items ≡ row.old.items) × (ticks.new ≡ ticks.old)) }
 {
-    let b1 = change_or_end(places, index, columns);
+    let b1 = change_at(places, index, columns);
     if b1 - painted <= less {
         return draw_to_edge(
             hand, row, painted, columns, _strict, color, places, index, less, width, ticks,
         );
-    }
-    if !has_place(row) {
-        return None;
     }
     let place = b1 - less;
     hand.pass(width);
@@ -300,14 +312,16 @@ fn draw_pass(
 ) -> Option<(u32, usize, Color)>
     requires mode { read_code mode_codes (here hand.old.at) ≡ Ok (Mode.Pass, here (moved 4 hand.old.at)) }
     requires enough { 4 ≤ hand.old.left }
+    requires room { vec_len row.old + hand.old.left ≤ vec_capacity row.old }
     requires open { painted < columns }
-    requires lawful { AreChanges columns places.now }
-    requires stroke { IsStroke columns places.now painted index color row.old.items }
-    ensures drawn { IfSome result (λ on. GoesOn2d _strict columns (pixels columns places.now) (pen_at painted row.old.items color hand.old.at)
-        (pen_at on.0 row.new.items on.2 hand.new.at) ticks.old ticks.new (index - 1) (on.1 - 1)) }
-    ensures stroke { IfSome result (λ on. IsStroke columns places.now on.0 on.1 on.2 row.new.items) }
+    requires ended { AreEnded columns places.now }
+    requires stroke { IsStroke columns (changes_in places.now) painted index color row.old.items }
+    ensures drawn { IfSome result (λ reached. GoesOn2d _strict columns (row_in columns places.now) (pen_at painted row.old.items color hand.old.at)
+        (pen_at reached.0 row.new.items reached.2 hand.new.at) ticks.old ticks.new (index - 1) (reached.1 - 1)) }
+    ensures stroke { IfSome result (λ reached. IsStroke columns (changes_in places.now) reached.0 reached.1 reached.2 row.new.items) }
     ensures same_bits { hand.new.at.bits ≡ hand.old.at.bits }
-    ensures onward { IfSome result (λ on. hand.old.at.place < hand.new.at.place) }
+    ensures onward { IfSome result (λ reached. (hand.old.at.place < hand.new.at.place)
+        × (vec_len row.new + hand.new.left ≤ vec_capacity row.new)) }
     ensures left { IfNone result ((hand.new.at ≡ hand.old.at) × (row.new.items ≡ row.old.items) × (ticks.new ≡ ticks.old)) }
 {
     let b2 = change_or_end(places, index + 1, columns);
@@ -319,16 +333,18 @@ fn draw_pass(
     Some((b2, index + 2, color))
 }
 
-/// Fills the window if it has fewer than 55 bits; returns false if it can't be filled.
+/// Fills the window if it has fewer than 55 bits; returns false if it can't be filled, or there is no room for its changes.
 #[inline(always)]
-fn has_long_runs(hand: &mut BitsAtHand<'_>) -> bool
+fn has_long_runs(hand: &mut BitsAtHand<'_>, row: &Vec<u32>) -> bool
+    requires room { vec_len row.now + hand.old.left ≤ vec_capacity row.now }
     ensures same { hand.new.at ≡ hand.old.at }
     ensures enough { result ≡ true → 55 ≤ hand.new.left }
+    ensures room { result ≡ true → vec_len row.now + hand.new.left ≤ vec_capacity row.now }
 {
     if hand.left() >= 55 {
         return true;
     }
-    hand.refill()
+    hand.refill() && has_room_for_window(row)
 }
 
 /// Returns the two runs after a horizontal mode: for each its pixels, its bits and its number of code words. Returns `None`
@@ -336,14 +352,17 @@ fn has_long_runs(hand: &mut BitsAtHand<'_>) -> bool
 #[inline(always)]
 fn runs_at_hand(
     hand: &mut BitsAtHand<'_>,
+    row: &Vec<u32>,
     color: Color,
     own: &[u16],
     other: &[u16],
 ) -> Option<(u32, usize, usize, u32, usize, usize)>
     requires enough { 32 ≤ hand.old.left }
+    requires room { vec_len row.now + hand.old.left ≤ vec_capacity row.now }
     requires own { AreEntries (codes_of color) own.now }
     requires other { AreEntries (codes_of (opposite color)) other.now }
     ensures same { hand.new.at ≡ hand.old.at }
+    ensures room { IfSome result (λ two. vec_len row.now + hand.new.left ≤ vec_capacity row.now) }
     ensures runs { IfSome result (λ two. AreRunsHere color (moved 3 hand.old.at) two.0 two.1 two.2 two.3 two.4 two.5) }
     ensures below { IfSome result (λ two. (two.0 ≤ 4158) × (two.3 ≤ 4158)) }
     ensures enough { IfSome result (λ two. 3 + two.1 + two.4 ≤ hand.new.left) }
@@ -353,7 +372,7 @@ fn runs_at_hand(
     if run < 64 && run2 < 64 {
         return Some((run, width, 1, run2, width2, 1));
     }
-    if !has_long_runs(hand) {
+    if !has_long_runs(hand, row) {
         return None;
     }
     let (run, width, words) = run_at_hand(hand, 3, color, own)?;
@@ -377,20 +396,21 @@ fn draw_horizontal(
     ticks: &mut Ticks,
 ) -> Option<(u32, usize, Color)>
     requires mode { read_code mode_codes (here hand.old.at) ≡ Ok (Mode.Horizontal, here (moved 3 hand.old.at)) }
-    requires enough { 32 ≤ hand.old.left }
+    requires room { (32 ≤ hand.old.left) × (vec_len row.old + hand.old.left ≤ vec_capacity row.old) }
     requires own { AreEntries (codes_of color) own.now }
     requires other { AreEntries (codes_of (opposite color)) other.now }
     requires open { painted < columns }
-    requires lawful { AreChanges columns places.now }
-    requires stroke { IsStroke columns places.now painted index color row.old.items }
-    ensures drawn { IfSome result (λ on. GoesOn2d _strict columns (pixels columns places.now) (pen_at painted row.old.items color hand.old.at)
-        (pen_at on.0 row.new.items on.2 hand.new.at) ticks.old ticks.new (index - 1) (on.1 - 1)) }
-    ensures stroke { IfSome result (λ on. IsStroke columns places.now on.0 on.1 on.2 row.new.items) }
+    requires ended { AreEnded columns places.now }
+    requires stroke { IsStroke columns (changes_in places.now) painted index color row.old.items }
+    ensures drawn { IfSome result (λ reached. GoesOn2d _strict columns (row_in columns places.now) (pen_at painted row.old.items color hand.old.at)
+        (pen_at reached.0 row.new.items reached.2 hand.new.at) ticks.old ticks.new (index - 1) (reached.1 - 1)) }
+    ensures stroke { IfSome result (λ reached. IsStroke columns (changes_in places.now) reached.0 reached.1 reached.2 row.new.items) }
     ensures same_bits { hand.new.at.bits ≡ hand.old.at.bits }
-    ensures onward { IfSome result (λ on. hand.old.at.place < hand.new.at.place) }
+    ensures onward { IfSome result (λ reached. (hand.old.at.place < hand.new.at.place)
+        × (vec_len row.new + hand.new.left ≤ vec_capacity row.new)) }
     ensures left { IfNone result ((hand.new.at ≡ hand.old.at) × (row.new.items ≡ row.old.items) × (ticks.new ≡ ticks.old)) }
 {
-    let (run, width, words, run2, width2, words2) = runs_at_hand(hand, color, own, other)?;
+    let (run, width, words, run2, width2, words2) = runs_at_hand(hand, row, color, own, other)?;
     if !is_next(row, run) {
         return None;
     }
@@ -399,9 +419,6 @@ fn draw_horizontal(
     }
     let room = columns - painted;
     if run + run2 > room {
-        return None;
-    }
-    if !has_room(row) {
         return None;
     }
     hand.pass(3);
@@ -435,22 +452,21 @@ fn draw_mode_at_hand(
     other: &[u16],
     ticks: &mut Ticks,
 ) -> Option<(u32, usize, Color)>
+    requires room { (32 ≤ hand.old.left) × (vec_len row.old + hand.old.left ≤ vec_capacity row.old) }
     requires own { AreEntries (codes_of color) own.now }
     requires other { AreEntries (codes_of (opposite color)) other.now }
     requires open { painted < columns }
-    requires lawful { AreChanges columns places.now }
-    requires stroke { IsStroke columns places.now painted index color row.old.items }
-    ensures drawn { IfSome result (λ on. GoesOn2d strict columns (pixels columns places.now) (pen_at painted row.old.items color hand.old.at)
-        (pen_at on.0 row.new.items on.2 hand.new.at) ticks.old ticks.new (index - 1) (on.1 - 1)) }
-    ensures stroke { IfSome result (λ on. IsStroke columns places.now on.0 on.1 on.2 row.new.items) }
+    requires ended { AreEnded columns places.now }
+    requires stroke { IsStroke columns (changes_in places.now) painted index color row.old.items }
+    ensures drawn { IfSome result (λ reached. GoesOn2d strict columns (row_in columns places.now) (pen_at painted row.old.items color hand.old.at)
+        (pen_at reached.0 row.new.items reached.2 hand.new.at) ticks.old ticks.new (index - 1) (reached.1 - 1)) }
+    ensures stroke { IfSome result (λ reached. IsStroke columns (changes_in places.now) reached.0 reached.1 reached.2 row.new.items) }
     ensures same_bits { hand.new.at.bits ≡ hand.old.at.bits }
-    ensures onward { IfSome result (λ on. hand.old.at.place < hand.new.at.place) }
-    ensures there { IfSome result (λ on. hand.old.at.place < length hand.old.at.bits) }
+    ensures onward { IfSome result (λ reached. (hand.old.at.place < hand.new.at.place)
+        × (vec_len row.new + hand.new.left ≤ vec_capacity row.new)) }
+    ensures there { IfSome result (λ reached. hand.old.at.place < length hand.old.at.bits) }
     ensures left { IfNone result ((hand.new.at ≡ hand.old.at) × (row.new.items ≡ row.old.items) × (ticks.new ≡ ticks.old)) }
 {
-    if !has_mode(hand) {
-        return None;
-    }
     let (mode, width) = mode_at_hand(hand);
     match mode? {
         Mode::Vertical(0) => draw_v0(
@@ -518,22 +534,27 @@ fn draw_in_color(
     other: &[u16],
     ticks: &mut Ticks,
 ) -> (u32, usize, Color, bool)
+    requires room { vec_len row.old + hand.old.left ≤ vec_capacity row.old }
     requires own { AreEntries (codes_of color) own.now }
     requires other { AreEntries (codes_of (opposite color)) other.now }
     requires open { painted < columns }
-    requires lawful { AreChanges columns places.now }
-    requires stroke { IsStroke columns places.now painted index color row.old.items }
-    ensures drawn { GoesOn2d strict columns (pixels columns places.now) (pen_at painted row.old.items color hand.old.at)
+    requires ended { AreEnded columns places.now }
+    requires stroke { IsStroke columns (changes_in places.now) painted index color row.old.items }
+    ensures drawn { GoesOn2d strict columns (row_in columns places.now) (pen_at painted row.old.items color hand.old.at)
         (pen_at result.0 row.new.items result.2 hand.new.at) ticks.old ticks.new (index - 1) (result.1 - 1) }
-    ensures stroke { IsStroke columns places.now result.0 result.1 result.2 row.new.items }
+    ensures stroke { IsStroke columns (changes_in places.now) result.0 result.1 result.2 row.new.items }
     ensures same_bits { hand.new.at.bits ≡ hand.old.at.bits }
     ensures onward { hand.old.at.place ≤ hand.new.at.place }
     ensures turned { result.3 ≡ false → (result.0 < columns) × (result.2 ≡ opposite color)
-        × (hand.old.at.place < hand.new.at.place) × (hand.old.at.place < length hand.old.at.bits) }
+        × (hand.old.at.place < hand.new.at.place) × (hand.old.at.place < length hand.old.at.bits)
+        × (vec_len row.new + hand.new.left ≤ vec_capacity row.new) }
 {
     let mut place = painted;
     let mut at = index;
     'modes: loop {
+        if !has_mode(hand, row) {
+            return (place, at, color, true);
+        }
         match draw_mode_at_hand(
             hand, row, place, columns, strict, color, places, at, own, other, ticks,
         ) {
@@ -565,14 +586,15 @@ pub(crate) fn draw_modes(
     black: &[u16],
     ticks: &mut Ticks,
 ) -> (u32, usize, Color)
+    requires room { vec_len row.old + hand.old.left ≤ vec_capacity row.old }
     requires some { 0 < columns }
     requires begins { row.old.items ≡ [] }
-    requires lawful { AreChanges columns places.now }
+    requires ended { AreEnded columns places.now }
     requires white { AreEntries (codes_of Color.White) white.now }
     requires black { AreEntries (codes_of Color.Black) black.now }
-    ensures drawn { GoesOn2d strict columns (pixels columns places.now) (pen_at 0 row.old.items Color.White hand.old.at)
+    ensures drawn { GoesOn2d strict columns (row_in columns places.now) (pen_at 0 row.old.items Color.White hand.old.at)
         (pen_at result.0 row.new.items result.2 hand.new.at) ticks.old ticks.new 0 (result.1 - 1) }
-    ensures stroke { IsStroke columns places.now result.0 result.1 result.2 row.new.items }
+    ensures stroke { IsStroke columns (changes_in places.now) result.0 result.1 result.2 row.new.items }
     ensures same_bits { hand.new.at.bits ≡ hand.old.at.bits }
 {
     // A copy of the window, so that its fields are values of this call.
@@ -630,6 +652,31 @@ pub(crate) fn lay_down_row(changes: &mut Vec<u32>, painted: u32, columns: u32)
     if painted < columns {
         lay_down(changes, painted);
     }
+}
+
+/// Puts a row's end twice behind its changes, so that b1 is among them, and returns whether there is room; otherwise the
+/// changes stay as they are.
+#[inline(always)]
+pub(crate) fn put_ends(changes: &mut Vec<u32>, columns: u32) -> bool
+    ensures ended { result ≡ true → changes.new.items ≡ changes.old.items ++ columns ∷ columns ∷ [] }
+    ensures unchanged { result ≡ false → changes.new.items ≡ changes.old.items }
+{
+    if !has_room(changes) && !make_room_for_window(changes) {
+        return false;
+    }
+    turn_at(changes, columns);
+    turn_at(changes, columns);
+    true
+}
+
+/// Removes the two ends behind a row's changes.
+#[inline(always)]
+pub(crate) fn take_ends(changes: &mut Vec<u32>)
+    requires { 2 ≤ length changes.old.items }
+    ensures { changes.new.items ≡ changes_in changes.old.items }
+{
+    let _end = changes.take_last();
+    let _other = changes.take_last();
 }
 
 /// Returns whether the row of a list of changes is white.

@@ -3,7 +3,9 @@
 ghost use Rattle.std.specs.Prelude.{◌≡◌, ◌+◌, ◌*◌, ◌<◌, ◌≤◌, ◌⊎◌, ◌↔◌, [], ◌∷◌, ℕ, suc, Some, IfSome, IsTrue, true, false};
 ghost use Rattle.std.specs.Prelude.{length, drop};
 ghost use Rattle.hayro_ccitt.specs.Bits.{Bits, BitsFit, bits_of, here};
+ghost use Rattle.hayro_ccitt.specs.EndOfLine.{after_eol, next_eol};
 ghost use Rattle.hayro_ccitt.specs.LocalityByK.{ComeBefore1D, IsFollowedBy, IsLine2D, ReadsModes};
+ghost use Rattle.hayro_ccitt.specs.{Ticks.looked, Work.most_for_lines};
 
 use crate::bit_reader::BitReader;
 use crate::codes::Color;
@@ -17,6 +19,8 @@ fn pass_modes(ctx: &mut DecoderContext, reader: &mut BitReader<'_>)
     ensures same_bits { reader.new.bits ≡ reader.old.bits }
     ensures held { ctx.new.held ≡ ctx.old.held }
     ensures counts { ctx.old.ticks ≤ ctx.new.ticks }
+    ensures at_most { (next after : Bits) → next_eol (here reader.old) ≡ Some next → after_eol 0 next ≡ Some after
+        → ctx.new.ticks + length after ≤ ctx.old.ticks + length (here reader.old) }
 {
     let mut color = Color::White;
     'modes: loop {
@@ -40,6 +44,9 @@ fn pass_line(ctx: &mut DecoderContext, reader: &mut BitReader<'_>) -> bool
     ensures same_bits { reader.new.bits ≡ reader.old.bits }
     ensures held { ctx.new.held ≡ ctx.old.held }
     ensures counts { ctx.old.ticks ≤ ctx.new.ticks }
+    ensures at_most { ctx.new.ticks ≤ ctx.old.ticks + 3 * length (here reader.old) }
+    ensures to_eol { result ≡ true → ctx.new.ticks + 3 * length (here reader.new)
+        ≤ ctx.old.ticks + 3 * length (here reader.old) + 3 * looked (here reader.new) }
 {
     let mut modes = reader.copy();
     match modes.read_bit() {
@@ -90,6 +97,7 @@ fn rows_before_1d(ctx: &mut DecoderContext, reader: &mut BitReader<'_>) -> Optio
     ensures some { IfSome result (λ rows. 0 < rows) }
     ensures held { ctx.new.held ≡ ctx.old.held }
     ensures counts { ctx.old.ticks ≤ ctx.new.ticks }
+    ensures at_most { ctx.new.ticks ≤ ctx.old.ticks + most_for_lines (length (here reader.old)) }
 {
     let mut rows: u64 = 1;
     'lines: loop {
@@ -126,6 +134,8 @@ fn is_lenient_2d(settings: DecodeSettings) -> bool
 /// [`laws::locality_by_k`](crate::laws::locality_by_k) says which damage it is: an EOL or the start of the data is before
 /// the line's tag and that EOL behind its body, both before and after the damage. `to` is counted in bits. It allocates
 /// nothing, and no row is read.
+///
+/// The work is in proportion to the bits from `to` on: the modes of a line and the zeros of an EOL are read a few times.
 pub fn rows_reached(data: &[u8], ctx: &mut DecoderContext, to: usize) -> Option<u64>
     requires fit { BitsFit «data».now }
     ensures rows { (lines : ℕ) → (result ≡ Some (suc lines))
@@ -133,6 +143,7 @@ pub fn rows_reached(data: &[u8], ctx: &mut DecoderContext, to: usize) -> Option<
     ensures some { IfSome result (λ rows. 0 < rows) }
     ensures held { ctx.new.held ≡ ctx.old.held }
     ensures counts { ctx.old.ticks ≤ ctx.new.ticks }
+    ensures at_most { ctx.new.ticks ≤ ctx.old.ticks + most_for_lines (length (drop to (bits_of «data».now))) }
 {
     if !is_lenient_2d(ctx.settings()) {
         return None;

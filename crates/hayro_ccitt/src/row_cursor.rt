@@ -63,6 +63,7 @@ impl RowCursor {
                 ctx,
                 started_at: 0,
                 damage: None,
+                missed: None,
                 stand,
             },
             order,

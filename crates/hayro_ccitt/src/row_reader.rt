@@ -7,9 +7,9 @@ ghost use Rattle.hayro_ccitt.specs.Context.{fresh};
 ghost use Rattle.hayro_ccitt.specs.Rows.{changes};
 ghost use Rattle.hayro_ccitt.specs.Damage.{repairs_by_line, misses_by_line};
 ghost use Rattle.hayro_ccitt.specs.Work.{CountsWork};
-ghost use Rattle.hayro_ccitt.specs.RowsRead.{damage_since, start_after, ReaderStands, IsPaid, ReachesNextLine, ReadsNext};
+ghost use Rattle.hayro_ccitt.specs.RowsRead.{damage_since, missed_since, start_after, ReaderStands, IsPaid, ReachesNextLine};
 ghost use Rattle.hayro_ccitt.specs.RowsRead.{stand_after, line_after, is_at_line, at_end_of_rows, ended, seen, IsStanding};
-ghost use Rattle.hayro_ccitt.specs.RowsRead.{IsStandingAtLine, DamageIsCounted, gaps_passed};
+ghost use Rattle.hayro_ccitt.specs.RowsRead.{IsStandingAtLine, DamageIsCounted, ReadsNext, gaps_passed};
 
 use crate::bit_reader::{BitOrder, BitReader};
 use crate::context::DecoderContext;
@@ -100,6 +100,16 @@ fn damage_since(ctx: &DecoderContext, damaged_rows: u64) -> Option<DecodeError>
     Some(ctx.last_fault())
 }
 
+/// Returns the offset of a gap if its EOL was missed: if more EOLs are missed now than before it.
+fn missed_since(ctx: &DecoderContext, missed_eols: u64, gap_start: usize) -> Option<usize>
+    ensures { result ≡ missed_since ctx.now.held.repairs missed_eols gap_start }
+{
+    if ctx.missed_eols() == missed_eols {
+        return None;
+    }
+    Some(gap_start)
+}
+
 /// Returns whether there is a line here.
 fn is_at_line(stand: Stand) -> bool
     ensures { result ≡ is_at_line stand }
@@ -143,6 +153,7 @@ pub(crate) struct RowState {
     pub(crate) ctx: DecoderContext,
     pub(crate) started_at: usize,
     pub(crate) damage: Option<DecodeError>,
+    pub(crate) missed: Option<usize>,
     pub(crate) stand: Stand,
 }
 
@@ -159,9 +170,11 @@ impl RowState {
             return Ok(true);
         }
         let gap_start = reader.bit_pos();
+        let missed_eols = self.ctx.missed_eols();
         let over = pass_gap(&mut self.ctx, reader);
         // An offset is known to be within the data once it is read.
         let _place = reader.bit_pos();
+        self.missed = missed_since(&self.ctx, missed_eols, gap_start);
         self.started_at = start_after_gap(over, gap_start, self.started_at);
         self.stand = stand_after_gap(over);
         line_after_gap(over)
@@ -290,6 +303,7 @@ impl<'a> RowReader<'a> {
                 ctx,
                 started_at: 0,
                 damage: None,
+                missed: None,
                 stand,
             },
             reader,
@@ -362,6 +376,14 @@ impl<'a> RowReader<'a> {
         ensures { result ≡ sum_by length (take (gaps_passed self.now) (misses_by_line self.now.settings self.now.bits)) }
     {
         self.rows.ctx.missed_eols()
+    }
+
+    /// Returns the offset in bits at which the last call of [`next_row`](RowReader::next_row) missed an EOL (T.4 section 4.1.2):
+    /// the first bit after the row that had been the last one before. `None` if none was missed there.
+    pub fn missed_eol(&self) -> Option<usize>
+        ensures { result ≡ self.now.missed }
+    {
+        self.rows.missed
     }
 
     /// Returns the number of bytes consumed so far, the last one rounded up.

@@ -6,13 +6,12 @@ ghost use Rattle.std.specs.Prelude.{true, false, length, ◌++◌, ◌∷◌, []
 ghost use Rattle.hayro_ccitt.specs.Bits.{here};
 ghost use Rattle.hayro_ccitt.specs.LookUps.{AreEntries};
 ghost use Rattle.hayro_ccitt.specs.Rows.{AreChanges, pixels, opposite};
-ghost use Rattle.hayro_ccitt.specs.UsualModes.{IsNear, IsB1};
+ghost use Rattle.hayro_ccitt.specs.UsualModes.{AreEnded, changes_in, IsNear, IsB1};
 ghost use Rattle.hayro_ccitt.specs.Runs.{codes_of};
 ghost use Rattle.hayro_ccitt.specs.UsualRuns.{IsWordHere, IsRunHere, IsReached, GoesOn, RunGoesOn, pen_at};
 ghost use Rattle.hayro_ccitt.specs.Window.{moved};
 
 use crate::bit_reader::BitsAtHand;
-use crate::changes::change_or_end;
 use crate::codes::{Color, Ticks};
 use crate::tables::LOOKUP_INVALID;
 
@@ -138,10 +137,10 @@ fn draw_two_runs(
     requires even { length row.old.items % 2 ≡ 0 }
     requires white { AreEntries (codes_of Color.White) white.now }
     requires black { AreEntries (codes_of Color.Black) black.now }
-    ensures drawn { IfSome result (λ on. GoesOn strict columns (pen_at painted row.old.items Color.White hand.old.at)
-        (pen_at on.0 row.new.items on.1 hand.new.at) ticks.old ticks.new) }
-    ensures taken { IfSome result (λ on. IsReached columns on.0 on.1 row.new.items) }
-    ensures forward { IfSome result (λ on. painted < on.0) }
+    ensures drawn { IfSome result (λ reached. GoesOn strict columns (pen_at painted row.old.items Color.White hand.old.at)
+        (pen_at reached.0 row.new.items reached.1 hand.new.at) ticks.old ticks.new) }
+    ensures taken { IfSome result (λ reached. IsReached columns reached.0 reached.1 row.new.items) }
+    ensures forward { IfSome result (λ reached. painted < reached.0) }
     ensures same_bits { hand.new.at.bits ≡ hand.old.at.bits }
     ensures onward { hand.old.at.place ≤ hand.new.at.place }
     ensures left { IfNone result ((hand.new.at ≡ hand.old.at) × (row.new.items ≡ row.old.items) × (ticks.new ≡ ticks.old)) }
@@ -330,10 +329,10 @@ fn draw_pair(
     requires even { length row.old.items % 2 ≡ 0 }
     requires white { AreEntries (codes_of Color.White) white.now }
     requires black { AreEntries (codes_of Color.Black) black.now }
-    ensures drawn { IfSome result (λ on. GoesOn strict columns (pen_at painted row.old.items Color.White hand.old.at)
-        (pen_at on.0 row.new.items on.1 hand.new.at) ticks.old ticks.new) }
-    ensures taken { IfSome result (λ on. IsReached columns on.0 on.1 row.new.items) }
-    ensures forward { IfSome result (λ on. painted < on.0) }
+    ensures drawn { IfSome result (λ reached. GoesOn strict columns (pen_at painted row.old.items Color.White hand.old.at)
+        (pen_at reached.0 row.new.items reached.1 hand.new.at) ticks.old ticks.new) }
+    ensures taken { IfSome result (λ reached. IsReached columns reached.0 reached.1 row.new.items) }
+    ensures forward { IfSome result (λ reached. painted < reached.0) }
     ensures same_bits { hand.new.at.bits ≡ hand.old.at.bits }
     ensures onward { hand.old.at.place ≤ hand.new.at.place }
     ensures left { IfNone result ((hand.new.at ≡ hand.old.at) × (row.new.items ≡ row.old.items) × (ticks.new ≡ ticks.old)) }
@@ -420,28 +419,39 @@ pub(crate) fn lay_down(changes: &mut Vec<u32>, painted: u32)
     changes.push_reserved(last);
 }
 
+/// Returns the change at an index, or the row's end behind the last one.
+#[inline(always)]
+pub(crate) fn change_at(places: &[u32], index: usize, _columns: u32) -> u32
+    requires ended { AreEnded _columns places.now }
+    requires near { index ≤ length (changes_in places.now) + 1 }
+    ensures { result ≡ get_or (changes_in places.now) index _columns }
+{
+    places[index]
+}
+
 /// Returns the index of b1, going up in steps of two from an index near it. Each change that is looked at is a tick.
 #[inline(always)]
 pub(crate) fn seek_b1(
-    changes: &[u32],
+    places: &[u32],
     painted: u32,
     columns: u32,
     start: usize,
     ticks: &mut Ticks,
 ) -> usize
-    requires lawful { AreChanges columns changes.now }
+    requires ended { AreEnded columns places.now }
     requires some { 0 < painted }
     requires inside { painted < columns }
-    requires near { IsNear columns changes.now painted start }
-    ensures near { IsNear columns changes.now painted result }
-    ensures right { painted < get_or changes.now result columns }
+    requires within { start ≤ length (changes_in places.now) + 1 }
+    requires near { IsNear columns (changes_in places.now) painted start }
+    ensures near { IsNear columns (changes_in places.now) painted result }
+    ensures right { painted < get_or (changes_in places.now) result columns }
     ensures forward { start ≤ result }
     ensures parity { result % 2 ≡ start % 2 }
     ensures work { ticks.new + ticks.new + start ≡ ticks.old + ticks.old + result + 2 }
 {
     let mut index = start;
     ticks.tick();
-    while index < changes.len() && changes[index] <= painted {
+    'changes: while change_at(places, index, columns) <= painted {
         ticks.tick();
         index += 2;
     }
@@ -451,25 +461,26 @@ pub(crate) fn seek_b1(
 /// Returns the index of b1 after a mode that changes the colour left of b1, at a position right of a0.
 #[inline(always)]
 pub(crate) fn b1_after_left(
-    changes: &[u32],
+    places: &[u32],
     _painted: u32,
     columns: u32,
     _color: Color,
     index: usize,
     place: u32,
 ) -> usize
-    requires lawful { AreChanges columns changes.now }
-    requires at { IsB1 columns changes.now _painted index _color }
+    requires ended { AreEnded columns places.now }
+    requires within { index ≤ length (changes_in places.now) + 1 }
+    requires at { IsB1 columns (changes_in places.now) _painted index _color }
     requires right { _painted < place }
-    requires left { place < get_or changes.now index columns }
-    ensures at { IsB1 columns changes.now place result (opposite _color) }
+    requires left { place < get_or (changes_in places.now) index columns }
+    ensures at { IsB1 columns (changes_in places.now) place result (opposite _color) }
     ensures near { index ≤ result + 1 }
 {
     if index == 0 {
         return 1;
     }
     let before = index - 1;
-    if change_or_end(changes, before, columns) > place {
+    if change_at(places, before, columns) > place {
         before
     } else {
         before + 2

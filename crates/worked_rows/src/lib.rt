@@ -1,7 +1,7 @@
-//! Worked rows: what the definitions yield on small data, as theorems, and what the decoder does, as tests.
+//! Worked rows: what the definitions yield on small data, as theorems.
 //!
 //! An example is settings (columns, row limit, flags), bytes in hexadecimal, and the rows as changes with the result.
-//! Each is computed when the crate is checked. Rows of 4294967295 columns and long data are tests only.
+//! Each is computed when the crate is checked. Rows of 4294967295 columns and long data are in `decoder_tests` only.
 #![tactic(auto)]
 
 ghost use Rattle.std.specs.Prelude.{◌≡◌, [], ◌∷◌, Ok, Err};
@@ -12,9 +12,6 @@ ghost use Rattle.worked_rows.specs.Examples.{LimitBehindTheBody};
 ghost use Rattle.worked_rows.specs.Examples.{OneLineFollows, OneLineDiffers, ReadsDamageByK};
 
 use hayro_ccitt::DecodeError;
-
-#[cfg(test)]
-mod tests;
 
 /// Group 4 (T.6).
 pub fn group4_examples()

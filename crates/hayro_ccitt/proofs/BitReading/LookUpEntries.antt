@@ -104,17 +104,17 @@ empty_in ([] ∷ words) e = inl refl
 empty_in ((c ∷ word) ∷ words) e = inr (empty_in words e)
 
 -- a word here
-abbrev Begins : List Bits → Bits → Type 0
-Begins words here = (w : Bits) × In w words × (rest : Bits) × (here ≡ w ++ rest)
+abbrev BeginsWithWord : List Bits → Bits → Type 0
+BeginsWithWord words here = (w : Bits) × In w words × (rest : Bits) × (here ≡ w ++ rest)
 
-covers_all : (n : ℕ) (words : List Bits) (here : Bits) → covers n words ≡ true → length here ≡ n → Begins words here
+covers_all : (n : ℕ) (words : List Bits) (here : Bits) → covers n words ≡ true → length here ≡ n → BeginsWithWord words here
 covers_all zero words here e h = ([], empty_in words e, here, refl)
 covers_all (suc n) words [] e h = absurd (omega arith)
 covers_all (suc n) words (b ∷ here) e h =
     by_has_empty (λ c k. covers_all n (tails c words) here k (omega arith)) (has_empty words) refl b
   where
-    by_has_empty : ((c : Bool) → covers n (tails c words) ≡ true → Begins (tails c words) here) → (t : Bool) → has_empty words ≡ t
-        → (c : Bool) → Begins words (c ∷ here)
+    by_has_empty : ((c : Bool) → covers n (tails c words) ≡ true → BeginsWithWord (tails c words) here)
+        → (t : Bool) → has_empty words ≡ t → (c : Bool) → BeginsWithWord words (c ∷ here)
     by_has_empty more true a c = ([], empty_in words a, c ∷ here, refl)
     by_has_empty more false a true =
         let both = and_parts (covers n (tails true words)) (covers n (tails false words)) (rw (a, covers) at e) in
@@ -147,7 +147,7 @@ eight_zeros_there : (color : Color) (here : Bits) → length here ≡ 13 → wor
     × (here ≡ eight_zeros ++ rest)
 eight_zeros_there color here h e = by_rest (covers_all 13 (eight_zeros ∷ words_of (codes_of color)) here (codes_cover color) h)
   where
-    by_rest : Begins (eight_zeros ∷ words_of (codes_of color)) here → (rest : Bits) × (here ≡ eight_zeros ++ rest)
+    by_rest : BeginsWithWord (eight_zeros ∷ words_of (codes_of color)) here → (rest : Bits) × (here ≡ eight_zeros ++ rest)
     by_rest (w, inl same, rest, at) = (rest, at ∙ ap (λ (x : Bits). x ++ rest) (sym same))
     by_rest (w, inr i, rest, at) =
         grind (arith, common_steps, codes_free, common_steps, in_words (codes_of color) w i, word_at_again)
@@ -170,8 +170,9 @@ longest_ended (c ∷ list) here rest e =
     and_parts (ltb (agreement c.word here) (length here)) (list_all (λ d. ltb (agreement d.word here) (length here)) list) e in
     rw (agreement_ended c.word here rest (ltb-true _ _ both.0), longest_ended list here rest both.1) refl
 
-zeros_end : (color : Color) → list_all (λ c. ltb (agreement c.word eight_zeros) (length eight_zeros)) (codes_of color) ≡ true
-zeros_end color = grind (arith, common_steps)
+zeros_agree_less : (color : Color)
+    → list_all (λ c. ltb (agreement c.word eight_zeros) (length eight_zeros)) (codes_of color) ≡ true
+zeros_agree_less color = grind (arith, common_steps)
 
 seven_zeros : (color : Color) → longest_agreement (codes_of color) eight_zeros ≡ 7
 seven_zeros color = grind (arith, common_steps)
@@ -181,7 +182,7 @@ entry_of_none : (color : Color) (here : Bits) → length here ≡ 13 → word_at
     → entry_of (codes_of color) here ≡ 36863
 entry_of_none color here h e =
     let step = longest_ended (codes_of color) eight_zeros in
-    grind (arith, common_steps, eight_zeros_there color here h e, step, seven_zeros color, zeros_end color)
+    grind (arith, common_steps, eight_zeros_there color here h e, step, seven_zeros color, zeros_agree_less color)
 
 entry_of_found : (list : List (Code ℕ)) (here : Bits) (found : ℕ × Bits) → word_at list here ≡ Some found
     → entry_of list here ≡ (length here - length found.1) * 4096 + found.0

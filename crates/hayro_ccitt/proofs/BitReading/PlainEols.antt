@@ -92,7 +92,7 @@ eol_and_others here rest e = grind (arith, common_steps, after_eol_shorter, eols
 tag_stays : (here : Bits) → after_eol 0 (drop 1 here) ≡ None → past_tag here ≡ here
 tag_stays here e = grind (arith, common_steps)
 
-few_keep_the_tag : (here : Bits) → pass_last_tag (1, here) ≡ (1, here)
+pub few_keep_the_tag : (here : Bits) → pass_last_tag (1, here) ≡ (1, here)
 few_keep_the_tag here = grind (arith, common_steps)
 
 -- one alone

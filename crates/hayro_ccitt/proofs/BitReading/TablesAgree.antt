@@ -1,6 +1,6 @@
 -- The arrays of the code are the code lists, and the lookup tables of the arrays those of the lists.
-use Rattle.hayro_ccitt.proofs.Names.{◌≡◌, ℕ, ◌++◌, ◌⊎◌, inl, inr, List, refl, ap, ◌∙◌, Color, White, Black, white_codes}
-use Rattle.hayro_ccitt.proofs.Names.{black_codes, numbered, AreEntries, AreOfColors, codes_of, WHITE_TERMINATING, WHITE_MAKEUP}
+use Rattle.hayro_ccitt.proofs.Names.{◌≡◌, ◌++◌, ◌⊎◌, inl, inr, refl, ap, ◌∙◌, Color, White, Black, white_codes}
+use Rattle.hayro_ccitt.proofs.Names.{black_codes, numbered, codes_of, WHITE_TERMINATING, WHITE_MAKEUP}
 use Rattle.hayro_ccitt.proofs.Names.{BLACK_TERMINATING, BLACK_MAKEUP, COMMON_MAKEUP}
 use Rattle.hayro_ccitt.proofs.BitReading.LookUpEntries.{Table}
 
@@ -28,9 +28,3 @@ numbered_of terminating makeup (inr e) = (
   ap (λ (t : Table). numbered (t ++ makeup ++ COMMON_MAKEUP)) e.0
       ∙ ap (λ (m : Table). numbered (BLACK_TERMINATING ++ m ++ COMMON_MAKEUP)) e.1 ∙ numbered_black,
 )
-
--- the lookup tables of both
-pub of_colors : (white black : List ℕ) → AreEntries white_codes white → AreEntries black_codes black
-    → AreOfColors (record { white = white; black = black })
-of_colors white black w b White = w
-of_colors white black w b Black = b

@@ -1,6 +1,6 @@
 -- EOLs with tags between them, read one after another, and what is examined.
-use Rattle.hayro_ccitt.proofs.Names.{◌≡◌, ℕ, suc, ◌+◌, ◌-◌, ◌*◌, ◌<◌, ◌≤◌, true, false, ◌∷◌, length, Some, None, refl, arith}
-use Rattle.hayro_ccitt.proofs.Names.{is_some, le-leb, Bits, after_eol, eols, past_tag, eols_with_tags, pass_last_tag, looked}
+use Rattle.hayro_ccitt.proofs.Names.{◌≡◌, ℕ, suc, ◌+◌, ◌-◌, ◌*◌, ◌<◌, ◌≤◌, length, Some, None, arith}
+use Rattle.hayro_ccitt.proofs.Names.{Bits, after_eol, eols, past_tag, eols_with_tags, looked}
 use Rattle.hayro_ccitt.proofs.Names.{looked_at_tag, common_steps}
 use Rattle.hayro_ccitt.proofs.{BitReading.ZeroRuns.looked_eol, Readings.TurnsMoveOn.eols_with_tags-some}
 
@@ -34,14 +34,3 @@ pub tagged_looks : (here after rest : Bits) (ticks ticks1 ticks2 most : ℕ) →
     → (ticks + length here ≤ ticks2 + length rest) × (length rest < length here)
     × (ticks + 2 * length here ≤ most + looked_before here → ticks2 + 2 * length rest ≤ most + looked_before rest)
 tagged_looks here after rest ticks ticks1 ticks2 most eol is first second = grind (arith, common_steps, looked_eol, tag_looks)
-
--- a one before an EOL is consumed as a tag, and no other
-pub past_tag-eol : (here : Bits) → is_some (after_eol 0 here) ≡ true → past_tag (true ∷ here) ≡ here
-past_tag-eol here e = grind (arith, common_steps)
-
-pub past_tag-none : (here : Bits) → is_some (after_eol 0 here) ≡ false → past_tag (true ∷ here) ≡ true ∷ here
-past_tag-none here e = grind (arith, common_steps)
-
--- of six EOLs or more the last tag is consumed
-pub last_tag-one : (count : ℕ) (here : Bits) → 6 ≤ count → pass_last_tag (count, true ∷ here) ≡ (count, here)
-last_tag-one count here le = rw (le-leb 6 count le) refl

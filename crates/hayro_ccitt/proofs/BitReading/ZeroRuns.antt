@@ -1,6 +1,7 @@
 -- Zeros and EOLs that are counted a bit and an EOL at a time.
+use Rattle.hayro_ccitt.proofs.DamagedLines.PastEol.{eols_same}
 use Rattle.hayro_ccitt.proofs.Names.{◌≡◌, ℕ, zero, suc, ◌+◌, ◌-◌, ◌<◌, ◌≤◌, Bool, true, false, cond, leb, eqb, [], ◌∷◌, ◌++◌}
-use Rattle.hayro_ccitt.proofs.Names.{length, replicate, Option, Some, None, refl, sym, ap, ◌∙◌, arith, slice_get, eqb-true, Bits}
+use Rattle.hayro_ccitt.proofs.Names.{length, replicate, Option, Some, None, refl, ap, ◌∙◌, arith, slice_get, eqb-true, Bits}
 use Rattle.hayro_ccitt.proofs.Names.{BitsAt, here, leading_zeros, after_eol, eols, all_eols, looked, common_steps}
 use Rattle.hayro_ccitt.proofs.BitReading.BitLists.{drop_some}
 use Rattle.hayro_ccitt.proofs.Readings.TurnsMoveOn.{after_eol_shorter, length-one_more, one_more-count}
@@ -56,21 +57,7 @@ eols_fewer (suc most) here = by_after_eol (λ rest. eols_fewer most rest) (after
 
 -- if at least as many EOLs as bits are looked for, all are
 pub eols_enough : (most : ℕ) (here : Bits) → length here ≤ most → eols most here ≡ all_eols here
-eols_enough most here le = alike most (length here) here le (omega arith)
-  where
-    none : (most : ℕ) → eols most [] ≡ (0, [])
-    none most = grind (arith, common_steps)
-
-    alike : (most others : ℕ) (here : Bits) → length here ≤ most → length here ≤ others → eols most here ≡ eols others here
-    alike most others [] le le1 = none most ∙ sym (none others)
-    alike zero others (bit ∷ here) le le1 = absurd (omega (arith, le))
-    alike (suc most) zero (bit ∷ here) le le1 = absurd (omega (arith, le1))
-    alike (suc most) (suc others) (bit ∷ here) le le1 =
-        by_after_eol (λ rest. alike most others rest) (after_eol 0 (bit ∷ here)) refl
-      where
-        by_after_eol : ((rest : Bits) → length rest ≤ most → length rest ≤ others → eols most rest ≡ eols others rest)
-            → (o : Option Bits) → after_eol 0 (bit ∷ here) ≡ o → eols (suc most) (bit ∷ here) ≡ eols (suc others) (bit ∷ here)
-        by_after_eol on o e = grind (arith, common_steps, after_eol_shorter)
+eols_enough most here le = eols_same most (length here) here le (omega arith)
 
 -- if more EOLs than bits are looked for, the bits after the last are examined
 pub eols_look_on : (most : ℕ) (here rest : Bits) (count : ℕ) → length here < most → eols most here ≡ (count, rest)

@@ -31,8 +31,8 @@ word_zeros : (w k : ℕ) → w < 2 ^ 32 → k < count_leading_zeros 32 w → bit
 word_zeros w k small h = grind (arith, common_steps, bit_at_above w, leading_length 32 w small)
 
 -- a number that isn't zero has a one after them
-word_one : (w : ℕ) → w < 2 ^ 32 → count_leading_zeros 32 w < 32 → bit_of w (31 - count_leading_zeros 32 w) ≡ true
-word_one w small few =
+leading_one : (w : ℕ) → w < 2 ^ 32 → count_leading_zeros 32 w < 32 → bit_of w (31 - count_leading_zeros 32 w) ≡ true
+leading_one w small few =
     let top = leading_top 32 w (some_number 32 w small few) small in
     grind (arith, common_steps, one_times)
 
@@ -83,7 +83,7 @@ word_passed start now next w small held forward e on before =
 one_ahead : (now : BitsAt) (w : ℕ) → w < 2 ^ 32 → Holds w now → count_leading_zeros 32 w < 32
     → slice_get now.bits (now.place + count_leading_zeros 32 w) ≡ Some true
 one_ahead now w small held few =
-    grind (arith, common_steps, cases_lt, false≢true, get_or_past now.bits, slice_get-get_or now.bits, word_one w small few)
+    grind (arith, common_steps, cases_lt, false≢true, get_or_past now.bits, slice_get-get_or now.bits, leading_one w small few)
 
 -- and the reader is at it
 pub one_follows : (now next : BitsAt) (w : ℕ) → w < 2 ^ 32 → Holds w now

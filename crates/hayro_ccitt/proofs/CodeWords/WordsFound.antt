@@ -1,4 +1,5 @@
 -- The words that a line finds are consecutive from where it begins, and end before each EOL's one.
+use Rattle.hayro_ccitt.proofs.Readings.Gathered.{gathered_after}
 use Rattle.hayro_ccitt.proofs.Names.{◌≡◌, take, Result, Ok, Err, subst, append_assoc, ℕ, zero, suc, ◌+◌, ◌<◌, Bool, true, false}
 use Rattle.hayro_ccitt.proofs.Names.{List, [], ◌∷◌, ◌++◌, length, replicate, refl, sym, ap, ◌∙◌, arith, inl, inr, false≢true}
 use Rattle.hayro_ccitt.proofs.Names.{cases_lt, length-append, length-replicate, append-nil, DecodeError, UnexpectedEof, Color}
@@ -13,11 +14,6 @@ use Rattle.hayro_ccitt.proofs.{CodeWords.ReadCodes.read_code_found, Readings.Rep
 use Rattle.hayro_ccitt.proofs.BitReading.ZerosInWords.{codes_free, modes_free, free_by, no_one, holds_a_one, word_one}
 use Rattle.hayro_ccitt.proofs.BitReading.ZerosInWords.{no_eleven_in, prefix_of_prefix}
 use Rattle.hayro_ccitt.proofs.CodeWords.ReadRuns.{chosen, word_next, not_done, done_is}
-
--- the words of the turns after this one
-abbrev pub gathered_after : {S R A : Type 0} → (S → List A) → Turn S R → List A
-gathered_after rest (Turn.next s) = rest s
-gathered_after rest (Turn.done r) = []
 
 -- ---- Consecutive words here.
 pub record Stands (here : Bits) (found : List Bits) (rest : Bits) : Type 0 where
@@ -91,11 +87,11 @@ run_goes color total here t (Ok found) h k =
     let step = word_stands (codes_of color) here found.0 found.1 (run_word color found.0) h in
     grind (arith, common_steps, run_word color found.0, word_next total found t, step)
 
-run_ends : (color : Color) (total : ℕ) (here : Bits) (r : Result (ℕ × Bits) DecodeError) (q : Result (ℕ × Bits) DecodeError)
-    → read_code (codes_of color) here ≡ q → run_turn color (total, here) ≡ Turn.done r
-    → (rest : Bits) × Stands here (word_found (codes_of color) here) rest × RunEnds r rest
-run_ends color total here r (Err e) h k = grind (arith, common_steps, done_is, no_word_stands (codes_of color) here e h)
-run_ends color total here r (Ok found) h k =
+run_stands_at_end : (color : Color) (total : ℕ) (here : Bits)
+    (r : Result (ℕ × Bits) DecodeError) (q : Result (ℕ × Bits) DecodeError) → read_code (codes_of color) here ≡ q → run_turn
+    color (total, here) ≡ Turn.done r → (rest : Bits) × Stands here (word_found (codes_of color) here) rest × RunEnds r rest
+run_stands_at_end color total here r (Err e) h k = grind (arith, common_steps, done_is, no_word_stands (codes_of color) here e h)
+run_stands_at_end color total here r (Ok found) h k =
     let g : run_of_word total found ≡ Turn.done r = rw (h, run_turn) at k in
     let stands = word_stands (codes_of color) here found.0 found.1 (run_word color found.0) h in
     grind (arith, common_steps, chosen, done_is, not_done)
@@ -106,7 +102,7 @@ pub run_stands : (color : Color) (total : ℕ) (here : Bits) → (rest : Bits) �
 run_stands color total here =
     gathered_stands (run_turn color) (Err UnexpectedEof) (run_gives color) (λ s. s.1) RunEnds
     (λ b. tt) (λ s t e. run_goes color s.0 s.1 t (read_code (codes_of color) s.1) refl e)
-    (λ s r e. run_ends color s.0 s.1 r (read_code (codes_of color) s.1) refl e) (suc (length here)) (total, here)
+    (λ s r e. run_stands_at_end color s.0 s.1 r (read_code (codes_of color) s.1) refl e) (suc (length here)) (total, here)
 
 -- ---- The words of a line.
 abbrev pub LineEnds : Line → Bits → Type 0
@@ -182,16 +178,16 @@ pub unless_full_stands : (columns : ℕ) (pen : Pen) → DrawingStands pen.rest 
 unless_full_stands columns pen = grind (arith, common_steps)
 
 -- what a mode draws
-mode_stands : (strict : Bool) (columns : ℕ) (reference : Row) (pen : Pen) (mode : Mode)
+mode_word_stands : (strict : Bool) (columns : ℕ) (reference : Row) (pen : Pen) (mode : Mode)
     → DrawingStands pen.rest rest_of_pen (draw_mode strict columns reference pen mode)
-mode_stands strict columns reference pen Pass =
+mode_word_stands strict columns reference pen Pass =
     behind_stands pen.rest (λ (front : Row). pen.rest) rest_of_pen
     (painted_to strict columns pen (b2 reference (right_of pen.front) pen.color))
     (λ front. go_on (record pen { front = front })) (wordless_stands pen.rest pen _) (λ front. stands_none pen.rest)
-mode_stands strict columns reference pen Horizontal =
+mode_word_stands strict columns reference pen Horizontal =
     behind_stands pen.rest rest_of_pen rest_of_pen (draw_run strict columns pen) (draw_run strict columns)
     (draw_run_stands strict columns pen) (draw_run_stands strict columns)
-mode_stands strict columns reference pen (Vertical k) =
+mode_word_stands strict columns reference pen (Vertical k) =
     let paints : ℕ → Drawing Row = painted_to strict columns pen in
     let turns : Row → Drawing Pen = λ front. go_on (record { front = front; color = opposite pen.color; rest = pen.rest }) in
     behind_stands pen.rest (λ (place : ℕ). pen.rest) rest_of_pen
@@ -214,7 +210,7 @@ draw_2d_stands strict columns reference pen =
     λ p mode. draw_mode strict columns reference (record p { rest = mode.1 }) mode.0 in
     behind_stands pen.rest rest_of_pen rest_of_pen (unless_full columns pen) (λ p. mode_here p >>= draws p)
     (unless_full_stands columns pen) (λ p. behind_stands p.rest (λ (mode : Mode × Bits). mode.1) rest_of_pen (mode_here p)
-    (draws p) (mode_read_stands p) (λ mode. mode_stands strict columns reference (record p { rest = mode.1 }) mode.0))
+    (draws p) (mode_read_stands p) (λ mode. mode_word_stands strict columns reference (record p { rest = mode.1 }) mode.0))
 
 -- what a repeated step finds
 pub pen_stands : (draw : Pen → Drawing Pen) → ((pen : Pen) → DrawingStands pen.rest rest_of_pen (draw pen)) → (n : ℕ) (pen : Pen)

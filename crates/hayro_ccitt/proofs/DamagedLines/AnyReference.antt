@@ -1,5 +1,6 @@
 -- A two-dimensional line, read against any reference row: it ends behind one of its modes or is broken, so that the next
 -- EOL is the one behind it.
+use Rattle.hayro_ccitt.proofs.PixelRows.ReferencePlaces.{opposite_twice}
 use Rattle.hayro_ccitt.proofs.Names.{◌≡◌, ℕ, suc, ◌+◌, ◌-◌, ◌≤◌, Bool, true, false, [], ◌∷◌, ◌++◌, length, replicate, Option}
 use Rattle.hayro_ccitt.proofs.Names.{Some, None, Ok, Err, refl, sym, ap, subst, ◌∙◌, append_assoc, arith, ◌⊎◌, inl, inr, cases_lt}
 use Rattle.hayro_ccitt.proofs.Names.{lt-ltb, le-ltb, lt-leb, length-append, replicate-append-replicate, Color, White, Mode, Pass}
@@ -88,9 +89,6 @@ spelled color n bits total more (Spells.makeup m word {n = k} {bits = next} has 
           ]
     ]
 
-twice : (color : Color) → opposite (opposite color) ≡ color
-twice color = grind (arith, common_steps)
-
 -- ---- Modes that are read
 
 -- what is left after modes that are read, if this stands behind the first
@@ -148,7 +146,7 @@ module _ (strict : Bool) (columns : ℕ) (other : Row) where
       let two = run_on strict columns (pen_at one.1 (opposite color) one.2) Turn.next t one.4 in
       ReadsModes.mode color two.2
       (ap (behind_read color) read ∙ ap (behind_first_run color) one.3 ∙ ap (behind_second_run color) two.3)
-      (subst (λ (c : Color). ReadsModes c two.2 last) (twice color)
+      (subst (λ (c : Color). ReadsModes c two.2 last) (opposite_twice color)
       (subst (λ (p : Pen). reads_at p last) {y = pen_at two.1 (opposite (opposite color)) two.2} (sym (next_is _ t two.4)) reads))
 
   abbrev Keeps : Bits → Pen → Type 0

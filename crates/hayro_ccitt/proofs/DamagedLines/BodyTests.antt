@@ -1,4 +1,5 @@
 -- The tests of a local body, as they are made.
+use Rattle.hayro_ccitt.proofs.DamagedLines.LineStarts.{not_some}
 use Rattle.hayro_ccitt.proofs.Names.{◌≡◌, ◌≢◌, ℕ, zero, suc, ◌+◌, ◌-◌, ◌<◌, ◌≤◌, ◌⊎◌, Bool, true, false, cond, eqb, ltb, leb, []}
 use Rattle.hayro_ccitt.proofs.Names.{◌∷◌, ◌++◌, length, take, drop, replicate, Option, Some, None, Err, IsTrue, refl, sym, ap}
 use Rattle.hayro_ccitt.proofs.Names.{subst, ◌∙◌, arith, inl, inr, ◌↔◌, is_some, cases_lt, lt-ltb, le-leb, lt-leb, ltb-true}
@@ -170,10 +171,6 @@ pub broken_ends : (columns : ℕ) (after here rest : Bits) (front : Row) (fault 
     → DrawsLine (line_1d false columns here) (Err fault) front rest → EndsBefore columns after here
 broken_ends columns after here rest front fault other is row rest2 is2 = grind (arith, common_steps)
 
--- ---- All tests together.
-none_stands : (o : Option Bits) → is_some o ≡ false → o ≡ None
-none_stands o e = grind (arith, common_steps)
-
 -- if the other tests succeed, a body is local if its line ends before the EOL after it
 pub local_by_end : (settings : DecodeSettings) (bits : Bits) (from to end : ℕ) (before : Bool)
     → (settings.encoding ≡ Group3_1D) × (settings.strict ≡ false) → from ≤ to → to ≤ length bits → (from ≡ 0) ⊎ ((12 ≤ from)
@@ -188,7 +185,7 @@ local_by_end settings bits from to end before lenient order within starts one no
     within = within;
     starts = starts;
     one = one;
-    no_eol = none_stands (next_eol (take (to - from) (drop from bits))) no_eol;
+    no_eol = not_some (next_eol (take (to - from) (drop from bits))) no_eol;
     closes = (drop end bits, eol, ends.0 test);
   }),
   λ local. ends.1 (same_end local.closes.0 (sym local.closes.1 ∙ eol) local.closes.2),

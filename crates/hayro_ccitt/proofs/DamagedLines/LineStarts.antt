@@ -1,4 +1,5 @@
 -- Where lines begin, by positions.
+use Rattle.hayro_ccitt.proofs.Readings.TurnsMoveOn.{at_end_length}
 use Rattle.hayro_ccitt.proofs.Names.{◌≡◌, ℕ, zero, suc, ◌+◌, ◌<◌, ◌≤◌, Bool, true, false, cond, not, ◌&&◌, leb, List, [], ◌∷◌}
 use Rattle.hayro_ccitt.proofs.Names.{◌++◌, length, take, drop, replicate, Option, Some, None, refl, sym, ap, subst, ◌∙◌}
 use Rattle.hayro_ccitt.proofs.Names.{append_assoc, arith, ◌⊎◌, inl, inr, Contains, All, is_some, cases_lt, le-leb, leb-true}
@@ -181,10 +182,7 @@ contains_first here other rest given = grind (arith, common_steps)
 contains_more : (here other : Bits) (rest : List Bits) → Contains rest other → Contains (here ∷ rest) other
 contains_more here other rest (k, lt, e) = (suc k, omega arith, e)
 
-some_at_end : (here : Bits) → at_end here ≡ false → 0 < length here
-some_at_end here e = grind (arith, common_steps)
-
-not_some : (o : Option Bits) → is_some o ≡ false → o ≡ None
+pub not_some : (o : Option Bits) → is_some o ≡ false → o ≡ None
 not_some o e = grind (arith, common_steps)
 
 more_left : (here : Bits) → 0 < length here → at_end here ≡ false
@@ -203,7 +201,7 @@ module _ (bits : Bits) where
     | inr found ↦
         let f = from_later 0 (all_eols bits).1 (drop place bits) found in
         let both = and_parts (not (at_end (drop place bits))) (not (is_some (after_eol 0 (drop place bits)))) f.1 in
-        let begins = some_at_end (drop place bits) (not-true (at_end (drop place bits)) both.0) in
+        let begins = at_end_length (drop place bits) (not-true (at_end (drop place bits)) both.0) in
         let front : Bits = leaves_first.0 ++ f.0.1.0 in
         let cut : bits ≡ front ++ f.0.0 =
         leaves_first.1 ∙ ap (λ (b : Bits). leaves_first.0 ++ b) f.0.1.1 ∙ sym (append_assoc leaves_first.0 f.0.1.0 f.0.0) in

@@ -1,4 +1,5 @@
 -- Lines by EOLs.
+use Rattle.hayro_ccitt.proofs.Readings.TurnsAddRows.{turn_extends}
 use Rattle.hayro_ccitt.proofs.Names.{◌≡◌, ℕ, zero, suc, ◌<◌, Bool, true, false, cond, ◌||◌, eqb, ltb, List, [], ◌∷◌, ◌++◌, length}
 use Rattle.hayro_ccitt.proofs.Names.{map, Option, Some, None, Ok, Err, refl, sym, ap, subst, ◌∙◌, append_assoc, arith, ◌⊎◌, All}
 use Rattle.hayro_ccitt.proofs.Names.{All-head, All-tail, All-same, append-nil, cases_lt, lt-leb, le-leb, ne_eqb, and_right}
@@ -11,7 +12,7 @@ use Rattle.hayro_ccitt.proofs.DamagedLines.PastEol.{past, past-eol, past_later, 
 use Rattle.hayro_ccitt.proofs.DamagedLines.SoughtTurns.{sought, rest_of, found_next, after_row_past, move_line}
 use Rattle.hayro_ccitt.proofs.DrawingLines.LinesLeaveBits.{line_1d_leaves, LineLeaves}
 use Rattle.hayro_ccitt.proofs.Readings.Repeated.{after_turn, repeated_turn, repeated_same}
-use Rattle.hayro_ccitt.proofs.Readings.TurnsAddRows.{Keeps, after_row_keeps, move_adds, repeated_adds}
+use Rattle.hayro_ccitt.proofs.Readings.TurnsAddRows.{after_row_keeps, move_adds, repeated_adds}
 use Rattle.hayro_ccitt.proofs.Readings.TurnsMoveOn.{after_eol_shorter, eols_shorter, left_to_read, left_below, move_shrinks}
 
 -- what follows the next EOL is shorter
@@ -79,10 +80,6 @@ module _ (settings : DecodeSettings) (encoding : settings.encoding ≡ Group3_1D
   extends run = repeated_adds (move_on settings) late left_to_read (move_shrinks settings wide) (move_adds settings)
       (suc (left_to_read run)) run (omega arith)
 
-  turn_extends : (rows : List Row) (m : Move) → Keeps rows m → IsPrefix rows (after_turn rest_end m).rows
-  turn_extends rows (Turn.next t) k = subst (λ (x : List Row). IsPrefix x (rest_end t).rows) k (extends t)
-  turn_extends rows (Turn.done e) k = ([], k ∙ sym (append-nil rows))
-
   not_met : (n : ℕ) → limit_met settings n ≡ false
   not_met n = rw unlimited refl
 
@@ -112,7 +109,7 @@ module _ (settings : DecodeSettings) (encoding : settings.encoding ≡ Group3_1D
           (sought rows here)).rows) → (o : Option Bits) → past 0 here ≡ o → IsPrefix (rows ++ map (row_at settings.columns)
           (here ∷ later_starts 0 here)) (after_turn rest_end (after_row settings (sought (rows ++ first ∷ []) rest))).rows
       by_past on None e = rw (starts-none 0 here e)
-          (turn_extends (rows ++ first ∷ []) (after_row settings (sought (rows ++ first ∷ []) rest))
+          (turn_extends rest_end extends (rows ++ first ∷ []) (after_row settings (sought (rows ++ first ∷ []) rest))
           (after_row_keeps settings (sought (rows ++ first ∷ []) rest)))
       by_past on (Some after) e = go (all_eols after).1 refl
         where

@@ -14,20 +14,20 @@ use Rattle.hayro_ccitt.proofs.DrawingLines.ReadLines.{modes_not_empty}
 some_rest : (a b : Color × Bits) → ◌≡◌ {A = Option (Color × Bits)} (Some a) (Some b) → a.1 ≡ b.1
 some_rest a b e = let same : a ≡ b = cc in ap (λ (x : Color × Bits). x.1) same
 
-not_some : (a : Color × Bits) → ◌≡◌ {A = Option (Color × Bits)} None (Some a) → ⊥
-not_some a e = cc
+none_is_not_some : (a : Color × Bits) → ◌≡◌ {A = Option (Color × Bits)} None (Some a) → ⊥
+none_is_not_some a e = cc
 
 second_shorter : (color : Color) (here : Bits) (r : Result (ℕ × Bits) DecodeError) → read_run (opposite color) here ≡ r
     → (found : Color × Bits) → behind_second_run color r ≡ Some found → length found.1 ≤ length here
 second_shorter color here (Ok (n, rest)) e found f =
     omega (arith, run_shorter (opposite color) 0 here n rest e, ap length (some_rest (color, rest) found f))
-second_shorter color here (Err fault) e found f = absurd (not_some found f)
+second_shorter color here (Err fault) e found f = absurd (none_is_not_some found f)
 
 first_shorter : (color : Color) (here : Bits) (r : Result (ℕ × Bits) DecodeError) → read_run color here ≡ r
     → (found : Color × Bits) → behind_first_run color r ≡ Some found → length found.1 ≤ length here
 first_shorter color here (Ok (n, rest)) e found f =
     omega (arith, run_shorter color 0 here n rest e, second_shorter color rest (read_run (opposite color) rest) refl found f)
-first_shorter color here (Err fault) e found f = absurd (not_some found f)
+first_shorter color here (Err fault) e found f = absurd (none_is_not_some found f)
 
 word_shorter : (color : Color) (mode : Mode) (here : Bits) (found : Color × Bits) → behind_word color mode here ≡ Some found
     → length found.1 ≤ length here
@@ -43,7 +43,7 @@ mode_shorter color here found e = by_read_code (read_code mode_codes here) refl 
         → length found.1 < length here
     by_read_code (Ok (mode, rest)) f g =
         omega (arith, read_code_shorter mode_codes here mode rest modes_not_empty f, word_shorter color mode rest found g)
-    by_read_code (Err fault) f g = absurd (not_some found g)
+    by_read_code (Err fault) f g = absurd (none_is_not_some found g)
 
 -- ---- Modes that are passed, one after another
 

@@ -1,4 +1,5 @@
 -- Modes that are drawn by their changes alone.
+use Rattle.hayro_ccitt.proofs.PixelRows.ReferencePlaces.{opposite_twice}
 use Rattle.hayro_ccitt.proofs.Names.{◌≡◌, ℕ, suc, ◌+◌, ◌-◌, ◌*◌, ◌%◌, ◌<◌, ◌≤◌, ◌⊎◌, inl, inr, Bool, false, min, List, [], ◌∷◌}
 use Rattle.hayro_ccitt.proofs.Names.{◌++◌, length, replicate, get_or, Ok, refl, sym, ap, subst, ◌∙◌, arith, ℤ, pos, negsuc, ◌+ℤ◌}
 use Rattle.hayro_ccitt.proofs.Names.{ints, cases_lt, length-append, get_or_default_zero, Color, White, Black, Mode, Pass}
@@ -17,9 +18,9 @@ use Rattle.hayro_ccitt.proofs.PixelRows.B1ByParity.{near_later, starts_b1, ends_
 use Rattle.hayro_ccitt.proofs.PixelRows.ChangesAndPixels.{length-pixels, turned, turned-even, AreChanges-wider, AreChanges-push}
 
 -- ---- Drawing continues.
-pub twice_2d : (strict : Bool) (columns : ℕ) (reference : Row) (a b c : Pen) (m n o p q r : ℕ) → GoesOn2d strict columns reference
+pub twice_2d : {strict : Bool} {columns : ℕ} {reference : Row} {a b c : Pen} {m n o p q r : ℕ} → GoesOn2d strict columns reference
     a b m n p q → GoesOn2d strict columns reference b c n o q r → GoesOn2d strict columns reference a c m o p r
-twice_2d strict columns reference a b c m n o p q r first second = record {
+twice_2d first second = record {
   line = second.line ∙ first.line;
   counts = omega (arith, first.counts, second.counts);
   at_least = omega (arith, first.at_least, second.at_least);
@@ -28,12 +29,12 @@ twice_2d strict columns reference a b c m n o p q r first second = record {
 }
 
 -- a mode that is read and drawn
-pub mode_on : (strict : Bool) (columns : ℕ) (reference : Row) (pen next : Pen) (mode : Mode) (rest : Bits)
-    (words ticks now passed later : ℕ) → length pen.front < columns → read_code mode_codes pen.rest ≡ Ok (mode, rest)
+mode_on : {strict : Bool} {columns : ℕ} {reference : Row} (pen next : Pen) {mode : Mode} {rest : Bits} (words : ℕ)
+    {ticks now passed later : ℕ} → length pen.front < columns → read_code mode_codes pen.rest ≡ Ok (mode, rest)
     → (draw_mode strict columns reference (record pen { rest = rest }) mode).turn ≡ Turn.next next
     → length (draw_mode strict columns reference (record pen { rest = rest }) mode).words ≡ words → ticks + 1 + words ≤ now
     → now + passed ≤ ticks + 4 + 4 * words + later → GoesOn2d strict columns reference pen next ticks now passed later
-mode_on strict columns reference pen next mode rest words ticks now passed later open_row reads draws counted least most =
+mode_on {strict} {columns} {reference} pen next {mode} {rest} words open_row reads draws counted least most =
     let line = line_mode strict columns reference pen mode rest open_row reads
     ∙ ap (after_turn (drawn_by (step_2d strict columns reference))) draws in
     let found = found_2d_on strict columns reference pen mode rest open_row reads in
@@ -65,9 +66,34 @@ paint_on strict columns painted place row color n lawful colored forward within 
     paint_fits strict columns front color n fits ∙ ap (λ (m : ℕ). Ok (front ++ replicate m (is_black color))) all
     ∙ ap (λ (c : Bool). Ok (front ++ replicate (place - painted) c)) (sym (colored_end row color colored)) ∙ ap Ok (sym on)
 
-module _ (strict : Bool) (columns : ℕ) (places : List ℕ) (painted index : ℕ)
-    (color : Color) (row : List ℕ) (at : BitsAt) (ascend : AreChanges columns places) (open_row : painted < columns)
-    (stroke : IsStroke columns places painted index color row) where
+-- a run that is read and painted
+run_draws : (strict : Bool) (columns painted : ℕ) {place run : ℕ} (row : List ℕ) {color : Color} {at : BitsAt} {width words : ℕ}
+    → AreChanges (suc painted) row → TurnsFrom (length row) color → place ≡ painted + run → place ≤ columns
+    → IsRunHere color at run width words → ((draw_run strict columns (pen_at painted row color at)).turn ≡ Turn.next (pen_at place
+    row (opposite color) (moved width at))) × (length (draw_run strict columns (pen_at painted row color at)).words ≡ words)
+run_draws strict columns painted {place} {run} row {color} {at} lawful colored reach within there =
+    let paints : paint strict columns (pixels painted row) color run ≡ Ok (pixels place row) =
+    paint_on strict columns painted place row color run lawful colored (omega (arith, reach)) within (omega (arith, reach)) in
+    (rw (there.read, paints) refl, ap length (words_run strict columns (pen_at painted row color at)) ∙ there.found)
+
+none_yet : (row : List ℕ) → AreChanges 1 row → length row % 2 ≡ 0 → row ≡ []
+none_yet [] lawful even = refl
+none_yet (p ∷ []) lawful even = absurd (omega (arith, even))
+none_yet (p ∷ q ∷ row) lawful even = absurd (omega (arith, lawful.2.0, lawful.2.1))
+
+white_at_first : (index : ℕ) (color : Color) (row : List ℕ) → index ≡ 0 → TurnsFrom index color → TurnsFrom (length row) color
+    → length row % 2 ≡ 0
+white_at_first index White row e at colored = colored
+white_at_first index Black row e at colored = absurd (omega (arith, at, e))
+
+-- the number of changes, with one more
+one_turn : (row : List ℕ) (place : ℕ) (color : Color) → TurnsFrom (length row) color
+    → TurnsFrom (length (row ++ place ∷ [])) (opposite color)
+one_turn row place White even = omega (arith, even, length-append row (place ∷ []))
+one_turn row place Black odd = omega (arith, odd, length-append row (place ∷ []))
+
+module _ {columns : ℕ} {places : List ℕ} {painted index : ℕ} {color : Color} {row : List ℕ} (ascend : AreChanges columns places)
+    (open_row : painted < columns) (stroke : IsStroke columns places painted index color row) where
   lawful : AreChanges (suc painted) row
   lawful = one_more painted row stroke.lawful
 
@@ -81,65 +107,6 @@ module _ (strict : Bool) (columns : ℕ) (places : List ℕ) (painted index : �
       × (b2 (pixels columns places) (right_of (pixels painted row)) color ≡ get_or places (index + 1) columns)
   changes_here = b1_of_front columns places ascend (pixels painted row) painted index color len open_row (stroke.at open_row)
 
-  -- a vertical mode
-  pub vertical_on : (place later : ℕ) (k : ℤ) (width ticks now : ℕ) → columns ≤ 4294967295 → read_code mode_codes (here at) ≡ Ok
-      (Vertical k, here (moved width at)) → pos (get_or places index columns) +ℤ k ≡ pos place → painted ≤ place → place ≤ columns
-      → ticks + 1 ≤ now → now + (index - 1) ≤ ticks + 4 + (later - 1) → GoesOn2d strict columns (pixels columns places)
-      (pen_at painted row color at) (pen_at place row (opposite color) (moved width at)) ticks now (index - 1) (later - 1)
-  vertical_on place later k width ticks now fits reads named forward within least most =
-      let front : Row = pixels painted row in
-      let pen : Pen = record { front = front; color = color; rest = here (moved width at) } in
-      let above : length front ≤ place = omega (arith, len, forward) in
-      let is : pos (b1 (pixels columns places) (right_of front) color) +ℤ k ≡ pos place =
-      ap (λ (n : ℕ). pos n +ℤ k) changes_here.0 ∙ named in
-      let placed = place_ok (length front) place (pos (b1 (pixels columns places) (right_of front) color) +ℤ k) is
-      (omega (arith, within, fits)) above in
-      let paints : paint strict columns front color (place - length front) ≡ Ok (pixels place row) = paint_on strict columns
-      painted place row color (place - length front) lawful (stroke.colored open_row) forward within (omega (arith, len)) in
-      mode_on strict columns (pixels columns places) (pen_at painted row color at) (pen_at place row
-      (opposite color) (moved width at)) (Vertical k) (here (moved width at)) 0 ticks now (index - 1) (later - 1) open_front reads
-      (rw (placed, paints) refl) (rw (placed, paints) refl) (omega (arith, least)) (omega (arith, most))
-
-  -- pass mode
-  pub pass_on : (later width ticks now : ℕ) → read_code mode_codes (here at) ≡ Ok (Pass, here (moved width at))
-      → painted ≤ get_or places (index + 1) columns → get_or places (index + 1) columns ≤ columns → ticks + 1 ≤ now → now
-      + (index - 1) ≤ ticks + 4 + (later - 1) → GoesOn2d strict columns (pixels columns places) (pen_at painted row color at)
-      (pen_at (get_or places (index + 1) columns) row color (moved width at)) ticks now (index - 1) (later - 1)
-  pass_on later width ticks now reads forward within least most =
-      let front : Row = pixels painted row in
-      let place : ℕ = get_or places (index + 1) columns in
-      let named : b2 (pixels columns places) (right_of front) color - length front ≡ place - painted =
-      omega (arith, changes_here.1, len) in
-      let paints : paint strict columns front color (b2 (pixels columns places) (right_of front) color - length front)
-      ≡ Ok (pixels place row) =
-      paint_on strict columns painted place row color _ lawful (stroke.colored open_row) forward within named in
-      mode_on strict columns (pixels columns places) (pen_at painted row color at) (pen_at place row color (moved width at)) Pass
-      (here (moved width at)) 0 ticks now (index - 1) (later - 1) open_front reads (rw paints refl) (rw paints refl)
-      (omega (arith, least)) (omega (arith, most))
-
--- ---- The row that is reached.
-none_yet : (row : List ℕ) → AreChanges 1 row → length row % 2 ≡ 0 → row ≡ []
-none_yet [] lawful even = refl
-none_yet (p ∷ []) lawful even = absurd (omega (arith, even))
-none_yet (p ∷ q ∷ row) lawful even = absurd (omega (arith, lawful.2.0, lawful.2.1))
-
-white_at_first : (index : ℕ) (color : Color) (row : List ℕ) → index ≡ 0 → TurnsFrom index color → TurnsFrom (length row) color
-    → length row % 2 ≡ 0
-white_at_first index White row e at colored = colored
-white_at_first index Black row e at colored = absurd (omega (arith, at, e))
-
-opposite_twice : (color : Color) → opposite (opposite color) ≡ color
-opposite_twice White = refl
-opposite_twice Black = refl
-
--- the number of changes, with one more
-one_turn : (row : List ℕ) (place : ℕ) (color : Color) → TurnsFrom (length row) color
-    → TurnsFrom (length (row ++ place ∷ [])) (opposite color)
-one_turn row place White even = omega (arith, even, length-append row (place ∷ []))
-one_turn row place Black odd = omega (arith, odd, length-append row (place ∷ []))
-
-module _ (columns : ℕ) (places : List ℕ) (painted index : ℕ) (color : Color) (row : List ℕ) (ascend : AreChanges columns places)
-    (open_row : painted < columns) (stroke : IsStroke columns places painted index color row) where
   -- b1 is not left of a0
   pub b1_onward : painted ≤ get_or places index columns
   b1_onward = elim (cases_lt 0 painted) [
@@ -150,9 +117,53 @@ module _ (columns : ℕ) (places : List ℕ) (painted index : ℕ) (color : Colo
   pub b1_within : get_or places index columns ≤ columns
   b1_within = end_within columns places ascend index
 
+  -- nor b2
+  b2_onward : painted ≤ get_or places (index + 1) columns
+  b2_onward = omega (arith, b1_onward, rising columns places ascend index (index + 1) (omega arith))
+
+  pub b2_within : get_or places (index + 1) columns ≤ columns
+  b2_within = end_within columns places ascend (index + 1)
+
+  -- a vertical mode
+  pub vertical_on : {strict : Bool} (at : BitsAt)
+      {place : ℕ} (later : ℕ) {k : ℤ} (width : ℕ) {ticks now : ℕ} → columns ≤ 4294967295 → read_code mode_codes (here at)
+      ≡ Ok (Vertical k, here (moved width at)) → pos (get_or places index columns) +ℤ k ≡ pos place → painted ≤ place → place
+      ≤ columns → ticks + 1 ≤ now → now + (index - 1) ≤ ticks + 4 + (later - 1) → GoesOn2d strict columns (pixels columns places)
+      (pen_at painted row color at) (pen_at place row (opposite color) (moved width at)) ticks now (index - 1) (later - 1)
+  vertical_on {strict} at {place} later {k} width {ticks} {now} fits reads named forward within least most =
+      let front : Row = pixels painted row in
+      let pen : Pen = record { front = front; color = color; rest = here (moved width at) } in
+      let above : length front ≤ place = omega (arith, len, forward) in
+      let is : pos (b1 (pixels columns places) (right_of front) color) +ℤ k ≡ pos place =
+      ap (λ (n : ℕ). pos n +ℤ k) changes_here.0 ∙ named in
+      let placed = place_ok (length front) place (pos (b1 (pixels columns places) (right_of front) color) +ℤ k) is
+      (omega (arith, within, fits)) above in
+      let paints : paint strict columns front color (place - length front) ≡ Ok (pixels place row) = paint_on strict columns
+      painted place row color (place - length front) lawful (stroke.colored open_row) forward within (omega (arith, len)) in
+      mode_on (pen_at painted row color at) (pen_at place row (opposite color) (moved width at)) 0 open_front reads
+      (rw (placed, paints) refl) (rw (placed, paints) refl) (omega (arith, least)) (omega (arith, most))
+
+  -- pass mode
+  pub pass_on : {strict : Bool} (at : BitsAt) (later width : ℕ)
+      {ticks now : ℕ} → read_code mode_codes (here at) ≡ Ok (Pass, here (moved width at)) → ticks + 1 ≤ now → now
+      + (index - 1) ≤ ticks + 4 + (later - 1) → GoesOn2d strict columns (pixels columns places) (pen_at painted row color at)
+      (pen_at (get_or places (index + 1) columns) row color (moved width at)) ticks now (index - 1) (later - 1)
+  pass_on {strict} at later width {ticks} {now} reads least most =
+      let front : Row = pixels painted row in
+      let place : ℕ = get_or places (index + 1) columns in
+      let named : b2 (pixels columns places) (right_of front) color - length front ≡ place - painted =
+      omega (arith, changes_here.1, len) in
+      let paints : paint strict columns front color (b2 (pixels columns places) (right_of front) color - length front)
+      ≡ Ok (pixels place row) =
+      paint_on strict columns painted place row color _ lawful (stroke.colored open_row) b2_onward b2_within named in
+      mode_on (pen_at painted row color at) (pen_at place row color (moved width at))
+      0 open_front reads (rw paints refl) (rw paints refl) (omega (arith, least)) (omega (arith, most))
+
+  -- ---- The row that is reached.
+
   -- the row is full
-  pub full_stroke : (new_color : Color) → IsStroke columns places columns index new_color row
-  full_stroke new_color = record {
+  pub full_stroke : {new_color : Color} → IsStroke columns places columns index new_color row
+  full_stroke = record {
     within = omega arith;
     near = stroke.near;
     lawful = AreChanges-wider (painted + 1) (columns + 1) row (omega (arith, open_row)) stroke.lawful;
@@ -179,9 +190,9 @@ module _ (columns : ℕ) (places : List ℕ) (painted index : ℕ) (color : Colo
   ]
 
   -- the row is turned at a position
-  pub turned_stroke : (place next : ℕ) (new : List ℕ) → place < columns → AreChanges place row → new ≡ row ++ place ∷ []
+  pub turned_stroke : {place next : ℕ} {new : List ℕ} → place < columns → AreChanges place row → new ≡ row ++ place ∷ []
       → IsB1 columns places place next (opposite color) → IsStroke columns places place next (opposite color) new
-  turned_stroke place next new inside lawful_there is at =
+  turned_stroke {place} {next} inside lawful_there is at =
       rw is (record {
         within = omega (arith, inside);
         near = near_within columns places ascend place next inside at.near;
@@ -191,34 +202,33 @@ module _ (columns : ℕ) (places : List ℕ) (painted index : ℕ) (color : Colo
         whole = λ le. absurd (omega (arith, le, inside));
       })
 
-  pub v0_stroke : (new : List ℕ) (new_color : Color) → get_or places index columns < columns → new ≡ row ++ get_or places index
+  pub v0_stroke : {new : List ℕ} {new_color : Color} → get_or places index columns < columns → new ≡ row ++ get_or places index
       columns ∷ [] → new_color ≡ opposite color → IsStroke columns places (get_or places index columns) (index + 1) new_color new
-  v0_stroke new new_color below is turns =
-      rw turns (turned_stroke (get_or places index columns) (index + 1) new below (b1_is_next below) is
+  v0_stroke below is turns =
+      rw turns (turned_stroke below (b1_is_next below) is
       (after_v0 columns places ascend painted index color (stroke.at open_row) below))
 
   -- the position of VR
   pub right_near : (more : ℕ) → 0 < more → IsNear columns places (get_or places index columns + more) (index + 1)
   right_near more some = (after_vr columns places ascend painted index color (stroke.at open_row) more some).1
 
-  pub right_stroke : (place next more : ℕ) (new : List ℕ) (new_color : Color) → place ≡ get_or places index columns + more
+  pub right_stroke : {place next : ℕ} (more : ℕ) {new : List ℕ} {new_color : Color} → place ≡ get_or places index columns + more
       → 0 < more → place < columns → new ≡ row ++ place ∷ [] → new_color ≡ opposite color → next % 2 ≡ (index + 1) % 2
       → IsNear columns places place next → place < get_or places next columns → IsStroke columns places place next new_color new
-  right_stroke place next more new new_color named some inside is turns parity near right =
+  right_stroke {place} {next} more named some inside is turns parity near right =
       let there : AreChanges place row =
       AreChanges-wider (painted + 1) place row (omega (arith, b1_onward, named, some)) stroke.lawful in
       let colored : TurnsFrom next (opposite color) =
       turns_alike next (index + 1) (opposite color) parity (turns_next index color (stroke.at open_row).turns) in
-      rw turns (turned_stroke place next new inside there is
-      (ends_at_b1 columns places ascend place next (opposite color) colored near right))
+      rw turns (turned_stroke inside there is (ends_at_b1 columns places ascend place next (opposite color) colored near right))
 
   -- that of VL
-  pub left_stroke : (place next : ℕ) (new : List ℕ) (new_color : Color) → painted < place
+  pub left_stroke : {place next : ℕ} {new : List ℕ} {new_color : Color} → painted < place
       → place < columns → new ≡ row ++ place ∷ [] → new_color ≡ opposite color → IsB1 columns places place next (opposite color)
       → IsStroke columns places place next new_color new
-  left_stroke place next new new_color right inside is turns at =
+  left_stroke {place} right inside is turns at =
       let there : AreChanges place row = AreChanges-wider (painted + 1) place row (omega (arith, right)) stroke.lawful in
-      rw turns (turned_stroke place next new inside there is at)
+      rw turns (turned_stroke inside there is at)
 
   -- that of VL at the row's left edge
   no_index : painted ≡ 0 → color ≡ White → index ≡ 0
@@ -230,26 +240,20 @@ module _ (columns : ℕ) (places : List ℕ) (painted index : ℕ) (color : Colo
         | inr ge ↦ absurd (omega (arith, (at.near.left 0 (omega arith)).0, none))
       ]
 
-  pub edge_stroke : (new : List ℕ) (new_color : Color) → painted ≡ 0 → color ≡ White → new ≡ row ++ painted ∷ []
+  pub edge_stroke : {new : List ℕ} {new_color : Color} → painted ≡ 0 → color ≡ White → new ≡ row ++ painted ∷ []
       → new_color ≡ opposite color → IsStroke columns places painted (index + 1) new_color new
-  edge_stroke new new_color none white is turns =
+  edge_stroke none white is turns =
       let first : index ≡ 0 = no_index none white in
       let empty : row ≡ [] =
       none_yet row (rw none at stroke.lawful) (subst (TurnsFrom (length row)) white (stroke.colored open_row)) in
       let there : AreChanges painted row = rw empty tt in
-      rw turns (turned_stroke painted (index + 1) new open_row there is (record {
+      rw turns (turned_stroke open_row there is (record {
         turns = turns_next index color (stroke.at open_row).turns;
         near = record { left = λ k l. absurd (omega (arith, l, first)) };
         right = λ some. absurd (omega (arith, some, none));
       }))
 
   -- that of pass mode
-  pub b2_onward : painted ≤ get_or places (index + 1) columns
-  b2_onward = omega (arith, b1_onward, rising columns places ascend index (index + 1) (omega arith))
-
-  pub b2_within : get_or places (index + 1) columns ≤ columns
-  b2_within = end_within columns places ascend (index + 1)
-
   pub pass_stroke : get_or places (index + 1) columns < columns
       → IsStroke columns places (get_or places (index + 1) columns) (index + 2) color row
   pass_stroke below =
@@ -268,12 +272,47 @@ module _ (columns : ℕ) (places : List ℕ) (painted index : ℕ) (color : Colo
   pub horizontal_near : (later : ℕ) → painted ≤ later → IsNear columns places later index
   horizontal_near later le = near_later columns places ascend painted later index le (stroke.at open_row).near
 
-  pub first_lawful : (run : ℕ) → (0 < run) ⊎ (row ≡ []) → AreChanges (painted + run) row
+  first_lawful : (run : ℕ) → (0 < run) ⊎ (row ≡ []) → AreChanges (painted + run) row
   first_lawful run next = next_lawful painted run row stroke.lawful next
 
-  pub first_stroke : (run run2 : ℕ) (new : List ℕ) → (0 < run) ⊎ (row ≡ []) → 0 < run2 → painted + run + run2 ≡ columns
+  pub horizontal_on : {strict : Bool}
+      (at : BitsAt) (later : ℕ) {run width words run2 width2 words2 ticks now : ℕ} → read_code mode_codes (here at) ≡ Ok
+      (Horizontal, here (moved 3 at)) → AreRunsHere color (moved 3 at) run width words run2 width2 words2 → (0 < run) ⊎ (row ≡ [])
+      → painted + run + run2 ≤ columns → ticks + 1 + (words + words2) ≤ now → now + (index - 1) ≤ ticks + 4 + 4 * (words + words2)
+      + (later - 1) → GoesOn2d strict columns (pixels columns places) (pen_at painted row color at) (pen_at (painted + run + run2)
+      (row ++ (painted + run) ∷ []) color (moved width2 (moved width (moved 3 at)))) ticks now (index - 1) (later - 1)
+  horizontal_on {strict} at later {run} {width} {words} {run2} {width2} {words2} reads two some within least most =
+      let reference : Row = pixels columns places in
+      let between : ℕ = painted + run in
+      let place : ℕ = painted + run + run2 in
+      let one : List ℕ = row ++ between ∷ [] in
+      let behind : Pen → Step = λ pen. (draw_run strict columns pen).turn in
+      let colored : TurnsFrom (length row) color = stroke.colored open_row in
+      let last : Pen = pen_at place one color (moved width2 (moved width (moved 3 at))) in
+      let middle : Pen = pen_at between row (opposite color) (moved width (moved 3 at)) in
+      let first = run_draws strict columns painted row lawful colored refl (omega (arith, within)) two.first in
+      let lawful_one : AreChanges (suc between) one = AreChanges-wider
+      (between + 1) (suc between) one (omega arith) (AreChanges-push between 1 row (omega arith) (first_lawful run some)) in
+      let second = run_draws strict columns between one lawful_one (one_turn row between color colored) refl within two.second in
+      let turn2 : behind middle ≡ Turn.next last = subst (λ (front : Row).
+      behind (record { front = front; color = opposite color; rest = here (moved width (moved 3 at)) }) ≡ Turn.next last)
+      (pixels-pending between row) (subst (λ (c : Color). behind (pen_at between one (opposite color) (moved width (moved 3 at)))
+      ≡ Turn.next (pen_at place one c (moved width2 (moved width (moved 3 at))))) (opposite_twice color) second.0) in
+      let words_second : length (draw_run strict columns middle).words ≡ words2 = subst (λ (front : Row). length
+      (draw_run strict columns (record { front = front; color = opposite color; rest = here (moved width (moved 3 at)) })).words
+      ≡ words2) (pixels-pending between row) second.1 in
+      let pen : Pen = pen_at painted row color (moved 3 at) in
+      let first_words : List Bits = (draw_run strict columns pen).words in
+      let turns : (draw_mode strict columns reference pen Horizontal).turn ≡ Turn.next last =
+      ap (λ (s : Step). turn_behind s behind) first.0 ∙ turn2 in
+      let counted : length (draw_mode strict columns reference pen Horizontal).words ≡ words + words2 =
+      ap (λ (s : Step). length (first_words ++ words_behind s (λ p. (draw_run strict columns p).words))) first.0
+      ∙ omega (arith, length-append first_words (draw_run strict columns middle).words, first.1, words_second) in
+      mode_on (pen_at painted row color at) last (words + words2) open_front reads turns counted least most
+
+  pub first_stroke : (run run2 : ℕ) {new : List ℕ} → (0 < run) ⊎ (row ≡ []) → 0 < run2 → painted + run + run2 ≡ columns
       → new ≡ row ++ (painted + run) ∷ [] → IsStroke columns places columns index color new
-  first_stroke run run2 new next some end is =
+  first_stroke run run2 next some end is =
       let there : AreChanges columns (row ++ (painted + run) ∷ []) =
       rw end at (AreChanges-push (painted + run) run2 row some (first_lawful run next)) in
       rw is (record {
@@ -285,11 +324,11 @@ module _ (columns : ℕ) (places : List ℕ) (painted index : ℕ) (color : Colo
         whole = λ le. there;
       })
 
-  pub horizontal_stroke : (run run2 next : ℕ) (between new : List ℕ)
+  pub horizontal_stroke : (run run2 : ℕ) {next : ℕ} {between new : List ℕ}
       → (0 < run) ⊎ (row ≡ []) → 0 < run2 → painted + run + run2 < columns → between ≡ row ++ (painted + run) ∷ []
       → new ≡ between ++ (painted + run + run2) ∷ [] → next % 2 ≡ index % 2 → IsNear columns places (painted + run + run2) next
       → painted + run + run2 < get_or places next columns → IsStroke columns places (painted + run + run2) next color new
-  horizontal_stroke run run2 next between new is_next some inside first second parity near right =
+  horizontal_stroke run run2 {next} is_next some inside first second parity near right =
       let place : ℕ = painted + run + run2 in
       let one : List ℕ = row ++ (painted + run) ∷ [] in
       let there : AreChanges place one = AreChanges-push (painted + run) run2 row some (first_lawful run is_next) in
@@ -312,58 +351,6 @@ named_right b1 place more e = ap (λ (n : ℕ). pos n) (sym e)
 pub named_left : (b1 place less : ℕ) → place + less ≡ b1 → 0 < less → pos b1 +ℤ negsuc (less - 1) ≡ pos place
 named_left b1 place less e some = omega (arith, ints, e, some)
 
--- ---- Two runs.
--- a run that is read and painted
-run_draws : (strict : Bool) (columns painted place run : ℕ) (row : List ℕ) (color : Color) (at : BitsAt) (width words : ℕ)
-    → AreChanges (suc painted) row → TurnsFrom (length row) color → place ≡ painted + run → place ≤ columns
-    → IsRunHere color at run width words → ((draw_run strict columns (pen_at painted row color at)).turn ≡ Turn.next (pen_at place
-    row (opposite color) (moved width at))) × (length (draw_run strict columns (pen_at painted row color at)).words ≡ words)
-run_draws strict columns painted place run row color at width words lawful colored reach within there =
-    let paints : paint strict columns (pixels painted row) color run ≡ Ok (pixels place row) =
-    paint_on strict columns painted place row color run lawful colored (omega (arith, reach)) within (omega (arith, reach)) in
-    (rw (there.read, paints) refl, ap length (words_run strict columns (pen_at painted row color at)) ∙ there.found)
-
-pub horizontal_on : (strict : Bool) (columns : ℕ) (places : List ℕ) (painted index : ℕ)
-    (color : Color) (row : List ℕ) (at : BitsAt) → painted < columns → IsStroke columns places painted index color row →
-    (later run width words run2 width2 words2 ticks now : ℕ) → read_code mode_codes (here at) ≡ Ok (Horizontal, here (moved 3 at))
-    → AreRunsHere color (moved 3 at) run width words run2 width2 words2 → AreChanges (painted + run) row → painted + run
-    + run2 ≤ columns → ticks + 1 + (words + words2) ≤ now → now + (index - 1) ≤ ticks + 4 + 4 * (words + words2) + (later - 1)
-    → GoesOn2d strict columns (pixels columns places) (pen_at painted row color at) (pen_at (painted + run + run2)
-    (row ++ (painted + run) ∷ []) color (moved width2 (moved width (moved 3 at)))) ticks now (index - 1) (later - 1)
-horizontal_on strict columns places painted index color row at open_row stroke later run width words run2 width2 words2 ticks now
-    reads two there within least most =
-    let lawful : AreChanges (suc painted) row = one_more painted row stroke.lawful in
-    let reference : Row = pixels columns places in
-    let between : ℕ = painted + run in
-    let place : ℕ = painted + run + run2 in
-    let one : List ℕ = row ++ between ∷ [] in
-    let behind : Pen → Step = λ pen. (draw_run strict columns pen).turn in
-    let colored : TurnsFrom (length row) color = stroke.colored open_row in
-    let last : Pen = pen_at place one color (moved width2 (moved width (moved 3 at))) in
-    let middle : Pen = pen_at between row (opposite color) (moved width (moved 3 at)) in
-    let first = run_draws strict columns painted between run row color (moved 3 at) width words lawful colored refl
-    (omega (arith, within)) two.first in
-    let lawful_one : AreChanges (suc between) one =
-    AreChanges-wider (between + 1) (suc between) one (omega arith) (AreChanges-push between 1 row (omega arith) there) in
-    let second = run_draws strict columns between place run2 one (opposite color)
-    (moved width (moved 3 at)) width2 words2 lawful_one (one_turn row between color colored) refl within two.second in
-    let turn2 : behind middle ≡ Turn.next last = subst (λ (front : Row).
-    behind (record { front = front; color = opposite color; rest = here (moved width (moved 3 at)) }) ≡ Turn.next last)
-    (pixels-pending between row) (subst (λ (c : Color). behind (pen_at between one (opposite color) (moved width (moved 3 at)))
-    ≡ Turn.next (pen_at place one c (moved width2 (moved width (moved 3 at))))) (opposite_twice color) second.0) in
-    let words_second : length (draw_run strict columns middle).words ≡ words2 = subst (λ (front : Row). length
-    (draw_run strict columns (record { front = front; color = opposite color; rest = here (moved width (moved 3 at)) })).words
-    ≡ words2) (pixels-pending between row) second.1 in
-    let pen : Pen = pen_at painted row color (moved 3 at) in
-    let first_words : List Bits = (draw_run strict columns pen).words in
-    let turns : (draw_mode strict columns reference pen Horizontal).turn ≡ Turn.next last =
-    ap (λ (s : Step). turn_behind s behind) first.0 ∙ turn2 in
-    let counted : length (draw_mode strict columns reference pen Horizontal).words ≡ words + words2 =
-    ap (λ (s : Step). length (first_words ++ words_behind s (λ p. (draw_run strict columns p).words))) first.0
-    ∙ omega (arith, length-append first_words (draw_run strict columns middle).words, first.1, words_second) in
-    mode_on strict columns reference (pen_at painted row color at) last Horizontal (here (moved 3 at)) (words + words2) ticks now
-    (index - 1) (later - 1) (omega (arith, length-pixels-on painted row lawful, open_row)) reads turns counted least most
-
 -- ---- A line's start, and what is left when drawing by usual modes ends.
 pub empty_row : (painted : ℕ) (row : List ℕ) → AreChanges painted row → pixels painted row ≡ [] → row ≡ []
 empty_row painted [] lawful none = refl
@@ -373,9 +360,9 @@ pub none_painted_yet : (painted : ℕ) (row : List ℕ) → AreChanges painted r
 none_painted_yet painted row lawful none = omega (arith, length-pixels painted row lawful, ap length none)
 
 -- the changes before the one before b1 are passed
-pub are_passed : (columns : ℕ) (places : List ℕ) (place index : ℕ) (color : Color) (row : List ℕ) → 0 < columns
+pub are_passed : {columns : ℕ} {places : List ℕ} {place index : ℕ} {color : Color} {row : List ℕ} → 0 < columns
     → AreChanges columns places → IsStroke columns places place index color row → ArePassed places place (index - 1)
-are_passed columns places place index color row some ascend stroke = record {
+are_passed {columns} {places} {place} {index} some ascend stroke = record {
   none = λ zero. (elim (cases_lt 1 index) [
     | inl lt ↦ absurd (omega (arith, zero, ((stroke.at (omega (arith, zero, some))).near.left 0 (omega (arith, lt))).0))
     | inr ge ↦ omega (arith, ge)
@@ -420,5 +407,5 @@ pub white_line : (strict : Bool) (columns : ℕ) (at : BitsAt) (ticks now : ℕ)
     → columns ≤ 4294967295 → read_code mode_codes (here at) ≡ Ok (Vertical (pos 0), here (moved 1 at)) → now ≡ ticks + 2
     → GoesOn2d strict columns (pixels columns []) (pen_at 0 [] White at) (pen_at columns [] Black (moved 1 at)) ticks now 0 0
 white_line strict columns at ticks now some fits reads counts =
-    vertical_on strict columns [] 0 0 White [] at tt some (start_stroke columns) columns 0 (pos 0) 1 ticks now fits reads
-    (named_right columns columns 0 (omega arith)) (omega arith) (omega arith) (omega (arith, counts)) (omega (arith, counts))
+    vertical_on tt some (start_stroke columns) at 0 1 fits reads (named_right columns columns 0 (omega arith)) (omega arith)
+    (omega arith) (omega (arith, counts)) (omega (arith, counts))

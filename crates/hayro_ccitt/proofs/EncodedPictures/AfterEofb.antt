@@ -33,9 +33,9 @@ abbrev EolsFound : ℕ → Bits → ℕ × Bits → Type 0
 EolsFound most here found = (w : Bits) × (here ≡ w ++ found.1)
     × ((more : Bits) → (found.0 ≡ most) ⊎ (after_eol 0 more ≡ None) → eols most (w ++ more) ≡ (found.0, more))
 
-eols_found : (most : ℕ) (here : Bits) → EolsFound most here (eols most here)
-eols_found zero here = ([], refl, λ more or. refl)
-eols_found (suc most) here =
+eols_are_found : (most : ℕ) (here : Bits) → EolsFound most here (eols most here)
+eols_are_found zero here = ([], refl, λ more or. refl)
+eols_are_found (suc most) here =
     let by_after_eol : (o : Option Bits) → after_eol 0 here ≡ o → EolsFound (suc most) here (eols (suc most) here)
     = λ o. elim o as (λ (o : Option Bits). after_eol 0 here ≡ o → EolsFound (suc most) here (eols (suc most) here)) [
       | None ↦ λ e. subst (EolsFound (suc most) here) (sym (eols-none (suc most) here e)) (
@@ -48,7 +48,7 @@ eols_found (suc most) here =
       )
       | Some rest ↦ λ e.
           let one = after_eol_found 0 here rest e in
-          let on = eols_found most rest in
+          let on = eols_are_found most rest in
           let found : eols (suc most) here ≡ (suc (eols most rest).0, (eols most rest).1) =
           rw (e, eols) (one_more_is (eols most rest)) in
           subst (EolsFound (suc most) here) (sym found) (
@@ -108,7 +108,7 @@ module _ (settings : DecodeSettings) (four : settings.encoding ≡ Group4) (bloc
   by_line run after count t (Line.whole row j) unsought counted over read e =
       let b : Bool = settings.rows_are_byte_aligned && not run.has_eols in
       let line = line_2d_found settings.strict settings.columns (row_before settings.columns run.rows) t row j read in
-      let eol = subst (EolsFound 2 run.rest) counted (eols_found 2 run.rest) in
+      let eol = subst (EolsFound 2 run.rest) counted (eols_are_found 2 run.rest) in
       let split = aligned_split b j in
       let pad : Bits = split.0 in
       let then : Progress = record { rows = run.rows ++ row ∷ []; has_eols = run.has_eols; rest = cond b (aligned j) j } in
@@ -161,7 +161,7 @@ module _ (settings : DecodeSettings) (four : settings.encoding ≡ Group4) (bloc
       → Reaches (gap_and_row settings) run last → eols 2 last.rest ≡ (2, rest) → (w : Bits) × (run.rest ≡ w ++ rest)
       × ((more : Bits) → length more % 8 ≡ length rest % 8 → Ends settings (record run { rest = w ++ more }) (ended_at last more))
   closed_found run last rest unsought (Reaches.stays same) two =
-      let eol = subst (EolsFound 2 run.rest) two (eols_found 2 run.rest) in (
+      let eol = subst (EolsFound 2 run.rest) two (eols_are_found 2 run.rest) in (
         eol.0,
         eol.1,
         λ more e.

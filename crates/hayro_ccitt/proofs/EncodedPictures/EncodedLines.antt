@@ -1,4 +1,5 @@
 -- A two-dimensional line is read as the row that was encoded.
+use Rattle.hayro_ccitt.proofs.PixelRows.ReferencePlaces.{opposite_twice}
 use Rattle.hayro_ccitt.proofs.Names.{◌≡◌, ℕ, suc, ◌+◌, ◌-◌, ◌<◌, ◌≤◌, Bool, false, [], ◌++◌, length, take, replicate, Ok, refl}
 use Rattle.hayro_ccitt.proofs.Names.{sym, ap, subst, ◌∙◌, append_assoc, arith, inl, inr, pos, ◌+ℤ◌, ℤ, cases_lt, length-take-le}
 use Rattle.hayro_ccitt.proofs.Names.{append-nil, Color, White, Black, Mode, Pass, Horizontal, Vertical, Bits, mode_codes, Has}
@@ -30,9 +31,6 @@ pub vertical_drawn : (strict : Bool) (columns : ℕ) (reference front : Row) (co
     → mode_step strict columns reference (record { front = front; color = color; rest = rest }) (Vertical k) ≡ Turn.next
     (record { front = front ++ replicate (to - length front) (is_black color); color = opposite color; rest = rest })
 vertical_drawn strict columns reference front color rest k to is le fits small = grind (arith, common_steps)
-
-twice : (color : Color) → opposite (opposite color) ≡ color
-twice color = grind (arith, common_steps)
 
 white_first : (color : Color) → false ≡ is_black color → opposite color ≡ Black
 white_first color e = grind (arith, common_steps)
@@ -167,12 +165,12 @@ module _ (strict : Bool) (columns : ℕ) (reference row : Row) (wide : 0 < colum
       (paint_fits strict columns front color (p - length front) (omega (arith, len))) ∙ draws strict columns front1
       (opposite color) rest2 (r - p) (next ++ more) front2 Turn.next read2 (paint_fits strict columns front1 (opposite color)
       (r - p) (omega (arith, len1))) ∙ ap (λ (c : Color). Turn.next (record { front = front2; color = c; rest = next ++ more }))
-      (twice color)) (line_2d_from front2 (suc r) color next more steps (record {
+      (opposite_twice color)) (line_2d_from front2 (suc r) color next more steps (record {
         painted = painted_at row front2 r painted2;
         inside = λ le.
             let r_over : suc p ≤ r = two.above (omega arith) in
             at_change row r (opposite color) (two.change (omega arith)) (before_same row (suc p) r (is_black (opposite color))
-            (turned (omega arith)) two.before r r_over (omega arith)) ∙ ap is_black (twice color);
+            (turned (omega arith)) two.before r r_over (omega arith)) ∙ ap is_black (opposite_twice color);
         first = λ e. absurd (let r_over : suc p ≤ r = two.above (omega arith) in omega arith);
       }))
 

@@ -42,13 +42,13 @@ terminating_word Black n lt =
 makeup_word : (color : Color) → (word : Bits) × Has (codes_of color) 64 word
 makeup_word color = grind (arith, common_steps, some_word)
 
-run_spelled : (color : Color) (times n : ℕ) → n < 64 → (bits : Bits) × Spells color (64 * times + n) bits
-run_spelled color zero n lt = let word = terminating_word color n lt in (
+run_has_words : (color : Color) (times n : ℕ) → n < 64 → (bits : Bits) × Spells color (64 * times + n) bits
+run_has_words color zero n lt = let word = terminating_word color n lt in (
   word.0,
   subst (λ (m : ℕ). Spells color m word.0) (let e : n ≡ 64 * zero + n = omega arith in e) (Spells.terminating n word.0 word.1 lt),
 )
-run_spelled color (suc times) n lt =
-    let rest = run_spelled color times n lt in
+run_has_words color (suc times) n lt =
+    let rest = run_has_words color times n lt in
     let word = makeup_word color in (
       word.0 ++ rest.0,
       subst (λ (m : ℕ). Spells color m (word.0 ++ rest.0)) (let e : 64 + (64 * times + n) ≡ 64 * suc times + n = omega arith in e)
@@ -57,7 +57,7 @@ run_spelled color (suc times) n lt =
 
 -- a run of any length is spelled by make-up words of 64 and a terminating word
 pub every_run_spelled : (color : Color) (n : ℕ) → (bits : Bits) × Spells color n bits
-every_run_spelled color n = grind (arith, common_steps, run_spelled color (n / 64) (n % 64) (omega arith))
+every_run_spelled color n = grind (arith, common_steps, run_has_words color (n / 64) (n % 64) (omega arith))
 
 -- ---- One-dimensional lines.
 pixel_or : (color : Color) (pixel : Bool) → (pixel ≡ is_black color) ⊎ (pixel ≡ is_black (opposite color))

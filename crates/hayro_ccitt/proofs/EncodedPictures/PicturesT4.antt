@@ -1,11 +1,12 @@
 -- A T.4 picture is read again.
+use Rattle.hayro_ccitt.proofs.BitReading.PlainEols.{few_keep_the_tag}
 use Rattle.hayro_ccitt.proofs.Names.{◌≡◌, ◌≢◌, ℕ, zero, suc, ◌+◌, ◌<◌, ◌≤◌, Bool, true, false, cond, ◌&&◌, ◌||◌, ltb, leb, List}
 use Rattle.hayro_ccitt.proofs.Names.{[], ◌∷◌, ◌++◌, length, replicate, Some, None, Ok, Err, refl, sym, ap, subst, ◌∙◌}
 use Rattle.hayro_ccitt.proofs.Names.{append_assoc, arith, inl, inr, All, and_right, and_from, not_from_false, or_from, cond-false}
 use Rattle.hayro_ccitt.proofs.Names.{eq-eqb, ne_eqb, length-append, length-replicate, append-nil, All-head, All-tail, Color}
 use Rattle.hayro_ccitt.proofs.Names.{White, UnexpectedEof, EncodingMode, Group3_1D, Group3_2D, Group4, DecodeSettings, Bits, Turn}
 use Rattle.hayro_ccitt.proofs.Names.{repeated, Row, codes_of, Line, line_1d, line_2d, after_eol, one_more, eols, all_eols}
-use Rattle.hayro_ccitt.proofs.Names.{past_tag, eols_with_tags, pass_last_tag, tagged_eols, eols_of_end, ending_behind, Progress}
+use Rattle.hayro_ccitt.proofs.Names.{past_tag, eols_with_tags, tagged_eols, eols_of_end, ending_behind, Progress}
 use Rattle.hayro_ccitt.proofs.Names.{Ending, row_before, aligned, at_end, limit_met, line_here, eols_here, after_line, move_on}
 use Rattle.hayro_ccitt.proofs.Names.{ending_from, end_of, Spells, EncodesLine1D, EncodesLine2D, EncodesLine, eol, tag_of}
 use Rattle.hayro_ccitt.proofs.Names.{IsPicture, EncodesRowsWithEols, ClosesWithEols, PictureT4, each_word, ReadsPictureT4}
@@ -64,15 +65,12 @@ all_eols_more fill more =
 one_eol : (fill : ℕ) (here : Bits) → after_eol 0 here ≡ None → all_eols (eol fill ++ here) ≡ (1, here)
 one_eol fill here none = all_eols_more fill here ∙ ap one_more (eols-none (11 + fill + length here) here none)
 
-pass_none : (here : Bits) → pass_last_tag (1, here) ≡ (1, here)
-pass_none here = grind (arith, common_steps)
-
 tagged_eols_more : (most fill : ℕ) (more : Bits)
     → eols_with_tags (suc most) (eol fill ++ more) ≡ one_more (eols_with_tags most (past_tag more))
 tagged_eols_more most fill more = eols_with_tags-some most (eol fill ++ more) more (eol_stands fill more)
 
 one_tagged : (fill : ℕ) (here : Bits) → IsTagStart here → tagged_eols (eol fill ++ here) ≡ (1, here)
-one_tagged fill here at = grind (arith, common_steps, eols_with_tags-none, length-eol, pass_none, tagged_eols_more)
+one_tagged fill here at = grind (arith, common_steps, eols_with_tags-none, length-eol, few_keep_the_tag, tagged_eols_more)
 
 -- ---- Kinds.
 pub eols_here_one : (settings : DecodeSettings) (here : Bits) → settings.encoding ≡ Group3_1D
@@ -140,8 +138,8 @@ matches_t4 : (settings : DecodeSettings) (encoding : EncodingMode) → Matches e
 matches_t4 settings encoding matches = grind (arith, common_steps)
 
 -- the end of lines that were read with EOLs
-abbrev ends_well : List Row → Bits → Ending
-ends_well rows rest = record { rows = rows; has_eols = true; outcome = Ok rest }
+abbrev ended_with_eols : List Row → Bits → Ending
+ended_with_eols rows rest = record { rows = rows; has_eols = true; outcome = Ok rest }
 
 six_close : (settings : DecodeSettings) (encoding : EncodingMode) (closing more : Bits) → Matches encoding settings
     → ClosesWithEols encoding 6 closing → 6 ≤ (eols_here settings (closing ++ more)).0
@@ -207,12 +205,12 @@ module _ (settings : DecodeSettings) (wide : 0 < settings.columns) (small : sett
 
   module _ (encoding : EncodingMode) (matches : Matches encoding settings) (late : Ending)
       (tail last : Bits) (whole : List Row) (allows : Allows settings (length whole))
-      (stops : after_row settings (with_eols whole tail) ≡ Turn.done (ends_well whole last)) where
+      (stops : after_row settings (with_eols whole tail) ≡ Turn.done (ended_with_eols whole last)) where
     lines_t4_again : (before : List Row) (row : Row) (rows : List Row) (line next : Bits) (fuel : ℕ)
         → before ++ row ∷ rows ≡ whole → length (row_before settings.columns before) ≡ settings.columns → All
         (λ row. length row ≡ settings.columns) (row ∷ rows) → EncodesLine encoding (row_before settings.columns before) row line
         → EncodesRowsWithEols encoding row rows next → length rows < fuel
-        → repeated (move_on settings) late fuel (with_eols before (line ++ (next ++ tail))) ≡ ends_well whole last
+        → repeated (move_on settings) late fuel (with_eols before (line ++ (next ++ tail))) ≡ ended_with_eols whole last
     lines_t4_again before row rows line next zero all ref_len widths is lines lt = absurd (omega arith)
     lines_t4_again before row [] line next (suc fuel) all ref_len widths is lines lt =
         let row_len : length row ≡ settings.columns = All-head (λ row. length row ≡ settings.columns) row [] widths in
@@ -247,12 +245,12 @@ module _ (settings : DecodeSettings) (wide : 0 < settings.columns) (small : sett
   -- ---- How a run ends.
   -- six EOLs end it
   six_stop : (rows : List Row) (here : Bits) → settings.end_of_block ≡ true → 6 ≤ (eols_here settings here).0
-      → after_row settings (with_eols rows here) ≡ Turn.done (ends_well rows (eols_here settings here).1)
+      → after_row settings (with_eols rows here) ≡ Turn.done (ended_with_eols rows (eols_here settings here).1)
   six_stop rows here block six = grind (arith, common_steps)
 
   -- and so does the limit
   limit_stops : (rows : List Row) (here : Bits) → limit_met settings (length rows) ≡ true
-      → after_row settings (with_eols rows here) ≡ Turn.done (ends_well rows (eols_here settings here).1)
+      → after_row settings (with_eols rows here) ≡ Turn.done (ended_with_eols rows (eols_here settings here).1)
   limit_stops rows here met = grind (arith, common_steps)
 
   -- data of Group 3 are read as such
@@ -271,8 +269,8 @@ module _ (settings : DecodeSettings) (wide : 0 < settings.columns) (small : sett
   -- lines with their EOLs are read, and the run ends where it does after the last
   pub lines_t4_end : (encoding : EncodingMode) (rows : List Row) (lines tail last : Bits) → Matches encoding settings → 0
       < length rows → IsPicture settings.columns rows → EncodesRowsWithEols encoding (replicate settings.columns false) rows lines
-      → Allows settings (length rows) → after_row settings (with_eols rows tail) ≡ Turn.done (ends_well rows last)
-      → end_of settings (lines ++ tail) ≡ ends_well rows last
+      → Allows settings (length rows) → after_row settings (with_eols rows tail) ≡ Turn.done (ended_with_eols rows last)
+      → end_of settings (lines ++ tail) ≡ ended_with_eols rows last
   lines_t4_end encoding [] lines tail last matches some is_picture are allows stops = absurd (omega arith)
   lines_t4_end encoding (row ∷ rows) lines tail last matches some is_picture (fill, line, next, is, more, split) allows stops =
       let row_len : length row ≡ settings.columns = All-head (λ row. length row ≡ settings.columns) row rows is_picture.1 in
@@ -292,15 +290,15 @@ module _ (settings : DecodeSettings) (wide : 0 < settings.columns) (small : sett
   pub closed_t4_end : (encoding : EncodingMode) (rows : List Row) (lines closing more : Bits) → Matches encoding settings
       → settings.end_of_block ≡ true → 0 < length rows → IsPicture settings.columns rows → EncodesRowsWithEols encoding
       (replicate settings.columns false) rows lines → ClosesWithEols encoding 6 closing → Allows settings (length rows)
-      → end_of settings (lines ++ (closing ++ more)) ≡ ends_well rows (eols_here settings (closing ++ more)).1
+      → end_of settings (lines ++ (closing ++ more)) ≡ ended_with_eols rows (eols_here settings (closing ++ more)).1
   closed_t4_end encoding rows lines closing more matches block some is_picture are closed allows =
       lines_t4_end encoding rows lines (closing ++ more) (eols_here settings (closing ++ more)).1 matches some is_picture are
       allows (six_stop rows (closing ++ more) block (six_close settings encoding closing more matches closed))
 
   -- lines with EOLs are read as their rows, up to the limit
   pub limited_t4_end : (encoding : EncodingMode) (rows : List Row) (lines more : Bits) → Matches encoding settings
-      → settings.rows ≡ length rows → 0 < length rows → IsPicture settings.columns rows → EncodesRowsWithEols encoding
-      (replicate settings.columns false) rows lines → end_of settings (lines ++ more) ≡ ends_well rows (eols_here settings more).1
+      → settings.rows ≡ length rows → 0 < length rows → IsPicture settings.columns rows → EncodesRowsWithEols encoding (replicate
+      settings.columns false) rows lines → end_of settings (lines ++ more) ≡ ended_with_eols rows (eols_here settings more).1
   limited_t4_end encoding rows lines more matches limit some is_picture are =
       let met : limit_met settings (length rows) ≡ true = grind (arith, common_steps, and_from, eq-eqb, ne_eqb, not_from_false) in
       lines_t4_end encoding rows lines more (eols_here settings more).1 matches some is_picture are (inr (omega arith))

@@ -243,23 +243,23 @@ AscendFrom-changes_from place false (true ∷ row) width e =
     (omega arith, omega arith, AscendFrom-changes_from (suc place) true row width (omega arith))
 
 -- where the row's first pixel has the colour, the rest decides
-goes_on : (place : ℕ) (color : Bool) (row : Row) (width : ℕ) → place + suc (length row) ≡ width
+changes_go_on : (place : ℕ) (color : Bool) (row : Row) (width : ℕ) → place + suc (length row) ≡ width
     → pixels_from (suc place) color width (changes_from (suc place) color row) ≡ row
     → pixels_from place color width (changes_from (suc place) color row) ≡ color ∷ row
-goes_on place color row width e rest = grind (arith, common_steps, AscendFrom-changes_from, changes_from, pixels_from-first)
+changes_go_on place color row width e rest = grind (arith, common_steps, AscendFrom-changes_from, changes_from, pixels_from-first)
 
 -- the pixels between the changes of a row are the row
 pub pixels_from-changes_from : (place : ℕ) (before : Bool) (row : Row) (width : ℕ) → place + length row ≡ width
     → pixels_from place before width (changes_from place before row) ≡ row
 pixels_from-changes_from place before [] width e = let none : width - place ≡ 0 = omega arith in rw none refl
 pixels_from-changes_from place true (true ∷ row) width e =
-    goes_on place true row width e (pixels_from-changes_from (suc place) true row width (omega arith))
+    changes_go_on place true row width e (pixels_from-changes_from (suc place) true row width (omega arith))
 pixels_from-changes_from place false (false ∷ row) width e =
-    goes_on place false row width e (pixels_from-changes_from (suc place) false row width (omega arith))
+    changes_go_on place false row width e (pixels_from-changes_from (suc place) false row width (omega arith))
 pixels_from-changes_from place true (false ∷ row) width e =
-    grind (arith, common_steps, goes_on, pixels_from-changes_from (suc place) false row width (omega arith))
+    grind (arith, common_steps, changes_go_on, pixels_from-changes_from (suc place) false row width (omega arith))
 pixels_from-changes_from place false (true ∷ row) width e =
-    grind (arith, common_steps, goes_on, pixels_from-changes_from (suc place) true row width (omega arith))
+    grind (arith, common_steps, changes_go_on, pixels_from-changes_from (suc place) true row width (omega arith))
 
 -- the pixels of a row's changes are the row
 pub pixels-changes : (row : Row) → pixels (length row) (changes row) ≡ row

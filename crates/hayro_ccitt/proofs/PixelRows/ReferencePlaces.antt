@@ -1,4 +1,6 @@
 -- b1 and b2 among the changes that a reference row is made of.
+use Rattle.hayro_ccitt.proofs.Names.{opposite}
+use Rattle.hayro_ccitt.proofs.PixelRows.RowChanges.{same_beq}
 use Rattle.hayro_ccitt.proofs.Names.{◌≡◌, ℕ, zero, suc, ◌+◌, ◌-◌, ◌%◌, ◌<◌, ◌≤◌, ◌⊎◌, ◌↔◌, Bool, true, false, not, ◌&&◌, ltb, leb}
 use Rattle.hayro_ccitt.proofs.Names.{List, [], ◌∷◌, length, get_or, replicate, refl, sym, ap, subst, ◌∙◌, arith, inl, inr, beq}
 use Rattle.hayro_ccitt.proofs.Names.{and-false, filter, lt-ltb, le-leb, le-ltb, lt-leb, false≢true, cases_lt, cases_eq, cond-true}
@@ -96,8 +98,8 @@ pixels_from-pixel place first color width (change ∷ places) p (suc j) ascend l
     ∙ pixels_from-pixel change (suc change) (not color) width places p j ascend.2 (omega arith) (omega arith) lt rest
 
 -- ---- The changing elements of a row of pixels.
-same_beq : (b : Bool) → beq b b ≡ true
-same_beq b = grind (arith, common_steps)
+pub opposite_twice : (color : Color) → opposite (opposite color) ≡ color
+opposite_twice color = grind (arith, common_steps)
 
 other_beq : (b : Bool) → beq b (not b) ≡ false
 other_beq b = grind (arith, common_steps)

@@ -18,7 +18,7 @@ changes_from-append place before [] row = let e : place + 0 ≡ place = omega ar
 changes_from-append place before (pixel ∷ front) row =
     grind (arith, common_steps, cond-append, changes_from-append (suc place) pixel front row)
 
-same_beq : (b : Bool) → beq b b ≡ true
+pub same_beq : (b : Bool) → beq b b ≡ true
 same_beq b = grind (arith, common_steps)
 
 -- pixels of the colour before them change nothing

@@ -6,7 +6,7 @@ use Rattle.hayro_ccitt.proofs.Names.{InvalidCode, DecodeSettings, IsFault, OnAns
 use Rattle.hayro_ccitt.proofs.Names.{with_missed, Damaged, repaired_in, repaired_by_turn, missed_behind, missed_by_turn}
 use Rattle.hayro_ccitt.proofs.Names.{CountsDamage, repairs_with, repairs_behind, with_row_taken, Line, Progress, Ending, Move}
 use Rattle.hayro_ccitt.proofs.Names.{row_of_line, behind_row, with_row, eols_here, limit_met, at_end, misses_eol, move_on}
-use Rattle.hayro_ccitt.proofs.Names.{one_each, gathered_from, Turn, Row}
+use Rattle.hayro_ccitt.proofs.Names.{one_each, gathered_from, Turn, Row, missed_since, start_in, None, Some}
 use Rattle.hayro_ccitt.proofs.{Readings.Gathered.gathered_after, Readings.TurnsMoveOn.left_to_read, Work.RunsCount.sum_more}
 use Rattle.hayro_ccitt.proofs.Readings.RunsOverRows.{RowByRow, Comes, comes_first, comes_next, held_between, lines, lines_on}
 
@@ -96,9 +96,9 @@ either true y e = refl
 either false y e = absurd cc
 
 -- an EOL is counted after a row that wasn't repaired, and after one that was it isn't
-missed_more : (before : Repairs) (taken : ℕ) → before.last < taken → before.missed < taken
+missed_by_one_more : (before : Repairs) (taken : ℕ) → before.last < taken → before.missed < taken
     → (with_missed taken before).missed ≡ before.missed + 1
-missed_more before taken last few =
+missed_by_one_more before taken last few =
     ap (λ (r : Repairs). r.missed) (cond-false (eqb before.last taken || leb taken before.missed) before
     (record before { missed = before.missed + 1 }) (neither (eqb before.last taken) (leb taken before.missed)
     (ne_eqb before.last taken (λ same. absurd (omega (arith, same, last)))) (lt-leb taken before.missed few)))
@@ -128,7 +128,7 @@ missed_counts settings bits so_far (Line.whole pixels behind) row rest before is
   where
     by_b : (b c : Bool) → b ≡ c → (taken : ℕ) → taken ≡ length so_far.rows + 1 → (x : Damaged)
         → (cond b (with_missed taken before) before).missed ≡ before.missed + length (cond {A = List Damaged} c (x ∷ []) [])
-    by_b true true same taken more x = missed_more before taken (omega (arith, last, more)) (omega (arith, few, more))
+    by_b true true same taken more x = missed_by_one_more before taken (omega (arith, last, more)) (omega (arith, few, more))
     by_b true false same taken more x = absurd cc
     by_b false true same taken more x = absurd cc
     by_b false false same taken more x = omega arith
@@ -155,6 +155,34 @@ missed_once settings bits so_far (Line.whole row rest) =
     either_way true x = omega arith
     either_way false x = omega arith
 
+-- it is missed where its row ends
+pub missed_starts : (settings : DecodeSettings) (bits : Bits) (so_far : Progress) (line : Line) (row : Row) (rest : Bits)
+    → row_of_line settings so_far.has_eols so_far.rest line ≡ Ok (row, rest) → (after : Repairs) (before : ℕ)
+    → after.missed ≡ before + length (missed_behind settings bits so_far line)
+    → missed_since after before (length bits - length rest) ≡ start_in (missed_behind settings bits so_far line)
+missed_starts settings bits so_far (Line.broken front fault) row rest is after before more =
+    cond-true (eqb after.missed before) None (Some (length bits - length rest))
+    (eq-eqb after.missed before (omega (arith, more)))
+missed_starts settings bits so_far (Line.whole pixels behind) row rest is after before more =
+    let same : ◌≡◌ {A = Row × Bits} (pixels, behind_row settings so_far.has_eols behind) (row, rest) = cc in
+    let here : rest ≡ behind_row settings so_far.has_eols behind = sym (ap (λ (x : Row × Bits). x.1) same) in
+    either_way (misses_eol settings (length so_far.rows + 1) so_far.has_eols
+    (behind_row settings so_far.has_eols behind) && not settings.strict) (record {
+      row = length so_far.rows;
+      start = length bits - length (behind_row settings so_far.has_eols behind);
+      fault = InvalidCode;
+    }) (ap (λ (b : Bits). length bits - length b) here) more
+  where
+    either_way : (b : Bool) (x : Damaged) → length bits - length rest ≡ x.start
+        → after.missed ≡ before + length (cond {A = List Damaged} b (x ∷ []) [])
+        → missed_since after before (length bits - length rest) ≡ start_in (cond {A = List Damaged} b (x ∷ []) [])
+    either_way true x there more =
+        cond-false (eqb after.missed before) None (Some (length bits - length rest))
+        (ne_eqb after.missed before (λ same. absurd (omega (arith, same, more)))) ∙ ap Some there
+    either_way false x there more =
+        cond-true (eqb after.missed before) None (Some (length bits - length rest))
+        (eq-eqb after.missed before (omega (arith, more)))
+
 -- where there is no row, no EOL is missed
 pub missed_none : (settings : DecodeSettings) (bits : Bits) (so_far : Progress) (line : Line) (e : DecodeError)
     → row_of_line settings so_far.has_eols so_far.rest line ≡ Err e → missed_behind settings bits so_far line ≡ []
@@ -169,79 +197,78 @@ last_with (Line.broken front fault) taken before within = omega arith
 -- ---- Damage of either kind, over a run
 
 module _ (settings : DecodeSettings) (told : Progress → List Damaged) (start : Progress) where
-  abbrev gives : Progress → List (List Damaged)
-  gives = one_each told
-
   -- the damage of each line from the start on
   abbrev pub all_damage : List (List Damaged)
-  all_damage = gathered_from (move_on settings) gives start
+  all_damage = gathered_from (move_on settings) (one_each told) start
 
   -- Between two rows: how much damage the rows so far have.
   pub record DamageCounted (so_far : Progress) (count : ℕ) : Type 0 where
-    pub comes : Comes (move_on settings) gives left_to_read start so_far
+    pub comes : Comes (move_on settings) (one_each told) left_to_read start so_far
     pub counted : count ≡ sum_by length (take (length so_far.rows) all_damage)
 
-  module _ (by_rows : RowByRow (move_on settings) left_to_read) (begins : start.rows ≡ []) where
-    -- before the first row there is none
-    pub none_counted : DamageCounted start 0
-    none_counted = record {
-      comes = comes_first (move_on settings) gives left_to_read by_rows start begins;
-      counted = sym (ap (λ (rows : List Row). sum_by length (take (length rows) all_damage)) begins);
+module _ {settings : DecodeSettings} {told : Progress → List Damaged} {start : Progress}
+    (by_rows : RowByRow (move_on settings) left_to_read) (begins : start.rows ≡ []) where
+  -- before the first row there is none
+  pub none_counted : DamageCounted settings told start start 0
+  none_counted = record {
+    comes = comes_first by_rows begins;
+    counted = sym (ap (λ (rows : List Row). sum_by length (take (length rows) (all_damage settings told start))) begins);
+  }
+
+  module _ {so_far : Progress} {count : ℕ} (counted : DamageCounted settings told start so_far count) where
+    abbrev told_whole : List (List Damaged)
+    told_whole = all_damage settings told start
+
+    follow : drop (length so_far.rows) told_whole
+        ≡ told so_far ∷ gathered_after (lines (move_on settings) (one_each told) left_to_read) (move_on settings so_far)
+    follow = lines_on by_rows begins counted.comes (told so_far) refl
+
+    with_row_counted : (taken then : ℕ) → taken ≡ suc (length so_far.rows) → then ≡ count + length (told so_far)
+        → then ≡ sum_by length (take taken told_whole)
+    with_row_counted taken then more one = omega (
+      arith,
+      one,
+      counted.counted,
+      sum_more told_whole (length so_far.rows) (told so_far) _ follow,
+      ap (λ (k : ℕ). sum_by length (take k told_whole)) more,
+    )
+
+    -- one more row
+    pub damage_next : {after : Progress} {then : ℕ} → move_on settings so_far ≡ Turn.next after → length
+        after.rows ≡ suc (length so_far.rows) → then ≡ count + length (told so_far) → DamageCounted settings told start after then
+    damage_next {after} {then} goes more one = record {
+      comes = comes_next by_rows begins counted.comes (told so_far) refl goes more;
+      counted = with_row_counted (length after.rows) then more one;
     }
 
-    module _ (so_far : Progress) (count : ℕ) (counted : DamageCounted so_far count) where
-      follow : drop (length so_far.rows) all_damage ≡ told so_far ∷ gathered_after (lines (move_on settings) gives left_to_read)
-          (move_on settings so_far)
-      follow = lines_on (move_on settings) gives left_to_read by_rows start begins so_far counted.comes (told so_far) refl
+    -- all of it, where a turn is the last
+    all_counted : (end : Ending) → move_on settings so_far ≡ Turn.done end
+        → sum_by length told_whole ≡ count + length (told so_far)
+    all_counted end ends =
+        let last : drop (length so_far.rows) told_whole ≡ told so_far ∷ [] = follow
+        ∙ ap (λ (turn : Move). told so_far ∷ gathered_after (lines (move_on settings) (one_each told) left_to_read) turn) ends in
+        omega (arith, counted.counted, sum_by-take-drop length told_whole (length so_far.rows), ap (sum_by length) last)
 
-      with_row_counted : (taken then : ℕ) → taken ≡ suc (length so_far.rows) → then ≡ count + length (told so_far)
-          → then ≡ sum_by length (take taken all_damage)
-      with_row_counted taken then more one =
-          omega (
-            arith,
-            one,
-            counted.counted,
-            sum_more all_damage (length so_far.rows) (told so_far) _ follow,
-            ap (λ (k : ℕ). sum_by length (take k all_damage)) more,
-          )
+    -- a run that ends with one more row
+    pub damage_end_behind : {A : Type 0} {end : Ending} → move_on settings so_far ≡ Turn.done end
+        → {taken then : ℕ} {answer : Result A DecodeError} → taken ≡ suc (length so_far.rows)
+        → then ≡ count + length (told so_far) → CountsDamage told_whole taken then answer
+    damage_end_behind {A} {end} ends {taken} {then} {answer} more one =
+        record { of_taken = with_row_counted taken then more one; all = by_answer answer (one ∙ sym (all_counted end ends)) }
+      where
+        by_answer : {A : Type 0} (answer : Result A DecodeError) → then ≡ sum_by length told_whole
+            → OnAnswer answer (then ≡ sum_by length told_whole)
+        by_answer (Ok x) are = are
+        by_answer (Err e) are = λ fault. are
 
-      -- one more row
-      pub damage_next : (after : Progress) (then : ℕ) → move_on settings so_far ≡ Turn.next after
-          → length after.rows ≡ suc (length so_far.rows) → then ≡ count + length (told so_far) → DamageCounted after then
-      damage_next after then goes more one = record {
-        comes = comes_next (move_on settings) gives left_to_read by_rows start begins so_far counted.comes
-            (told so_far) refl after goes more;
-        counted = with_row_counted (length after.rows) then more one;
-      }
-
-      -- all of it, where a turn is the last
-      all_counted : (end : Ending) → move_on settings so_far ≡ Turn.done end
-          → sum_by length all_damage ≡ count + length (told so_far)
-      all_counted end ends =
-          let last : drop (length so_far.rows) all_damage ≡ told so_far ∷ []
-          = follow ∙ ap (λ (turn : Move). told so_far ∷ gathered_after (lines (move_on settings) gives left_to_read) turn) ends in
-          omega (arith, counted.counted, sum_by-take-drop length all_damage (length so_far.rows), ap (sum_by length) last)
-
-      -- a run that ends with one more row
-      pub damage_end_behind : {A : Type 0} (end : Ending) → move_on settings so_far ≡ Turn.done end
-          → (taken then : ℕ) (answer : Result A DecodeError) → taken ≡ suc (length so_far.rows)
-          → then ≡ count + length (told so_far) → CountsDamage all_damage taken then answer
-      damage_end_behind end ends taken then answer more one =
-          record { of_taken = with_row_counted taken then more one; all = by_answer answer (one ∙ sym (all_counted end ends)) }
-        where
-          by_answer : {A : Type 0} (answer : Result A DecodeError) → then ≡ sum_by length all_damage
-              → OnAnswer answer (then ≡ sum_by length all_damage)
-          by_answer (Ok x) are = are
-          by_answer (Err e) are = λ fault. are
-
-      -- and one that ends with the same rows, where the line is no row or an allocation failed
-      pub damage_end : {A : Type 0} (e : DecodeError) (taken then : ℕ) → taken ≡ length so_far.rows
-          → then ≡ count → (IsFault e → (told so_far ≡ []) × (end : Ending) × (move_on settings so_far ≡ Turn.done end))
-          → CountsDamage {A = A} all_damage taken then (Err e)
-      damage_end e taken then same kept fails = record {
-        of_taken = omega (arith, kept, counted.counted, ap (λ (k : ℕ). sum_by length (take k all_damage)) same);
-        all = λ fault. let (none, end, ends) = fails fault in omega (arith, kept, all_counted end ends, ap length none);
-      }
+    -- and one that ends with the same rows, where the line is no row or an allocation failed
+    pub damage_end : {A : Type 0} {e : DecodeError} {taken then : ℕ} → taken ≡ length so_far.rows
+        → then ≡ count → (IsFault e → (told so_far ≡ []) × (end : Ending) × (move_on settings so_far ≡ Turn.done end))
+        → CountsDamage {A = A} told_whole taken then (Err e)
+    damage_end same kept fails = record {
+      of_taken = omega (arith, kept, counted.counted, ap (λ (k : ℕ). sum_by length (take k told_whole)) same);
+      all = λ fault. let (none, end, ends) = fails fault in omega (arith, kept, all_counted end ends, ap length none);
+    }
 
 -- Between two rows: both kinds of damage are counted, and an EOL was missed after each row at most once.
 pub record DamageTold (settings : DecodeSettings) (bits : Bits) (start so_far : Progress) (repairs : Repairs) : Type 0 where

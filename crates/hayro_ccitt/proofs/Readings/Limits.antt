@@ -1,8 +1,9 @@
 -- A row limit cuts what comes without one.
+use Rattle.hayro_ccitt.proofs.Readings.TurnsAddRows.{turn_extends}
 use Rattle.hayro_ccitt.proofs.Names.{◌≡◌, ℕ, ◌-◌, ◌<◌, ◌≤◌, Bool, true, false, cond, not, ◌&&◌, ◌||◌, eqb, List, [], ◌∷◌, ◌++◌}
-use Rattle.hayro_ccitt.proofs.Names.{length, take, replicate, Option, Result, Err, refl, sym, subst, ◌∙◌, arith, inl, inr, IsOk}
-use Rattle.hayro_ccitt.proofs.Names.{append-nil, length-append, take_all, cases_eq, and_right, or_left, or_right, eq-eqb, ne_eqb}
-use Rattle.hayro_ccitt.proofs.Names.{cond-true, cases_lt, DecodeError, DecodeSettings, EncodingMode, Bits, IsPrefix, Turn, Row}
+use Rattle.hayro_ccitt.proofs.Names.{length, take, replicate, Option, Result, Err, refl, sym, arith, inl, inr, IsOk}
+use Rattle.hayro_ccitt.proofs.Names.{length-append, take_all, cases_eq, and_right, or_left, or_right, eq-eqb, ne_eqb}
+use Rattle.hayro_ccitt.proofs.Names.{cond-true, cases_lt, DecodeError, DecodeSettings, EncodingMode, Bits, IsPrefix, Row}
 use Rattle.hayro_ccitt.proofs.Names.{Line, next_eol, Progress, Ending, Move, aligned, ends_with, limit_met, bytes_before}
 use Rattle.hayro_ccitt.proofs.Names.{eols_here, after_line, move_on, first_gap, ending_from, end_of, RowLimit, common_steps}
 use Rattle.hayro_ccitt.proofs.{Readings.GapsAndRows.readings_follow, Readings.Repeated.Follows, Readings.Repeated.after_turn}
@@ -36,10 +37,6 @@ module _ (settings : DecodeSettings) (limit : ℕ) (some : 0 < limit) (wide : 0 
   is_open n lt = and_right (not (eqb limit 0)) (eqb limit n) (ne_eqb limit n (λ e. absurd (omega (arith, e, lt))))
 
   module _ (rest : Progress → Ending) (extends : (t : Progress) → IsPrefix t.rows (rest t).rows) where
-    turn_extends : (rows : List Row) (m : Move) → Keeps rows m → IsPrefix rows (after_turn rest m).rows
-    turn_extends rows (Turn.next t) k = subst (λ (x : List Row). IsPrefix x (rest t).rows) k (extends t)
-    turn_extends rows (Turn.done e) k = ([], k ∙ sym (append-nil rows))
-
     short : (e : Ending) → length e.rows < limit → Cut e e
     short e lt = (sym (take_all limit e.rows (omega arith)), λ full. absurd (omega (arith, full, lt)))
 
@@ -51,7 +48,8 @@ module _ (settings : DecodeSettings) (limit : ℕ) (some : 0 < limit) (wide : 0 
     cut_turn : (run : Progress) (found : ℕ × Bits) (m : Move) → length run.rows ≡ limit → Keeps run.rows m
         → Follows Same Cut rest (unless_over limited run found) m
     cut_turn run (count, here) m full k =
-        grind (arith, common_steps, after_turn, cond-true, cut_rows, is_met, or_left, or_right, turn_extends, unless_over)
+        let extended = turn_extends rest extends in
+        grind (arith, common_steps, after_turn, cond-true, cut_rows, is_met, or_left, or_right, extended, unless_over)
 
     seek_from_open : (run : Progress) (o : Option Bits) → limit_met limited (length run.rows) ≡ false
         → seek_from limited run o ≡ seek_from unlimited run o

@@ -12,12 +12,12 @@ use Rattle.hayro_ccitt.proofs.Names.{at_front, ending_from, ending_behind, one_e
 use Rattle.hayro_ccitt.proofs.Names.{bytes_before, whole_reading, plain, lines_of, line_starts, start_of_turn, Gap, misses_eol}
 use Rattle.hayro_ccitt.proofs.Names.{eols_here, is_over, limit_met, at_end, row_ends, end_of_row, end_of_turn, failed_at, Turn}
 use Rattle.hayro_ccitt.proofs.Names.{Reaches, Row, found_here, words_of, words_of_turn, Stand, AtLine, BehindRow, AtEnd, AtFault}
-use Rattle.hayro_ccitt.proofs.Names.{EncodingMode, Group4, RowsRead, ReadsNext, gaps_before, damage_since, start_after}
+use Rattle.hayro_ccitt.proofs.Names.{EncodingMode, Group4, RowsRead, ReadsNext, damage_since, start_after}
 use Rattle.hayro_ccitt.proofs.Names.{ReachesNextLine, read_so_far, line_after, DamageIsCounted, MissesAreCounted, MissesBehindRow}
 use Rattle.hayro_ccitt.proofs.Names.{Misses, ReaderStands, ended, stand_after, is_at_line, StandsAtLine, StandsBehindRow}
-use Rattle.hayro_ccitt.proofs.Names.{HasEnded, HasFailed, context_at}
+use Rattle.hayro_ccitt.proofs.Names.{HasEnded, HasFailed, MissIsTold, context_at, missed_before, missed_since, start_in}
 use Rattle.hayro_ccitt.proofs.{Readings.GapsAndRows.first_gap_t4, Readings.Repeated.reaches_on, Work.RunsCount.sum_more}
-use Rattle.hayro_ccitt.proofs.Readings.DamageCounted.{repaired_counts, missed_counts, few_behind, last_behind}
+use Rattle.hayro_ccitt.proofs.Readings.DamageCounted.{repaired_counts, missed_counts, missed_starts, few_behind, last_behind}
 use Rattle.hayro_ccitt.proofs.Readings.PlainAnswers.{some_columns, bytes_before-place}
 use Rattle.hayro_ccitt.proofs.Readings.RowsTaken.{by_rows_left, row_of_turn, reads_row, turn_is}
 use Rattle.hayro_ccitt.proofs.Readings.RunsOverRows.{lines_on, Comes, Between, Leaves, held_between-more, comes_done, comes_more}
@@ -33,7 +33,10 @@ nothing_kept = record { meaning = tt; refused = false; refuses = λ row. ⊥ }
 abbrev pub no_step : Unit {0} → List ℕ → Unit {0}
 no_step before row = tt
 
-module _ (settings : DecodeSettings) (wide : 0 < settings.columns) (bits : Bits) (first : Progress)
+has_columns : (settings : DecodeSettings) → 0 < settings.columns → eqb settings.columns 0 ≡ false
+has_columns settings wide = some_columns settings.columns (λ none. absurd (omega (arith, wide, none)))
+
+module _ (settings : DecodeSettings) (wide : 0 < settings.columns) (bits : Bits) {first : Progress}
     (begins : first_gap settings.encoding settings bits ≡ Turn.next first) where
   -- no row comes before the first line
   none_first : first.rows ≡ []
@@ -42,7 +45,7 @@ module _ (settings : DecodeSettings) (wide : 0 < settings.columns) (bits : Bits)
   -- the plain reading is that from the first line on
   pub plain_is : plain settings bits ≡ whole_reading bits (ending_from (move_on settings) first)
   plain_is =
-      cond-false (eqb settings.columns 0) _ _ (some_columns settings.columns (λ none. absurd (omega (arith, wide, none))))
+      cond-false (eqb settings.columns 0) _ _ (has_columns settings wide)
       ∙ ap (λ (gap : Move). whole_reading bits (ending_behind settings gap)) begins
 
   gathered_is : {A : Type 0} (gives : Progress → A)
@@ -51,70 +54,58 @@ module _ (settings : DecodeSettings) (wide : 0 < settings.columns) (bits : Bits)
 
   pub lines_are : lines_of settings bits ≡ gathered_from (move_on settings) (one_each (line_of_turn settings)) first
   lines_are =
-      cond-false (eqb settings.columns 0) _ _ (some_columns settings.columns (λ none. absurd (omega (arith, wide, none))))
-      ∙ gathered_is (line_of_turn settings)
+      cond-false (eqb settings.columns 0) _ _ (has_columns settings wide) ∙ gathered_is (line_of_turn settings)
 
-  module _ (so_far : Progress) (reaches : Reaches (move_on settings) first so_far) where
+  module _ {so_far : Progress} (reaches : Reaches (move_on settings) first so_far) where
     pub comes : {A : Type 0} (gives : Progress → A) → Comes (move_on settings) (one_each gives) left_to_read first so_far
-    comes gives = comes_there settings wide first none_first so_far reaches gives
+    comes gives = comes_there settings wide first none_first reaches gives
 
     -- there are at most as many rows as bits, and one more
     pub few_rows : length first.rest ≤ length bits → length so_far.rows ≤ length bits + 1
     few_rows room = omega (arith, (comes (line_of_turn settings)).room, left_below first, room)
 
     -- where a turn is the last, it is known how the reading ends
-    pub ends_with_turn : (end : Ending) → move_on settings so_far ≡ Turn.done end → plain settings bits ≡ whole_reading bits end
-    ends_with_turn end is =
-        plain_is ∙ ap (whole_reading bits) (comes_done (move_on settings) (one_each (line_of_turn settings)) left_to_read
-        (by_rows_left settings wide) first none_first so_far (comes (line_of_turn settings)) end is)
+    pub ends_with_turn : {end : Ending} → move_on settings so_far ≡ Turn.done end → plain settings bits ≡ whole_reading bits end
+    ends_with_turn is =
+        plain_is ∙ ap (whole_reading bits) (comes_done (by_rows_left settings wide) none_first (comes (line_of_turn settings)) is)
 
     -- its line
     pub line_is : slice_get (lines_of settings bits) (length so_far.rows) ≡ Some (line_of_turn settings so_far)
-    line_is =
-        ap (λ (xs : List Line). slice_get xs (length so_far.rows)) lines_are
-        ∙ comes_line (move_on settings) (one_each (line_of_turn settings)) left_to_read
-        (by_rows_left settings wide) first none_first so_far (comes (line_of_turn settings)) (line_of_turn settings so_far) refl
+    line_is = ap (λ (xs : List Line). slice_get xs (length so_far.rows)) lines_are
+        ∙ comes_line (by_rows_left settings wide) none_first (comes (line_of_turn settings)) (line_of_turn settings so_far) refl
 
     -- the offset of its line
     pub line_start_is : (other : ℕ)
         → get_or (line_starts settings bits) (length so_far.rows) other ≡ length bits - length so_far.rest
-    line_start_is other =
-        ap (λ (xs : List ℕ). get_or xs (length so_far.rows) other) (gathered_is (start_of_turn bits))
-        ∙ value_is settings wide first none_first so_far reaches (start_of_turn bits) other
+    line_start_is other = ap (λ (xs : List ℕ). get_or xs (length so_far.rows) other)
+        (gathered_is (start_of_turn bits)) ∙ value_is settings wide first none_first reaches (start_of_turn bits) other
 
     -- where its turn is the last, no line begins after it
-    pub no_line_behind : (end : Ending) → move_on settings so_far ≡ Turn.done end → (other : ℕ)
+    pub no_line_behind : {end : Ending} → move_on settings so_far ≡ Turn.done end → (other : ℕ)
         → get_or (line_starts settings bits) (length so_far.rows + 1) other ≡ other
-    no_line_behind end ends other =
-        ap (λ (xs : List ℕ). get_or xs (length so_far.rows + 1) other) (gathered_is (start_of_turn bits))
-        ∙ no_value_behind settings wide first none_first so_far reaches end ends (start_of_turn bits) other
+    no_line_behind ends other = ap (λ (xs : List ℕ). get_or xs (length so_far.rows + 1) other) (gathered_is (start_of_turn bits))
+        ∙ no_value_behind settings wide first none_first reaches ends (start_of_turn bits) other
 
     -- the offset of the bits after its row
     row_end_is : (other : ℕ) → get_or (row_ends settings bits) (length so_far.rows) other ≡ end_of_turn settings bits so_far
     row_end_is other =
         let gives = end_of_turn settings bits in
-        get_or-there (row_ends settings bits) (length so_far.rows) (gives so_far) other
-        (ap (λ (xs : List ℕ). slice_get xs (length so_far.rows)) (gathered_is gives)
-        ∙ comes_line (move_on settings) (one_each gives) left_to_read (by_rows_left settings wide) first none_first so_far
-        (comes gives)
-        (gives so_far) refl)
+        get_or-there (row_ends settings bits) (length so_far.rows) (gives so_far) other (ap (λ (xs : List ℕ). slice_get xs (length
+        so_far.rows)) (gathered_is gives) ∙ comes_line (by_rows_left settings wide) none_first (comes gives) (gives so_far) refl)
 
     -- where its turn is the last, a reading fails there
-    pub fails_behind : (end : Ending) → move_on settings so_far ≡ Turn.done end → (row : Row) (rest : Bits)
-        → row_of_turn settings so_far ≡ Ok (row, rest)
-        → failed_at settings bits (length so_far.rows + 1) ≡ length bits - length rest
-    fails_behind end ends row rest is =
+    pub fails_behind : {end : Ending} → move_on settings so_far ≡ Turn.done end → {row : Row} {rest : Bits} → row_of_turn
+        settings so_far ≡ Ok (row, rest) → failed_at settings bits (length so_far.rows + 1) ≡ length bits - length rest
+    fails_behind ends is =
         let index : (length so_far.rows + 1) - 1 ≡ length so_far.rows = omega arith in
-        no_line_behind end ends (get_or (row_ends settings bits) ((length so_far.rows + 1) - 1) 0)
+        no_line_behind ends (get_or (row_ends settings bits) ((length so_far.rows + 1) - 1) 0)
         ∙ ap (λ (n : ℕ). get_or (row_ends settings bits) n 0) index ∙ row_end_is 0 ∙ ap (end_of_row bits so_far) is
 
-    module _ (row : Row) (rest : Bits) (is : row_of_turn settings so_far ≡ Ok (row, rest)) where
+    module _ {row : Row} {rest : Bits} (is : row_of_turn settings so_far ≡ Ok (row, rest)) where
       prefix : IsPrefix (so_far.rows ++ row ∷ []) (plain settings bits).rows
-      prefix =
-          subst (λ (rows : List Row). IsPrefix (so_far.rows ++ row ∷ []) rows) (sym (ap (λ (r : Reading). r.rows) plain_is))
-          (comes_more (move_on settings) (one_each (line_of_turn settings)) left_to_read
-          (by_rows_left settings wide) first none_first so_far (comes (line_of_turn settings)) (so_far.rows ++ row ∷ [])
-          ((reads_row settings so_far).adds row rest is))
+      prefix = subst (λ (rows : List Row). IsPrefix (so_far.rows ++ row ∷ []) rows)
+          (sym (ap (λ (r : Reading). r.rows) plain_is)) (comes_more (by_rows_left settings wide)
+          none_first (comes (line_of_turn settings)) (so_far.rows ++ row ∷ []) ((reads_row settings so_far).adds row rest is))
 
       -- the row that is read is the next one of the plain reading
       pub row_is_next : get_or (plain settings bits).rows (length so_far.rows) [] ≡ row
@@ -130,7 +121,7 @@ module _ (settings : DecodeSettings) (wide : 0 < settings.columns) (bits : Bits)
       )
 
     -- what is repaired of its line
-    module _ (rows : ℕ) (taken : rows ≡ length so_far.rows) where
+    module _ {rows : ℕ} (taken : rows ≡ length so_far.rows) where
       abbrev repaired : List Damaged
       repaired = repaired_by_turn settings bits so_far
 
@@ -139,24 +130,20 @@ module _ (settings : DecodeSettings) (wide : 0 < settings.columns) (bits : Bits)
 
       repairs_are : by_line ≡ gathered_from (move_on settings) (one_each (repaired_by_turn settings bits)) first
       repairs_are =
-          cond-false (eqb settings.columns 0) _ _ (some_columns settings.columns (λ none. absurd (omega (arith, wide, none))))
-          ∙ gathered_is (repaired_by_turn settings bits)
+          cond-false (eqb settings.columns 0) _ _ (has_columns settings wide) ∙ gathered_is (repaired_by_turn settings bits)
 
       pub repaired_is : get_or by_line rows [] ≡ repaired
-      repaired_is =
-          get_or-there by_line rows repaired []
-          (ap (λ (n : ℕ). slice_get by_line n) taken ∙ ap (λ (xs : List (List Damaged)). slice_get xs (length so_far.rows))
-          repairs_are ∙ comes_line (move_on settings) (one_each (repaired_by_turn settings bits)) left_to_read
-          (by_rows_left settings wide) first none_first so_far (comes (repaired_by_turn settings bits)) repaired refl)
+      repaired_is = get_or-there by_line rows repaired
+          [] (ap (λ (n : ℕ). slice_get by_line n) taken ∙ ap (λ (xs : List (List Damaged)). slice_get xs (length so_far.rows))
+          repairs_are ∙ comes_line (by_rows_left settings wide) none_first (comes (repaired_by_turn settings bits)) repaired refl)
 
       -- what is counted of each line, with that of its line
       gathered_more : {A : Type 0} (counted : List (List A)) (gives : Progress → List A)
           → counted ≡ gathered_from (move_on settings) (one_each gives) first
           → sum_by length (take (rows + 1) counted) ≡ sum_by length (take rows counted) + length (gives so_far)
       gathered_more {A = A} counted gives are =
-          let on = ap (λ (n : ℕ). drop n counted) taken ∙ ap (λ (xs : List (List A)). drop (length so_far.rows) xs) are
-          ∙ lines_on (move_on settings) (one_each gives) left_to_read (by_rows_left settings wide) first none_first so_far
-          (comes gives) (gives so_far) refl in
+          let on = ap (λ (n : ℕ). drop n counted) taken ∙ ap (λ (xs : List (List A)). drop (length so_far.rows) xs)
+          are ∙ lines_on (by_rows_left settings wide) none_first (comes gives) (gives so_far) refl in
           let next : rows + 1 ≡ suc rows = omega arith in
           ap (λ (n : ℕ). sum_by length (take n counted)) next ∙ sum_more counted rows (gives so_far) _ on
 
@@ -167,18 +154,24 @@ module _ (settings : DecodeSettings) (wide : 0 < settings.columns) (bits : Bits)
       -- so is the gap after it
       misses_are : misses_by_line settings bits ≡ gathered_from (move_on settings) (one_each (missed_by_turn settings bits)) first
       misses_are =
-          cond-false (eqb settings.columns 0) _ _ (some_columns settings.columns (λ none. absurd (omega (arith, wide, none))))
-          ∙ gathered_is (missed_by_turn settings bits)
+          cond-false (eqb settings.columns 0) _ _ (has_columns settings wide) ∙ gathered_is (missed_by_turn settings bits)
 
       pub missed_more : sum_by length (take (rows + 1) (misses_by_line settings bits))
           ≡ sum_by length (take rows (misses_by_line settings bits)) + length (missed_by_turn settings bits so_far)
       missed_more = gathered_more (misses_by_line settings bits) (missed_by_turn settings bits) misses_are
 
+      -- and it is told where its EOL was missed
+      pub missed_is : get_or (misses_by_line settings bits) rows [] ≡ missed_by_turn settings bits so_far
+      missed_is =
+          let gives = missed_by_turn settings bits in
+          get_or-there (misses_by_line settings bits) rows (gives so_far) []
+          (ap (λ (n : ℕ). slice_get (misses_by_line settings bits) n) taken
+          ∙ ap (λ (xs : List (List Damaged)). slice_get xs (length so_far.rows)) misses_are
+          ∙ comes_line (by_rows_left settings wide) none_first (comes gives) (gives so_far) refl)
+
       -- its words
       words_are : words_of settings bits ≡ gathered_from (move_on settings) (one_each (words_of_turn settings)) first
-      words_are =
-          cond-false (eqb settings.columns 0) _ _ (some_columns settings.columns (λ none. absurd (omega (arith, wide, none))))
-          ∙ gathered_is (words_of_turn settings)
+      words_are = cond-false (eqb settings.columns 0) _ _ (has_columns settings wide) ∙ gathered_is (words_of_turn settings)
 
       pub words_more : sum_by length (take (rows + 1) (words_of settings bits))
           ≡ sum_by length (take rows (words_of settings bits)) + length (words_of_turn settings so_far)
@@ -197,18 +190,16 @@ module _ (settings : DecodeSettings) (wide : 0 < settings.columns) (bits : Bits)
     }
 
     -- so where a row isn't read, the reading ends
-    pub row_not_read : (repairs : Repairs) (after : SinkState (Unit {0})) (new : Held) (left_over : Bits) (e : DecodeError)
+    pub row_not_read : (repairs : Repairs) {after : SinkState (Unit {0})} {new : Held} {left_over : Bits} {e : DecodeError}
         → TakesOneRow (line_of_turn settings so_far) (row_of_turn settings so_far) no_step nothing_kept after
         (context_at settings so_far repairs) new (Err e) left_over → Leaves (ending_from (move_on settings) first)
         (gathered_from (move_on settings) (one_each (line_of_turn settings)) first) no_step nothing_kept after new (Err e)
-    row_not_read repairs after new left_over e takes =
-        row_fails (move_on settings) (one_each (line_of_turn settings)) left_to_read (by_rows_left settings wide) first none_first
-        settings no_step nothing_kept nothing_kept (context_at settings so_far repairs) so_far.rest (between_of repairs)
-        (line_of_turn settings so_far) (row_of_turn settings so_far) (reads_row settings so_far) after new left_over e takes
+    row_not_read repairs {e = e} takes =
+        row_fails (by_rows_left settings wide) none_first (between_of repairs) (reads_row settings so_far) e takes
 
 -- ---- A reader of rows at a line
 
-module _ (settings : DecodeSettings) (bits : Bits) (held : Held) (here : Bits)
+module _ {settings : DecodeSettings} {bits : Bits} {held : Held} {here : Bits}
     (stands : StandsAtLine settings bits held here) where
   abbrev so_far : Progress
   so_far = stands.so_far
@@ -220,10 +211,10 @@ module _ (settings : DecodeSettings) (bits : Bits) (held : Held) (here : Bits)
   settings_are = ap (λ (h : Held). h.settings) stands.held_is
 
   pub few : held.taken ≤ length bits + 1
-  few = omega (arith, few_rows settings stands.wide bits stands.first stands.begins so_far stands.reaches stands.room, taken_is)
+  few = omega (arith, few_rows settings stands.wide bits stands.begins stands.reaches stands.room, taken_is)
 
   -- the line here is that of the turn
-  module _ (new : Held) (left_over : Bits) (answer : Result (Unit {0}) DecodeError)
+  module _ {new : Held} {left_over : Bits} {answer : Result (Unit {0}) DecodeError}
       (takes : TakesOneRow (line_here held.settings held.reference here) (row_of_line held.settings held.has_eols here
       (line_here held.settings held.reference here)) no_step nothing_kept nothing_kept held new answer left_over) where
     takes_turn : TakesOneRow (line_of_turn settings so_far) (row_of_turn settings so_far) no_step nothing_kept nothing_kept
@@ -282,13 +273,13 @@ pub record IsRead (settings : DecodeSettings) (bits : Bits) (held new : Held) (h
       → new.repairs.rows ≡ sum_by length (take new.taken (repairs_by_line settings bits))
   pub misses : MissesAreCounted settings bits held.repairs held.taken → MissesBehindRow settings bits new
 
-pub is_read : (settings : DecodeSettings) (bits : Bits) (held : Held) (here : Bits) → StandsAtLine settings bits held here
-    → (new : Held) (left_over : Bits) → TakesOneRow (line_here held.settings held.reference here)
+pub is_read : {settings : DecodeSettings} {bits : Bits} {held : Held} {here : Bits} → StandsAtLine settings bits held here
+    → {new : Held} {left_over : Bits} → TakesOneRow (line_here held.settings held.reference here)
     (row_of_line held.settings held.has_eols here (line_here held.settings held.reference here)) no_step nothing_kept nothing_kept
     held new (Ok tt) left_over → IsRead settings bits held new here left_over
-is_read settings bits held here stands new left_over takes =
+is_read {settings} {bits} {held} {here} stands {new} {left_over} takes =
     let so_far = stands.so_far in
-    let taken = (takes_turn settings bits held here stands new left_over (Ok tt) takes).taken in
+    let taken = (takes_turn stands takes).taken in
     let before : held.taken ≡ length so_far.rows = ap (λ (h : Held). h.taken) stands.held_is in
     let after : new.taken ≡ length so_far.rows + 1 = ap (λ (h : Held). h.taken) taken.held in
     let line = line_of_turn settings so_far in
@@ -297,8 +288,7 @@ is_read settings bits held here stands new left_over takes =
     let offset = length bits - length so_far.rest in
     let one = repaired_counts settings so_far.has_eols (length so_far.rows) offset so_far.rest line taken.taken left_over
     (length so_far.rows) held.repairs taken.is in
-    let there =
-    row_is_there settings stands.wide bits stands.first stands.begins so_far stands.reaches taken.taken left_over taken.is in
+    let there = row_is_there settings stands.wide bits stands.begins stands.reaches taken.is in
     let found : length (found_here settings held.reference here) ≡ length (words_of_turn settings so_far)
     = ap (λ (h : Held). length (found_here settings h.reference here)) stands.held_is
     ∙ ap (λ (x : Bits). length (found_here settings (row_before settings.columns so_far.rows) x)) stands.rest_is in
@@ -319,12 +309,12 @@ is_read settings bits held here stands new left_over takes =
       more = omega (arith, before, after);
       within = omega (arith, after, there);
       row = ap (λ (h : Held). h.reference) taken.held ∙ sym (ap (λ (n : ℕ). get_or (plain settings bits).rows n []) before ∙
-          row_is_next settings stands.wide bits stands.first stands.begins so_far stands.reaches taken.taken left_over taken.is);
+          row_is_next settings stands.wide bits stands.begins stands.reaches taken.is);
       line_start = ap (λ (x : Bits). length bits - length x) stands.rest_is ∙ sym (ap (λ (n : ℕ). get_or (line_starts settings
-          bits) n 0) before ∙ line_start_is settings stands.wide bits stands.first stands.begins so_far stands.reaches 0);
+          bits) n 0) before ∙ line_start_is settings stands.wide bits stands.begins stands.reaches 0);
       damage = ap (λ (r : Repairs). damage_since r held.repairs.rows) repaired ∙ repaired_told settings so_far.has_eols
           (length so_far.rows) offset so_far.rest line taken.taken left_over (length so_far.rows) held.repairs taken.is ∙ sym (ap
-          fault_in (repaired_is settings stands.wide bits stands.first stands.begins so_far stands.reaches held.taken before));
+          fault_in (repaired_is settings stands.wide bits stands.begins stands.reaches before));
       few = λ so. omega (
         arith,
         so,
@@ -335,14 +325,14 @@ is_read settings bits held here stands new left_over takes =
         repaired_once settings so_far.has_eols (length so_far.rows) offset line,
       );
       words = ap (λ (n : ℕ). sum_by length (take n (words_of settings bits))) (after ∙ ap (λ (n : ℕ). n + 1) (sym before))
-          ∙ words_more settings stands.wide bits stands.first stands.begins so_far stands.reaches held.taken before
+          ∙ words_more settings stands.wide bits stands.begins stands.reaches before
           ∙ ap (λ (n : ℕ). sum_by length (take held.taken (words_of settings bits)) + n) (sym found);
       counted = λ so. omega (
         arith,
         so,
         one,
         ap (λ (r : Repairs). r.rows) repaired,
-        repaired_more settings stands.wide bits stands.first stands.begins so_far stands.reaches held.taken before,
+        repaired_more settings stands.wide bits stands.begins stands.reaches before,
         ap (λ (n : ℕ). sum_by length (take n (repairs_by_line settings bits))) (after ∙ ap (λ (n : ℕ). n + 1) (sym before)),
       );
       misses = λ so.
@@ -351,31 +341,28 @@ is_read settings bits held here stands new left_over takes =
             line = line;
             before = held.repairs;
             line_is = ap (slice_get (lines_of settings bits)) here
-                ∙ line_is settings stands.wide bits stands.first stands.begins so_far stands.reaches;
+                ∙ line_is settings stands.wide bits stands.begins stands.reaches;
             repairs_are = repaired ∙ ap (λ (n : ℕ). repairs_with line n held.repairs) (sym here);
             counted = subst (MissesAreCounted settings bits held.repairs) (before ∙ sym here) so;
           };
     }
 
 -- if it has no row, the reading fails there
-pub fails_at_line : (settings : DecodeSettings) (bits : Bits) (held : Held) (here : Bits) → StandsAtLine settings bits held here
+pub fails_at_line : {settings : DecodeSettings} {bits : Bits} {held : Held} {here : Bits} → StandsAtLine settings bits held here
     → length bits - length here ≡ failed_at settings bits held.taken
-fails_at_line settings bits held here stands =
-    ap (λ (x : Bits). length bits - length x) stands.rest_is
-    ∙ sym (ap (λ (n : ℕ). failed_at settings bits n) (ap (λ (h : Held). h.taken) stands.held_is)
-    ∙ line_start_is settings stands.wide bits stands.first stands.begins stands.so_far stands.reaches _)
+fails_at_line {settings} {bits} stands =
+    ap (λ (x : Bits). length bits - length x) stands.rest_is ∙ sym (ap (λ (n : ℕ). failed_at settings bits n)
+    (ap (λ (h : Held). h.taken) stands.held_is) ∙ line_start_is settings stands.wide bits stands.begins stands.reaches _)
 
 -- no row was read there
-pub isnt_read : (settings : DecodeSettings) (bits : Bits) (held : Held) (here : Bits) → StandsAtLine settings bits held here
-    → (new : Held) (left_over : Bits) (e : DecodeError) → TakesOneRow (line_here held.settings held.reference here)
+pub isnt_read : {settings : DecodeSettings} {bits : Bits} {held : Held} {here : Bits} → StandsAtLine settings bits held here
+    → {new : Held} {left_over : Bits} {e : DecodeError} → TakesOneRow (line_here held.settings held.reference here)
     (row_of_line held.settings held.has_eols here (line_here held.settings held.reference here)) no_step nothing_kept nothing_kept
     held new (Err e) left_over → HasFailed settings bits new.taken e
-isnt_read settings bits held here stands new left_over e takes =
-    let so_far = stands.so_far in
-    let reading = plain_is settings stands.wide bits stands.first stands.begins in
-    let lines = lines_are settings stands.wide bits stands.first stands.begins in
-    let leaves = row_not_read settings stands.wide bits stands.first stands.begins so_far stands.reaches held.repairs nothing_kept
-    new left_over e (takes_turn settings bits held here stands new left_over (Err e) takes) in
+isnt_read {settings} {bits} {held} stands {new} takes =
+    let reading = plain_is settings stands.wide bits stands.begins in
+    let lines = lines_are settings stands.wide bits stands.begins in
+    let leaves = row_not_read settings stands.wide bits stands.begins stands.reaches held.repairs (takes_turn stands takes) in
     record {
       all = λ fault. leaves.0.all fault ∙ ap (λ (r : Reading). length r.rows) (sym reading);
       fault = λ fault. ap (λ (r : Reading). r.outcome) reading ∙ ap (bytes_before bits) (leaves.0.fault fault);
@@ -452,10 +439,8 @@ module _ (settings : DecodeSettings) (bits : Bits) (held : Held) (here_now : Bit
   fails_there e said =
       let more : held.taken ≡ length stands.so_far.rows + 1
       = ap (λ (h : Held). h.taken) stands.held_is ∙ length-append stands.so_far.rows (stands.row ∷ []) in
-      ap (failed_at settings bits) more
-      ∙ fails_behind settings stands.wide bits stands.first stands.begins stands.so_far stands.reaches _
-      (turn_said (Err e) said) stands.row
-      here_now stands.row_is
+      ap (failed_at settings bits)
+      more ∙ fails_behind settings stands.wide bits stands.begins stands.reaches (turn_said (Err e) said) stands.row_is
 
   pub starts_behind : (answer : Result Bool DecodeError) → gap_behind_row held.settings held.taken held.has_eols here_now
       ≡ gap_said answer last.has_eols (drop place bits) → (offset before : ℕ) → offset ≡ length bits - length here_now
@@ -468,7 +453,7 @@ module _ (settings : DecodeSettings) (bits : Bits) (held : Held) (here_now : Bit
       → IsOkUnless answer InvalidCode → ReaderStands (stand_after answer) settings bits last place
   gap_stands (Ok true) said code =
       ended_well settings bits next.rows last place within last_taken next.has_eols (ends_with_turn settings stands.wide bits
-      stands.first stands.begins stands.so_far stands.reaches _ (turn_said (Ok true) said))
+      stands.begins stands.reaches (turn_said (Ok true) said))
   gap_stands (Ok false) said code = record {
     wide = stands.wide;
     first = stands.first;
@@ -482,7 +467,7 @@ module _ (settings : DecodeSettings) (bits : Bits) (held : Held) (here_now : Bit
   }
   gap_stands (Err e) said code =
       ended_badly settings bits next.rows last place within last_taken next.has_eols e code (ends_with_turn settings stands.wide
-      bits stands.first stands.begins stands.so_far stands.reaches _ (turn_said (Err e) said))
+      bits stands.begins stands.reaches (turn_said (Err e) said))
 
 -- the first gap of Group 4 does too
 module _ (settings : DecodeSettings) (wide : 0 < settings.columns) (bits : Bits) (is : settings.encoding ≡ Group4) (last : Held)
@@ -495,7 +480,7 @@ module _ (settings : DecodeSettings) (wide : 0 < settings.columns) (bits : Bits)
   first_ended : (end : Ending) → first_gap settings.encoding settings bits ≡ Turn.done end
       → plain settings bits ≡ whole_reading bits end
   first_ended end ends =
-      cond-false (eqb settings.columns 0) _ _ (some_columns settings.columns (λ none. absurd (omega (arith, wide, none))))
+      cond-false (eqb settings.columns 0) _ _ (has_columns settings wide)
       ∙ ap (λ (gap : Move). whole_reading bits (ending_behind settings gap)) ends
 
   none : last.taken ≡ length (at_front bits).rows
@@ -557,51 +542,89 @@ first_line_stands settings wide bits other last rest frame is room = record {
   rest_is = is;
 }
 
+-- a row adds no missed EOL
+repairs_with_missed : (line : Line) (taken : ℕ) (before : Repairs) → (repairs_with line taken before).missed ≡ before.missed
+repairs_with_missed (Line.whole row rest) taken before = refl
+repairs_with_missed (Line.broken front fault) taken before = refl
+
 -- the gap behind a row tells of its EOL
-pub misses_passed : (settings : DecodeSettings) (bits : Bits) (held : Held) (here : Bits)
-    → StandsBehindRow settings bits held here → MissesBehindRow settings bits held → (last : Held)
-    → last.repairs ≡ repairs_behind held here → last.taken ≡ held.taken → MissesAreCounted settings bits last.repairs last.taken
-misses_passed settings bits held here stands misses last counts taken =
-    let so_far = stands.so_far in
-    let n = length so_far.rows in
-    let line = line_of_turn settings so_far in
-    let more : held.taken ≡ n + 1 = ap (λ (h : Held). h.taken) stands.held_is ∙ length-append so_far.rows (stands.row ∷ []) in
-    let index : held.taken - 1 ≡ n = omega (arith, more) in
-    let found : ◌≡◌ {A = Option Line} (Some misses.line) (Some line) = sym misses.line_is ∙ ap (slice_get
-    (lines_of settings bits)) index ∙ line_is settings stands.wide bits stands.first stands.begins so_far stands.reaches in
-    let same : misses.line ≡ line = cc in
-    let before = misses.before in
-    let known : MissesAreCounted settings bits before n = subst (MissesAreCounted settings bits before) index misses.counted in
-    let repairs : held.repairs ≡ repairs_with line n before = misses.repairs_are
-    ∙ ap (λ (k : ℕ). repairs_with misses.line k before) index ∙ ap (λ (l : Line). repairs_with l n before) same in
-    let then : last.repairs
-    ≡ repairs_behind (context_at settings (with_row so_far stands.row here) (repairs_with line n before)) here = counts ∙ ap
-    (λ (h : Held). repairs_behind h here) (stands.held_is ∙ ap (context_at settings (with_row so_far stands.row here)) repairs) in
-    let one = missed_counts settings bits so_far line stands.row here before stands.row_is known.last known.few in
-    record {
-      few = omega (
-        arith,
-        taken,
-        more,
-        ap (λ (r : Repairs). r.missed) then,
-        few_behind settings bits so_far line stands.row here before stands.row_is known.last known.few,
-      );
-      last = omega (
-        arith,
-        taken,
-        more,
-        ap (λ (r : Repairs). r.last) then,
-        last_behind settings bits so_far line stands.row here before stands.row_is known.last known.few,
-      );
-      counted = omega (
-        arith,
-        ap (λ (r : Repairs). r.missed) then,
-        one,
-        known.counted,
-        missed_more settings stands.wide bits stands.first stands.begins so_far stands.reaches n refl,
-        ap (λ (k : ℕ). sum_by length (take k (misses_by_line settings bits))) (taken ∙ more),
-      );
-    }
+module _ (settings : DecodeSettings) (bits : Bits) (held : Held) (here : Bits) (stands : StandsBehindRow settings bits held here)
+    (misses : MissesBehindRow settings bits held) (last : Held) (counts : last.repairs ≡ repairs_behind held here) where
+  abbrev there : Progress
+  there = stands.so_far
+
+  abbrev read : ℕ
+  read = length there.rows
+
+  abbrev its_line : Line
+  its_line = line_of_turn settings there
+
+  one_more : held.taken ≡ read + 1
+  one_more = ap (λ (h : Held). h.taken) stands.held_is ∙ length-append there.rows (stands.row ∷ [])
+
+  index : held.taken - 1 ≡ read
+  index = omega (arith, one_more)
+
+  known : MissesAreCounted settings bits misses.before read
+  known = subst (MissesAreCounted settings bits misses.before) index misses.counted
+
+  read_with : held.repairs ≡ repairs_with its_line read misses.before
+  read_with =
+      let found : ◌≡◌ {A = Option Line} (Some misses.line) (Some its_line) = sym misses.line_is ∙ ap (slice_get
+      (lines_of settings bits)) index ∙ line_is settings stands.wide bits stands.begins stands.reaches in
+      let same : misses.line ≡ its_line = cc in
+      misses.repairs_are ∙ ap (λ (k : ℕ). repairs_with misses.line k misses.before) index
+      ∙ ap (λ (l : Line). repairs_with l read misses.before) same
+
+  then : last.repairs
+      ≡ repairs_behind (context_at settings (with_row there stands.row here) (repairs_with its_line read misses.before)) here
+  then =
+      counts ∙ ap (λ (h : Held). repairs_behind h here) (stands.held_is
+      ∙ ap (context_at settings (with_row there stands.row here)) read_with)
+
+  one : last.repairs.missed ≡ misses.before.missed + length (missed_by_turn settings bits there)
+  one =
+      ap (λ (r : Repairs). r.missed) then
+      ∙ missed_counts settings bits there its_line stands.row here misses.before stands.row_is known.last known.few
+
+  -- it is counted
+  pub misses_passed : last.taken ≡ held.taken → MissesAreCounted settings bits last.repairs last.taken
+  misses_passed taken =
+      record {
+        few = omega (
+          arith,
+          taken,
+          one_more,
+          ap (λ (r : Repairs). r.missed) then,
+          few_behind settings bits there its_line stands.row here misses.before stands.row_is known.last known.few,
+        );
+        last = omega (
+          arith,
+          taken,
+          one_more,
+          ap (λ (r : Repairs). r.last) then,
+          last_behind settings bits there its_line stands.row here misses.before stands.row_is known.last known.few,
+        );
+        counted = omega (
+          arith,
+          one,
+          known.counted,
+          missed_more settings stands.wide bits stands.begins stands.reaches refl,
+          ap (λ (k : ℕ). sum_by length (take k (misses_by_line settings bits))) (taken ∙ one_more),
+        );
+      }
+
+  -- and its offset is told
+  pub miss_told : (place : ℕ) → place ≡ length bits - length here
+      → missed_since last.repairs held.repairs.missed place ≡ missed_before settings bits held.taken
+  miss_told place is =
+      let next : held.taken ≡ suc read = omega (arith, one_more) in
+      let before = ap (λ (r : Repairs). r.missed) read_with ∙ repairs_with_missed its_line read misses.before in
+      ap (missed_since last.repairs held.repairs.missed) is
+      ∙ missed_starts settings bits there its_line stands.row here stands.row_is last.repairs held.repairs.missed
+      (one ∙ ap (λ (k : ℕ). k + length (missed_by_turn settings bits there)) (sym before))
+      ∙ sym (ap (missed_before settings bits) next
+      ∙ ap start_in (missed_is settings stands.wide bits stands.begins stands.reaches refl))
 
 -- the count of missed EOLs at a line, behind a row, and after a gap
 pub misses_at_line : (stand : Stand) (settings : DecodeSettings) (bits : Bits) (held : Held) → is_at_line stand ≡ true
@@ -623,6 +646,20 @@ pub misses_after : (answer : Result Bool DecodeError) (settings : DecodeSettings
 misses_after (Ok true) settings bits held misses = misses
 misses_after (Ok false) settings bits held misses = misses
 misses_after (Err error) settings bits held misses = misses
+
+-- the offset of a missed EOL at a line, and after a gap
+pub told_at_line : (stand : Stand) (settings : DecodeSettings) (bits : Bits) (taken : ℕ) (missed : Option ℕ)
+    → is_at_line stand ≡ true → MissIsTold stand settings bits taken missed → missed ≡ missed_before settings bits taken
+told_at_line AtLine settings bits taken missed is told = told
+told_at_line BehindRow settings bits taken missed is told = absurd (false≢true is)
+told_at_line AtEnd settings bits taken missed is told = told
+told_at_line (AtFault error) settings bits taken missed is told = told
+
+pub told_after : (answer : Result Bool DecodeError) (settings : DecodeSettings) (bits : Bits) (taken : ℕ) (missed : Option ℕ)
+    → missed ≡ missed_before settings bits taken → MissIsTold (stand_after answer) settings bits taken missed
+told_after (Ok true) settings bits taken missed told = told
+told_after (Ok false) settings bits taken missed told = told
+told_after (Err error) settings bits taken missed told = told
 
 -- before the first row there are none
 pub none_damaged : (stand : Stand) (settings : DecodeSettings) (bits : Bits) (held : Held)
@@ -656,14 +693,15 @@ damage_stays before stand settings given bits read held last same are taken repa
 
 -- the result of a call that passes a gap
 pub comes_to_line : (old : RowsRead) (last : Held) (ticks : ℕ) (at : BitsAt) (n : ℕ) (damage : Option DecodeError)
-    (answer : Result Bool DecodeError)
+    (missed : Option ℕ) (answer : Result Bool DecodeError)
     → last.settings ≡ old.settings → at.bits ≡ old.bits → last.taken ≡ old.taken → old.ticks ≤ ticks
     → (last.reference ≡ old.row) × (damage ≡ old.damage) → IfOk answer (λ over. n ≡ old.line_start)
     → ReaderStands (stand_after answer) old.settings old.bits last at.place
-    → OnErr answer (n ≡ failed_at old.settings old.bits old.taken)
-    → ReachesNextLine old (read_so_far last ticks at n damage (stand_after answer)) (line_after answer)
-comes_to_line old last ticks at n damage (Ok true) settings bits taken counts row begun stands start =
+    → OnErr answer (n ≡ failed_at old.settings old.bits old.taken) → missed ≡ missed_before old.settings old.bits old.taken
+    → ReachesNextLine old (read_so_far last ticks at n damage missed (stand_after answer)) (line_after answer)
+comes_to_line old last ticks at n damage missed (Ok true) settings bits taken counts row begun stands start told =
     record {
+      missed = told;
       counts = counts;
       last = row;
       last_start = begun;
@@ -676,8 +714,9 @@ comes_to_line old last ticks at n damage (Ok true) settings bits taken counts ro
       end = λ e. (refl, stands);
       error = tt;
     }
-comes_to_line old last ticks at n damage (Ok false) settings bits taken counts row begun stands start =
+comes_to_line old last ticks at n damage missed (Ok false) settings bits taken counts row begun stands start told =
     record {
+      missed = told;
       counts = counts;
       last = row;
       last_start = begun;
@@ -690,8 +729,9 @@ comes_to_line old last ticks at n damage (Ok false) settings bits taken counts r
       end = λ e. cc;
       error = tt;
     }
-comes_to_line old last ticks at n damage (Err error) settings bits taken counts row begun stands start =
+comes_to_line old last ticks at n damage missed (Err error) settings bits taken counts row begun stands start told =
     record {
+      missed = told;
       counts = counts;
       last = row;
       last_start = tt;
@@ -732,21 +772,7 @@ reads_on old mid new result comes reads =
           (new.end ≡ Some (Err e)) × (new.taken ≡ n) × HasFailed s b new.taken e)) reads.error;
       fault_start = λ unended. at (λ s b n. OnErr result (new.line_start ≡ failed_at s b n))
           (reads.fault_start (comes.unended refl));
+      missed = at (λ s b n. new.missed ≡ missed_before s b n) reads.missed;
       last = λ none. ((reads.last none).0 ∙ comes.last.0, (reads.last none).1 ∙ comes.last.1);
       last_start = λ none. reads.last_start none ∙ comes.last_start;
     }
-
--- the count of missed EOLs is that of the gaps that were passed
-repairs_with_missed : (line : Line) (taken : ℕ) (before : Repairs) → (repairs_with line taken before).missed ≡ before.missed
-repairs_with_missed (Line.whole row rest) taken before = refl
-repairs_with_missed (Line.broken front fault) taken before = refl
-
-pub missed_told : (stand : Stand) (settings : DecodeSettings) (bits : Bits) (held : Held) → Misses stand settings bits held
-    → held.repairs.missed
-    ≡ sum_by length (take (gaps_before (ended stand) (is_at_line stand) held.taken) (misses_by_line settings bits))
-missed_told AtLine settings bits held misses = misses.counted
-missed_told BehindRow settings bits held misses =
-    ap (λ (r : Repairs). r.missed) misses.repairs_are ∙ repairs_with_missed misses.line (held.taken - 1) misses.before
-    ∙ misses.counted.counted
-missed_told AtEnd settings bits held misses = misses.counted
-missed_told (AtFault error) settings bits held misses = misses.counted

@@ -23,9 +23,9 @@ one_of columns true x y p q = p
 one_of columns false x y p q = q
 
 -- one row more
-one_more : (columns : ℕ) (rows : List Row) (row : Row) → HaveWidth columns rows → length row ≡ columns
+have_width_with_row : (columns : ℕ) (rows : List Row) (row : Row) → HaveWidth columns rows → length row ≡ columns
     → HaveWidth columns (rows ++ row ∷ [])
-one_more columns rows row have width = All-append (λ r. length r ≡ columns) rows (row ∷ []) have
+have_width_with_row columns rows row have width = All-append (λ r. length r ≡ columns) rows (row ∷ []) have
     (All-cons (λ r. length r ≡ columns) row [] width (All-nil (λ r. length r ≡ columns)))
 
 repaired_width : (columns : ℕ) (front : Row) → length front ≤ columns → length (repaired columns front) ≡ columns
@@ -37,8 +37,8 @@ module _ (settings : DecodeSettings) where
   row_added_width : (so_far : Progress) (row : Row) (rest : Bits) → HaveWidth settings.columns so_far.rows
       → length row ≡ settings.columns → LeavesWidth settings.columns (row_added settings so_far row rest)
   row_added_width so_far row rest have width =
-      keeps_width settings.columns (so_far.rows ++ row ∷ []) _ (after_row_keeps settings
-      (with_row so_far row (behind_row settings so_far.has_eols rest))) (one_more settings.columns so_far.rows row have width)
+      keeps_width settings.columns (so_far.rows ++ row ∷ []) _ (after_row_keeps settings (with_row
+      so_far row (behind_row settings so_far.has_eols rest))) (have_width_with_row settings.columns so_far.rows row have width)
 
   after_line_width : (so_far : Progress) (line : Line) → HaveWidth settings.columns so_far.rows → length (front_of line)
       ≤ settings.columns → IsFull settings.columns line → LeavesWidth settings.columns (after_line settings so_far line)

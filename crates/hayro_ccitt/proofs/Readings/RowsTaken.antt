@@ -82,18 +82,18 @@ TakesRow step now after held here new answer rest =
     (line_here held.settings held.reference here)) step now after held new answer rest
 
 -- the words of the next line are those of its turn
-pub words_are : {M : Type 0} (settings : DecodeSettings) (sought : Bool) (rest0 bits : Bits)
+pub words_are : {M : Type 0} {settings : DecodeSettings} {sought : Bool} {rest0 : Bits}
     {step : M → List ℕ → M} {before now : SinkState M} {held : Held} {here : Bits} (between : Between (move_on settings)
     (one_each (line_of_turn settings)) left_to_read (from_line sought rest0) settings step before now held here)
     → length (found_here held.settings held.reference here) ≡ length (words_of_turn settings between.so_far)
-words_are settings sought rest0 bits {here = here} between =
+words_are {settings = settings} {here = here} between =
     ap (λ (h : Held). length (found_here h.settings h.reference here)) between.held
     ∙ ap (λ (x : Bits). length (found_here settings (row_before settings.columns between.so_far.rows) x)) between.here
 
-module _ {M : Type 0} (settings : DecodeSettings) (wide : 0 < settings.columns) (sought : Bool) (rest0 bits : Bits) (step_of : ℕ
-    → M → List ℕ → M) (width : ℕ) (before now : SinkState M) (held : Held) (here : Bits) (between : Between (move_on settings)
+module _ {M : Type 0} {settings : DecodeSettings} (wide : 0 < settings.columns) {sought : Bool} {rest0 : Bits} (step_of : ℕ
+    → M → List ℕ → M) {width : ℕ} {before now : SinkState M} {held : Held} {here : Bits} (between : Between (move_on settings)
     (one_each (line_of_turn settings)) left_to_read (from_line sought rest0) settings (step_of width) before now held here)
-    (now_width : ℕ) (same_width : now_width ≡ width) (after : SinkState M) (new : Held) (rest : Bits) where
+    {now_width : ℕ} (same_width : now_width ≡ width) where
   abbrev so_far : Progress
   so_far = between.so_far
 
@@ -104,60 +104,56 @@ module _ {M : Type 0} (settings : DecodeSettings) (wide : 0 < settings.columns) 
   abbrev words : List Bits
   words = words_of_turn settings so_far
 
-  -- what was accepted is what the turn reads
-  pub takes_is : (answer : Result (Unit {0}) DecodeError) → TakesRow (step_of now_width) now after held here new answer rest
-      → TakesOneRow (line_of_turn settings so_far) (row_of_turn settings so_far) step now after held new answer rest
-  takes_is answer takes =
-      let wider : TakesRow step now after held here new answer rest =
-      subst (λ (w : ℕ). TakesRow (step_of w) now after held here new answer rest) same_width takes in
-      let known : TakesOneRow (line_here settings (row_before settings.columns so_far.rows) here) (row_of_line settings
-      so_far.has_eols here (line_here settings (row_before settings.columns so_far.rows) here)) step now after held new answer
-      rest = subst (λ (h : Held). TakesOneRow (line_here h.settings h.reference here) (row_of_line h.settings h.has_eols here
-      (line_here h.settings h.reference here)) step now after held new answer rest) between.held wider in
-      subst (λ (x : Bits). TakesOneRow (line_here settings (row_before settings.columns so_far.rows) x)
-      (row_of_line settings so_far.has_eols x (line_here settings (row_before settings.columns so_far.rows) x)) step now after
-      held new answer rest) between.here known
-
-  -- a row that isn't accepted ends the run
-  pub turn_fails : (e : DecodeError) → TakesRow (step_of now_width) now after held here new (Err e) rest
-      → Leaves (ending_from (move_on settings) (from_line sought rest0))
-      (gathered_from (move_on settings) (one_each (line_of_turn settings)) (from_line sought rest0)) step before after new (Err e)
-  turn_fails e takes =
-      row_fails (move_on settings) (one_each (line_of_turn settings)) left_to_read (by_rows_left settings wide)
-      (from_line sought rest0) refl settings step before now held here between (line_of_turn settings so_far)
-      (row_of_turn settings so_far) (reads_row settings so_far) after new rest e (takes_is (Err e) takes)
-
-  -- the damage that was passed until then is counted
-  pub fails_told : {A : Type 0} (e : DecodeError) → TakesRow (step_of now_width) now after held here new (Err e) rest
-      → DamageTold settings bits (from_line sought rest0) so_far held.repairs → CountsDamage {A = A} (all_damage settings
-      (repaired_by_turn settings bits) (from_line sought rest0)) new.taken new.repairs.rows (Err e) × CountsDamage {A = A}
-      (all_damage settings (missed_by_turn settings bits) (from_line sought rest0)) new.taken new.repairs.missed (Err e)
-  fails_told e takes told =
-      let known = takes_is (Err e) takes in
-      let taken = ap (λ (h : Held). h.taken) known.held ∙ ap (λ (h : Held). h.taken) between.held in
-      let line = line_of_turn settings so_far in (
-        damage_end settings (repaired_by_turn settings bits) (from_line sought rest0)
-            (by_rows_left settings wide) refl so_far held.repairs.rows told.repaired e new.taken new.repairs.rows taken
-            (ap (λ (h : Held). h.repairs.rows) known.held) (λ fault. (
-              repaired_none settings so_far.has_eols (length so_far.rows) (length bits - length so_far.rest) so_far.rest line e
-                  (known.fault fault),
-              _,
-              (reads_row settings so_far).fails e (known.fault fault),
-            )),
-        damage_end settings (missed_by_turn settings bits) (from_line sought rest0)
-            (by_rows_left settings wide) refl so_far held.repairs.missed told.missed e new.taken new.repairs.missed taken
-            (ap (λ (h : Held). h.repairs.missed) known.held) (λ fault. (
-              missed_none settings bits so_far line e (known.fault fault),
-              _,
-              (reads_row settings so_far).fails e (known.fault fault),
-            )),
-      )
-
   -- the words as the settings of the run say
   words_here : length (found_here held.settings held.reference here) ≡ length (found_here settings held.reference here)
   words_here = ap (λ (h : Held). length (found_here h.settings held.reference here)) between.held
 
-  module _ (within : length here ≤ length bits) (begun giving_up ticks : ℕ) (paid : IsPaidUpTo begun
+  module _ {after : SinkState M} {new : Held} {rest : Bits} where
+    -- what was accepted is what the turn reads
+    pub takes_is : {answer : Result (Unit {0}) DecodeError} → TakesRow (step_of now_width) now after held here new answer rest
+        → TakesOneRow (line_of_turn settings so_far) (row_of_turn settings so_far) step now after held new answer rest
+    takes_is {answer} takes =
+        let wider : TakesRow step now after held here new answer rest =
+        subst (λ (w : ℕ). TakesRow (step_of w) now after held here new answer rest) same_width takes in
+        let known : TakesOneRow (line_here settings (row_before settings.columns so_far.rows) here) (row_of_line settings
+        so_far.has_eols here (line_here settings (row_before settings.columns so_far.rows) here)) step now after held new answer
+        rest = subst (λ (h : Held). TakesOneRow (line_here h.settings h.reference here) (row_of_line h.settings h.has_eols here
+        (line_here h.settings h.reference here)) step now after held new answer rest) between.held wider in
+        subst (λ (x : Bits). TakesOneRow (line_here settings (row_before settings.columns so_far.rows) x)
+        (row_of_line settings so_far.has_eols x (line_here settings (row_before settings.columns so_far.rows) x)) step now after
+        held new answer rest) between.here known
+
+    -- a row that isn't accepted ends the run
+    pub turn_fails : {e : DecodeError} → TakesRow (step_of now_width) now after held here new (Err e) rest
+        → Leaves (ending_from (move_on settings) (from_line sought rest0)) (gathered_from
+        (move_on settings) (one_each (line_of_turn settings)) (from_line sought rest0)) step before after new (Err e)
+    turn_fails {e} takes = row_fails (by_rows_left settings wide) refl between (reads_row settings so_far) e (takes_is takes)
+
+    -- the damage that was passed until then is counted
+    pub fails_told : {A : Type 0} {bits : Bits} {e : DecodeError} → TakesRow (step_of now_width) now after held here new
+        (Err e) rest → DamageTold settings bits (from_line sought rest0) so_far held.repairs → CountsDamage {A = A} (all_damage
+        settings (repaired_by_turn settings bits) (from_line sought rest0)) new.taken new.repairs.rows (Err e) × CountsDamage
+        {A = A} (all_damage settings (missed_by_turn settings bits) (from_line sought rest0)) new.taken new.repairs.missed (Err e)
+    fails_told {bits = bits} {e = e} takes told =
+        let known = takes_is takes in
+        let taken = ap (λ (h : Held). h.taken) known.held ∙ ap (λ (h : Held). h.taken) between.held in
+        let line = line_of_turn settings so_far in (
+          damage_end
+              (by_rows_left settings wide) refl told.repaired taken (ap (λ (h : Held). h.repairs.rows) known.held) (λ fault. (
+                repaired_none settings so_far.has_eols (length so_far.rows) (length bits - length so_far.rest) so_far.rest line e
+                    (known.fault fault),
+                _,
+                (reads_row settings so_far).fails e (known.fault fault),
+              )),
+          damage_end
+              (by_rows_left settings wide) refl told.missed taken (ap (λ (h : Held). h.repairs.missed) known.held) (λ fault. (
+                missed_none settings bits so_far line e (known.fault fault),
+                _,
+                (reads_row settings so_far).fails e (known.fault fault),
+              )),
+        )
+
+  module _ (bits : Bits) (within : length here ≤ length bits) (begun giving_up ticks : ℕ) (paid : IsPaidUpTo begun
       (length bits) giving_up settings.encoding held.has_eols ticks (length (changes held.reference)) here) (then : ℕ) (line :
       then ≤ ticks + 4 * length (found_here held.settings held.reference here) + 2 + length (changes held.reference)) where
     -- what the line counts, as the settings of the run say
@@ -169,9 +165,10 @@ module _ {M : Type 0} (settings : DecodeSettings) (wide : 0 < settings.columns) 
     fails_paid = line_ends settings wide begun (length bits) giving_up held.reference held.has_eols here within ticks
         (length (changes held.reference)) paid then line_counted
 
-    module _ (takes : TakesRow (step_of now_width) now after held here new (Ok tt) rest) where
+    module _ {after : SinkState M} {new : Held} {rest : Bits}
+        (takes : TakesRow (step_of now_width) now after held here new (Ok tt) rest) where
       abbrev row_taken : RowIsTaken (line_of_turn settings so_far) (row_of_turn settings so_far) step now after held new rest
-      row_taken = (takes_is (Ok tt) takes).taken
+      row_taken = (takes_is takes).taken
 
       -- the accepted row is the line's
       row_is : row_of_line settings held.has_eols here (line_here settings held.reference here) ≡ Ok (row_taken.taken, rest)
@@ -205,20 +202,19 @@ module _ {M : Type 0} (settings : DecodeSettings) (wide : 0 < settings.columns) 
           last_ticks + 4 * length left_over ≤ then + 4 * length rest + 3 + looked_ahead e left_over) encoding_is counted)
 
       -- and what leads to the next row
-      pub next_paid : (last_ticks : ℕ) (last : Held) (left_over : Bits) → gap_behind_row new.settings new.taken new.has_eols rest
+      pub next_paid : (last_ticks : ℕ) {last : Held} (left_over : Bits) → gap_behind_row new.settings new.taken new.has_eols rest
           ≡ Gap.line_at last.has_eols left_over → last ≡ record new { has_eols = last.has_eols; repairs = last.repairs }
           → length (changes new.reference) ≤ length (found_here held.settings held.reference here) + 1
           → (last.has_eols ≡ new.has_eols → last_ticks + 4 * length left_over ≤ then + 4 * length rest + 3
           + looked_ahead new.settings.encoding left_over) → (last.has_eols ≢ new.has_eols → last_ticks ≤ then + 2 * length rest)
           → (held.has_eols ≡ true → 8 * length bits + 8 ≤ giving_up) → IsPaidUpTo begun
           (length bits) giving_up settings.encoding last.has_eols last_ticks (length (changes last.reference)) left_over
-      next_paid last_ticks last left_over gap frame stored kept given_up enough =
-          turn_goes_on settings wide begun (length bits) giving_up held.reference held.has_eols here within ticks
-          (length (changes held.reference)) paid then line_counted
-          row_taken.taken rest row_is new.taken last.has_eols left_over last_ticks (length (changes last.reference)) gap_here
-          (omega (arith, stored, words_here, ap (λ (h : Held). length (changes h.reference)) frame)) (λ same.
-          subst (λ (e : EncodingMode). last_ticks + 4 * length left_over ≤ then + 4 * length rest + 3 + looked_ahead e left_over)
-          encoding_is (kept (same ∙ sym row_eols))) (λ other. given_up (λ same. other (same ∙ row_eols))) enough
+      next_paid last_ticks {last} left_over gap frame stored kept given_up enough = turn_goes_on settings wide
+          begun (length bits) giving_up held.reference held.has_eols here within ticks (length (changes held.reference)) paid then
+          line_counted row_taken.taken rest row_is new.taken last.has_eols left_over last_ticks (length (changes last.reference))
+          gap_here (omega (arith, stored, words_here, ap (λ (h : Held). length (changes h.reference)) frame))
+          (λ same. subst (λ (e : EncodingMode). last_ticks + 4 * length left_over ≤ then + 4 * length rest + 3 + looked_ahead
+          e left_over) encoding_is (kept (same ∙ sym row_eols))) (λ other. given_up (λ same. other (same ∙ row_eols))) enough
         where
           gap_here : gap_behind_row settings new.taken held.has_eols rest ≡ Gap.line_at last.has_eols left_over
           gap_here =
@@ -226,9 +222,10 @@ module _ {M : Type 0} (settings : DecodeSettings) (wide : 0 < settings.columns) 
               settings_are (subst
               (λ (b : Bool). gap_behind_row new.settings new.taken b rest ≡ Gap.line_at last.has_eols left_over) row_eols gap)
 
-  module _ (takes : TakesRow (step_of now_width) now after held here new (Ok tt) rest) where
+  module _ {after : SinkState M} {new : Held} {rest : Bits}
+      (takes : TakesRow (step_of now_width) now after held here new (Ok tt) rest) where
     abbrev taken : RowIsTaken (line_of_turn settings so_far) (row_of_turn settings so_far) step now after held new rest
-    taken = (takes_is (Ok tt) takes).taken
+    taken = (takes_is takes).taken
 
     -- the rows with the accepted one
     abbrev next : Progress
@@ -245,8 +242,8 @@ module _ {M : Type 0} (settings : DecodeSettings) (wide : 0 < settings.columns) 
         ∙ ap (held_between settings next) (sym (ap (λ (h : Held). h.repairs) taken.held))
 
     -- and how much
-    one_repaired : new.repairs.rows ≡ held.repairs.rows + length (repaired_by_turn settings bits so_far)
-    one_repaired =
+    one_repaired : (bits : Bits) → new.repairs.rows ≡ held.repairs.rows + length (repaired_by_turn settings bits so_far)
+    one_repaired bits =
         ap (λ (h : Held). h.repairs.rows) taken.held ∙ repaired_counts settings so_far.has_eols (length so_far.rows) (length bits
         - length so_far.rest) so_far.rest (line_of_turn settings so_far) taken.taken rest held.taken held.repairs taken.is
 
@@ -257,7 +254,7 @@ module _ {M : Type 0} (settings : DecodeSettings) (wide : 0 < settings.columns) 
     pub next_refused : after.refused ≡ before.refused
     next_refused = takes.no_flag (λ e. cc) ∙ between.refused
 
-    module _ (last : Held) (left_over : Bits) (answer : Result Bool DecodeError)
+    module _ {last : Held} (left_over : Bits) (answer : Result Bool DecodeError)
         (said : gap_behind_row new.settings new.taken new.has_eols rest ≡ gap_said answer last.has_eols left_over)
         (frame : last ≡ record new { has_eols = last.has_eols; repairs = last.repairs }) where
       pub gap_is : gap_behind_row settings (length next.rows) so_far.has_eols rest ≡ gap_said answer last.has_eols left_over
@@ -271,24 +268,21 @@ module _ {M : Type 0} (settings : DecodeSettings) (wide : 0 < settings.columns) 
           (frame ∙ ap (λ (h : Held). record h { has_eols = last.has_eols; repairs = last.repairs }) next_held)
 
       -- a gap that ends the reading makes the turn the last one
-      pub turn_over : (outcome : Result Bits DecodeError) → gap_said answer last.has_eols left_over ≡ Gap.over outcome
+      pub turn_over : {outcome : Result Bits DecodeError} → gap_said answer last.has_eols left_over ≡ Gap.over outcome
           → move_on settings so_far ≡ ends_with next outcome
-      turn_over outcome over = turn ∙ ap (at_gap next) over
+      turn_over over = turn ∙ ap (at_gap next) over
 
       -- strict data that miss an EOL end the run
-      pub turn_misses : (e : DecodeError) → answer ≡ Err e → IsFault e → last.has_eols ≡ new.has_eols
+      pub turn_misses : {e : DecodeError} → answer ≡ Err e → IsFault e → last.has_eols ≡ new.has_eols
           → Leaves (ending_from (move_on settings) (from_line sought rest0)) (gathered_from (move_on settings)
           (one_each (line_of_turn settings)) (from_line sought rest0)) step before after last (Err e)
-      turn_misses e is fault kept =
+      turn_misses {e} is fault kept =
           let end : Ending = record { rows = next.rows; has_eols = next.has_eols; outcome = Err e } in
-          let ends : move_on settings so_far ≡ Turn.done end =
-          turn ∙ ap (λ (a : Result Bool DecodeError). at_gap next (gap_said a last.has_eols left_over)) is in
-          let known = comes_done (move_on settings) (one_each (line_of_turn settings)) left_to_read (by_rows_left settings wide)
-          (from_line sought rest0) refl so_far between.comes end ends in
-          subst (λ (x : Ending). Leaves x (gathered_from (move_on settings) (one_each (line_of_turn settings))
-          (from_line sought rest0)) step before after last (Err e)) (sym known) (ends_at_fault step before after last end
-          (gathered_from (move_on settings) (one_each (line_of_turn settings)) (from_line sought rest0)) last_taken next_meaning
-          (kept ∙ ap (λ (h : Held). h.has_eols) next_held) next_refused e fault refl)
+          let known = comes_done (by_rows_left settings wide) refl between.comes
+          (turn ∙ ap (λ (a : Result Bool DecodeError). at_gap next (gap_said a last.has_eols left_over)) is) in
+          subst (λ (x : Ending). Leaves x (gathered_from (move_on settings)
+          (one_each (line_of_turn settings)) (from_line sought rest0)) step before after last (Err e)) (sym known)
+          (ends_at_fault end last_taken next_meaning (kept ∙ ap (λ (h : Held). h.has_eols) next_held) next_refused fault refl)
 
       -- so does what ends it well
       pub turn_ends : answer ≡ Ok true → last.has_eols ≡ new.has_eols
@@ -296,14 +290,11 @@ module _ {M : Type 0} (settings : DecodeSettings) (wide : 0 < settings.columns) 
           (one_each (line_of_turn settings)) (from_line sought rest0)) step before after last (Ok left_over)
       turn_ends is kept =
           let end : Ending = record { rows = next.rows; has_eols = next.has_eols; outcome = Ok left_over } in
-          let ends : move_on settings so_far ≡ Turn.done end =
-          turn ∙ ap (λ (a : Result Bool DecodeError). at_gap next (gap_said a last.has_eols left_over)) is in
-          let known = comes_done (move_on settings) (one_each (line_of_turn settings)) left_to_read (by_rows_left settings wide)
-          (from_line sought rest0) refl so_far between.comes end ends in
-          subst (λ (x : Ending). Leaves x (gathered_from (move_on settings) (one_each (line_of_turn settings))
-          (from_line sought rest0)) step before after last (Ok left_over)) (sym known) (ends_well step before after last end
-          (gathered_from (move_on settings) (one_each (line_of_turn settings)) (from_line sought rest0)) last_taken next_meaning
-          (kept ∙ ap (λ (h : Held). h.has_eols) next_held) next_refused left_over refl)
+          let known = comes_done (by_rows_left settings wide) refl between.comes
+          (turn ∙ ap (λ (a : Result Bool DecodeError). at_gap next (gap_said a last.has_eols left_over)) is) in
+          subst (λ (x : Ending). Leaves x (gathered_from
+          (move_on settings) (one_each (line_of_turn settings)) (from_line sought rest0)) step before after last (Ok left_over))
+          (sym known) (ends_well end last_taken next_meaning (kept ∙ ap (λ (h : Held). h.has_eols) next_held) next_refused refl)
 
       abbrev on : Progress
       on = record next { has_eols = last.has_eols; rest = left_over }
@@ -316,19 +307,18 @@ module _ {M : Type 0} (settings : DecodeSettings) (wide : 0 < settings.columns) 
           (from_line sought rest0) settings step before after last left_over
       next_between is = record {
         so_far = on;
-        comes = comes_next (move_on settings) (one_each (line_of_turn settings)) left_to_read (by_rows_left settings wide)
-            (from_line sought rest0) refl so_far between.comes (line_of_turn settings so_far) refl on (goes_on is)
-            (omega (arith, length-append so_far.rows (taken.taken ∷ [])));
+        comes = comes_next (by_rows_left settings wide) refl between.comes
+            (line_of_turn settings so_far) refl (goes_on is) (omega (arith, length-append so_far.rows (taken.taken ∷ [])));
         held = frame ∙ ap (λ (h : Held). record h { has_eols = last.has_eols; repairs = last.repairs }) next_held;
         here = refl;
         meaning = next_meaning;
         refused = next_refused;
       }
 
-      module _ (counts : last.repairs ≡ repairs_behind new rest)
+      module _ {bits : Bits} (counts : last.repairs ≡ repairs_behind new rest)
           (told : DamageTold settings bits (from_line sought rest0) so_far held.repairs) where
         last_repaired : last.repairs.rows ≡ held.repairs.rows + length (repaired_by_turn settings bits so_far)
-        last_repaired = ap (λ (r : Repairs). r.rows) counts ∙ (repaired_behind new rest).0 ∙ one_repaired
+        last_repaired = ap (λ (r : Repairs). r.rows) counts ∙ (repaired_behind new rest).0 ∙ one_repaired bits
 
         -- what the gap leaves, as what the reading says there
         counts_here : last.repairs ≡ repairs_behind
@@ -348,12 +338,9 @@ module _ {M : Type 0} (settings : DecodeSettings) (wide : 0 < settings.columns) 
             let more = length-append so_far.rows (taken.taken ∷ []) in
             let line = line_of_turn settings so_far in
             record {
-              repaired = damage_next settings (repaired_by_turn settings bits) (from_line sought rest0)
-                  (by_rows_left settings wide) refl so_far held.repairs.rows told.repaired on last.repairs.rows (goes_on is)
-                  (omega (arith, more)) last_repaired;
-              missed = damage_next settings (missed_by_turn settings bits) (from_line sought rest0)
-                  (by_rows_left settings wide) refl so_far held.repairs.missed told.missed on last.repairs.missed (goes_on is)
-                  (omega (arith, more)) last_missed;
+              repaired = damage_next
+                  (by_rows_left settings wide) refl told.repaired (goes_on is) (omega (arith, more)) last_repaired;
+              missed = damage_next (by_rows_left settings wide) refl told.missed (goes_on is) (omega (arith, more)) last_missed;
               few = omega (
                 arith,
                 more,
@@ -369,39 +356,33 @@ module _ {M : Type 0} (settings : DecodeSettings) (wide : 0 < settings.columns) 
             }
 
         -- also where the row is the last one
-        pub last_told : {A : Type 0} (outcome : Result Bits DecodeError) → gap_said answer last.has_eols left_over
-            ≡ Gap.over outcome → (said : Result A DecodeError) → CountsDamage (all_damage settings
+        pub last_told : {A : Type 0} {outcome : Result Bits DecodeError} → gap_said answer last.has_eols left_over
+            ≡ Gap.over outcome → {said : Result A DecodeError} → CountsDamage (all_damage settings
             (repaired_by_turn settings bits) (from_line sought rest0)) last.taken last.repairs.rows said × CountsDamage
             (all_damage settings (missed_by_turn settings bits) (from_line sought rest0)) last.taken last.repairs.missed said
-        last_told outcome over said =
+        last_told over =
             let more : last.taken ≡ suc (length so_far.rows) =
             omega (arith, last_taken, length-append so_far.rows (taken.taken ∷ [])) in (
-              damage_end_behind settings (repaired_by_turn settings bits) (from_line sought rest0)
-                  (by_rows_left settings wide) refl so_far held.repairs.rows told.repaired _
-                  (turn ∙ ap (at_gap next) over) last.taken last.repairs.rows said more last_repaired,
-              damage_end_behind settings (missed_by_turn settings bits) (from_line sought rest0)
-                  (by_rows_left settings wide) refl so_far held.repairs.missed told.missed _
-                  (turn ∙ ap (at_gap next) over) last.taken last.repairs.missed said more last_missed,
+              damage_end_behind
+                  (by_rows_left settings wide) refl told.repaired (turn ∙ ap (at_gap next) over) more last_repaired,
+              damage_end_behind
+                  (by_rows_left settings wide) refl told.missed (turn ∙ ap (at_gap next) over) more last_missed,
             )
 
       -- and where the line's words are counted, those of all rows are
-      pub next_counted : answer ≡ Ok false → (begun ticks then : ℕ) → WordsCounted (move_on settings) (one_each
+      pub next_counted : answer ≡ Ok false → {begun ticks then : ℕ} → WordsCounted (move_on settings) (one_each
           (words_of_turn settings)) left_to_read (from_line sought rest0) so_far begun ticks → ticks + length words ≤ then →
           WordsCounted (move_on settings) (one_each (words_of_turn settings)) left_to_read (from_line sought rest0) on begun then
-      next_counted is begun ticks then counted at_least =
-          counted_next (move_on settings) (one_each (words_of_turn settings)) left_to_read
-          (by_rows_left settings wide) (from_line sought rest0) refl so_far begun ticks counted words on
-          then refl (goes_on is) (omega (arith, length-append so_far.rows (taken.taken ∷ []))) at_least
+      next_counted is counted at_least = counted_next (by_rows_left settings wide)
+          refl counted words refl (goes_on is) (omega (arith, length-append so_far.rows (taken.taken ∷ []))) at_least
 
       -- also where it ends the run
-      pub counted_last : (begun ticks then most : ℕ) → WordsCounted (move_on settings) (one_each (words_of_turn settings))
+      pub counted_last : {begun ticks then most : ℕ} → WordsCounted (move_on settings) (one_each (words_of_turn settings))
           left_to_read (from_line sought rest0) so_far begun ticks → ticks + length words ≤ then → then ≤ begun + most → CountsRun
           (gathered_from (move_on settings) (one_each (words_of_turn settings)) (from_line sought rest0)) last.taken begun
           then most
-      counted_last begun ticks then most counted at_least at_most =
-          counted_ends_behind (move_on settings) (one_each (words_of_turn settings)) left_to_read
-          (by_rows_left settings wide) (from_line sought rest0) refl so_far begun ticks counted words last.taken
-          then most refl (omega (arith, last_taken, length-append so_far.rows (taken.taken ∷ []))) at_least at_most
+      counted_last counted at_least at_most = counted_ends_behind (by_rows_left settings wide)
+          refl counted words refl (omega (arith, last_taken, length-append so_far.rows (taken.taken ∷ []))) at_least at_most
 
       -- if less is left, or EOLs are no longer sought
       pub next_shorter : answer ≡ Ok false

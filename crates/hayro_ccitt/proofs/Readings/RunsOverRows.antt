@@ -65,11 +65,14 @@ pub record RowByRow (move : Progress → Move) (left : Progress → ℕ) : Type 
   pub adds : (so_far : Progress) → Adds so_far.rows (move so_far)
   pub below : (so_far : Progress) → left so_far < suc (suc (length so_far.rest))
 
+-- a run without an end
+abbrev never : Progress → Ending
+never start = record { rows = start.rows; has_eols = start.has_eols; outcome = Err UnexpectedEof }
+
 -- how the reading ends from a state on
 abbrev pub ending : (Progress → Move) → (Progress → ℕ) → Progress → Progress → Ending
 ending move left start so_far =
-    repeated move (record { rows = start.rows; has_eols = start.has_eols; outcome = Err UnexpectedEof })
-    (suc (left so_far)) so_far
+    repeated move (never start) (suc (left so_far)) so_far
 
 -- the values of the turns from a state on: the lines that are read, or the words that these find
 abbrev pub lines : {A : Type 0} → (Progress → Move) → (Progress → List A) → (Progress → ℕ) → Progress → List A
@@ -89,73 +92,59 @@ pub record ReadsRow (move : Progress → Move) (gives : Progress → List Line) 
   pub fails : (fault : DecodeError) → row ≡ Err fault → move so_far ≡ ends_with so_far (Err fault)
   pub adds : (taken : Row) (rest : Bits) → row ≡ Ok (taken, rest) → Adds (so_far.rows ++ taken ∷ []) (move so_far)
 
-module _ {A : Type 0} (move : Progress → Move) (gives : Progress → List A) (left : Progress → ℕ) (by_rows : RowByRow move left)
-    (start : Progress) (begins : start.rows ≡ []) where
-  abbrev whole : Ending
-  whole = ending_from move start
-
-  abbrev all_lines : List A
-  all_lines = gathered_from move gives start
-
-  abbrev never : Ending
-  never = record { rows = start.rows; has_eols = start.has_eols; outcome = Err UnexpectedEof }
-
+module _ {A : Type 0} {move : Progress → Move} {gives : Progress → List A} {left : Progress → ℕ} (by_rows : RowByRow move left)
+    {start : Progress} (begins : start.rows ≡ []) where
   -- it reaches its start
   pub comes_first : Comes move gives left start start
   comes_first = record {
-    ends = repeated_same move never left by_rows.shrinks (suc (suc (length start.rest))) (suc (left start)) start
+    ends = repeated_same move (never start) left by_rows.shrinks (suc (suc (length start.rest))) (suc (left start)) start
         (by_rows.below start) (omega arith);
-    follow = ap (λ (rows : List Row). drop (length rows) all_lines) begins ∙ gathered_same move gives left by_rows.shrinks
-        (suc (suc (length start.rest))) (suc (left start)) start (by_rows.below start) (omega arith);
+    follow = ap (λ (rows : List Row). drop (length rows) (gathered_from move gives start)) begins ∙ gathered_same move
+        gives left by_rows.shrinks (suc (suc (length start.rest))) (suc (left start)) start (by_rows.below start) (omega arith);
     room = omega (arith, ap length begins);
   }
 
-  module _ (so_far : Progress) (comes : Comes move gives left start so_far) where
-    comes_turn : whole ≡ after_turn (ending move left start) (move so_far)
-    comes_turn = comes.ends ∙ repeated_turn move never left by_rows.shrinks so_far
+  module _ {so_far : Progress} (comes : Comes move gives left start so_far) where
+    comes_turn : ending_from move start ≡ after_turn (ending move left start) (move so_far)
+    comes_turn = comes.ends ∙ repeated_turn move (never start) left by_rows.shrinks so_far
 
     -- where a turn is the last, it is known how the reading ends
-    pub comes_done : (end : Ending) → move so_far ≡ Turn.done end → whole ≡ end
-    comes_done end is = comes_turn ∙ ap (after_turn (ending move left start)) is
+    pub comes_done : {end : Ending} → move so_far ≡ Turn.done end → ending_from move start ≡ end
+    comes_done is = comes_turn ∙ ap (after_turn (ending move left start)) is
 
     -- the rows so far are the first rows of the whole
-    pub comes_prefix : IsPrefix so_far.rows whole.rows
-    comes_prefix =
-        subst (λ (e : Ending). IsPrefix so_far.rows e.rows) (sym comes.ends)
-        (repeated_adds move never left by_rows.shrinks by_rows.adds (suc (left so_far)) so_far (omega arith))
+    pub comes_prefix : IsPrefix so_far.rows (ending_from move start).rows
+    comes_prefix = subst (λ (e : Ending). IsPrefix so_far.rows e.rows) (sym comes.ends)
+        (repeated_adds move (never start) left by_rows.shrinks by_rows.adds (suc (left so_far)) so_far (omega arith))
 
     -- and so are those that its turn adds
-    pub comes_more : (rows : List Row) → Adds rows (move so_far) → IsPrefix rows whole.rows
+    pub comes_more : (rows : List Row) → Adds rows (move so_far) → IsPrefix rows (ending_from move start).rows
     comes_more rows adds = subst (λ (e : Ending). IsPrefix rows e.rows) (sym comes_turn) (by_turn (move so_far) adds)
       where
         by_turn : (turn : Move) → Adds rows turn → IsPrefix rows (after_turn (ending move left start) turn).rows
-        by_turn (Turn.next after) p =
-            prefix_trans rows after.rows (ending move left start after).rows p
-            (repeated_adds move never left by_rows.shrinks by_rows.adds (suc (left after)) after (omega arith))
+        by_turn (Turn.next after) p = prefix_trans rows after.rows (ending move left start after).rows
+            p (repeated_adds move (never start) left by_rows.shrinks by_rows.adds (suc (left after)) after (omega arith))
         by_turn (Turn.done end) p = p
 
     module _ (line : A) (reads : gives so_far ≡ line ∷ []) where
-      pub lines_on : drop (length so_far.rows) all_lines ≡ line ∷ gathered_after (lines move gives left) (move so_far)
-      lines_on =
-          comes.follow ∙ gathered_turn move gives left by_rows.shrinks so_far
-          ∙ ap (λ (x : List A). x ++ gathered_after (lines move gives left) (move so_far)) reads
+      pub lines_on : drop (length so_far.rows) (gathered_from move gives start)
+          ≡ line ∷ gathered_after (lines move gives left) (move so_far)
+      lines_on = comes.follow ∙ gathered_turn move
+          gives left by_rows.shrinks so_far ∙ ap (λ (x : List A). x ++ gathered_after (lines move gives left) (move so_far)) reads
 
       -- the line of a turn is the one of its index
-      pub comes_line : slice_get all_lines (length so_far.rows) ≡ Some line
-      comes_line = slice_get-drop_cons all_lines (length so_far.rows) line _ lines_on
+      pub comes_line : slice_get (gathered_from move gives start) (length so_far.rows) ≡ Some line
+      comes_line = slice_get-drop_cons (gathered_from move gives start) (length so_far.rows) line _ lines_on
 
       -- a turn that adds its row reaches the next state
-      pub comes_next : (after : Progress) → move so_far ≡ Turn.next after → length after.rows ≡ suc (length so_far.rows)
+      pub comes_next : {after : Progress} → move so_far ≡ Turn.next after → length after.rows ≡ suc (length so_far.rows)
           → Comes move gives left start after
-      comes_next after is more = record {
-        ends = comes_done_or after is;
-        follow = ap (λ (k : ℕ). drop k all_lines) more ∙ drop-suc_cons all_lines (length so_far.rows) line _ lines_on
-            ∙ ap (gathered_after (lines move gives left)) is;
+      comes_next {after} is more = record {
+        ends = comes_turn ∙ ap (after_turn (ending move left start)) is;
+        follow = ap (λ (k : ℕ). drop k (gathered_from move gives start)) more ∙ drop-suc_cons (gathered_from move gives start)
+            (length so_far.rows) line _ lines_on ∙ ap (gathered_after (lines move gives left)) is;
         room = omega (arith, comes.room, more, by_rows.shrinks so_far after is);
       }
-        where
-          comes_done_or : (after : Progress) → move so_far ≡ Turn.next after → whole ≡ ending move left start after
-          comes_done_or after is = comes_turn ∙ ap (after_turn (ending move left start)) is
 
 -- ---- What a run leaves
 
@@ -165,25 +154,23 @@ abbrev pub Leaves : {M : Type 0} → Ending → List Line → (M → List ℕ �
 Leaves end lines step before after held answer =
     TakesRows end.rows end.outcome end.has_eols step before after held answer × StopsShort end.rows lines before after held answer
 
-module _ {M : Type 0} (step : M → List ℕ → M) (before after : SinkState M) (held : Held) where
-  -- the sink means the rows, as the first ones of all
-  means : (rows all : List Row) → IsPrefix rows all → held.taken ≡ length rows → after.meaning
-      ≡ meaning_after step before.meaning rows → after.meaning ≡ meaning_after step before.meaning (take held.taken all)
-  means rows all prefix taken meaning =
-      meaning ∙ ap (meaning_after step before.meaning)
-      (sym (ap (λ (n : ℕ). take n all) taken ∙ ap (take (length rows)) prefix.1 ∙ take-append_seam rows prefix.0))
+-- the sink means the rows, as the first ones of all
+means : {M : Type 0} (step : M → List ℕ → M) (before after : SinkState M) (held : Held) (rows all : List Row) → IsPrefix rows all
+    → held.taken ≡ length rows → after.meaning ≡ meaning_after step before.meaning rows
+    → after.meaning ≡ meaning_after step before.meaning (take held.taken all)
+means step before after held rows all prefix taken meaning =
+    meaning ∙ ap (meaning_after step before.meaning)
+    (sym (ap (λ (n : ℕ). take n all) taken ∙ ap (take (length rows)) prefix.1 ∙ take-append_seam rows prefix.0))
 
-  shorter : (rows all : List Row) → IsPrefix rows all → length rows ≤ length all
-  shorter rows all prefix = omega (arith, ap length prefix.1, length-append rows prefix.0)
-
-  module _ (end : Ending) (lines : List Line) (taken : held.taken ≡ length end.rows) (meaning : after.meaning ≡ meaning_after step
+module _ {M : Type 0} {step : M → List ℕ → M} {before after : SinkState M} {held : Held} where
+  module _ (end : Ending) {lines : List Line} (taken : held.taken ≡ length end.rows) (meaning : after.meaning ≡ meaning_after step
       before.meaning end.rows) (eols : held.has_eols ≡ end.has_eols) (refused : after.refused ≡ before.refused) where
     -- a run that ended well
-    pub ends_well : (rest : Bits) → end.outcome ≡ Ok rest → Leaves end lines step before after held (Ok rest)
-    ends_well rest is = (
+    pub ends_well : {rest : Bits} → end.outcome ≡ Ok rest → Leaves end lines step before after held (Ok rest)
+    ends_well is = (
       record {
         taken = omega (arith, taken);
-        meaning = means end.rows end.rows ([], sym (append-nil end.rows)) taken meaning;
+        meaning = means step before after held end.rows end.rows ([], sym (append-nil end.rows)) taken meaning;
         all = taken;
         ok = is;
         fault = tt;
@@ -193,12 +180,12 @@ module _ {M : Type 0} (step : M → List ℕ → M) (before after : SinkState M)
     )
 
     -- a run that ended with a fault of the data
-    pub ends_at_fault : (fault : DecodeError) → IsFault fault → end.outcome ≡ Err fault
+    pub ends_at_fault : {fault : DecodeError} → IsFault fault → end.outcome ≡ Err fault
         → Leaves end lines step before after held (Err fault)
-    ends_at_fault fault is_fault is = (
+    ends_at_fault {fault} is_fault is = (
       record {
         taken = omega (arith, taken);
-        meaning = means end.rows end.rows ([], sym (append-nil end.rows)) taken meaning;
+        meaning = means step before after held end.rows end.rows ([], sym (append-nil end.rows)) taken meaning;
         all = λ f. taken;
         ok = tt;
         fault = λ f. is;
@@ -227,14 +214,14 @@ module _ {M : Type 0} (step : M → List ℕ → M) (before after : SinkState M)
         no_refusal Overflow f e = cc
         no_refusal Refused f e = f
 
-  module _ (end : Ending) (lines : List Line) (rows : List Row) (prefix : IsPrefix rows end.rows)
+  module _ (end : Ending) (rows : List Row) (prefix : IsPrefix rows end.rows)
       (taken : held.taken ≡ length rows) (meaning : after.meaning ≡ meaning_after step before.meaning rows) where
     -- some rows, and then what is no fault of the data
     takes_some : (e : DecodeError) → (IsFault e → ⊥)
         → TakesRows {A = Bits} end.rows end.outcome end.has_eols step before after held (Err e)
     takes_some e no_fault = record {
-      taken = omega (arith, taken, shorter rows end.rows prefix);
-      meaning = means rows end.rows prefix taken meaning;
+      taken = omega (arith, taken, ap length prefix.1, length-append rows prefix.0);
+      meaning = means step before after held rows end.rows prefix taken meaning;
       all = λ f. absurd (no_fault f);
       ok = tt;
       fault = λ f. absurd (no_fault f);
@@ -242,7 +229,7 @@ module _ {M : Type 0} (step : M → List ℕ → M) (before after : SinkState M)
     }
 
     -- a run that failed to allocate
-    pub wants_memory : PaintsBlack lines held.taken → after.refused ≡ before.refused
+    pub wants_memory : {lines : List Line} → PaintsBlack lines held.taken → after.refused ≡ before.refused
         → Leaves end lines step before after held (Err OutOfMemory)
     wants_memory black refused = (
       takes_some OutOfMemory (λ f. f),
@@ -250,8 +237,8 @@ module _ {M : Type 0} (step : M → List ℕ → M) (before after : SinkState M)
     )
 
     -- a run whose row was refused
-    pub is_refused : held.taken < length end.rows → after.refuses (changes (get_or end.rows held.taken [])) → after.refused ≡ true
-        → Leaves end lines step before after held (Err Refused)
+    pub is_refused : {lines : List Line} → held.taken < length end.rows → after.refuses
+        (changes (get_or end.rows held.taken [])) → after.refused ≡ true → Leaves end lines step before after held (Err Refused)
     is_refused more row refused = (
       takes_some Refused (λ f. f),
       record {
@@ -275,17 +262,17 @@ pub record Between {M : Type 0} (move : Progress → Move) (gives : Progress →
   pub meaning : now.meaning ≡ meaning_after step before.meaning so_far.rows
   pub refused : now.refused ≡ before.refused
 
-module _ {M : Type 0} (move : Progress → Move) (gives : Progress → List Line) (left : Progress → ℕ) (by_rows : RowByRow move left)
-    (start : Progress) (begins : start.rows ≡ []) (settings : DecodeSettings) (step : M → List ℕ → M) (before now : SinkState M)
-    (held : Held) (here : Bits) (between : Between move gives left start settings step before now held here) where
+module _ {M : Type 0} {move : Progress → Move} {gives : Progress → List Line} {left : Progress → ℕ} (by_rows : RowByRow move left)
+    {start : Progress} (begins : start.rows ≡ []) {settings : DecodeSettings} {step : M → List ℕ → M} {before now : SinkState M}
+    {held : Held} {here : Bits} (between : Between move gives left start settings step before now held here) where
   abbrev the_end : Ending
   the_end = ending_from move start
 
   abbrev the_lines : List Line
   the_lines = gathered_from move gives start
 
-  module _ (line : Line) (row : Result (Row × Bits) DecodeError) (reads : ReadsRow move gives between.so_far line row)
-      (after : SinkState M) (new : Held) (rest : Bits) where
+  module _ {line : Line} {row : Result (Row × Bits) DecodeError} (reads : ReadsRow move gives between.so_far line row)
+      {after : SinkState M} {new : Held} {rest : Bits} where
     -- a row that isn't accepted ends the run
     pub row_fails : (e : DecodeError) → TakesOneRow line row step now after held new (Err e) rest
         → Leaves the_end the_lines step before after new (Err e)
@@ -303,11 +290,9 @@ module _ {M : Type 0} (move : Progress → Move) (gives : Progress → List Line
             → TakesOneRow line row step now after held new (Err e) rest → Leaves the_end the_lines step before after new (Err e)
         at_fault e fault other t =
             let end : Ending = record { rows = between.so_far.rows; has_eols = between.so_far.has_eols; outcome = Err e } in
-            let known : the_end ≡ end =
-            comes_done move gives left by_rows start begins between.so_far between.comes end (reads.fails e (t.fault fault)) in
-            subst (λ (e2 : Ending). Leaves e2 the_lines step before after new (Err e))
-            (sym known) (ends_at_fault step before after new end the_lines (taken e t) (t.kept ∙ between.meaning) (eols e t)
-            (t.no_flag other ∙ between.refused) e fault refl)
+            let known : the_end ≡ end = comes_done by_rows begins between.comes (reads.fails e (t.fault fault)) in
+            subst (λ (e2 : Ending). Leaves e2 the_lines step before after new (Err e)) (sym known)
+            (ends_at_fault end (taken e t) (t.kept ∙ between.meaning) (eols e t) (t.no_flag other ∙ between.refused) fault refl)
 
         by_error : (e : DecodeError) → TakesOneRow line row step now after held new (Err e) rest
             → Leaves the_end the_lines step before after new (Err e)
@@ -316,19 +301,19 @@ module _ {M : Type 0} (move : Progress → Move) (gives : Progress → List Line
         by_error Overflow t = at_fault Overflow tt (λ e. cc) t
         by_error OutOfMemory t =
             let at : slice_get the_lines (length between.so_far.rows) ≡ Some line =
-            comes_line move gives left by_rows start begins between.so_far between.comes line reads.reads in
-            wants_memory step before after new the_end the_lines between.so_far.rows (comes_prefix move
-            gives left by_rows start begins between.so_far between.comes) (taken OutOfMemory t) (t.kept ∙ between.meaning)
+            comes_line by_rows begins between.comes line reads.reads in
+            wants_memory the_end between.so_far.rows (comes_prefix
+            by_rows begins between.comes) (taken OutOfMemory t) (t.kept ∙ between.meaning)
             (line, ap (slice_get the_lines) (taken OutOfMemory t) ∙ at, t.memory refl) (t.no_flag (λ e. cc) ∙ between.refused)
         by_error Refused t =
             let found : (r : Row × Bits) × (row ≡ Ok r) × after.refuses (changes r.0) = is_read row (t.refused refl) in
-            let more = comes_more move gives left by_rows start begins between.so_far between.comes
+            let more = comes_more by_rows begins between.comes
             (between.so_far.rows ++ found.0.0 ∷ []) (reads.adds found.0.0 found.0.1 found.1) in
             let at : get_or the_end.rows new.taken [] ≡ found.0.0 = ap (λ (n : ℕ). get_or the_end.rows n []) (taken Refused t)
             ∙ ap (λ (rows : List Row). get_or rows (length between.so_far.rows) []) more.1
             ∙ get_or-behind between.so_far.rows found.0.0 more.0 [] in
-            is_refused step before after new the_end the_lines between.so_far.rows (comes_prefix move gives left by_rows start
-            begins between.so_far between.comes) (taken Refused t) (t.kept ∙ between.meaning) (omega (
+            is_refused the_end between.so_far.rows (comes_prefix by_rows
+            begins between.comes) (taken Refused t) (t.kept ∙ between.meaning) (omega (
               arith,
               taken Refused t,
               ap length more.1,

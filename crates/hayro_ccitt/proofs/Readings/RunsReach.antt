@@ -37,36 +37,32 @@ turn_adds settings s after e = by_row (row_of_turn settings s) e
 
 module _ (settings : DecodeSettings) (wide : 0 < settings.columns) (first : Progress) (begins : first.rows ≡ []) where
   -- it reaches each state that is reached
-  comes_along : {A : Type 0} (gives : Progress → A) (s t : Progress) → Comes (move_on settings) (one_each gives) left_to_read
+  comes_along : {A : Type 0} (gives : Progress → A) {s t : Progress} → Comes (move_on settings) (one_each gives) left_to_read
       first s → Reaches (move_on settings) s t → Comes (move_on settings) (one_each gives) left_to_read first t
-  comes_along gives s t comes (Reaches.stays same) = comes
-  comes_along gives s t comes (Reaches.moves same after last e on) =
-      comes_along gives after t (comes_next (move_on settings) (one_each gives) left_to_read
-      (by_rows_left settings wide) first begins s comes (gives s) refl after e (turn_adds settings s after e)) on
+  comes_along gives comes (Reaches.stays same) = comes
+  comes_along gives {s} comes (Reaches.moves same after last e on) =
+      comes_along gives (comes_next (by_rows_left settings wide) begins comes (gives s) refl e (turn_adds settings s after e)) on
 
   -- what is gathered from there on
   abbrev all_of : {A : Type 0} → (Progress → A) → List A
   all_of gives = gathered_from (move_on settings) (one_each gives) first
 
-  module _ (so_far : Progress) (reaches : Reaches (move_on settings) first so_far) where
+  module _ {so_far : Progress} (reaches : Reaches (move_on settings) first so_far) where
     pub comes_there : {A : Type 0} (gives : Progress → A) → Comes (move_on settings) (one_each gives) left_to_read first so_far
-    comes_there gives = comes_along gives first so_far
-        (comes_first (move_on settings) (one_each gives) left_to_read (by_rows_left settings wide) first begins) reaches
+    comes_there gives = comes_along gives (comes_first (by_rows_left settings wide) begins) reaches
 
     -- the value of its turn
     pub value_is : {A : Type 0} (gives : Progress → A) (other : A)
         → get_or (all_of gives) (length so_far.rows) other ≡ gives so_far
-    value_is gives other =
-        get_or-there (all_of gives) (length so_far.rows) (gives so_far) other (comes_line (move_on settings)
-        (one_each gives) left_to_read (by_rows_left settings wide) first begins so_far (comes_there gives) (gives so_far) refl)
+    value_is gives other = get_or-there (all_of gives) (length so_far.rows)
+        (gives so_far) other (comes_line (by_rows_left settings wide) begins (comes_there gives) (gives so_far) refl)
 
-    module _ (end : Ending) (ends : move_on settings so_far ≡ Turn.done end) where
+    module _ {end : Ending} (ends : move_on settings so_far ≡ Turn.done end) where
       -- where its turn is the last, there is no value after it
       pub no_value_behind : {A : Type 0} (gives : Progress → A) (other : A)
           → get_or (all_of gives) (length so_far.rows + 1) other ≡ other
       no_value_behind gives other =
-          let follow = lines_on (move_on settings) (one_each gives) left_to_read (by_rows_left settings wide) first begins so_far
-          (comes_there gives) (gives so_far) refl in
+          let follow = lines_on (by_rows_left settings wide) begins (comes_there gives) (gives so_far) refl in
           let last = follow ∙ ap
           (λ (turn : Move). gives so_far ∷ gathered_after (lines (move_on settings) (one_each gives) left_to_read) turn) ends in
           let next : length so_far.rows + 1 ≡ suc (length so_far.rows) = omega arith in
@@ -75,29 +71,29 @@ module _ (settings : DecodeSettings) (wide : 0 < settings.columns) (first : Prog
 
     module _ (bits : Bits) where
       -- a run that fails at the line of the turn is at the line's start
-      pub fails_at_line : (taken : ℕ) (rest : Bits) → taken ≡ length so_far.rows → rest ≡ so_far.rest
+      pub fails_at_line : {taken : ℕ} {rest : Bits} → taken ≡ length so_far.rows → rest ≡ so_far.rest
           → length bits - length rest ≡ failing_at (all_of (start_of_turn bits)) (all_of (end_of_turn settings bits)) taken
-      fails_at_line taken rest same is =
+      fails_at_line {taken} same is =
           let other = get_or (all_of (end_of_turn settings bits)) (taken - 1) 0 in
           ap (λ (x : Bits). length bits - length x) is
           ∙ sym (ap (λ (n : ℕ). get_or (all_of (start_of_turn bits)) n other) same ∙ value_is (start_of_turn bits) other)
 
       -- and one that fails after its row is at the row's end
-      pub fails_behind_row : (row : Row) (behind rest : Bits) → row_of_turn settings so_far ≡ Ok (row, behind) → (end : Ending)
-          → move_on settings so_far ≡ Turn.done end → (taken : ℕ) → taken ≡ length so_far.rows + 1 → rest ≡ behind
+      pub fails_behind_row : {row : Row} {behind rest : Bits} → row_of_turn settings so_far ≡ Ok (row, behind) → {end : Ending}
+          → move_on settings so_far ≡ Turn.done end → {taken : ℕ} → taken ≡ length so_far.rows + 1 → rest ≡ behind
           → length bits - length rest ≡ failing_at (all_of (start_of_turn bits)) (all_of (end_of_turn settings bits)) taken
-      fails_behind_row row behind rest read end ends taken more is =
+      fails_behind_row read ends {taken} more is =
           let other = get_or (all_of (end_of_turn settings bits)) (taken - 1) 0 in
           let last : taken - 1 ≡ length so_far.rows = omega (arith, more) in
           ap (λ (x : Bits). length bits - length x) is ∙ sym (ap (end_of_row bits so_far) read) ∙ sym (ap
           (λ (n : ℕ). get_or (all_of (end_of_turn settings bits)) n 0) last ∙ value_is (end_of_turn settings bits) 0) ∙ sym (ap
-          (λ (n : ℕ). get_or (all_of (start_of_turn bits)) n other) more ∙ no_value_behind end ends (start_of_turn bits) other)
+          (λ (n : ℕ). get_or (all_of (start_of_turn bits)) n other) more ∙ no_value_behind ends (start_of_turn bits) other)
 
 -- if the first gap leads to a line, a run that fails from there fails where the whole reading does
-pub fails_whole : (settings given : DecodeSettings) (bits read : Bits) (first : Progress)
+pub fails_whole : {settings given : DecodeSettings} {bits read : Bits} {first : Progress}
     → given ≡ settings → read ≡ bits → first_gap settings.encoding settings bits ≡ Turn.next first → (taken : ℕ) (rest : Bits)
     → FailsFrom given read first taken rest → FailsHere settings bits taken rest
-fails_whole settings given bits read first same are is taken rest fails =
+fails_whole {settings} {bits = bits} {read = read} {first = first} same are is taken rest fails =
     let known : FailsFrom settings bits first taken rest = subst (λ (b : Bits). FailsFrom settings b first taken rest) are
     (subst (λ (s : DecodeSettings). FailsFrom s read first taken rest) same fails) in
     subst (λ (gap : Move). length bits - length rest ≡ failing_at (gathered_behind settings (start_of_turn bits) gap)

@@ -1,6 +1,7 @@
 -- What a strict run reads, a lenient run reads too.
+use Rattle.hayro_ccitt.proofs.Readings.TurnsAddRows.{turn_extends}
 use Rattle.hayro_ccitt.proofs.Names.{◌≡◌, ℕ, suc, ◌<◌, true, false, cond, not, ◌&&◌, eqb, List, [], ◌∷◌, ◌++◌, length, Result, Ok}
-use Rattle.hayro_ccitt.proofs.Names.{refl, sym, ap, subst, ◌∙◌, arith, inl, inr, IsOk, append-nil, cases_lt, cases_eq, eq-eqb}
+use Rattle.hayro_ccitt.proofs.Names.{refl, sym, ap, subst, arith, inl, inr, IsOk, cases_lt, cases_eq, eq-eqb}
 use Rattle.hayro_ccitt.proofs.Names.{ne_eqb, false≢true, Color, Mode, Pass, Horizontal, Vertical, DecodeError, UnexpectedEof}
 use Rattle.hayro_ccitt.proofs.Names.{DecodeSettings, EncodingMode, Bits, IsPrefix, Turn, Row, paint, Line, Pen, start, line_1d}
 use Rattle.hayro_ccitt.proofs.Names.{line_2d, Step, Progress, Ending, Move, row_before, aligned, whole_reading, bytes_before}
@@ -12,7 +13,7 @@ use Rattle.hayro_ccitt.proofs.DrawingLines.ReadLines.{step_1d_shrinks, step_2d_s
 use Rattle.hayro_ccitt.proofs.Readings.GapsAndRows.{readings_follow}
 use Rattle.hayro_ccitt.proofs.Readings.Repeated.{Follows, after_turn, repeated_follows}
 use Rattle.hayro_ccitt.proofs.Readings.RowsAndGaps.{unless_over, seek_from, after_row, after_whole-is}
-use Rattle.hayro_ccitt.proofs.Readings.TurnsAddRows.{Keeps, Adds, seek_from_keeps, move_adds, prefix_trans}
+use Rattle.hayro_ccitt.proofs.Readings.TurnsAddRows.{Adds, seek_from_keeps, move_adds, prefix_trans}
 use Rattle.hayro_ccitt.proofs.DrawingLines.ReadLines.{left as pen_left}
 
 -- ---- Lines
@@ -108,27 +109,23 @@ module _ (settings : DecodeSettings) (wide : 0 < settings.columns) where
   Precedes r q = IsPrefix r.rows q.rows × (IsOk r.outcome → r ≡ q)
 
   module _ (rest : Progress → Ending) (extends : (t : Progress) → IsPrefix t.rows (rest t).rows) where
-    turn_extends : (rows : List Row) (m : Move) → Adds rows m → IsPrefix rows (after_turn rest m).rows
-    turn_extends rows (Turn.next t) k = prefix_trans rows t.rows (rest t).rows k (extends t)
-    turn_extends rows (Turn.done e) k = k
-
-    keeps_extends : (rows : List Row) (m : Move) → Keeps rows m → IsPrefix rows (after_turn rest m).rows
-    keeps_extends rows (Turn.next t) k = subst (λ (x : List Row). IsPrefix x (rest t).rows) k (extends t)
-    keeps_extends rows (Turn.done e) k = ([], k ∙ sym (append-nil rows))
+    adds_extend : (rows : List Row) (m : Move) → Adds rows m → IsPrefix rows (after_turn rest m).rows
+    adds_extend rows (Turn.next t) k = prefix_trans rows t.rows (rest t).rows k (extends t)
+    adds_extend rows (Turn.done e) k = k
 
     same_turn : (m : Move) → Follows SameRun Precedes rest m m
     same_turn m = grind (arith, common_steps)
 
     after_row_follows : (run : Progress) → Follows SameRun Precedes rest (after_row strictly run) (after_row leniently run)
     after_row_follows run =
-        grind (arith, common_steps, false≢true, keeps_extends, same_turn, seek_from, seek_from_keeps, unless_over)
+        grind (arith, common_steps, false≢true, turn_extends rest extends, same_turn, seek_from, seek_from_keeps, unless_over)
 
     after_line_follows : (run : Progress) (line other : Line) → Agrees line other → Adds run.rows (after_line leniently run other)
         → Follows SameRun Precedes rest (after_line strictly run line) (after_line leniently run other)
     after_line_follows run (Line.whole row here) other agrees adds =
         rw (agrees, after_whole-is strictly run row here, after_whole-is leniently run row here) (after_row_follows (record run
         { rows = run.rows ++ row ∷ []; rest = cond (settings.rows_are_byte_aligned && not run.has_eols) (aligned here) here }))
-    after_line_follows run (Line.broken front fault) other agrees adds = grind (arith, common_steps, false≢true, turn_extends)
+    after_line_follows run (Line.broken front fault) other agrees adds = grind (arith, common_steps, false≢true, adds_extend)
 
     move_follows : (s t : Progress) → SameRun s t → Follows SameRun Precedes rest (move_on strictly s) (move_on leniently t)
     move_follows s t same = subst (λ (r : Progress). Follows SameRun Precedes rest (move_on strictly s) (move_on leniently r))

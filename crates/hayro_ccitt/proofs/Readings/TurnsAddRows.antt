@@ -1,4 +1,5 @@
 -- A run only adds rows.
+use Rattle.hayro_ccitt.proofs.Readings.Repeated.{after_turn}
 use Rattle.hayro_ccitt.proofs.Names.{◌≡◌, ℕ, ◌-◌, ◌<◌, Bool, true, false, cond, not, ◌&&◌, ◌||◌, eqb, leb, List, [], ◌∷◌, ◌++◌}
 use Rattle.hayro_ccitt.proofs.Names.{length, replicate, Option, Some, None, Ok, Err, refl, sym, ap, subst, ◌∙◌, append_assoc}
 use Rattle.hayro_ccitt.proofs.Names.{append-nil, InvalidCode, DecodeSettings, Bits, IsPrefix, Turn, repeated, Row, Line, next_eol}
@@ -87,3 +88,9 @@ pub repeated_adds : (move : Progress → Move) (late : Ending) (size : Progress 
 repeated_adds move late size shrinks adds n run lt =
     repeated_induct move late size shrinks (λ run end. IsPrefix run.rows end.rows) (λ run end e. subst (Adds run.rows) e
     (adds run)) (λ run t end e more. prefix_trans run.rows t.rows end.rows (subst (Adds run.rows) e (adds run)) more) n run lt
+
+-- a turn that keeps the rows extends them, if what follows it does
+pub turn_extends : (rest : Progress → Ending) → ((t : Progress) → IsPrefix t.rows (rest t).rows) → (rows : List Row) (m : Move)
+    → Keeps rows m → IsPrefix rows (after_turn rest m).rows
+turn_extends rest extends rows (Turn.next t) k = subst (λ (x : List Row). IsPrefix x (rest t).rows) k (extends t)
+turn_extends rest extends rows (Turn.done e) k = ([], k ∙ sym (append-nil rows))

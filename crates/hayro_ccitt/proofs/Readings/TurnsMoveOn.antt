@@ -1,4 +1,5 @@
 -- Each line of a run moves the offset on.
+use Rattle.hayro_ccitt.proofs.Names.{common_steps}
 use Rattle.hayro_ccitt.proofs.Names.{◌≡◌, ℕ, zero, suc, ◌+◌, ◌-◌, ◌%◌, ◌<◌, ◌≤◌, Bool, true, false, cond, not, ◌&&◌, ◌||◌, eqb}
 use Rattle.hayro_ccitt.proofs.Names.{leb, [], ◌∷◌, ◌++◌, length, replicate, Option, Some, None, Result, Ok, Err, refl, sym, ap}
 use Rattle.hayro_ccitt.proofs.Names.{subst, ◌∙◌, arith, ◌⊎◌, inl, inr, length-drop, cases_lt, not-false, and_parts, and_cases}
@@ -268,9 +269,8 @@ seek_eol_next : (settings : DecodeSettings) (run t : Progress) → seek_eol sett
 seek_eol_next settings run t e =
     unless_next settings.strict run (Err InvalidCode) (seek_from settings run (next_eol run.rest)) t e
 
-at_end_length : (rest : Bits) → at_end rest ≡ false → 0 < length rest
-at_end_length [] e = absurd (false≢true (sym e))
-at_end_length (b ∷ rest) e = omega arith
+pub at_end_length : (rest : Bits) → at_end rest ≡ false → 0 < length rest
+at_end_length rest e = grind (arith, common_steps)
 
 left_least : (run : Progress) → length run.rest ≤ left_to_read run
 left_least run = either_way run.has_eols

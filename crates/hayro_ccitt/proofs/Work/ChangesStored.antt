@@ -1,4 +1,5 @@
 -- A row has no more changes than its line found words, and a repaired one no more than one besides.
+use Rattle.hayro_ccitt.proofs.Readings.Gathered.{gathered_after}
 use Rattle.hayro_ccitt.proofs.Names.{◌≡◌, ℕ, zero, suc, ◌+◌, ◌-◌, ◌<◌, ◌≤◌, min, Bool, true, false, cond, leb, ltb, ◌&&◌, List}
 use Rattle.hayro_ccitt.proofs.Names.{[], ◌∷◌, ◌++◌, length, replicate, Result, Ok, Err, refl, sym, ap, ◌∙◌, subst, arith}
 use Rattle.hayro_ccitt.proofs.Names.{append-nil, inl, inr, pos, ◌+ℤ◌, beq, length-append, Color, Mode, Pass, Horizontal, Vertical}
@@ -180,10 +181,6 @@ pen_count : (step : Pen → Step) (gives : Pen → List Bits)
 pen_count step gives each zero pen = omega arith
 pen_count step gives each (suc n) pen = by_turn (λ t. pen_count step gives each n t) (step pen) (each pen)
   where
-    gathered_after : (Pen → List Bits) → Step → List Bits
-    gathered_after rest (Turn.next t) = rest t
-    gathered_after rest (Turn.done line) = []
-
     by_turn : ((t : Pen) → LineCount (count t.front + length (gathered step gives n t))
         (repeated step (Line.broken [] UnexpectedEof) n t)) → (turn : Step) → StepCount (count pen.front + length (gives pen))
         turn → LineCount (count pen.front + length (gives pen ++ gathered_after (gathered step gives n) turn))

@@ -23,46 +23,44 @@ pub record WordsCounted (move : Progress → Move) (gives : Progress → List (L
   pub comes : Comes move gives left start so_far
   pub at_least : begun + sum_by length (take (length so_far.rows) (gathered_from move gives start)) ≤ now
 
-module _ (move : Progress → Move) (gives : Progress → List (List Bits)) (left : Progress → ℕ)
-    (by_rows : RowByRow move left) (start : Progress) (begins : start.rows ≡ []) (so_far : Progress) (begun now : ℕ)
+module _ {move : Progress → Move} {gives : Progress → List (List Bits)} {left : Progress → ℕ}
+    (by_rows : RowByRow move left) {start : Progress} (begins : start.rows ≡ []) {so_far : Progress} {begun now : ℕ}
     (counted : WordsCounted move gives left start so_far begun now) where
   -- a row more
-  pub counted_next : (line : List Bits) (after : Progress) (then : ℕ) → gives so_far ≡ line ∷ [] → move so_far ≡ Turn.next after
+  pub counted_next : (line : List Bits) {after : Progress} {then : ℕ} → gives so_far ≡ line ∷ [] → move so_far ≡ Turn.next after
       → length after.rows ≡ suc (length so_far.rows) → now + length line ≤ then → WordsCounted move gives left start after begun
       then
-  counted_next line after then reads goes more at_least = record {
-    comes = comes_next move gives left by_rows start begins so_far counted.comes line reads after goes more;
-    at_least =
-        omega (
-          arith,
-          at_least,
-          counted.at_least,
-          sum_more (gathered_from move gives start) (length so_far.rows) line _
-              (lines_on move gives left by_rows start begins so_far counted.comes line reads),
-          ap (λ (k : ℕ). sum_by length (take k (gathered_from move gives start))) more,
-        );
+  counted_next line reads goes more at_least = record {
+    comes = comes_next by_rows begins counted.comes line reads goes more;
+    at_least = omega (
+      arith,
+      at_least,
+      counted.at_least,
+      sum_more (gathered_from move gives start) (length so_far.rows) line _
+          (lines_on by_rows begins counted.comes line reads),
+      ap (λ (k : ℕ). sum_by length (take k (gathered_from move gives start))) more,
+    );
   }
 
   -- a run that ends with as many rows
-  pub counted_ends : (taken then most : ℕ) → taken ≡ length so_far.rows → now ≤ then → then ≤ begun + most
+  pub counted_ends : {taken then most : ℕ} → taken ≡ length so_far.rows → now ≤ then → then ≤ begun + most
       → CountsRun (gathered_from move gives start) taken begun then most
-  counted_ends taken then most rows on at_most = record {
+  counted_ends rows on at_most = record {
     at_least = omega (arith, counted.at_least, on, ap (λ (k : ℕ). sum_by length (take k (gathered_from move gives start))) rows);
     at_most = at_most;
   }
 
   -- and one that ends with a row more
-  pub counted_ends_behind : (line : List Bits) (taken then most : ℕ) → gives so_far ≡ line ∷ [] → taken ≡ suc (length so_far.rows)
+  pub counted_ends_behind : (line : List Bits) {taken then most : ℕ} → gives so_far ≡ line ∷ [] → taken ≡ suc (length so_far.rows)
       → now + length line ≤ then → then ≤ begun + most → CountsRun (gathered_from move gives start) taken begun then most
-  counted_ends_behind line taken then most reads rows on at_most = record {
-    at_least =
-        omega (
-          arith,
-          counted.at_least,
-          on,
-          sum_more (gathered_from move gives start) (length so_far.rows) line _
-              (lines_on move gives left by_rows start begins so_far counted.comes line reads),
-          ap (λ (k : ℕ). sum_by length (take k (gathered_from move gives start))) rows,
-        );
+  counted_ends_behind line reads rows on at_most = record {
+    at_least = omega (
+      arith,
+      counted.at_least,
+      on,
+      sum_more (gathered_from move gives start) (length so_far.rows) line _
+          (lines_on by_rows begins counted.comes line reads),
+      ap (λ (k : ℕ). sum_by length (take k (gathered_from move gives start))) rows,
+    );
     at_most = at_most;
   }

@@ -40,9 +40,9 @@ further_pays encoding here rest further found pays le =
     record { some = omega (arith, pays.some, le); words = omega (arith, pays.words, le); zeros = omega (arith, pays.zeros, le) }
 
 -- the bits after a row
-abbrev rest_of : Result (Row × Bits) DecodeError → Bits
-rest_of (Ok x) = x.1
-rest_of (Err fault) = []
+abbrev rest_of_row : Result (Row × Bits) DecodeError → Bits
+rest_of_row (Ok x) = x.1
+rest_of_row (Err fault) = []
 
 behind_shorter : (settings : DecodeSettings) (h : Bool) (rest : Bits) → length (behind_row settings h rest) ≤ length rest
 behind_shorter settings h rest = either_shorter (settings.rows_are_byte_aligned && not h) rest
@@ -60,7 +60,7 @@ broken_row settings true here rest front row fault is = by_strict settings.stric
     by_strict : (strict : Bool) → cond {A = Result (Row × Bits) DecodeError} (strict || not true) (Err fault)
         (Ok (repaired settings.columns front, behind_row settings true here)) ≡ Ok (row, rest) → (true ≡ true) × (rest ≡ here)
     by_strict true e = absurd (let other : ◌≡◌ {A = Result (Row × Bits) DecodeError} (Err fault) (Ok (row, rest)) = e in cc)
-    by_strict false e = (refl, sym (ap rest_of e) ∙ behind_with_eols settings.rows_are_byte_aligned here)
+    by_strict false e = (refl, sym (ap rest_of_row e) ∙ behind_with_eols settings.rows_are_byte_aligned here)
 broken_row settings false here rest front row fault is = by_strict settings.strict is
   where
     by_strict : (strict : Bool) → cond {A = Result (Row × Bits) DecodeError} (strict || not false) (Err fault)
@@ -77,7 +77,7 @@ row_shorter settings h reference here rest row wide is = by_line_here (line_here
         → length rest ≤ length here
     by_line_here (Line.whole whole behind) e given =
         let pays = whole_pays settings.encoding settings.strict settings.columns reference here whole behind wide e in
-        let same : behind_row settings h behind ≡ rest = ap rest_of given in
+        let same : behind_row settings h behind ≡ rest = ap rest_of_row given in
         omega (arith, pays.some, ap length same, behind_shorter settings h behind)
     by_line_here (Line.broken front fault) e given =
         omega (arith, ap length (broken_row settings h here rest front row fault given).1)
@@ -94,7 +94,7 @@ turn_pays settings h taken reference here rest next row wide is gap = by_line_he
     by_line_here : (line : Line) → line_here settings reference here ≡ line → row_of_line settings h here line ≡ Ok (row, rest)
         → PaysLine settings.encoding here next found
     by_line_here (Line.whole whole behind) e given =
-        let same : behind_row settings h behind ≡ rest = ap rest_of given in
+        let same : behind_row settings h behind ≡ rest = ap rest_of_row given in
         further_pays settings.encoding here behind next found
         (whole_pays settings.encoding settings.strict settings.columns reference here whole behind wide e)
         (omega (arith, ap length same, behind_shorter settings h behind, line_behind_shorter settings taken h h rest next gap))

@@ -39,7 +39,7 @@ stands_looked here word found rest stands =
     omega (arith, ends, ap length same, length-append word (joined found ++ rest), length-append (joined found) rest)
 
 -- an EOL at or after a line's start, its tag included, ends past each word
-stands_before_eol : (tag : Bool) (here : Bits) (found : List Bits) (rest fill after : Bits) → Stands here found rest
+pub stands_before_eol : (tag : Bool) (here : Bits) (found : List Bits) (rest fill after : Bits) → Stands here found rest
     → tag ∷ here ≡ fill ++ replicate 11 false ++ true ∷ after → length after < length rest
 stands_before_eol tag here found rest fill after stands e =
     let cut : (tag ∷ joined found) ++ rest ≡ (fill ++ replicate 11 false) ++ (true ∷ after) =

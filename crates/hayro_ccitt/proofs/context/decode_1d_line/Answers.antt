@@ -66,13 +66,6 @@ returns-in_err-draw_run-clause-line c =
     subst (λ (r : Result (Unit {0}) DecodeError). DrawsLine line r pen.front pen.rest)
     (sym (p.1 ∙ ap (λ (e : DecodeError). Err e) p.2)) fails
 
-pub returns-in_err-draw_run-clause-at_most : goal.returns-in_err-draw_run-clause-at_most
-returns-in_err-draw_run-clause-at_most c =
-    let now : Held = c.runs.ctx.held in
-    let open_row = open_by c.is_full.result (length now.front) now.settings.columns c.runs-test.true c.is_full.ensures.1 in
-    let found = counted_by_run c.args.ctx.now.held now (here c.runs.reader) c.runs.invariant.0.held open_row in
-    omega (arith, found, c.in_err-draw_run.ensures.at_most, c.runs.invariant.1)
-
 pub returns-in_err-draw_run-clause-at_least : goal.returns-in_err-draw_run-clause-at_least
 returns-in_err-draw_run-clause-at_least c =
     let p = err_from_is_err_and c.from_residual.result c.from_residual.ensures.1 in

@@ -48,8 +48,6 @@ returns-clause-rows g c =
 
 pub returns-clause-fails : goal.returns-clause-fails
 returns-clause-fails g c =
-    let middle = c.read_leading_eols.new in
-    on_err_weaker c.read_rows.result (fails_whole c.args.ctx.now.held.settings middle.ctx.held.settings
-    c.args.reader.now.bits middle.reader.bits _ (ap (λ (h : Held). h.settings) c.read_leading_eols.ensures.has_eols)
+    on_err_weaker c.read_rows.result (fails_whole (ap (λ (h : Held). h.settings) c.read_leading_eols.ensures.has_eols)
     c.read_leading_eols.ensures.same_bits (begins g (goal.at.returns-clause-fails g c).After-read_leading_eols)
     c.read_rows.new.ctx.held.taken (here c.read_rows.new.reader)) c.read_rows.ensures.fails

@@ -1,5 +1,5 @@
 use Rattle.hayro_ccitt.proofs.Names.{◌≡◌, ℕ, Bool, true, false, [], drop, length, Result, Ok, Err, sym, refl, ap, ◌∙◌, subst}
-use Rattle.hayro_ccitt.proofs.Names.{arith, err_from_is_err_and, on_err_weaker, DecodeError, InvalidCode, DecodeSettings}
+use Rattle.hayro_ccitt.proofs.Names.{arith, err_from_is_err_and, on_err_weaker, DecodeError, InvalidCode}
 use Rattle.hayro_ccitt.proofs.Names.{EncodingMode, IsFault, here, Held, fresh, SinkState, leaving, gap_said, Ending}
 use Rattle.hayro_ccitt.proofs.Names.{gap_behind_row, at_gap, at_front, first_gap, tag_tests, most_counted, most_from_line}
 use Rattle.hayro_ccitt.proofs.{Readings.DamageCounted.first_gap_left, Readings.WholeRuns.decodes_from}
@@ -34,18 +34,11 @@ left g c =
     first_gap_left c.args.ctx.now.held c.pass_gap.new.ctx.held (here c.args.reader.now) c.requires.fresh c.pass_gap.ensures.held
     c.pass_gap.ensures.missed
 
-pub read_rows-requires-clause-first : goal.read_rows-requires-clause-first
-read_rows-requires-clause-first g c =
-    let new = c.pass_gap.new.ctx.held in
-    left g (goal.at.read_rows-requires-clause-first g c).After-pass_gap ∙ ap (λ (s : DecodeSettings).
-    record (fresh s) { has_eols = new.has_eols }) (sym (ap (λ (h : Held). h.settings) c.pass_gap.ensures.held))
-
 pub returns-in_err-pass_gap-clause-rows : goal.returns-in_err-pass_gap-clause-rows
 returns-in_err-pass_gap-clause-rows g c =
     let at = (goal.at.returns-in_err-pass_gap-clause-rows g c).After-pass_gap in
     let answer = err_from_is_err_and c.from_residual.result c.from_residual.ensures.1 in
     let bits = c.args.reader.now.bits in
-    let held = c.args.ctx.now.held in
     let rest = here c.pass_gap.new.reader in
     let new = c.pass_gap.new.ctx.held in
     let code : c.in_err-pass_gap.field-0.0 ≡ InvalidCode = c.in_err-pass_gap.ensures.only_code.0 in
@@ -69,8 +62,8 @@ returns-in_err-pass_gap-clause-rows g c =
       looked_most (here c.args.reader.now),
       ap (λ (n : ℕ). length (drop n bits)) c.requires.start,
     )) end first (ap (λ (h : Held). h.settings) c.pass_gap.ensures.held) taken c.pass_gap.ensures.counts undamaged
-    (ends_at_fault step sink sink new end [] taken refl (ap (λ (h : Held). h.has_eols) c.in_err-pass_gap.ensures.unchanged.0
-    ∙ ap (λ (h : Held). h.has_eols) c.requires.fresh) refl c.in_err-pass_gap.field-0.0 (subst IsFault (sym code) tt) refl))
+    (ends_at_fault end taken refl (ap (λ (h : Held). h.has_eols) c.in_err-pass_gap.ensures.unchanged.0
+    ∙ ap (λ (h : Held). h.has_eols) c.requires.fresh) refl (subst IsFault (sym code) tt) refl))
 
 pub returns-then-branch-clause-rows : goal.returns-then-branch-clause-rows
 returns-then-branch-clause-rows g c =
@@ -99,7 +92,7 @@ returns-then-branch-clause-rows g c =
       looked_ahead_most c.args.ctx.now.held.settings.encoding rest,
       ap (λ (n : ℕ). length (drop n bits)) c.requires.start,
     )) end first (ap (λ (h : Held). h.settings) c.pass_gap.ensures.held) taken c.pass_gap.ensures.counts undamaged
-    (ends_well step sink sink new end [] taken refl (kept ∙ ap (λ (h : Held). h.has_eols) c.requires.fresh) refl rest refl)
+    (ends_well end taken refl (kept ∙ ap (λ (h : Held). h.has_eols) c.requires.fresh) refl refl)
 
 pub returns-clause-rows : goal.returns-clause-rows
 returns-clause-rows g c =
@@ -153,9 +146,8 @@ returns-clause-fails g c =
     let is : c.pass_gap.result ≡ Ok false = c.in_ok-pass_gap.was ∙ ap (λ (b : Bool). Ok b) c.if-branch.false in
     let first =
     first_is g at ∙ ap (λ (a : Result Bool DecodeError). at_gap (at_front bits) (gap_said a middle.has_eols rest)) is in
-    on_err_weaker c.read_rows.result (fails_whole c.args.ctx.now.held.settings middle.settings bits c.pass_gap.new.reader.bits _
-    (ap (λ (h : Held). h.settings) c.pass_gap.ensures.held) c.pass_gap.ensures.same_bits first c.read_rows.new.ctx.held.taken
-    (here c.read_rows.new.reader)) c.read_rows.ensures.fails
+    on_err_weaker c.read_rows.result (fails_whole (ap (λ (h : Held). h.settings) c.pass_gap.ensures.held)
+    c.pass_gap.ensures.same_bits first c.read_rows.new.ctx.held.taken (here c.read_rows.new.reader)) c.read_rows.ensures.fails
 
 -- no EOL is sought after the first gap, so none is later
 pub returns-clause-no_eols : goal.returns-clause-no_eols

@@ -6,9 +6,6 @@ use Rattle.hayro_ccitt.proofs.{DrawingLines.DrawnLines.memory_has_black, localit
 use Rattle.hayro_ccitt.proofs.DamagedLines.BodyTests.{lenient_line, whole_ends, broken_ends}
 use Rattle.hayro_ccitt.proofs.locality.line_ends_before.Goals as goal
 
-pub overflow_add-result : goal.overflow_add-result
-overflow_add-result c = grind (arith, common_steps, length-bits_of)
-
 pub returns-in-Ok-clause-before : goal.returns-in-Ok-clause-before
 returns-in-Ok-clause-before c =
     let bits = bits_of c.args.data.now in

@@ -1,21 +1,17 @@
 use Rattle.hayro_ccitt.proofs.Names.{◌≡◌, ◌+◌, refl, arith}
-use Rattle.hayro_ccitt.proofs.DrawingLines.UsualModes.{horizontal_on, horizontal_near, first_lawful, first_stroke}
-use Rattle.hayro_ccitt.proofs.DrawingLines.UsualModes.{horizontal_stroke}
+use Rattle.hayro_ccitt.proofs.DrawingLines.UsualModes.{horizontal_on, horizontal_near, first_stroke, horizontal_stroke}
 use Rattle.hayro_ccitt.proofs.DrawingLines.UsualStrokes.{pixels-pending}
 use Rattle.hayro_ccitt.proofs.modes.draw_horizontal.Goals as goal
 
 pub seek_b1-next-requires-clause-near : goal.seek_b1-next-requires-clause-near
 seek_b1-next-requires-clause-near c =
-    let a = c.args in
-    horizontal_near a.columns a.places.now a.painted a.index a.color a.row.now.items c.requires.lawful c.requires.open
-    c.requires.stroke (a.painted + c.in_ok-run.run' + c.in_ok-run.run2) (omega arith)
+    horizontal_near
+    c.requires.ended.lawful c.requires.open c.requires.stroke (c.args.painted + c.in_ok-run.run' + c.in_ok-run.run2) (omega arith)
 
 pub returns-then-run-run2-2-clause-drawn : goal.returns-then-run-run2-2-clause-drawn
 returns-then-run-run2-2-clause-drawn c =
     let a = c.args in
     let two = c.in_ok-run in
-    let there = first_lawful a.columns a.places.now a.painted a.index a.color a.row.now.items c.requires.lawful c.requires.open
-    c.requires.stroke two.run' (c.if-not-is_next.ensures refl) in
     let end : a.painted + two.run' + two.run2 ≡ a.columns = omega (arith, c.if-run-run2-2.true, c.requires.open) in
     rw (
       c.pass-3.ensures.moved,
@@ -23,26 +19,21 @@ returns-then-run-run2-2-clause-drawn c =
       c.pass.ensures.moved,
       c.runs_at_hand.ensures.same,
       c.turn_at.ensures.items,
-    ) (rw end at (horizontal_on a._strict a.columns a.places.now a.painted a.index a.color
-    a.row.now.items a.hand.now.at c.requires.open c.requires.stroke a.index two.run' two.width two.words two.run2
-    two.width2 two.words2 a.ticks.now c.tick_times-2.new.self c.requires.mode two.ensures.runs there
+    ) (rw end at (horizontal_on c.requires.ended.lawful c.requires.open c.requires.stroke {strict = a._strict} a.hand.now.at
+    a.index {ticks = a.ticks.now} {now = c.tick_times-2.new.self} c.requires.mode two.ensures.runs (c.if-not-is_next.ensures refl)
     (omega (arith, end)) (omega (arith, c.tick.ensures, c.tick_times.ensures, c.tick_times-2.ensures))
     (omega (arith, c.tick.ensures, c.tick_times.ensures, c.tick_times-2.ensures))))
 
 pub returns-then-run-run2-2-clause-stroke : goal.returns-then-run-run2-2-clause-stroke
 returns-then-run-run2-2-clause-stroke c =
-    let a = c.args in
     let two = c.in_ok-run in
-    first_stroke a.columns a.places.now a.painted a.index a.color a.row.now.items c.requires.lawful
-    c.requires.open c.requires.stroke two.run' two.run2 c.turn_at.new.changes.items (c.if-not-is_next.ensures refl)
+    first_stroke c.requires.ended.lawful c.requires.open c.requires.stroke two.run' two.run2 (c.if-not-is_next.ensures refl)
     (omega (arith, c.if-run2-eq0.false)) (omega (arith, c.if-run-run2-2.true, c.requires.open)) c.turn_at.ensures.items
 
 pub returns-clause-drawn : goal.returns-clause-drawn
 returns-clause-drawn c =
     let a = c.args in
     let two = c.in_ok-run in
-    let there = first_lawful a.columns a.places.now a.painted a.index a.color a.row.now.items c.requires.lawful c.requires.open
-    c.requires.stroke two.run' (c.if-not-is_next.ensures refl) in
     let work = c.seek_b1-next.ensures in
     rw (
       c.pass-3.ensures.moved,
@@ -52,19 +43,15 @@ returns-clause-drawn c =
       c.turn_at-2.ensures.items,
       pixels-pending,
       c.turn_at.ensures.items,
-    ) (horizontal_on a._strict a.columns a.places.now a.painted a.index a.color a.row.now.items a.hand.now.at c.requires.open
-    c.requires.stroke c.seek_b1-next.result two.run' two.width two.words two.run2 two.width2 two.words2 a.ticks.now
-    c.seek_b1-next.new.ticks c.requires.mode two.ensures.runs there (omega (arith, c.if-run-run2.false, c.requires.open))
+    ) (horizontal_on c.requires.ended.lawful c.requires.open c.requires.stroke a.hand.now.at c.seek_b1-next.result
+    c.requires.mode two.ensures.runs (c.if-not-is_next.ensures refl) (omega (arith, c.if-run-run2.false, c.requires.open))
     (omega (arith, c.tick.ensures, c.tick_times.ensures, c.tick_times-2.ensures, work.work, work.forward))
     (omega (arith, c.tick.ensures, c.tick_times.ensures, c.tick_times-2.ensures, work.work, work.forward)))
 
 pub returns-clause-stroke : goal.returns-clause-stroke
 returns-clause-stroke c =
-    let a = c.args in
     let two = c.in_ok-run in
     let next = c.seek_b1-next in
-    horizontal_stroke a.columns a.places.now a.painted a.index a.color a.row.now.items c.requires.lawful c.requires.open
-    c.requires.stroke two.run' two.run2 next.result c.turn_at.new.changes.items c.turn_at-2.new.changes.items
-    (c.if-not-is_next.ensures refl) (omega (arith, c.if-run2-eq0.false))
-    (omega (arith, c.if-run-run2.false, c.if-run-run2-2.false, c.requires.open)) c.turn_at.ensures.items c.turn_at-2.ensures.items
-    next.ensures.parity next.ensures.near next.ensures.right
+    horizontal_stroke c.requires.ended.lawful c.requires.open c.requires.stroke two.run' two.run2 (c.if-not-is_next.ensures refl)
+    (omega (arith, c.if-run2-eq0.false)) (omega (arith, c.if-run-run2.false, c.if-run-run2-2.false, c.requires.open))
+    c.turn_at.ensures.items c.turn_at-2.ensures.items next.ensures.parity next.ensures.near next.ensures.right

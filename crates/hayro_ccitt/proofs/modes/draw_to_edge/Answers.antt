@@ -1,4 +1,4 @@
-use Rattle.hayro_ccitt.proofs.Names.{◌≡◌, ◌+◌, ◌-◌, negsuc, arith, White}
+use Rattle.hayro_ccitt.proofs.Names.{◌≡◌, ◌+◌, arith, White}
 use Rattle.hayro_ccitt.proofs.DrawingLines.UsualModes.{vertical_on, edge_stroke, named_left}
 use Rattle.hayro_ccitt.proofs.DrawingLines.UsualStrokes.{pixels-pending}
 use Rattle.hayro_ccitt.proofs.modes.draw_to_edge.Goals as goal
@@ -7,16 +7,13 @@ pub returns-clause-drawn : goal.returns-clause-drawn
 returns-clause-drawn c =
     let a = c.args in
     rw (c.pass.ensures.moved, c.opposite.ensures, c.turn_at.ensures.items, pixels-pending)
-    (vertical_on a._strict a.columns a.places.now a.painted a.index a.color a.row.now.items a.hand.now.at c.requires.lawful
-    c.requires.open c.requires.stroke a.painted (a.index + 1) (negsuc (a.less - 1)) a.width a.ticks.now c.tick_times.new.self
-    (omega (arith, c.ranges.columns.fits)) c.requires.mode (named_left _ a.painted a.less
-    (omega (arith, c.change_or_end-b1.ensures, c.if-b1-less.false, c.if-painted-gt0.false)) c.requires.some) (omega arith)
-    (omega (arith, c.requires.open)) (omega (arith, c.tick_times.ensures)) (omega (arith, c.tick_times.ensures)))
+    (vertical_on c.requires.ended.lawful c.requires.open
+    c.requires.stroke a.hand.now.at (a.index + 1) a.width (omega (arith, c.ranges.columns.fits)) c.requires.mode (named_left
+    _ a.painted a.less (omega (arith, c.change_at-b1.ensures, c.if-b1-less.false, c.if-painted-gt0.false)) c.requires.some)
+    (omega arith) (omega (arith, c.requires.open)) (omega (arith, c.tick_times.ensures)) (omega (arith, c.tick_times.ensures)))
 
 pub returns-clause-stroke : goal.returns-clause-stroke
 returns-clause-stroke c =
-    let a = c.args in
-    let white : a.color ≡ White = c.is_white.ensures.0 c.if-not-is_white.false in
-    edge_stroke a.columns a.places.now a.painted a.index
-    a.color a.row.now.items c.requires.lawful c.requires.open c.requires.stroke c.turn_at.new.changes.items c.opposite.result
-    (omega (arith, c.if-painted-gt0.false)) white c.turn_at.ensures.items c.opposite.ensures
+    let white : c.args.color ≡ White = c.is_white.ensures.0 c.if-not-is_white.false in
+    edge_stroke c.requires.ended.lawful
+    c.requires.open c.requires.stroke (omega (arith, c.if-painted-gt0.false)) white c.turn_at.ensures.items c.opposite.ensures

@@ -1,5 +1,6 @@
-use Rattle.hayro_ccitt.proofs.Names.{sym, ap, ◌∙◌, arith, BitsAt, here, ReadsModes, behind_mode}
+use Rattle.hayro_ccitt.proofs.Names.{sym, ap, ◌∙◌, arith, length, BitsAt, here, ReadsModes, behind_mode, mode_found}
 use Rattle.hayro_ccitt.proofs.DamagedLines.LinesPassed.{mode_shorter, further, all_read}
+use Rattle.hayro_ccitt.proofs.DamagedLines.PassedWork.{passed_mode, all_passed}
 use Rattle.hayro_ccitt.proofs.reach.pass_modes.Goals as goal
 
 pub modes-smaller : goal.modes-smaller
@@ -8,14 +9,21 @@ modes-smaller c =
     (ap (λ (at : BitsAt). behind_mode c.modes.color (here at)) (sym c.copy-next.ensures.value) ∙ sym c.in-Some.ensures.behind)
 
 pub modes-preserved : goal.modes-preserved
-modes-preserved c = (
-  c.in-Some.ensures.same_bits ∙ ap (λ (at : BitsAt). at.bits) c.copy-next.ensures.value ∙ c.modes.invariant.0,
-  c.in-Some.ensures.held ∙ c.modes.invariant.1,
-  omega (arith, c.in-Some.ensures.counts, c.modes.invariant.2),
-  further (here c.args.reader.now) c.modes.color (here c.modes.reader) c.in-Some.behind (here c.pass_mode.new.reader)
-      c.modes.invariant.3
-      (ap (λ (at : BitsAt). behind_mode c.modes.color (here at)) (sym c.copy-next.ensures.value) ∙ sym c.in-Some.ensures.behind),
-)
+modes-preserved c =
+    let read =
+    ap (λ (at : BitsAt). behind_mode c.modes.color (here at)) (sym c.copy-next.ensures.value) ∙ sym c.in-Some.ensures.behind in (
+      c.in-Some.ensures.same_bits ∙ ap (λ (at : BitsAt). at.bits) c.copy-next.ensures.value ∙ c.modes.invariant.0,
+      c.in-Some.ensures.held ∙ c.modes.invariant.1,
+      omega (arith, c.in-Some.ensures.counts, c.modes.invariant.2),
+      further (here c.args.reader.now) c.modes.color (here c.modes.reader) c.in-Some.behind (here c.pass_mode.new.reader)
+          c.modes.invariant.3 read,
+      passed_mode (here c.args.reader.now) c.modes.color (here c.modes.reader) c.in-Some.behind (here c.pass_mode.new.reader)
+          c.args.ctx.now.ticks c.modes.ctx.ticks c.pass_mode.new.self.ticks c.modes.invariant.4 read (omega (
+            arith,
+            c.in-Some.ensures.at_most,
+            ap (λ (at : BitsAt). length (mode_found c.modes.color (here at))) c.copy-next.ensures.value,
+          )),
+    )
 
 pub returns-in-None-clause-read : goal.returns-in-None-clause-read
 returns-in-None-clause-read c = c.modes.invariant.3.0 (here c.modes.reader) ReadsModes.over
@@ -24,3 +32,12 @@ pub returns-in-None-clause-last : goal.returns-in-None-clause-last
 returns-in-None-clause-last c =
     all_read (here c.args.reader.now) c.modes.color (here c.modes.reader) c.modes.invariant.3
     (ap (λ (at : BitsAt). behind_mode c.modes.color (here at)) (sym c.copy-next.ensures.value) ∙ sym c.in-None.ensures.behind)
+
+pub returns-in-None-clause-at_most : goal.returns-in-None-clause-at_most
+returns-in-None-clause-at_most c =
+    all_passed (here c.args.reader.now) c.modes.color (here c.modes.reader) c.args.ctx.now.ticks c.modes.ctx.ticks
+    c.pass_mode.new.self.ticks c.modes.invariant.4 (omega (
+      arith,
+      c.in-None.ensures.at_most,
+      ap (λ (at : BitsAt). length (mode_found c.modes.color (here at))) c.copy-next.ensures.value,
+    ))

@@ -1,8 +1,10 @@
-use Rattle.hayro_ccitt.proofs.Names.{◌≡◌, ℕ, ◌≤◌, ◌⊎◌, true, [], ◌∷◌, length, Some, None, sym, ap, subst, ◌∙◌, arith}
-use Rattle.hayro_ccitt.proofs.Names.{DecodeSettings, Bits, BitsAt, here, Held, after_eol, tagged_eols}
+use Rattle.hayro_ccitt.proofs.Names.{◌≡◌, ℕ, ◌+◌, ◌*◌, ◌≤◌, ◌⊎◌, true, [], ◌∷◌, length, drop, Some, None, sym, ap, subst, ◌∙◌}
+use Rattle.hayro_ccitt.proofs.Names.{arith, DecodeSettings, Bits, BitsAt, here, Held, after_eol, tagged_eols, looked}
+use Rattle.hayro_ccitt.proofs.Names.{most_for_lines}
 use Rattle.hayro_ccitt.proofs.{EncodedPictures.PicturesT4.eols_here_two, reach.rows_before_1d.Goals.After-read_tagged_eols-count}
 use Rattle.hayro_ccitt.proofs.DamagedLines.LinesPassed.{before_1d, not_before_1d, counted_on, counted_last, counted_none}
 use Rattle.hayro_ccitt.proofs.DamagedLines.LinesPassed.{no_eol_no_end, no_eol_no_line, no_line_there}
+use Rattle.hayro_ccitt.proofs.DamagedLines.PassedWork.{line_paid, lines_end, lines_end_behind}
 use Rattle.hayro_ccitt.proofs.Readings.TurnsMoveOn.{after_eol_shorter, eols_here_counted}
 use Rattle.hayro_ccitt.proofs.reach.rows_before_1d.Goals as goal
 
@@ -79,6 +81,57 @@ returns-then-not-pass_line-clause-counts c =
       c.pass_line.ensures.counts,
     )
 
+-- the EOL is examined, and then it and those that follow with their tags
+read : (c : After-read_tagged_eols-count) → c.pass_eol.new.ticks ≡ c.lines.ctx.ticks + looked (here c.lines.reader)
+read c =
+    omega (
+      arith,
+      c.ticks.ensures.value,
+      c.pass_eol.ensures.ticks,
+      ap (λ (at : BitsAt). looked (here at)) c.copy-line.ensures.value,
+    )
+
+ahead : (c : After-read_tagged_eols-count)
+    → c.read_tagged_eols-count.new.ticks + 2 * length (here c.read_tagged_eols-count.new.self)
+    ≤ c.pass_eol.new.ticks + 2 * length (here c.lines.reader) + 3 + looked (drop 1 (here c.read_tagged_eols-count.new.self))
+ahead c =
+    omega (
+      arith,
+      c.ticks-in-lines.ensures.value,
+      c.read_tagged_eols-count.ensures.at_most,
+      ap (λ (at : BitsAt). length (here at)) c.copy-behind.ensures.value,
+    )
+
+pub returns-then-not-pass_eol-clause-at_most : goal.returns-then-not-pass_eol-clause-at_most
+returns-then-not-pass_eol-clause-at_most c =
+    lines_end (here c.args.reader.now) (here c.lines.reader) c.args.ctx.now.ticks c.lines.ctx.ticks c.pass_eol.new.ticks
+    c.lines.invariant.5 (omega (
+      arith,
+      c.ticks.ensures.value,
+      c.pass_eol.ensures.ticks,
+      ap (λ (at : BitsAt). looked (here at)) c.copy-line.ensures.value,
+    ))
+
+-- where no line follows, what was counted is within the bound, and so are three times the bits behind the EOL
+ended : (c : After-read_tagged_eols-count) (now : ℕ) → after_eol 0 (here c.lines.reader) ≡ Some (here c.pass_eol.new.self)
+    → now ≤ c.read_tagged_eols-count.new.ticks + 3 * length (here c.pass_eol.new.self)
+    → now ≤ c.args.ctx.now.ticks + most_for_lines (length (here c.args.reader.now))
+ended c now eol passed =
+    lines_end_behind (here c.args.reader.now) (here c.lines.reader) (here c.pass_eol.new.self)
+    (here c.read_tagged_eols-count.new.self) c.args.ctx.now.ticks c.lines.ctx.ticks c.pass_eol.new.ticks
+    c.read_tagged_eols-count.new.ticks now c.lines.invariant.5 eol (read c) (ahead c) passed
+
+pub returns-then-is_before_1d-clause-at_most : goal.returns-then-is_before_1d-clause-at_most
+returns-then-is_before_1d-clause-at_most c =
+    ended (goal.at.returns-then-is_before_1d-clause-at_most c).After-read_tagged_eols-count c.read_tagged_eols-count.new.ticks
+    (ap (λ (at : BitsAt). after_eol 0 (here at)) (sym c.copy-line.ensures.value) ∙ c.if-not-pass_eol.ensures.eol) (omega arith)
+
+pub returns-then-not-pass_line-clause-at_most : goal.returns-then-not-pass_line-clause-at_most
+returns-then-not-pass_line-clause-at_most c =
+    ended (goal.at.returns-then-not-pass_line-clause-at_most c).After-read_tagged_eols-count c.pass_line.new.ctx.ticks
+    (ap (λ (at : BitsAt). after_eol 0 (here at)) (sym c.copy-line.ensures.value) ∙ c.if-not-pass_eol.ensures.eol)
+    (omega (arith, c.pass_line.ensures.at_most))
+
 pub lines-smaller : goal.lines-smaller
 lines-smaller c =
     let eol = ap (λ (at : BitsAt). after_eol 0 (here at)) (sym c.copy-line.ensures.value) ∙ c.if-not-pass_eol.ensures.eol in
@@ -106,4 +159,12 @@ lines-preserved c =
       ),
       counted_on c.args.ctx.now.held.settings (here c.args.reader.now) now line.0 (here c.pass_line.new.reader) c.lines.rows
           c.lines.invariant.4 (eol ∙ ap (λ (b : Bits). Some b) line.1) line.2,
+      line_paid (here c.args.reader.now) now line.0 (here c.pass_line.new.reader) (here c.read_tagged_eols-count.new.self)
+          c.read_tagged_eols-count.result c.args.ctx.now.ticks c.lines.ctx.ticks c.pass_eol.new.ticks
+          c.read_tagged_eols-count.new.ticks c.pass_line.new.ctx.ticks c.lines.invariant.5
+          (eol ∙ ap (λ (b : Bits). Some b) line.1) line.2
+          (ap (λ (at : BitsAt). tagged_eols (here at)) (sym c.copy-behind.ensures.value) ∙ c.read_tagged_eols-count.ensures.eols)
+          (read (goal.at.lines-preserved c).After-read_tagged_eols-count)
+          (ahead (goal.at.lines-preserved c).After-read_tagged_eols-count)
+          (omega (arith, c.pass_line.ensures.to_eol c.if-not-pass_line.false, ap length line.1)),
     )

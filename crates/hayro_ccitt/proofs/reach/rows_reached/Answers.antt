@@ -1,5 +1,5 @@
-use Rattle.hayro_ccitt.proofs.Names.{◌≡◌, ℕ, suc, Some, drop, sym, ap, subst, ◌∙◌, arith, ◌↔◌, DecodeSettings, Bits, BitsAt}
-use Rattle.hayro_ccitt.proofs.Names.{bits_of, here, ComeBefore1D}
+use Rattle.hayro_ccitt.proofs.Names.{◌≡◌, ℕ, suc, Some, length, drop, sym, ap, subst, ◌∙◌, arith, ◌↔◌, DecodeSettings, Bits}
+use Rattle.hayro_ccitt.proofs.Names.{BitsAt, bits_of, here, ComeBefore1D}
 use Rattle.hayro_ccitt.proofs.BitReading.BitLists.{length-bits_of}
 use Rattle.hayro_ccitt.proofs.DamagedLines.LinesPassed.{reaches_if, reaches_none}
 use Rattle.hayro_ccitt.proofs.reach.rows_reached.Goals as goal
@@ -22,3 +22,7 @@ returns-clause-rows c =
     (omega (arith, c.if-to-data.false, length-bits_of c.args.data.now))
     (subst (λ (b : Bits). (lines : ℕ) → (c.rows_before_1d.result ≡ Some (suc lines)) ↔ ComeBefore1D settings lines b) at
     c.rows_before_1d.ensures.rows)
+
+pub returns-clause-at_most : goal.returns-clause-at_most
+returns-clause-at_most c =
+    omega (arith, c.rows_before_1d.ensures.at_most, ap (λ (at : BitsAt). length (here at)) c.starting_at-reader.ensures)

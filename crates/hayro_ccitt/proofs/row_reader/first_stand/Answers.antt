@@ -1,12 +1,23 @@
 use Rattle.hayro_ccitt.proofs.Names.{◌≡◌, ◌≢◌, ◌∙◌, ◌<◌, ℕ, Bool, false, inl, inr, length, drop, ap, sym, subst, arith}
 use Rattle.hayro_ccitt.proofs.Names.{length-drop, IfErr-weaker, IfOk-weaker, on_err_weaker, on_ok_weaker, Stand, DecodeSettings}
 use Rattle.hayro_ccitt.proofs.Names.{Group4, Bits, here, Held, gap_said, all_eols, gap_behind_row, first_line, changes}
-use Rattle.hayro_ccitt.proofs.Names.{DamageIsCounted, IsPaid, ReaderStands, ended, stand_after, AtLine, AtEnd, looked}
+use Rattle.hayro_ccitt.proofs.Names.{DamageIsCounted, IsPaid, ReaderStands, ended, stand_after, AtLine, looked}
 use Rattle.hayro_ccitt.proofs.Names.{looked_ahead}
 use Rattle.hayro_ccitt.proofs.{Readings.DamageCounted.first_gap_left, Work.ChangesStored.changes_white}
 use Rattle.hayro_ccitt.proofs.Readings.RowByRow.{none_damaged, misses_after, first_gap_stands, first_line_stands, no_fault}
 use Rattle.hayro_ccitt.proofs.Work.CallsPaid.{first_gap_paid, first_line_paid}
 use Rattle.hayro_ccitt.proofs.row_reader.first_stand.Goals as goal
+
+-- what the gap says
+said : (c : goal.After-stand_after_gap) → gap_behind_row c.args.ctx.now.held.settings 0 false c.args.reader.now.bits ≡ gap_said
+    c.pass_gap-over.result c.pass_gap-over.new.ctx.held.has_eols (drop c.pass_gap-over.new.reader.place c.args.reader.now.bits)
+said c =
+    let held = c.args.ctx.now.held in
+    let last = c.pass_gap-over.new.ctx.held in
+    ap (λ (h : Held). gap_behind_row held.settings h.taken h.has_eols c.args.reader.now.bits) (sym c.requires.fresh)
+    ∙ ap (λ (n : ℕ). gap_behind_row held.settings held.taken held.has_eols (drop n c.args.reader.now.bits)) (sym c.requires.start)
+    ∙ c.pass_gap-over.ensures.gap ∙ ap (λ (b : Bits). gap_said c.pass_gap-over.result last.has_eols
+    (drop c.pass_gap-over.new.reader.place b)) c.pass_gap-over.ensures.same_bits
 
 pub returns-in-Group4-clause-stands : goal.returns-in-Group4-clause-stands
 returns-in-Group4-clause-stands c =
@@ -17,17 +28,12 @@ returns-in-Group4-clause-stands c =
     let at = c.pass_gap-over.new.reader in
     let wide : 0 < settings.columns =
     omega (arith, c.if-settings-eq0.false, ap (λ (s : DecodeSettings). s.columns) c.settings.ensures.value) in
-    let begins : here c.args.reader.now ≡ bits = ap (λ (n : ℕ). drop n bits) c.requires.start in
-    let said : gap_behind_row settings 0 false bits ≡ gap_said c.pass_gap-over.result last.has_eols (drop at.place bits) =
-    ap (λ (h : Held). gap_behind_row settings h.taken h.has_eols bits) (sym c.requires.fresh)
-    ∙ ap (λ (x : Bits). gap_behind_row settings held.taken held.has_eols x) (sym begins) ∙ c.pass_gap-over.ensures.gap
-    ∙ ap (λ (b : Bits). gap_said c.pass_gap-over.result last.has_eols (drop at.place b)) c.pass_gap-over.ensures.same_bits in
     let frame = first_gap_left held last
     (here c.args.reader.now) c.requires.fresh c.pass_gap-over.ensures.held c.pass_gap-over.ensures.missed in
     subst (λ (s : Stand). ReaderStands s settings bits last at.place) (sym c.stand_after_gap.ensures) (first_gap_stands
     settings wide bits (ap (λ (s : DecodeSettings). s.encoding) (sym c.settings-2.ensures.value) ∙ c.in-Group4.is) last at.place
     (omega (arith, c.bit_pos-place.ensures.place, c.bit_pos-place.ensures.within, ap length c.pass_gap-over.ensures.same_bits))
-    frame c.pass_gap-over.result said
+    frame c.pass_gap-over.result (said c)
     (IfErr-weaker c.pass_gap-over.result _ _ (λ error code. code.0) c.pass_gap-over.ensures.only_code))
 
 pub returns-in-Group4-clause-damage : goal.returns-in-Group4-clause-damage
@@ -40,12 +46,6 @@ returns-in-Group4-clause-damage c =
     subst (λ (s : Stand). DamageIsCounted s held.settings bits last) (sym c.stand_after_gap.ensures) (none_damaged
     (stand_after c.pass_gap-over.result) held.settings bits last (misses_after c.pass_gap-over.result held.settings bits last)
     (ap (λ (h : Held). h.taken) left) (ap (λ (h : Held). h.repairs) left))
-
-pub returns-then-settings-eq0-clause-damage : goal.returns-then-settings-eq0-clause-damage
-returns-then-settings-eq0-clause-damage c =
-    let held = c.args.ctx.now.held in
-    none_damaged AtEnd held.settings c.args.reader.now.bits held (λ misses. misses) (ap (λ (h : Held). h.taken) c.requires.fresh)
-    (ap (λ (h : Held). h.repairs) c.requires.fresh)
 
 pub returns-in-Group4-clause-unfailed : goal.returns-in-Group4-clause-unfailed
 returns-in-Group4-clause-unfailed c error is =
@@ -70,18 +70,12 @@ returns-in-Group4-clause-paid c =
     let now = c.pass_gap-over.new.ctx.ticks in
     let begins : here c.args.reader.now ≡ bits = ap (λ (n : ℕ). drop n bits) c.requires.start in
     let unsought : held.has_eols ≡ false = ap (λ (h : Held). h.has_eols) c.requires.fresh in
-    let said : gap_behind_row settings 0 false bits ≡ gap_said c.pass_gap-over.result last.has_eols (drop at.place bits) =
-    ap (λ (h : Held). gap_behind_row settings h.taken h.has_eols bits) (sym c.requires.fresh)
-    ∙ ap (λ (x : Bits). gap_behind_row settings held.taken held.has_eols x) (sym begins) ∙ c.pass_gap-over.ensures.gap
-    ∙ ap (λ (b : Bits). gap_said c.pass_gap-over.result last.has_eols (drop at.place b)) c.pass_gap-over.ensures.same_bits in
     let frame = first_gap_left held last
     (here c.args.reader.now) c.requires.fresh c.pass_gap-over.ensures.held c.pass_gap-over.ensures.missed in
     subst (λ (s : Stand). IsPaid s settings bits last at.place now) (sym c.stand_after_gap.ensures)
-    (first_gap_paid settings (ap (λ (s : DecodeSettings). s.encoding) (sym c.settings-2.ensures.value)
-    ∙ c.in-Group4.is) bits last at.place now
-    frame c.pass_gap-over.result said
-    (IfOk-weaker c.pass_gap-over.result _ _ (λ over kept is. kept is ∙ unsought) c.pass_gap-over.ensures.given_up)
-    (on_ok_weaker c.pass_gap-over.result (λ work unsought_on. omega (
+    (first_gap_paid settings (ap (λ (s : DecodeSettings). s.encoding) (sym c.settings-2.ensures.value) ∙ c.in-Group4.is)
+    bits last at.place now frame c.pass_gap-over.result (said c) (IfOk-weaker c.pass_gap-over.result _ _ (λ over kept
+    is. kept is ∙ unsought) c.pass_gap-over.ensures.given_up) (on_ok_weaker c.pass_gap-over.result (λ work unsought_on. omega (
       arith,
       c.requires.uncounted,
       work (unsought_on ∙ sym unsought),

@@ -24,11 +24,6 @@ returns-then-settings-clause-unchanged c =
           (c.read_eols-count.ensures.eols ∙ ap (λ (n : ℕ). (n, now)) none),
     )
 
-pub returns-then-settings-clause-work_refused : goal.returns-then-settings-clause-work_refused
-returns-then-settings-clause-work_refused c =
-    let none : c.read_eols-count.result ≡ 0 = omega (arith, c.if-count-gt0.false) in
-    omega (arith, c.read_eols-count.ensures.work_none none)
-
 pub returns-then-not-skip_to_eol-clause-work_given_up : goal.returns-then-not-skip_to_eol-clause-work_given_up
 returns-then-not-skip_to_eol-clause-work_given_up c = λ given_up.
     let none : c.read_eols-count.result ≡ 0 = omega (arith, c.if-count-gt0.false) in

@@ -1,9 +1,10 @@
-use Rattle.hayro_ccitt.proofs.Names.{rules, ◌≡◌, ◌≤◌, ◌+◌, Result, Bool, true, false, [], ◌∷◌, length, Ok, Err, refl, sym, ap}
+use Rattle.hayro_ccitt.proofs.Names.{Bits, Err, Ok}
+use Rattle.hayro_ccitt.proofs.Names.{rules, ◌≡◌, ◌≤◌, ◌+◌, Result, Bool, true, false, [], ◌∷◌, length, Ok, refl, sym, ap}
 use Rattle.hayro_ccitt.proofs.Names.{◌∙◌, subst, arith, err_from_is_err_and, length-append, length-drop, InvalidCode, IsFault}
-use Rattle.hayro_ccitt.proofs.Names.{BitsAt, here, Held, Repairs, repaired_by_turn, missed_by_turn, move_on, one_each, line_here}
-use Rattle.hayro_ccitt.proofs.Names.{line_of_turn, gathered_from, gap_behind_row, Reaches, CountsRun, most_given_up}
+use Rattle.hayro_ccitt.proofs.Names.{BitsAt, here, Held, Repairs, move_on, one_each, line_here}
+use Rattle.hayro_ccitt.proofs.Names.{gathered_from, gap_behind_row, Reaches, CountsRun, most_given_up}
 use Rattle.hayro_ccitt.proofs.Names.{most_from_line, words_of_turn, DecodeError, gap_said, changes}
-use Rattle.hayro_ccitt.proofs.{Readings.Repeated.reaches_on, Readings.TurnsMoveOn.left_to_read, Work.ChangesStored.changes_white}
+use Rattle.hayro_ccitt.proofs.{Readings.Repeated.reaches_on, Work.ChangesStored.changes_white}
 use Rattle.hayro_ccitt.proofs.{Work.RunsCount.counted_ends, rows.read_rows.Given.Over, rows.read_rows.Goals.After-pass_gap}
 use Rattle.hayro_ccitt.proofs.Readings.DamageCounted.{DamageTold, none_counted, repaired_behind, few_repaired}
 use Rattle.hayro_ccitt.proofs.Readings.RowsTaken.{from_line, by_rows_left, left_start, takes_is, goes_on, last_taken, turn_over}
@@ -21,8 +22,7 @@ rows-init g c =
     let first = from_line c.args.ctx.now.held.has_eols (here c.args.reader.now) in (
       record {
         so_far = first;
-        comes = comes_first (move_on settings) (one_each (line_of_turn settings)) left_to_read
-            (by_rows_left settings c.requires.columns) first refl;
+        comes = comes_first (by_rows_left settings c.requires.columns) refl;
         held = c.requires.first ∙ ap (held_between settings first) (sym (ap (λ (h : Held). h.repairs) c.requires.first));
         here = refl;
         meaning = refl;
@@ -32,8 +32,7 @@ rows-init g c =
       refl,
       refl,
       record {
-        comes = comes_first (move_on settings) (one_each (words_of_turn settings)) left_to_read
-            (by_rows_left settings c.requires.columns) first refl;
+        comes = comes_first (by_rows_left settings c.requires.columns) refl;
         at_least = omega arith;
       },
       omega (
@@ -44,10 +43,8 @@ rows-init g c =
       ),
       subst (DamageTold settings c.args.reader.now.bits first first) (sym (ap (λ (h : Held). h.repairs) c.requires.first)) (
           record {
-            repaired = none_counted settings (repaired_by_turn settings c.args.reader.now.bits) first
-                (by_rows_left settings c.requires.columns) refl;
-            missed = none_counted settings (missed_by_turn settings c.args.reader.now.bits) first
-                (by_rows_left settings c.requires.columns) refl;
+            repaired = none_counted (by_rows_left settings c.requires.columns) refl;
+            missed = none_counted (by_rows_left settings c.requires.columns) refl;
             few = omega arith;
             last = omega arith;
           }
@@ -59,16 +56,12 @@ rows-init g c =
 pub read_row-requires-clause-rows : goal.read_row-requires-clause-rows
 read_row-requires-clause-rows g c =
     let (between, unsought, same, width, words, paid, told, few, reaches) = c.rows.invariant in
-    let settings = c.args.ctx.now.held.settings in
-    let sought = c.args.ctx.now.held.has_eols in
-    let rest0 = here c.args.reader.now in
-    let bits = c.args.reader.now.bits in
     let taken = ap (λ (h : Held). h.taken) between.held in
     omega (
       arith,
       taken,
       between.comes.room,
-      left_start sought rest0,
+      left_start c.args.ctx.now.held.has_eols (here c.args.reader.now),
       length-drop c.args.reader.now.place c.args.reader.now.bits,
       ap length same,
     )
@@ -76,13 +69,8 @@ read_row-requires-clause-rows g c =
 pub rows-smaller : goal.rows-smaller
 rows-smaller g c =
     let (between, unsought, same, width, words, paid, told, few, reaches) = c.rows.invariant in
-    let settings = c.args.ctx.now.held.settings in
-    let sought = c.args.ctx.now.held.has_eols in
-    let rest0 = here c.args.reader.now in
-    let bits = c.args.reader.now.bits in
     let is : c.pass_gap.result ≡ Ok false = c.in_ok-pass_gap.was ∙ ap (λ (b : Bool). Ok b) c.if-branch.false in
-    next_shorter settings c.requires.columns sought rest0 bits g.D.Decoder.step _ _ _ _ _ between _ width
-    _ _ _ c.in_ok-read_row.ensures.row c.pass_gap.new.ctx.held
+    next_shorter c.requires.columns g.D.Decoder.step between width c.in_ok-read_row.ensures.row
     (here c.pass_gap.new.reader) c.pass_gap.result c.pass_gap.ensures.gap c.pass_gap.ensures.held is
 
 pub rows-preserved : goal.rows-preserved
@@ -93,29 +81,21 @@ rows-preserved g c =
     let rest0 = here c.args.reader.now in
     let bits = c.args.reader.now.bits in
     let is : c.pass_gap.result ≡ Ok false = c.in_ok-pass_gap.was ∙ ap (λ (b : Bool). Ok b) c.if-branch.false in
-    let next = next_between settings c.requires.columns
-    sought rest0 bits g.D.Decoder.step _ _ _ _ _ between _ width _ _ _ c.in_ok-read_row.ensures.row c.pass_gap.new.ctx.held
+    let next = next_between c.requires.columns g.D.Decoder.step between width c.in_ok-read_row.ensures.row
     (here c.pass_gap.new.reader) c.pass_gap.result c.pass_gap.ensures.gap c.pass_gap.ensures.held is in
     let within : length (here c.rows.reader) ≤ length bits =
     omega (arith, length-drop c.rows.reader.place c.rows.reader.bits, ap length same) in
-    let found = words_are settings sought rest0 bits between in
-    let counted = next_counted settings c.requires.columns sought rest0 bits g.D.Decoder.step _ _ _
-    _ _ between _ width _ _ _ c.in_ok-read_row.ensures.row c.pass_gap.new.ctx.held (here c.pass_gap.new.reader) c.pass_gap.result
-    c.pass_gap.ensures.gap c.pass_gap.ensures.held is c.args.ctx.now.ticks c.rows.ctx.ticks c.pass_gap.new.ctx.ticks words
-    (omega (arith, found, c.in_ok-read_row.ensures.at_least, c.pass_gap.ensures.counts)) in
     let gap = c.pass_gap.ensures.gap
     ∙ ap (λ (a : Result Bool DecodeError). gap_said a c.pass_gap.new.ctx.held.has_eols (here c.pass_gap.new.reader)) is in
-    let paid_on = next_paid settings c.requires.columns sought rest0 bits g.D.Decoder.step _ _ _ _ _ between _ width _ _
-    _ within c.args.ctx.now.ticks (most_given_up sought (length bits)) c.rows.ctx.ticks paid c.read_row.new.ctx.ticks
-    c.in_ok-read_row.ensures.at_most c.in_ok-read_row.ensures.row c.pass_gap.new.ctx.ticks c.pass_gap.new.ctx.held
-    (here c.pass_gap.new.reader) gap c.pass_gap.ensures.held c.in_ok-read_row.ensures.stored
+    let paid_on = next_paid
+    c.requires.columns g.D.Decoder.step between width bits within c.args.ctx.now.ticks (most_given_up sought (length bits))
+    c.rows.ctx.ticks paid c.read_row.new.ctx.ticks c.in_ok-read_row.ensures.at_most c.in_ok-read_row.ensures.row
+    c.pass_gap.new.ctx.ticks (here c.pass_gap.new.reader) gap c.pass_gap.ensures.held c.in_ok-read_row.ensures.stored
     (λ kept. omega (arith, c.in_ok-pass_gap.ensures.work kept, few_tag_tests c.read_row.new.ctx.held.settings.encoding))
     c.in_ok-pass_gap.ensures.work_given_up (giving_up_is_paid sought c.rows.ctx.held.has_eols (length bits) unsought) in
-    let told_on = next_told settings c.requires.columns sought rest0 bits g.D.Decoder.step _ _ _ _ _ between _ width _ _
-    _ c.in_ok-read_row.ensures.row c.pass_gap.new.ctx.held (here c.pass_gap.new.reader) c.pass_gap.result c.pass_gap.ensures.gap
-    c.pass_gap.ensures.held c.pass_gap.ensures.missed told is in
-    let fewer : c.pass_gap.new.ctx.held.repairs.rows ≤ c.pass_gap.new.ctx.held.taken =
-    omega (
+    let told_on = next_told c.requires.columns g.D.Decoder.step between width c.in_ok-read_row.ensures.row (here
+    c.pass_gap.new.reader) c.pass_gap.result c.pass_gap.ensures.gap c.pass_gap.ensures.held c.pass_gap.ensures.missed told is in
+    let fewer : c.pass_gap.new.ctx.held.repairs.rows ≤ c.pass_gap.new.ctx.held.taken = omega (
       arith,
       few,
       ap (λ (r : Repairs). r.rows) c.pass_gap.ensures.missed,
@@ -129,14 +109,17 @@ rows-preserved g c =
     (line_without_eols c.read_row.new.ctx.held.settings c.read_row.new.ctx.held.taken c.pass_gap.new.ctx.held.has_eols
     (here c.read_row.new.reader) (here c.pass_gap.new.reader) (ap (λ (b : Bool). gap_behind_row c.read_row.new.ctx.held.settings
     c.read_row.new.ctx.held.taken b (here c.read_row.new.reader)) (sym (row ∙ unsought sought_not)) ∙ gap)).0 in
-    let reached = reaches_on (move_on settings) (from_line sought rest0) between.so_far next.so_far reaches (goes_on
-    settings c.requires.columns sought rest0 bits g.D.Decoder.step _ _ _ _ _ between _ width _ _ _ c.in_ok-read_row.ensures.row
-    c.pass_gap.new.ctx.held (here c.pass_gap.new.reader) c.pass_gap.result c.pass_gap.ensures.gap c.pass_gap.ensures.held is) in (
+    let reached = reaches_on (move_on settings) (from_line sought rest0)
+    between.so_far next.so_far reaches (goes_on c.requires.columns g.D.Decoder.step between width c.in_ok-read_row.ensures.row
+    (here c.pass_gap.new.reader) c.pass_gap.result c.pass_gap.ensures.gap c.pass_gap.ensures.held is) in (
       next,
       none,
       c.pass_gap.ensures.same_bits ∙ c.read_row.ensures.same_bits ∙ same,
       c.read_row.ensures.width ∙ width,
-      counted,
+      next_counted c.requires.columns g.D.Decoder.step between width
+          c.in_ok-read_row.ensures.row
+          (here c.pass_gap.new.reader) c.pass_gap.result c.pass_gap.ensures.gap c.pass_gap.ensures.held
+          is words (omega (arith, words_are between, c.in_ok-read_row.ensures.at_least, c.pass_gap.ensures.counts)),
       paid_on,
       told_on,
       fewer,
@@ -148,19 +131,13 @@ returns-in_err-read_row-clause-rows g c =
     let (between, unsought, same, width, words, paid, told, few, reaches) = c.rows.invariant in
     let settings = c.args.ctx.now.held.settings in
     let sought = c.args.ctx.now.held.has_eols in
-    let rest0 = here c.args.reader.now in
     let bits = c.args.reader.now.bits in
     let answer = err_from_is_err_and c.from_residual.result c.from_residual.ensures.1 in
-    let leaves = turn_fails settings c.requires.columns sought rest0 bits g.D.Decoder.step _ _ _ _ _ between _ width _ _ _
-    c.in_err-read_row.field-0.0 c.in_err-read_row.ensures.row in
+    let leaves = turn_fails c.requires.columns g.D.Decoder.step between width c.in_err-read_row.ensures.row in
     let within : length (here c.rows.reader) ≤ length bits =
     omega (arith, length-drop c.rows.reader.place c.rows.reader.bits, ap length same) in
     let taken = ap (λ (h : Held). h.taken) c.in_err-read_row.ensures.row.held in
-    let counted = fails_told settings c.requires.columns sought rest0 bits g.D.Decoder.step _ _ _ _ _ between _ width (record {
-      meaning = g.D.Decoder.meaning c.read_row.new.decoder;
-      refused = g.D.Decoder.has_refused c.read_row.new.decoder;
-      refuses = g.D.Decoder.refuses c.read_row.new.decoder;
-    }) c.read_row.new.ctx.held (here c.read_row.new.reader) c.in_err-read_row.field-0.0 c.in_err-read_row.ensures.row told in
+    let counted = fails_told c.requires.columns g.D.Decoder.step between width {A = Bits} c.in_err-read_row.ensures.row told in
     rw (answer.1, answer.2) (
     record {
       settings = search rules;
@@ -168,15 +145,9 @@ returns-in_err-read_row-clause-rows g c =
       short = leaves.1;
       repaired = counted.0;
       missed = counted.1;
-      work = counted_ends (move_on settings)
-          (one_each (words_of_turn settings)) left_to_read (by_rows_left settings c.requires.columns) (from_line sought rest0)
-          refl between.so_far c.args.ctx.now.ticks c.rows.ctx.ticks words c.read_row.new.ctx.held.taken c.read_row.new.ctx.ticks
-          (most_from_line sought (length bits)) (taken ∙ ap (λ (h : Held). h.taken) between.held) c.in_err-read_row.ensures.counts
-          (fails_paid settings c.requires.columns sought rest0 bits g.D.Decoder.step _ _ _ _ _ between _ width (record {
-            meaning = g.D.Decoder.meaning c.read_row.new.decoder;
-            refused = g.D.Decoder.has_refused c.read_row.new.decoder;
-            refuses = g.D.Decoder.refuses c.read_row.new.decoder;
-          }) c.read_row.new.ctx.held (here c.read_row.new.reader) within c.args.ctx.now.ticks
+      work = counted_ends (by_rows_left settings c.requires.columns)
+          refl words (taken ∙ ap (λ (h : Held). h.taken) between.held) c.in_err-read_row.ensures.counts
+          (fails_paid c.requires.columns g.D.Decoder.step between width bits within c.args.ctx.now.ticks
           (most_given_up sought (length bits)) c.rows.ctx.ticks paid c.read_row.new.ctx.ticks c.in_err-read_row.ensures.at_most);
     }
     )
@@ -189,36 +160,27 @@ last_counted : (g : Over) (c : After-pass_gap g) → c.pass_gap.new.ctx.ticks
     c.pass_gap.new.ctx.ticks (most_from_line c.args.ctx.now.held.has_eols (length c.args.reader.now.bits))
 last_counted g c most =
     let (between, unsought, same, width, words, paid, told, few, reaches) = c.rows.invariant in
-    let settings = c.args.ctx.now.held.settings in
-    let sought = c.args.ctx.now.held.has_eols in
-    let rest0 = here c.args.reader.now in
-    let bits = c.args.reader.now.bits in
-    let found = words_are settings sought rest0 bits between in
-    counted_last settings c.requires.columns sought rest0 bits g.D.Decoder.step _ _ _ _ _ between _ width _
-    _ _ c.in_ok-read_row.ensures.row c.pass_gap.new.ctx.held (here c.pass_gap.new.reader) c.pass_gap.result c.pass_gap.ensures.gap
-    c.pass_gap.ensures.held c.args.ctx.now.ticks c.rows.ctx.ticks c.pass_gap.new.ctx.ticks (most_from_line sought (length bits))
-    words (omega (arith, found, c.in_ok-read_row.ensures.at_least, c.pass_gap.ensures.counts)) most
+    counted_last c.requires.columns g.D.Decoder.step between width
+    c.in_ok-read_row.ensures.row (here c.pass_gap.new.reader) c.pass_gap.result c.pass_gap.ensures.gap c.pass_gap.ensures.held
+    words (omega (arith, words_are between, c.in_ok-read_row.ensures.at_least, c.pass_gap.ensures.counts)) most
 
 pub returns-in_err-pass_gap-clause-rows : goal.returns-in_err-pass_gap-clause-rows
 returns-in_err-pass_gap-clause-rows g c =
     let (between, unsought, same, width, words, paid, told, few, reaches) = c.rows.invariant in
     let settings = c.args.ctx.now.held.settings in
     let sought = c.args.ctx.now.held.has_eols in
-    let rest0 = here c.args.reader.now in
     let bits = c.args.reader.now.bits in
     let answer = err_from_is_err_and c.from_residual-in_err-pass_gap.result c.from_residual-in_err-pass_gap.ensures.1 in
     let code : c.in_err-pass_gap.field-0.0 ≡ InvalidCode = c.in_err-pass_gap.ensures.only_code.0 in
-    let leaves = turn_misses settings c.requires.columns sought rest0 bits g.D.Decoder.step _ _ _
-    _ _ between _ width _ _ _ c.in_ok-read_row.ensures.row c.pass_gap.new.ctx.held (here c.pass_gap.new.reader) c.pass_gap.result
-    c.pass_gap.ensures.gap c.pass_gap.ensures.held c.in_err-pass_gap.field-0.0 c.in_err-pass_gap.was (subst IsFault (sym code) tt)
-    (ap (λ (h : Held). h.has_eols) c.in_err-pass_gap.ensures.unchanged.0) in
+    let leaves = turn_misses c.requires.columns g.D.Decoder.step between width
+    c.in_ok-read_row.ensures.row (here c.pass_gap.new.reader) c.pass_gap.result c.pass_gap.ensures.gap c.pass_gap.ensures.held
+    c.in_err-pass_gap.was (subst IsFault (sym code) tt) (ap (λ (h : Held). h.has_eols) c.in_err-pass_gap.ensures.unchanged.0) in
     let within : length (here c.rows.reader) ≤ length bits =
     omega (arith, length-drop c.rows.reader.place c.rows.reader.bits, ap length same) in
-    let counted = last_told settings c.requires.columns sought rest0 bits g.D.Decoder.step _ _ _ _ _ between _ width _ _
-    _ c.in_ok-read_row.ensures.row c.pass_gap.new.ctx.held (here c.pass_gap.new.reader) c.pass_gap.result c.pass_gap.ensures.gap
-    c.pass_gap.ensures.held c.pass_gap.ensures.missed told (Err c.in_err-pass_gap.field-0.0)
-    (ap (λ (a : Result Bool DecodeError). gap_said a c.pass_gap.new.ctx.held.has_eols (here c.pass_gap.new.reader))
-    c.in_err-pass_gap.was) (Err c.in_err-pass_gap.field-0.0) in
+    let counted = last_told c.requires.columns g.D.Decoder.step between width c.in_ok-read_row.ensures.row
+    (here c.pass_gap.new.reader) c.pass_gap.result c.pass_gap.ensures.gap c.pass_gap.ensures.held c.pass_gap.ensures.missed told
+    {A = Bits} (ap (λ (a : Result Bool DecodeError). gap_said a c.pass_gap.new.ctx.held.has_eols (here c.pass_gap.new.reader))
+    c.in_err-pass_gap.was) {said = Err c.in_err-pass_gap.field-0.0} in
     rw (answer.1, answer.2) (
     record {
       settings = search rules;
@@ -226,9 +188,8 @@ returns-in_err-pass_gap-clause-rows g c =
       short = leaves.1;
       repaired = counted.0;
       missed = counted.1;
-      work = last_counted g (goal.at.returns-in_err-pass_gap-clause-rows g c).After-pass_gap
-          (misses_paid settings c.requires.columns sought rest0 bits g.D.Decoder.step _ _ _
-          _ _ between _ width _ _ _ within c.args.ctx.now.ticks (most_given_up sought (length bits)) c.rows.ctx.ticks
+      work = last_counted g (goal.at.returns-in_err-pass_gap-clause-rows g c).After-pass_gap (misses_paid c.requires.columns
+          g.D.Decoder.step between width bits within c.args.ctx.now.ticks (most_given_up sought (length bits)) c.rows.ctx.ticks
           paid c.read_row.new.ctx.ticks c.in_ok-read_row.ensures.at_most c.in_ok-read_row.ensures.row c.pass_gap.new.ctx.ticks
           (omega (arith, c.in_err-pass_gap.ensures.work_refused, looked_most (here c.read_row.new.reader))));
     }
@@ -239,26 +200,25 @@ returns-then-branch-clause-rows g c =
     let (between, unsought, same, width, words, paid, told, few, reaches) = c.rows.invariant in
     let settings = c.args.ctx.now.held.settings in
     let sought = c.args.ctx.now.held.has_eols in
-    let rest0 = here c.args.reader.now in
     let bits = c.args.reader.now.bits in
     let is : c.pass_gap.result ≡ Ok true = c.in_ok-pass_gap.was ∙ ap (λ (b : Bool). Ok b) c.if-branch.true in
-    let leaves = turn_ends settings c.requires.columns sought rest0 bits g.D.Decoder.step _ _ _ _ _ between _ width _
-    _ _ c.in_ok-read_row.ensures.row c.pass_gap.new.ctx.held (here c.pass_gap.new.reader) c.pass_gap.result c.pass_gap.ensures.gap
-    c.pass_gap.ensures.held is (c.in_ok-pass_gap.ensures.given_up c.if-branch.true) in
+    let leaves =
+    turn_ends c.requires.columns g.D.Decoder.step between width c.in_ok-read_row.ensures.row (here c.pass_gap.new.reader)
+    c.pass_gap.result c.pass_gap.ensures.gap c.pass_gap.ensures.held is (c.in_ok-pass_gap.ensures.given_up c.if-branch.true) in
     let within : length (here c.rows.reader) ≤ length bits =
     omega (arith, length-drop c.rows.reader.place c.rows.reader.bits, ap length same) in
-    let counted = last_told settings c.requires.columns sought rest0 bits g.D.Decoder.step _ _ _ _ _ between _ width _ _
-    _ c.in_ok-read_row.ensures.row c.pass_gap.new.ctx.held (here c.pass_gap.new.reader) c.pass_gap.result c.pass_gap.ensures.gap
-    c.pass_gap.ensures.held c.pass_gap.ensures.missed told (Ok (here c.pass_gap.new.reader)) (ap (λ (a : Result Bool DecodeError).
-    gap_said a c.pass_gap.new.ctx.held.has_eols (here c.pass_gap.new.reader)) is) (Ok (here c.pass_gap.new.reader)) in
+    let counted = last_told c.requires.columns g.D.Decoder.step between width c.in_ok-read_row.ensures.row
+    (here c.pass_gap.new.reader) c.pass_gap.result c.pass_gap.ensures.gap c.pass_gap.ensures.held c.pass_gap.ensures.missed
+    told (ap (λ (a : Result Bool DecodeError). gap_said a c.pass_gap.new.ctx.held.has_eols (here c.pass_gap.new.reader)) is)
+    {said = Ok (here c.pass_gap.new.reader)} in
     record {
       settings = search rules;
       reading = leaves.0;
       short = leaves.1;
       repaired = counted.0;
       missed = counted.1;
-      work = last_counted g (goal.at.returns-then-branch-clause-rows g c).After-pass_gap (ends_paid settings
-          c.requires.columns sought rest0 bits g.D.Decoder.step _ _ _ _ _ between _ width _ _ _ within c.args.ctx.now.ticks
+      work = last_counted g (goal.at.returns-then-branch-clause-rows g c).After-pass_gap
+          (ends_paid c.requires.columns g.D.Decoder.step between width bits within c.args.ctx.now.ticks
           (most_given_up sought (length bits)) c.rows.ctx.ticks paid c.read_row.new.ctx.ticks c.in_ok-read_row.ensures.at_most
           c.in_ok-read_row.ensures.row c.pass_gap.new.ctx.ticks (here c.pass_gap.new.reader) (omega (
             arith,
@@ -272,11 +232,9 @@ pub returns-in_err-read_row-clause-fails : goal.returns-in_err-read_row-clause-f
 returns-in_err-read_row-clause-fails g c =
     let (between, unsought, same, width, words, paid, told, few, reaches) = c.rows.invariant in
     let settings = c.args.ctx.now.held.settings in
-    let left = c.read_row.new.ctx.held in
     let first = from_line c.args.ctx.now.held.has_eols (here c.args.reader.now) in
-    rw ((err_from_is_err_and c.from_residual.result c.from_residual.ensures.1).1)
-    (fails_at_line settings c.requires.columns first refl between.so_far reaches c.args.reader.now.bits left.taken
-    (here c.read_row.new.reader) (ap (λ (h : Held). h.taken) c.in_err-read_row.ensures.row.held
+    rw ((err_from_is_err_and c.from_residual.result c.from_residual.ensures.1).1) (fails_at_line settings
+    c.requires.columns first refl reaches c.args.reader.now.bits (ap (λ (h : Held). h.taken) c.in_err-read_row.ensures.row.held
     ∙ ap (λ (h : Held). h.taken) between.held) (ap (λ (at : BitsAt). here at) c.in_err-read_row.ensures.put_back ∙ between.here))
 
 -- a missing EOL leaves it behind the row
@@ -287,33 +245,12 @@ returns-in_err-pass_gap-clause-fails g c =
     let sought = c.args.ctx.now.held.has_eols in
     let rest0 = here c.args.reader.now in
     let bits = c.args.reader.now.bits in
-    let read = (takes_is settings c.requires.columns sought rest0 bits g.D.Decoder.step _ _ _ _ _ between _ width _ _ _
-    (Ok tt) c.in_ok-read_row.ensures.row).taken in
-    let ends = turn_over settings c.requires.columns sought rest0 bits g.D.Decoder.step _ _ _ _ _
-    between _ width _ _ _ c.in_ok-read_row.ensures.row c.pass_gap.new.ctx.held (here c.pass_gap.new.reader) c.pass_gap.result
-    c.pass_gap.ensures.gap c.pass_gap.ensures.held (Err c.in_err-pass_gap.field-0.0) (ap (λ (a : Result Bool DecodeError).
-    gap_said a c.pass_gap.new.ctx.held.has_eols (here c.pass_gap.new.reader)) c.in_err-pass_gap.was) in
-    let more = last_taken settings c.requires.columns
-    sought rest0 bits g.D.Decoder.step _ _ _ _ _ between _ width _ _ _ c.in_ok-read_row.ensures.row c.pass_gap.new.ctx.held
+    let read = (takes_is c.requires.columns g.D.Decoder.step between width c.in_ok-read_row.ensures.row).taken in
+    let ends = turn_over c.requires.columns g.D.Decoder.step between width c.in_ok-read_row.ensures.row
+    (here c.pass_gap.new.reader) c.pass_gap.result c.pass_gap.ensures.gap c.pass_gap.ensures.held (ap (λ (a : Result
+    Bool DecodeError). gap_said a c.pass_gap.new.ctx.held.has_eols (here c.pass_gap.new.reader)) c.in_err-pass_gap.was) in
+    let more = last_taken c.requires.columns g.D.Decoder.step between width c.in_ok-read_row.ensures.row
     (here c.pass_gap.new.reader) c.pass_gap.result c.pass_gap.ensures.gap c.pass_gap.ensures.held in
     rw ((err_from_is_err_and c.from_residual-in_err-pass_gap.result c.from_residual-in_err-pass_gap.ensures.1).1)
-    (fails_behind_row settings c.requires.columns (from_line sought rest0) refl between.so_far reaches bits read.taken
-    (here c.read_row.new.reader) (here c.pass_gap.new.reader) read.is _ ends c.pass_gap.new.ctx.held.taken
-    (more ∙ length-append between.so_far.rows (read.taken ∷ [])) c.in_err-pass_gap.ensures.unchanged.1)
-
-pub returns-in_err-read_row-clause-no_eols : goal.returns-in_err-read_row-clause-no_eols
-returns-in_err-read_row-clause-no_eols g c = λ none.
-    let (between, unsought, same, width, words, paid, told, few, reaches) = c.rows.invariant in
-    ap (λ (h : Held). h.has_eols) c.in_err-read_row.ensures.row.held ∙ unsought none
-
-pub returns-in_err-pass_gap-clause-no_eols : goal.returns-in_err-pass_gap-clause-no_eols
-returns-in_err-pass_gap-clause-no_eols g c = λ none.
-    let (between, unsought, same, width, words, paid, told, few, reaches) = c.rows.invariant in
-    ap (λ (h : Held). h.has_eols) c.in_err-pass_gap.ensures.unchanged.0
-    ∙ ap (λ (h : Held). h.has_eols) c.in_ok-read_row.ensures.row.taken.held ∙ unsought none
-
-pub returns-then-branch-clause-no_eols : goal.returns-then-branch-clause-no_eols
-returns-then-branch-clause-no_eols g c = λ none.
-    let (between, unsought, same, width, words, paid, told, few, reaches) = c.rows.invariant in
-    c.in_ok-pass_gap.ensures.given_up c.if-branch.true ∙ ap (λ (h : Held). h.has_eols) c.in_ok-read_row.ensures.row.taken.held
-    ∙ unsought none
+    (fails_behind_row settings c.requires.columns (from_line sought rest0) refl
+    reaches bits read.is ends (more ∙ length-append between.so_far.rows (read.taken ∷ [])) c.in_err-pass_gap.ensures.unchanged.1)

@@ -1,13 +1,6 @@
 use Rattle.hayro_ccitt.proofs.Names.{◌≡◌, ◌+◌, ℕ, subst, arith, moved, IsWordHere}
-use Rattle.hayro_ccitt.proofs.CodeWords.UsualRuns.{run_of_word, run_of_two}
+use Rattle.hayro_ccitt.proofs.CodeWords.UsualRuns.{run_of_two}
 use Rattle.hayro_ccitt.proofs.usual.run_at_hand.Goals as goal
-
-pub returns-then-run-lt64-clause-run : goal.returns-then-run-lt64-clause-run
-returns-then-run-lt64-clause-run c =
-    let word = c.word_at_hand-run in
-    let found : IsWordHere c.args.color (moved c.args.skip c.args.hand.now.at) word.result.0 word.result.1 =
-    word.ensures.word (omega (arith, c.if-run-lt64.true)) in
-    run_of_word c.args.color (moved c.args.skip c.args.hand.now.at) word.result.0 word.result.1 found c.if-run-lt64.true
 
 pub returns-then-rest-lt64-clause-run : goal.returns-then-rest-lt64-clause-run
 returns-then-rest-lt64-clause-run c =

@@ -11,9 +11,6 @@ overflow_sub-passed c =
 pub returns-clause-next : goal.returns-clause-next
 returns-clause-next c = grind (arith, common_steps, behind_last_one)
 
-pub returns-clause-onward : goal.returns-clause-onward
-returns-clause-onward c = grind (arith, common_steps, behind_last_one)
-
 pub returns-clause-fewer : goal.returns-clause-fewer
 returns-clause-fewer c = λ e.
     let now = c.args.self.now in

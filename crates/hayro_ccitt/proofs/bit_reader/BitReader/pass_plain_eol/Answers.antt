@@ -12,6 +12,3 @@ returns-clause-twelve c = λ e.
 
 pub returns-clause-ticks : goal.returns-clause-ticks
 returns-clause-ticks c = grind (arith, common_steps, twelve_more)
-
-pub returns-clause-onward : goal.returns-clause-onward
-returns-clause-onward c = grind (arith, common_steps, twelve_more)

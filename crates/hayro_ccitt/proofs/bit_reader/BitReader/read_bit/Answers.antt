@@ -1,11 +1,7 @@
-use Rattle.hayro_ccitt.proofs.Names.{rules, ◌≡◌, ℕ, ◌+◌, ◌<◌, ◌^◌, Some, get_or, length, min, false, inl, inr, sym, ap, ◌∙◌}
-use Rattle.hayro_ccitt.proofs.Names.{arith, cases_lt, false≢true, slice_get-get_or, err_from_is_err_and, bits_in, common_steps}
-use Rattle.hayro_ccitt.proofs.{BitReading.BitPlaces.bits_at, BitReading.WindowWords.top_bit, BitReading.ZeroRuns.here_next}
-use Rattle.hayro_ccitt.proofs.BitReading.BitLists.{length-bits_in}
+use Rattle.hayro_ccitt.proofs.Names.{rules, ◌≡◌, ℕ, ◌+◌, ◌<◌, ◌^◌, Some, get_or, length, false, inl, inr, sym, ap, ◌∙◌}
+use Rattle.hayro_ccitt.proofs.Names.{arith, cases_lt, false≢true, slice_get-get_or, bits_in}
+use Rattle.hayro_ccitt.proofs.{BitReading.WindowWords.top_bit, BitReading.ZeroRuns.here_next}
 use Rattle.hayro_ccitt.proofs.bit_reader.BitReader.read_bit.Goals as goal
-
-pub returns-in_err-consume-clause-unchanged : goal.returns-in_err-consume-clause-unchanged
-returns-in_err-consume-clause-unchanged c = grind (arith, common_steps, bits_at, err_from_is_err_and, length-bits_in, min)
 
 pub returns-clause-bit : goal.returns-clause-bit
 returns-clause-bit c =

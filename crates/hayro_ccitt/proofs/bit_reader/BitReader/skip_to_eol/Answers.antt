@@ -1,10 +1,6 @@
 use Rattle.hayro_ccitt.proofs.Names.{arith, le-leb, common_steps}
 use Rattle.hayro_ccitt.proofs.BitReading.SoughtEols.{next_eol-behind, next_eol-here, next_eol-zeros, looked-one, looked-zeros}
-use Rattle.hayro_ccitt.proofs.BitReading.ZeroRuns.{looked_run}
 use Rattle.hayro_ccitt.proofs.bit_reader.BitReader.skip_to_eol.Goals as goal
-
-pub eols-smaller-in-Some-2 : goal.eols-smaller-in-Some-2
-eols-smaller-in-Some-2 c = grind (arith, common_steps, looked-one, looked_run)
 
 pub eols-preserved-in-Some-2 : goal.eols-preserved-in-Some-2
 eols-preserved-in-Some-2 c = grind (arith, common_steps, looked-one, next_eol-behind)

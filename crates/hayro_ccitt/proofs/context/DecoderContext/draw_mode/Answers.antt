@@ -3,7 +3,7 @@ use Rattle.hayro_ccitt.proofs.Names.{to_z-of_z, err_from_is_err_and, on_ok_weake
 use Rattle.hayro_ccitt.proofs.Names.{Bits, here, Context, Held, Turn, right_of, b1, b2, paint}
 use Rattle.hayro_ccitt.proofs.DrawingLines.Drawings.{try}
 use Rattle.hayro_ccitt.proofs.DrawingLines.DrawnLines.{IsUnpainted, place_of, some_where, unpainted, pass_draws}
-use Rattle.hayro_ccitt.proofs.DrawingLines.DrawnLines.{vertical_unpainted, first_run_fails, second_run, paint_draws}
+use Rattle.hayro_ccitt.proofs.DrawingLines.DrawnLines.{vertical_unpainted, first_run_fails, paint_draws}
 use Rattle.hayro_ccitt.proofs.context.DecoderContext.draw_mode.Goals as goal
 
 pub returns-in_err-push_pixels-in-Vertical-clause-step : goal.returns-in_err-push_pixels-in-Vertical-clause-step
@@ -61,10 +61,3 @@ returns-in-Pass-clause-step c =
     (on_err_weaker c.push_pixels.result (ap (λ (x : Context). x.held)) d.unchanged)
     (λ e is. unpainted held count c.push_pixels.result e is d.too_many d.memory d.only) in
     rw c.in-Pass.is (pass_draws old held new count rest c.push_pixels.result b.unchanged counted draws)
-
-pub returns-in_ok-draw_run-in-Horizontal-clause-step : goal.returns-in_ok-draw_run-in-Horizontal-clause-step
-returns-in_ok-draw_run-in-Horizontal-clause-step c =
-    let a = c.in_ok-draw_run-in-Horizontal.ensures in
-    rw (c.in-Horizontal.is) (second_run c.args.self.now.held c.draw_run.new.self.held (here c.args.reader.now)
-    (here c.draw_run.new.reader) c.draw_run-in-Horizontal.result (pen_of c.draw_run-in-Horizontal.new.self.held
-    (here c.draw_run-in-Horizontal.new.reader)) a.step a.held c.draw_run-in-Horizontal.ensures.step)

@@ -1,40 +1,71 @@
 use Rattle.hayro_ccitt.proofs.Names.{◌≡◌, ◌<◌, [], arith, White, pixels}
 use Rattle.hayro_ccitt.proofs.DrawingLines.UsualModes.{empty_row, none_painted_yet, are_passed}
 use Rattle.hayro_ccitt.proofs.PixelRows.ChangesAndPixels.{changes-pixels}
+use Rattle.hayro_ccitt.proofs.PixelRows.EndedPlaces.{ends_taken, with_ends}
 use Rattle.hayro_ccitt.proofs.context.DecoderContext.draw_modes_at_hand.Goals as goal
 
 pub draw_modes-place-requires-clause-begins : goal.draw_modes-place-requires-clause-begins
 draw_modes-place-requires-clause-begins c =
     let s = c.self.inside in
-    empty_row s.pixels_decoded s.coding_changes.items c.self.invariant.front (rw (← c.self.view_is) at c.requires.begins)
+    rw c.has_mode.ensures.same_row
+    (empty_row s.pixels_decoded s.coding_changes.items c.self.invariant.front (rw (← c.self.view_is) at c.requires.begins))
+
+pub draw_modes-place-requires-clause-ended : goal.draw_modes-place-requires-clause-ended
+draw_modes-place-requires-clause-ended c =
+    let s = c.self.inside in
+    let put = c.put_ends.ensures.ended c.if-not-put_ends.false in
+    rw (c.as_slice.ensures.value, put) (with_ends s.settings.columns s.ref_changes.items c.self.invariant.reference)
 
 pub invariant_of-self : goal.invariant_of-self
-invariant_of-self c =
+invariant_of-self c = record {
+  reference = c.self.invariant.reference;
+  front = rw c.has_mode.ensures.same_row c.self.invariant.front;
+  within = c.self.invariant.within;
+  passed = c.self.invariant.passed;
+}
+
+pub invariant_of-self-then-not-put_ends : goal.invariant_of-self-then-not-put_ends
+invariant_of-self-then-not-put_ends c =
+    let same = c.put_ends.ensures.unchanged c.if-not-put_ends.true in
+    record {
+      reference = rw same c.self.invariant.reference;
+      front = rw c.has_mode.ensures.same_row c.self.invariant.front;
+      within = c.self.invariant.within;
+      passed = rw same c.self.invariant.passed;
+    }
+
+pub invariant_of-self-2 : goal.invariant_of-self-2
+invariant_of-self-2 c =
     let s = c.self.inside in
-    let stroke = rw c.as_slice.ensures.value at c.draw_modes-place.ensures.stroke in
+    let same = ends_taken s.ref_changes.items _ s.settings.columns (c.put_ends.ensures.ended c.if-not-put_ends.false) in
+    let stroke = rw (c.as_slice.ensures.value, same) at c.draw_modes-place.ensures.stroke in
     let some : 0 < s.settings.columns = omega (arith, c.if-self-eq0.false) in
     record {
-      reference = c.self.invariant.reference;
+      reference = rw (c.take_ends.ensures, same) c.self.invariant.reference;
       front = c.lay_down_row.ensures.lawful;
       within = stroke.within;
-      passed = rw c.saturating_sub-self-inside.ensures (are_passed _ _ _ _ _ _ some c.self.invariant.reference stroke);
+      passed = rw (c.take_ends.ensures, same, c.saturating_sub-self-inside.ensures)
+          (are_passed some c.self.invariant.reference stroke);
     }
 
 pub returns-clause-drawn : goal.returns-clause-drawn
 returns-clause-drawn c =
     let s = c.self.inside in
+    let same = ends_taken s.ref_changes.items _ s.settings.columns (c.put_ends.ensures.ended c.if-not-put_ends.false) in
+    let has = c.has_mode.ensures in
     let front : pixels s.pixels_decoded s.coding_changes.items ≡ [] = rw (← c.self.view_is) at c.requires.begins in
     let none : s.pixels_decoded ≡ 0 = none_painted_yet s.pixels_decoded s.coding_changes.items c.self.invariant.front front in
     let white : s.color ≡ White = rw (← c.self.view_is) at c.requires.white in
     let passed : s.passed ≡ 0 = rw (← c.self.view_is) at c.requires.none in
     rw (← c.self.view_is, none, white, passed, c.lay_down_row.ensures.same, c.saturating_sub-self-inside.ensures)
-    (rw c.as_slice.ensures.value at c.draw_modes-place.ensures.drawn)
+    (rw (c.as_slice.ensures.value, same, has.same, has.same_row) at c.draw_modes-place.ensures.drawn)
 
 pub returns-clause-within : goal.returns-clause-within
 returns-clause-within c =
     let s = c.self.inside in
-    let stroke = rw c.as_slice.ensures.value at c.draw_modes-place.ensures.stroke in
+    let same = ends_taken s.ref_changes.items _ s.settings.columns (c.put_ends.ensures.ended c.if-not-put_ends.false) in
+    let stroke = rw (c.as_slice.ensures.value, same) at c.draw_modes-place.ensures.stroke in
     let some : 0 < s.settings.columns = omega (arith, c.if-self-eq0.false) in
     let listed = changes-pixels s.settings.columns s.ref_changes.items c.self.invariant.reference in
     rw (← c.self.view_is, listed, c.saturating_sub-self-inside.ensures)
-    (are_passed _ _ _ _ _ _ some c.self.invariant.reference stroke).within
+    (are_passed some c.self.invariant.reference stroke).within

@@ -1,11 +1,5 @@
-use Rattle.hayro_ccitt.proofs.Names.{◌≡◌, ◌≤◌, ℕ, length, drop, ap, sym, subst, ◌∙◌, Bits, BitsAt, here, AtHand}
+use Rattle.hayro_ccitt.proofs.Names.{◌≡◌, ℕ, drop, ap, sym, ◌∙◌, Bits, BitsAt, here, AtHand}
 use Rattle.hayro_ccitt.proofs.context.DecoderContext.draw_runs_of.Goals as goal
-
-pub go_to-requires : goal.go_to-requires
-go_to-requires c =
-    let bits : c.draw_by_twos.new.hand.at.bits ≡ c.args.reader.now.bits
-    = c.draw_by_twos.ensures.same_bits ∙ ap (λ (h : AtHand). h.at.bits) c.in-Some.ensures.same in
-    subst (λ (b : Bits). c.bit_pos.result ≤ length b) bits c.bit_pos.ensures.within
 
 pub returns-in-Some-clause-drawn : goal.returns-in-Some-clause-drawn
 returns-in-Some-clause-drawn c =

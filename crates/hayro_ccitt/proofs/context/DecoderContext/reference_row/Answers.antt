@@ -7,9 +7,6 @@ returns-clause-changes c =
     let listed = changes-pixels inside.settings.columns inside.ref_changes.items c.self.invariant.reference in
     rw (← c.self.view_is, listed) c.as_slice.ensures.value
 
-pub returns-clause-lawful : goal.returns-clause-lawful
-returns-clause-lawful c = rw (← c.self.view_is, c.as_slice.ensures.value) c.self.invariant.reference
-
 pub returns-clause-width : goal.returns-clause-width
 returns-clause-width c =
     rw (← c.self.view_is) (row_length c.self.inside.settings.columns c.self.inside.ref_changes.items c.self.invariant.reference)

@@ -2,12 +2,29 @@ use Rattle.hayro_ccitt.proofs.Names.{OnErr, OnOk, IfOk, Ok, Err, sum_by, ℕ, �
 use Rattle.hayro_ccitt.proofs.Names.{Result, length, drop, ap, sym, subst, arith, refl, IfErr-weaker, DecodeError, Stand}
 use Rattle.hayro_ccitt.proofs.Names.{DecodeSettings, Bits, here, Held, Repairs, gap_said, gap_behind_row, failed_at}
 use Rattle.hayro_ccitt.proofs.Names.{ReachesNextLine, ReaderStands, read_so_far, start_after, stand_after, IsStanding}
-use Rattle.hayro_ccitt.proofs.Names.{DamageIsCounted, WorkIsPaid, seen, looked_ahead, tag_tests, words_of}
+use Rattle.hayro_ccitt.proofs.Names.{StandsBehindRow, DamageIsCounted, MissIsTold, WorkIsPaid, missed_before, missed_since, seen}
+use Rattle.hayro_ccitt.proofs.Names.{looked_ahead, tag_tests, words_of}
 use Rattle.hayro_ccitt.proofs.{Readings.DamageCounted.repaired_behind, Work.CallsPaid.behind_row_paid, Work.CallsPaid.gap_paid}
 use Rattle.hayro_ccitt.proofs.{row_reader.RowState.come_to_line.Goals.After-line_after_gap}
 use Rattle.hayro_ccitt.proofs.Readings.RowByRow.{starts_behind, behind_row_stands, damage_stays, misses_behind_row, misses_passed}
-use Rattle.hayro_ccitt.proofs.Readings.RowByRow.{misses_after, gap_stands, comes_to_line}
+use Rattle.hayro_ccitt.proofs.Readings.RowByRow.{misses_after, miss_told, told_after, gap_stands, comes_to_line}
 use Rattle.hayro_ccitt.proofs.row_reader.RowState.come_to_line.Goals as goal
+
+-- the reader is behind a row
+behind_row : (c : After-line_after_gap) → IsStanding c.args.self.now c.args.reader.now
+    → StandsBehindRow c.args.self.now.ctx.held.settings c.args.reader.now.bits c.args.self.now.ctx.held (here c.args.reader.now)
+behind_row c stands =
+    behind_row_stands c.args.self.now.stand c.args.self.now.ctx.held.settings c.args.reader.now.bits c.args.self.now.ctx.held
+    c.args.reader.now.place c.requires (sym c.is_at_line.ensures ∙ c.if-is_at_line.false) stands.0
+
+-- what the gap says
+said : (c : After-line_after_gap) → gap_behind_row c.args.self.now.ctx.held.settings c.args.self.now.ctx.held.taken
+    c.args.self.now.ctx.held.has_eols (here c.args.reader.now) ≡ gap_said c.pass_gap-over.result
+    c.pass_gap-over.new.ctx.held.has_eols (drop c.pass_gap-over.new.reader.place c.args.reader.now.bits)
+said c = subst (λ (b : Bits). gap_behind_row c.args.self.now.ctx.held.settings c.args.self.now.ctx.held.taken
+    c.args.self.now.ctx.held.has_eols (here c.args.reader.now) ≡ gap_said c.pass_gap-over.result
+    c.pass_gap-over.new.ctx.held.has_eols (drop c.pass_gap-over.new.reader.place b)) c.pass_gap-over.ensures.same_bits
+    c.pass_gap-over.ensures.gap
 
 -- where the reading is after the gap
 passed : (c : After-line_after_gap) → IsStanding c.args.self.now c.args.reader.now
@@ -19,13 +36,9 @@ passed c stands =
     let bits = c.args.reader.now.bits in
     let last = c.pass_gap-over.new.ctx.held in
     let at = c.pass_gap-over.new.reader in
-    let behind = behind_row_stands rows.stand held.settings bits held c.args.reader.now.place c.requires
-    (sym c.is_at_line.ensures ∙ c.if-is_at_line.false) stands.0 in
-    let said = subst (λ (b : Bits). gap_behind_row held.settings held.taken held.has_eols (here c.args.reader.now) ≡ gap_said
-    c.pass_gap-over.result last.has_eols (drop at.place b)) c.pass_gap-over.ensures.same_bits c.pass_gap-over.ensures.gap in
-    gap_stands held.settings bits held (here c.args.reader.now) behind last at.place
+    gap_stands held.settings bits held (here c.args.reader.now) (behind_row c stands) last at.place
     (omega (arith, c.bit_pos-place.ensures.place, c.bit_pos-place.ensures.within, ap length c.pass_gap-over.ensures.same_bits))
-    c.pass_gap-over.ensures.held c.pass_gap-over.result said
+    c.pass_gap-over.ensures.held c.pass_gap-over.result (said c)
     (IfErr-weaker c.pass_gap-over.result _ _ (λ error code. code.0) c.pass_gap-over.ensures.only_code)
 
 -- the offset of its fault, if it has one
@@ -38,23 +51,17 @@ started c stands =
     let bits = c.args.reader.now.bits in
     let last = c.pass_gap-over.new.ctx.held in
     let at = c.pass_gap-over.new.reader in
-    let behind = behind_row_stands rows.stand held.settings bits held c.args.reader.now.place c.requires
-    (sym c.is_at_line.ensures ∙ c.if-is_at_line.false) stands.0 in
-    let said = subst (λ (b : Bits). gap_behind_row held.settings held.taken held.has_eols (here c.args.reader.now)
-    ≡ gap_said c.pass_gap-over.result last.has_eols (drop at.place b)) c.pass_gap-over.ensures.same_bits
-    c.pass_gap-over.ensures.gap in
     let gap_start : c.bit_pos-gap_start.result ≡ length bits - length (here c.args.reader.now) = omega (
       arith,
       c.bit_pos-gap_start.ensures.place,
       c.bit_pos-gap_start.ensures.within,
       length-drop c.args.reader.now.place bits,
     ) in
-    subst (λ (n : ℕ). OnErr c.pass_gap-over.result (n ≡ failed_at held.settings bits held.taken))
-    (sym c.start_after_gap-self.ensures)
-    (starts_behind held.settings bits held (here c.args.reader.now) behind last at.place
+    subst
+    (λ (n : ℕ). OnErr c.pass_gap-over.result (n ≡ failed_at held.settings bits held.taken)) (sym c.start_after_gap-self.ensures)
+    (starts_behind held.settings bits held (here c.args.reader.now) (behind_row c stands) last at.place
     (omega (arith, c.bit_pos-place.ensures.place, c.bit_pos-place.ensures.within, ap length c.pass_gap-over.ensures.same_bits))
-    c.pass_gap-over.ensures.held c.pass_gap-over.result said
-    c.bit_pos-gap_start.result _ gap_start)
+    c.pass_gap-over.ensures.held c.pass_gap-over.result (said c) c.bit_pos-gap_start.result _ gap_start)
 
 -- if it has none, the offset of the last row's line is unchanged
 kept : (over : Result Bool DecodeError) (place before : ℕ) → IfOk over (λ b. start_after over place before ≡ before)
@@ -68,6 +75,27 @@ start_stays c =
     subst (λ (n : ℕ). IfOk c.pass_gap-over.result (λ over. n ≡ before)) (sym c.start_after_gap-self.ensures)
     (kept c.pass_gap-over.result c.bit_pos-gap_start.result _)
 
+-- where its EOL was missed
+told : (c : After-line_after_gap) → IsStanding c.args.self.now c.args.reader.now → c.missed_since-self.result
+    ≡ missed_before c.args.self.now.ctx.held.settings c.args.reader.now.bits c.args.self.now.ctx.held.taken
+told c stands =
+    let rows = c.args.self.now in
+    let held = rows.ctx.held in
+    let bits = c.args.reader.now.bits in
+    let no_line = sym c.is_at_line.ensures ∙ c.if-is_at_line.false in
+    let gap_start : c.bit_pos-gap_start.result ≡ length bits - length (here c.args.reader.now) = omega (
+      arith,
+      c.bit_pos-gap_start.ensures.place,
+      c.bit_pos-gap_start.ensures.within,
+      length-drop c.args.reader.now.place bits,
+    ) in
+    c.missed_since-self.ensures ∙ ap (λ (n : ℕ). missed_since c.pass_gap-over.new.ctx.held.repairs n c.bit_pos-gap_start.result)
+    c.missed_eols-missed_eols.ensures
+    ∙ miss_told held.settings bits held (here c.args.reader.now)
+    (behind_row_stands rows.stand held.settings bits held c.args.reader.now.place c.requires no_line stands.0)
+    (misses_behind_row rows.stand held.settings bits held c.requires no_line stands.1.misses) c.pass_gap-over.new.ctx.held
+    c.pass_gap-over.ensures.missed c.bit_pos-gap_start.result gap_start
+
 -- what was counted is paid
 paid : (c : After-line_after_gap) → IsStanding c.args.self.now c.args.reader.now
     → WorkIsPaid (stand_after c.pass_gap-over.result) c.args.self.now.ctx.held.settings c.args.reader.now.bits
@@ -80,13 +108,9 @@ paid c stands =
     let last = c.pass_gap-over.new.ctx.held in
     let at = c.pass_gap-over.new.reader in
     let work = stands.2 in
-    let behind = behind_row_stands rows.stand held.settings bits held c.args.reader.now.place c.requires
-    (sym c.is_at_line.ensures ∙ c.if-is_at_line.false) stands.0 in
     let row = behind_row_paid rows.stand held.settings bits held c.args.reader.now.place rows.ctx.ticks c.requires
     (sym c.is_at_line.ensures ∙ c.if-is_at_line.false) work.paid in
     let same = c.pass_gap-over.ensures.same_bits in
-    let said = subst (λ (b : Bits). gap_behind_row held.settings held.taken held.has_eols (here c.args.reader.now)
-    ≡ gap_said c.pass_gap-over.result last.has_eols (drop at.place b)) same c.pass_gap-over.ensures.gap in
     record {
       words = omega (
         arith,
@@ -94,14 +118,12 @@ paid c stands =
         c.pass_gap-over.ensures.counts,
         ap (λ (h : Held). sum_by length (take h.taken (words_of held.settings bits))) c.pass_gap-over.ensures.held,
       );
-      paid = gap_paid held.settings behind.wide bits held (here c.args.reader.now) rows.ctx.ticks row last at.place
-          c.pass_gap-over.new.ctx.ticks
-          c.pass_gap-over.ensures.held c.pass_gap-over.result said c.pass_gap-over.ensures.given_up
-          (subst (λ (b : Bits). OnOk c.pass_gap-over.result (last.has_eols ≡ held.has_eols
-          → c.pass_gap-over.new.ctx.ticks + 4 * length (drop at.place b) ≤ rows.ctx.ticks + 4 * length (here c.args.reader.now)
-          + tag_tests held.settings.encoding + looked_ahead held.settings.encoding (drop at.place b))) same
-          c.pass_gap-over.ensures.work)
-          c.pass_gap-over.ensures.work_given_up c.pass_gap-over.ensures.work_refused;
+      paid = gap_paid held.settings (behind_row c stands).wide bits held (here c.args.reader.now)
+          rows.ctx.ticks row last at.place c.pass_gap-over.new.ctx.ticks c.pass_gap-over.ensures.held c.pass_gap-over.result
+          (said c) c.pass_gap-over.ensures.given_up (subst (λ (b : Bits). OnOk c.pass_gap-over.result (last.has_eols
+          ≡ held.has_eols → c.pass_gap-over.new.ctx.ticks + 4 * length (drop at.place b) ≤ rows.ctx.ticks + 4 * length
+          (here c.args.reader.now) + tag_tests held.settings.encoding + looked_ahead held.settings.encoding (drop at.place b)))
+          same c.pass_gap-over.ensures.work) c.pass_gap-over.ensures.work_given_up c.pass_gap-over.ensures.work_refused;
     }
 
 pub returns-clause-stands : goal.returns-clause-stands
@@ -115,9 +137,12 @@ returns-clause-stands c stands =
     let stand = c.args.self.now.stand in
     let taken = ap (λ (h : Held). h.taken) c.pass_gap-over.ensures.held in
     let no_line = sym c.is_at_line.ensures ∙ c.if-is_at_line.false in
-    let missed = misses_passed settings bits held
-    (here c.args.reader.now) (behind_row_stands stand settings bits held c.args.reader.now.place c.requires no_line stands.0)
+    let missed = misses_passed settings bits held (here c.args.reader.now) (behind_row c stands)
     (misses_behind_row stand settings bits held c.requires no_line stands.1.misses) last c.pass_gap-over.ensures.missed taken in
+    let stays = λ (P : DecodeSettings → Bits → ℕ → Type 0) (known : P settings bits held.taken).
+    subst (λ (n : ℕ). P last.settings at.bits n) (sym taken)
+    (subst (λ (s : DecodeSettings). P s at.bits held.taken) (sym same)
+    (subst (λ (b : Bits). P settings b held.taken) (sym c.pass_gap-over.ensures.same_bits) known)) in
     let counted = damage_stays stand (stand_after c.pass_gap-over.result) settings last.settings bits at.bits held last same
     c.pass_gap-over.ensures.same_bits taken (ap (λ (r : Repairs). r.rows) c.pass_gap-over.ensures.missed ∙ (repaired_behind held
     (here c.args.reader.now)).0) stands.1 (misses_after c.pass_gap-over.result settings bits last missed) in (
@@ -133,6 +158,9 @@ returns-clause-stands c stands =
           (subst (λ (b : Bits). WorkIsPaid (stand_after c.pass_gap-over.result) settings b last at.place
           c.pass_gap-over.new.ctx.ticks)
           (sym c.pass_gap-over.ensures.same_bits) (paid c stands))),
+      subst (λ (s : Stand). MissIsTold s last.settings at.bits last.taken c.missed_since-self.result)
+          (sym c.stand_after_gap-self.ensures) (told_after c.pass_gap-over.result last.settings at.bits last.taken
+          c.missed_since-self.result (stays (λ s b n. c.missed_since-self.result ≡ missed_before s b n) (told c stands))),
     )
 
 pub returns-clause-comes : goal.returns-clause-comes
@@ -144,9 +172,12 @@ returns-clause-comes c stands =
     let settings : last.settings ≡ rows.ctx.held.settings = ap (λ (h : Held). h.settings) c.pass_gap-over.ensures.held in
     let taken : last.taken ≡ rows.ctx.held.taken = ap (λ (h : Held). h.taken) c.pass_gap-over.ensures.held in
     let start = c.start_after_gap-self.result in
-    subst (λ (s : Stand). ReachesNextLine old (read_so_far last c.pass_gap-over.new.ctx.ticks at start rows.damage s)
+    let missed = c.missed_since-self.result in
+    subst (λ (s : Stand). ReachesNextLine old (read_so_far last c.pass_gap-over.new.ctx.ticks at start rows.damage missed s)
     c.line_after_gap.result) (sym c.stand_after_gap-self.ensures) (subst (λ (r : Result Bool DecodeError). ReachesNextLine old
-    (read_so_far last c.pass_gap-over.new.ctx.ticks at start rows.damage (stand_after c.pass_gap-over.result)) r)
+    (read_so_far last c.pass_gap-over.new.ctx.ticks at start rows.damage missed (stand_after c.pass_gap-over.result)) r)
     (sym c.line_after_gap.ensures) (comes_to_line old last c.pass_gap-over.new.ctx.ticks
-    at start rows.damage c.pass_gap-over.result settings c.pass_gap-over.ensures.same_bits taken c.pass_gap-over.ensures.counts
-    (ap (λ (h : Held). h.reference) c.pass_gap-over.ensures.held, refl) (start_stays c) (passed c stands) (started c stands)))
+    at start rows.damage missed c.pass_gap-over.result settings c.pass_gap-over.ensures.same_bits taken
+    c.pass_gap-over.ensures.counts
+    (ap (λ (h : Held). h.reference) c.pass_gap-over.ensures.held, refl) (start_stays c) (passed c stands) (started c stands)
+    (told c stands)))

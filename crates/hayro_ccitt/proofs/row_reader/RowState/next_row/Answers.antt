@@ -1,4 +1,4 @@
-use Rattle.hayro_ccitt.proofs.Names.{◌≡◌, ◌∙◌, Bool, Result, Ok, true, sym, subst, ap, false≢true, DecodeError, here}
+use Rattle.hayro_ccitt.proofs.Names.{◌≡◌, ◌∙◌, Bool, Result, Ok, true, sym, subst, ap, false≢true, DecodeError}
 use Rattle.hayro_ccitt.proofs.Names.{ReachesNextLine, seen}
 use Rattle.hayro_ccitt.proofs.Readings.RowByRow.{at_line_stands, few, reads_on}
 use Rattle.hayro_ccitt.proofs.row_reader.RowState.next_row.Goals as goal
@@ -13,8 +13,7 @@ returns-then-not-has_room-clause-reads c stands =
     let still = c.come_to_line.ensures.stands stands in
     let at_line = at_line_stands rows.stand held.settings reader.bits held reader.place
     ((c.come_to_line.ensures.comes stands).line line) still.0 in
-    absurd (false≢true
-    (sym c.if-not-has_room.true ∙ c.has_room.ensures.room (few held.settings reader.bits held (here reader) at_line) still.1.few))
+    absurd (false≢true (sym c.if-not-has_room.true ∙ c.has_room.ensures.room (few at_line) still.1.few))
 
 pub returns-clause-reads : goal.returns-clause-reads
 returns-clause-reads c stands =

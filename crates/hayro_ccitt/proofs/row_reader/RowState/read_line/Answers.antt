@@ -2,9 +2,9 @@ use Rattle.hayro_ccitt.proofs.Names.{sum_by, ◌≡◌, ◌∙◌, ◌-◌, ℕ,
 use Rattle.hayro_ccitt.proofs.Names.{arith, length-drop, White, DecodeSettings, Bits, here, Context, Held, Repairs, redrawn}
 use Rattle.hayro_ccitt.proofs.Names.{DecodeError, line_here, row_of_line, Row, changes, StandsAtLine, StandsBehindRow, HasFailed}
 use Rattle.hayro_ccitt.proofs.Names.{damage_since, IsStandingAtLine, MissesAreCounted, WorkIsPaid, found_here, words_of}
-use Rattle.hayro_ccitt.proofs.Names.{BehindRow, AtFault}
+use Rattle.hayro_ccitt.proofs.Names.{BehindRow, AtFault, missed_before}
 use Rattle.hayro_ccitt.proofs.Readings.RowByRow.{IsRead, at_line_stands, fails_at_line, damage_stays, misses_at_line, is_read}
-use Rattle.hayro_ccitt.proofs.Readings.RowByRow.{isnt_read}
+use Rattle.hayro_ccitt.proofs.Readings.RowByRow.{isnt_read, told_at_line}
 use Rattle.hayro_ccitt.proofs.Work.CallsPaid.{at_line_paid, failed_most}
 use Rattle.hayro_ccitt.proofs.row_reader.RowState.read_line.Goals.{After-self-in-Ok-2-1, After-self-in-Err-1}
 use Rattle.hayro_ccitt.proofs.row_reader.RowState.read_line.Goals as goal
@@ -32,9 +32,8 @@ row_was_read c at =
     let stands = at_line_stands rows.stand held.settings bits held c.args.reader.now.place at.0 at.1.0 in
     let same = begun_is held.settings bits held rest stands c.begin_line.new.self
     (ap (λ (x : Context). x.held) c.begin_line.ensures.frame) in
-    subst (λ (h : Held). IsRead held.settings bits h c.read_row.new.ctx.held rest (here c.read_row.new.reader)) same
-    (is_read held.settings bits c.begin_line.new.self.held rest (subst (λ (h : Held). StandsAtLine held.settings bits h rest)
-    (sym same) stands) c.read_row.new.ctx.held (here c.read_row.new.reader) c.in-Ok.ensures.row)
+    subst (λ (h : Held). IsRead held.settings bits h c.read_row.new.ctx.held rest (here c.read_row.new.reader))
+    same (is_read (subst (λ (h : Held). StandsAtLine held.settings bits h rest) (sym same) stands) c.in-Ok.ensures.row)
 
 -- or it wasn't
 row_was_not_read : (c : After-self-in-Err-1) → IsStandingAtLine c.args.self.now c.args.reader.now
@@ -47,8 +46,7 @@ row_was_not_read c at =
     let stands = at_line_stands rows.stand held.settings bits held c.args.reader.now.place at.0 at.1.0 in
     let same = begun_is held.settings bits held rest stands c.begin_line.new.self
     (ap (λ (x : Context). x.held) c.begin_line.ensures.frame) in
-    isnt_read held.settings bits c.begin_line.new.self.held rest (subst (λ (h : Held). StandsAtLine held.settings bits h rest)
-    (sym same) stands) c.read_row.new.ctx.held (here c.read_row.new.reader) c.in-Err.error c.in-Err.ensures.row
+    isnt_read (subst (λ (h : Held). StandsAtLine held.settings bits h rest) (sym same) stands) c.in-Err.ensures.row
 
 -- what an error leaves in the context
 settings_left : (c : After-self-in-Err-1) → c.read_row.new.ctx.held.settings ≡ c.args.self.now.ctx.held.settings
@@ -153,6 +151,7 @@ returns-in-Ok-clause-stands c at =
           (sym read.settings_are)
           (subst (λ (b : Bits). WorkIsPaid BehindRow settings b new c.read_row.new.reader.place c.read_row.new.ctx.ticks)
           (sym c.read_row.ensures.same_bits) (row_is_paid c at)),
+      tt,
     )
 
 pub returns-in-Err-clause-stands : goal.returns-in-Err-clause-stands
@@ -160,6 +159,7 @@ returns-in-Err-clause-stands c at =
     let held = c.args.self.now.ctx.held in
     let bits = c.args.reader.now.bits in
     let new = c.read_row.new.ctx.held in
+    let old_miss = c.args.self.now.missed in
     let read_bits = c.read_row.new.reader.bits in (
       subst (λ (s : DecodeSettings). HasFailed s read_bits new.taken c.in-Err.error) (sym (settings_left c)) (subst (λ (b : Bits).
           HasFailed held.settings b new.taken c.in-Err.error) (sym c.read_row.ensures.same_bits) (row_was_not_read c at)),
@@ -173,6 +173,10 @@ returns-in-Err-clause-stands c at =
           (subst (λ (b : Bits). WorkIsPaid (AtFault c.in-Err.error) held.settings b new c.read_row.new.reader.place
           c.read_row.new.ctx.ticks)
           (sym c.read_row.ensures.same_bits) (fault_is_paid c at)),
+      subst (λ (n : ℕ). old_miss ≡ missed_before new.settings read_bits n) (sym (taken_left c))
+          (subst (λ (s : DecodeSettings). old_miss ≡ missed_before s read_bits held.taken) (sym (settings_left c))
+          (subst (λ (b : Bits). old_miss ≡ missed_before held.settings b held.taken) (sym c.read_row.ensures.same_bits)
+          (told_at_line c.args.self.now.stand held.settings bits held.taken old_miss at.0 at.1.3))),
     )
 
 pub returns-in-Ok-clause-reads : goal.returns-in-Ok-clause-reads
@@ -193,6 +197,8 @@ returns-in-Ok-clause-reads c at =
       end = λ e. cc;
       error = tt;
       fault_start = λ unended. tt;
+      missed = told_at_line c.args.self.now.stand c.args.self.now.ctx.held.settings reader.bits
+          c.args.self.now.ctx.held.taken _ at.0 at.1.3;
       last = λ none. absurd (none refl);
       last_start = λ e. cc;
     }
@@ -214,8 +220,9 @@ returns-in-Err-clause-reads c at =
       end = λ e. cc;
       error = (refl, taken_left c, row_was_not_read c at);
       fault_start = λ unended. line_start_of reader.place reader.bits c.bit_pos-self.result c.bit_pos-self.ensures.place
-          c.bit_pos-self.ensures.within
-          ∙ fails_at_line held.settings reader.bits held (here reader) stands;
+          c.bit_pos-self.ensures.within ∙ fails_at_line stands;
+      missed = told_at_line c.args.self.now.stand c.args.self.now.ctx.held.settings reader.bits
+          c.args.self.now.ctx.held.taken _ at.0 at.1.3;
       last = λ none. (row_left c, refl);
       last_start = λ e. cc;
     }
