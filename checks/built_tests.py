@@ -12,7 +12,7 @@ NAMED = {
         "settings_tests::refused_memory": (10, 8),
         "settings_tests::refused_memory_row_by_row": (11, 9),
         "settings_tests::wanting_memory_stays": (1, 1),
-        "tests::refused_memory": (37, 31),
+        "tests::refused_memory": (34, 28),
         "tests::sink_without_memory": (1, 0),
     },
     "faxrows": {
@@ -25,7 +25,7 @@ NAMED = {
         "tests::refused_memory::contexts_without_memory": (1, 0),
         "tests::refused_memory::refused_bodies": (2, 1),
         "tests::refused_memory::refused_growths_of_a_row": (12, 11),
-        "tests::refused_memory::refused_rows": (8, 5),
+        "tests::refused_memory::refused_rows": (9, 6),
         "tests::refused_memory::white_rows_without_memory": (5, 0),
     },
 }
