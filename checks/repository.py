@@ -238,6 +238,48 @@ def each_lemma_is_cited():
     assert not dead, "\n".join(dead)
 
 
+# A declaration at the margin, or the public one of a module, which stands further in.
+TOP_LEVEL = re.compile(
+    rf"^( *)((?:pub |abbrev |unfoldable )*)(?:(?:record|data) ({NAME})|({NAME}) :(?=\s)(?! *goal\.))", re.MULTILINE
+)
+
+
+def top_level_names(text):
+    """The names that a file declares for others: all at the margin, and the public ones in its modules. Those of goals are the
+    checker's, as are the names in a proof by hand."""
+    text = re.sub(r"--.*", "", text)
+    for found in TOP_LEVEL.finditer(text):
+        indent, modifiers, kind, lemma = found.groups()
+        if not indent or ("pub" in modifiers and is_in_module(text, found.start(), len(indent))):
+            yield kind or lemma
+
+
+def is_in_module(text, start, indent):
+    """Whether what stands there, so far in, is in modules alone: in no record, and not behind a `where`."""
+    for line in reversed(text[:start].split("\n")):
+        inner = len(line) - len(line.lstrip())
+        if line.strip() and inner < indent:
+            if not line.lstrip().startswith("module _"):
+                return False
+            indent = inner
+    return True
+
+
+def no_name_stands_twice():
+    """In one crate no two files of proofs, and no proof and definition, have a name in common."""
+    places = collections.defaultdict(lambda: collections.defaultdict(set))
+    for name in tracked():
+        crate, _, path = name.removeprefix("crates/").partition("/")
+        if path.startswith(("proofs/", "specs/")) and path.endswith(".antt") and not path.endswith("/Proof.antt"):
+            with open(name, encoding="utf-8") as file:
+                for lemma in top_level_names(file.read()):
+                    places[crate][lemma].add(path)
+    found = [
+        f"{crate}: {lemma}: {sorted(files)}" for crate, names in places.items() for lemma, files in names.items() if len(files) > 1
+    ]
+    assert not found, "\n".join(found)
+
+
 WIDTH = 130
 
 
@@ -294,6 +336,7 @@ CHECKS = [
     no_proof_has_a_hole,
     no_work_is_thrown_away,
     each_lemma_is_cited,
+    no_name_stands_twice,
     one_line_is_unsafe,
     rust_is_unsafe_in_one_file_only,
     each_public_function_has_an_edit,

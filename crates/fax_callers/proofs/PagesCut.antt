@@ -6,14 +6,14 @@ use Rattle.hayro_ccitt.specs.declared.error.DecodeError.{DecodeError}
 use Rattle.fax_callers.specs.Pages.{page_from, ReadsClosedPages, EndAt, StandAt}
 
 -- one page more
-pub one_more : (columns : ℕ) (order : BitOrder) (bytes : List ℕ) (first : ℕ) (ends : List ℕ) (begin count : ℕ)
+pub one_page_more : (columns : ℕ) (order : BitOrder) (bytes : List ℕ) (first : ℕ) (ends : List ℕ) (begin count : ℕ)
     → EndAt columns order bytes first ends begin → 0 < count → begin + count ≤ length bytes → Ok count
     ≡ page_from columns order bytes begin → EndAt columns order bytes first (ends ++ (begin + count) ∷ []) (begin + count)
-one_more columns order bytes first [] begin count at some within read =
+one_page_more columns order bytes first [] begin count at some within read =
     let size : count ≡ begin + count - begin = omega arith in
     rw (at) (omega arith, within, sym read ∙ ap Ok size, refl)
-one_more columns order bytes first (next ∷ ends) begin count at some within read =
-    (at.0, at.1, at.2, one_more columns order bytes next ends begin count at.3 some within read)
+one_page_more columns order bytes first (next ∷ ends) begin count at some within read =
+    (at.0, at.1, at.2, one_page_more columns order bytes next ends begin count at.3 some within read)
 
 -- no page begins at a position
 abbrev pub NoPage : ℕ → BitOrder → List ℕ → ℕ → Type 0

@@ -6,6 +6,7 @@ use Rattle.std.proofs.lemmas.List.{drop_all}
 use Rattle.std.specs.List.{fold}
 use Rattle.std.proofs.lemmas.List.Sums.{sum_by-append, sum_by-cons}
 use Rattle.std.proofs.lemmas.List.Folds.{sum_by-replicate}
+use Rattle.hayro_ccitt.proofs.PixelRows.ChangesAndPixels.{AscendFrom-here}
 use Rattle.hayro_ccitt.specs.Rows.{Row, AscendFrom, AreChanges, pixels, pixels_from}
 use Rattle.fax_callers.specs.Counting.{number_of_pixel, black_in_row, black_in, in_64_bits}
 
@@ -16,11 +17,6 @@ pub record IsCounted (columns : ℕ) (changes : List ℕ) (index start : ℕ) (i
   pub ascend : AscendFrom start columns (drop index changes)
   pub within : start ≤ columns
   pub few : black ≤ start
-
--- positions right of one are right of those left of it
-from_before : (place width : ℕ) (places : List ℕ) → AscendFrom (suc place) width places → AscendFrom place width places
-from_before place width [] ascend = tt
-from_before place width (next ∷ places) ascend = (omega (arith, ascend.0), ascend.1, ascend.2)
 
 -- a pixel counts one at most
 at_most : (n : ℕ) (color : Bool) → n * number_of_pixel color ≤ n
@@ -78,7 +74,7 @@ module _ (columns : ℕ) (changes : List ℕ) (index start : ℕ) (is_black : Bo
         record {
           sum = ap (λ (n : ℕ). now + black_in_row (pixels_from next (not is_black) columns (drop n changes))) at ∙ e;
           ascend = subst (λ (n : ℕ). AscendFrom next columns (drop n changes)) (sym at)
-              (from_before next columns (drop (suc index) changes) ascends.2);
+              (AscendFrom-here next columns (drop (suc index) changes) ascends.2);
           within = omega (arith, inside);
           few = omega (arith, is, right, counted.few, at_most (next - start) is_black);
         }

@@ -13,7 +13,7 @@ use Rattle.fax_encode.proofs.Names.{chosen_lines_with_eols, chosen_eols, with_en
 use Rattle.fax_encode.proofs.{ChosenLines.line_1d_encodes, ChosenLines.line_2d_encodes, FilledEols.length-eol}
 use Rattle.fax_encode.proofs.ChosenBySettings.{line_encodes, lines_with_eols_encode, eols_close, white_is_wide}
 use Rattle.fax_encode.proofs.LinesOfPictures.{lines_left, lines_pushed, rows_are_chosen}
-use Rattle.hayro_ccitt.proofs.DamagedLines.DamageByK.{eol_before as eol_here}
+use Rattle.hayro_ccitt.proofs.DamagedLines.DamageByK.{eol_before_lines}
 
 -- ---- Fewer rows
 
@@ -167,11 +167,11 @@ left_most settings encoding rows (row ∷ more) same le =
     (subst (λ (e : EncodingMode). left_after e settings.k rows.left rows.last row ≤ settings.k - 1) (sym encoding)
     (left_below settings.k rows.left rows.last row le)))
 
-widths_of : (columns : ℕ) (before rest : List Row) → HaveWidth columns (before ++ rest) → HaveWidth columns before
+widths_of_parts : (columns : ℕ) (before rest : List Row) → HaveWidth columns (before ++ rest) → HaveWidth columns before
     × HaveWidth columns rest
-widths_of columns [] rest widths = ((λ k d lt. absurd (omega arith)), widths)
-widths_of columns (row ∷ before) rest widths =
-    let more = widths_of columns before rest (All-tail (λ row. length row ≡ columns) row (before ++ rest) widths) in (
+widths_of_parts columns [] rest widths = ((λ k d lt. absurd (omega arith)), widths)
+widths_of_parts columns (row ∷ before) rest widths =
+    let more = widths_of_parts columns before rest (All-tail (λ row. length row ≡ columns) row (before ++ rest) widths) in (
       All-cons (λ row. length row ≡ columns) row before
           (All-head (λ row. length row ≡ columns) row (before ++ rest) widths) more.0,
       more.1,
@@ -244,7 +244,7 @@ module _ (k : ℕ) (fills aligned : Bool) (order : BitOrder) (columns : ℕ) (be
       assoc = simp append_assoc
 
   widths : HaveWidth columns before × HaveWidth columns (row ∷ later)
-  widths = widths_of columns before (row ∷ later) picture.1
+  widths = widths_of_parts columns before (row ∷ later) picture.1
 
   width : length row ≡ columns
   width = All-head (λ row. length row ≡ columns) row later widths.1
@@ -278,7 +278,7 @@ module _ (k : ℕ) (fills aligned : Bool) (order : BitOrder) (columns : ℕ) (be
       (encoded_lines_are_bodies d (white_row columns) so_far.last row before so_far.lines line next fill are refl refl
       (picture.0, All-cons (λ row. length row ≡ columns) row before width widths.0) lines_before
       (line_encodes Group3_2D so_far.left so_far.last row (last_is_wide ∙ sym width) (omega (arith, width, picture.0)))
-      (eol_here d refl follow.0 next follow.2)))
+      (eol_before_lines d refl follow.0 next follow.2)))
 
   next_on : drop (line_end settings columns before row) one ≡ next
   next_on = drop_at one ((so_far.lines ++ eol fill) ++ line) next (line_end settings columns before row)

@@ -1,8 +1,8 @@
 -- EOLs with fill, and tags behind them.
 use Rattle.fax_encode.proofs.Names.{◌≡◌, ℕ, suc, ◌+◌, ◌^◌, ◌<◌, Bool, true, false, ◌∷◌, [], ◌++◌, length, replicate, ap, ◌∙◌}
 use Rattle.fax_encode.proofs.Names.{arith, append_assoc, length-append, length-replicate, pow-add, EncodingMode, Bits, low_bits}
-use Rattle.fax_encode.proofs.Names.{eol, tag_of, fill_of, chosen_eols}
-use Rattle.fax_encode.proofs.WrittenBits.{low_bits_split, zero_bits, power_positive}
+use Rattle.fax_encode.proofs.Names.{eol, tag_of, fill_of, chosen_eols, low_bits-append}
+use Rattle.fax_encode.proofs.WrittenBits.{zero_bits, power_positive}
 
 -- an EOL is the number 1 in twelve bits and its fill
 pub one_fits : (fill : ℕ) → 1 < 2 ^ (12 + fill)
@@ -11,7 +11,7 @@ one_fits fill = omega (arith, pow-add 2 12 fill, power_positive fill)
 pub eol_bits : (fill : ℕ) → low_bits (12 + fill) 1 ≡ eol fill
 eol_bits fill =
     let n : 12 + fill ≡ (11 + fill) + 1 = omega arith in
-    ap (λ (m : ℕ). low_bits m 1) n ∙ low_bits_split (11 + fill) 1 1 ∙ ap (λ (b : Bits). b ++ true ∷ []) (zero_bits (11 + fill))
+    ap (λ (m : ℕ). low_bits m 1) n ∙ low_bits-append (11 + fill) 1 1 ∙ ap (λ (b : Bits). b ++ true ∷ []) (zero_bits (11 + fill))
 
 pub length-eol : (fill : ℕ) → length (eol fill) ≡ 12 + fill
 length-eol fill = omega (arith, length-append (replicate (11 + fill) false) (true ∷ []), length-replicate (11 + fill) false)

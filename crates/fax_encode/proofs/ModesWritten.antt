@@ -2,7 +2,7 @@
 use Rattle.fax_encode.proofs.Names.{◌≡◌, ℕ, suc, ◌+◌, ◌-◌, ◌%◌, ◌<◌, ◌≤◌, Bool, true, false, cond, ltb, leb, List, [], ◌∷◌, ◌++◌}
 use Rattle.fax_encode.proofs.Names.{length, get_or, drop, map, replicate, refl, sym, ap, ◌∙◌, arith, append_assoc, lt-ltb, le-ltb}
 use Rattle.fax_encode.proofs.Names.{false≢true, append-nil, length-append, length-replicate, Mode, Pass, Horizontal, Bits, Row}
-use Rattle.fax_encode.proofs.Names.{AreChanges, pixels, opposite, a1, a2, b1, b2, padding, length-pixels, a1_next, a2_least}
+use Rattle.fax_encode.proofs.Names.{AreChanges, pixels, opposite, a1, a2, b1, b2, padding, length-pixels, a1_next}
 use Rattle.fax_encode.proofs.Names.{Place, word_of_mode, vertical_mode, is_near, is_coded, chosen_mode, runs_of_mode, place_after}
 use Rattle.fax_encode.proofs.Names.{bits_at, chosen_run, chosen_from, chosen_line_2d, chosen_lines_2d, rows_of}
 use Rattle.fax_encode.proofs.ChosenLines.{goes_right, chooses, chosen_more, chosen_over}
@@ -73,9 +73,6 @@ module _ (reference row : Row) (at : Place) (inside : at.from ≤ length row) wh
 -- the runs of horizontal mode are not negative
 pub first_run : (row : Row) (from : ℕ) → from ≤ length row → from - 1 ≤ a1 row from
 first_run row from inside = omega (arith, (a1_next row from).above inside)
-
-pub second_run : (row : Row) (from : ℕ) → a1 row from ≤ a2 row from
-second_run row from = a2_least row from
 
 -- near by other names of the same positions
 pub near_same : (b x a y : ℕ) (t : Bool) → b ≡ x → a ≡ y → is_near b a ≡ t → is_near x y ≡ t
@@ -150,12 +147,12 @@ pub lines_first : (aligned : Bool) (reference row : Row) (rows : List Row) → c
 lines_first aligned reference row rows = refl
 
 -- and precedes the lines that are left
-pub line_next : {X : Type 0} (columns : ℕ) (aligned : Bool) (reference : Row) (list_of : X → List ℕ)
+pub line_2d_next : {X : Type 0} (columns : ℕ) (aligned : Bool) (reference : Row) (list_of : X → List ℕ)
     (items : List X) (i : ℕ) (item : X) → i < length items → item ≡ get_or items i item → chosen_lines_2d aligned reference
     (rows_of columns (drop i (map list_of items))) ≡ (chosen_line_2d reference (pixels columns (list_of item))
     ++ cond aligned (padding (length (chosen_line_2d reference (pixels columns (list_of item))))) [])
     ++ chosen_lines_2d aligned (pixels columns (list_of item)) (rows_of columns (drop (i + 1) (map list_of items)))
-line_next columns aligned reference list_of items i item lt is =
+line_2d_next columns aligned reference list_of items i item lt is =
     let row : Row = pixels columns (list_of item) in
     let rows : List Row = rows_of columns (drop (i + 1) (map list_of items)) in
     let lists : rows_of columns (drop i (map list_of items)) ≡ row ∷ rows =

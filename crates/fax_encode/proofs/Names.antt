@@ -23,23 +23,26 @@ pub use Rattle.fax_encode.specs.declared.painting.Brush.{Brush}
 pub use Rattle.fax_encode.specs.declared.settings.EncodeSettings.{EncodeSettings}
 pub use Rattle.fax_encode.specs.declared.words.Word.{Word}
 pub use Rattle.hayro_ccitt.proofs.BitReading.BitLists.{bits_are_whole, drop_some, length-bits_in, length-bits_of, length-low_bits}
+pub use Rattle.hayro_ccitt.proofs.BitReading.SoughtEols.{zeros_end}
+pub use Rattle.hayro_ccitt.proofs.BitReading.WordRanges.{low_bits-append, low_bits_below, same_bit}
 pub use Rattle.hayro_ccitt.proofs.BitReading.ZerosPassed.{one_times, some_number}
 pub use Rattle.hayro_ccitt.proofs.DamagedLines.DamageByK.{encoded_follows, locality_by_k}
 pub use Rattle.hayro_ccitt.proofs.DamagedLines.EncodedBodies.{encoded_lines_are_bodies}
 pub use Rattle.hayro_ccitt.proofs.DamagedLines.LineTails.{drop_at}
 pub use Rattle.hayro_ccitt.proofs.EncodedPictures.Bodies.{body_end, rows_t4_end}
-pub use Rattle.hayro_ccitt.proofs.EncodedPictures.PictureLines.{ended, plain_ends}
+pub use Rattle.hayro_ccitt.proofs.EncodedPictures.PictureLines.{ended_with, plain_ends}
 pub use Rattle.hayro_ccitt.proofs.EncodedPictures.PicturesOfEachKind.{closed_pictures}
 pub use Rattle.hayro_ccitt.proofs.EncodedPictures.PicturesT4.{closed_picture_t4, eol_before, eol_stands, eols_here_one}
 pub use Rattle.hayro_ccitt.proofs.EncodedPictures.PicturesT4.{eols_here_two, limited_t4_end, matches_itself, six_tagged}
 pub use Rattle.hayro_ccitt.proofs.EncodedPictures.PicturesT6.{closed_picture_t6}
-pub use Rattle.hayro_ccitt.proofs.PixelRows.B1ByParity.{rising, turns_before, turns_next, turns_second}
+pub use Rattle.hayro_ccitt.proofs.PixelRows.B1ByParity.{rising, turned_before, turns_before, turns_by, turns_next}
+pub use Rattle.hayro_ccitt.proofs.PixelRows.B1ByParity.{turns_second}
 pub use Rattle.hayro_ccitt.proofs.PixelRows.ChangePlaces.{a1_next, a2_least, a2_next, b2_above}
 pub use Rattle.hayro_ccitt.proofs.PixelRows.ChangesAndPixels.{AreChanges-changes, AscendFrom-wider, changes-pixels}
 pub use Rattle.hayro_ccitt.proofs.PixelRows.ChangesAndPixels.{changes-recursive, last_pixel-same, length-pixels, pixels-changes}
 pub use Rattle.hayro_ccitt.proofs.PixelRows.ChangesAndPixels.{pixels_from-first}
 pub use Rattle.hayro_ccitt.proofs.PixelRows.ReferencePlaces.{IsSplit, a1_is, b1_is, b2_after_b1, in_list_if_below, next_change}
-pub use Rattle.hayro_ccitt.proofs.PixelRows.ReferencePlaces.{not_not, turned, turned-not, turned_by_parity}
+pub use Rattle.hayro_ccitt.proofs.PixelRows.ReferencePlaces.{turned}
 pub use Rattle.hayro_ccitt.proofs.PixelRows.RowChanges.{changes_from, changes_from-append, changes_from-same}
 pub use Rattle.hayro_ccitt.proofs.PixelRows.StepsOnRows.{over_rows}
 pub use Rattle.hayro_ccitt.proofs.Readings.Gathered.{gathered_turn}

@@ -241,10 +241,11 @@ filled columns n changes row row' b lawful room enough cut is =
     ∙ ap (λ (b : Bits). whole ++ b) (take-replicate more n false enough ∙ ap (λ (k : ℕ). replicate k false) missing)
 
 -- the last word is written as far as the row has room
-pub finished : (start : ℕ) (row row' bytes : List ℕ) (word : ℕ) → start ≤ length row → length row ≤ start + 8 → length bytes ≡ 8
-    → bits_of bytes ≡ low_bits 64 word → row' ≡ put_mid start (length row - start) row (take (length row - start) bytes)
-    → bits_of row' ≡ take (8 * length row) (bits_of (take start row) ++ low_bits 64 word)
-finished start row row' bytes word within last eight spelled put =
+pub last_word_written : (start : ℕ) (row row' bytes : List ℕ) (word : ℕ) → start ≤ length row → length row ≤ start + 8
+    → length bytes ≡ 8 → bits_of bytes ≡ low_bits 64 word → row'
+    ≡ put_mid start (length row - start) row (take (length row - start) bytes) → bits_of row'
+    ≡ take (8 * length row) (bits_of (take start row) ++ low_bits 64 word)
+last_word_written start row row' bytes word within last eight spelled put =
     let count : ℕ = length row - start in
     let part : List ℕ = take count bytes in
     let few : length part ≡ count = omega (arith, length-take count bytes) in

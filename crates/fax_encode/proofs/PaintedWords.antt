@@ -2,8 +2,8 @@
 use Rattle.fax_encode.proofs.Names.{◌≡◌, ℕ, zero, suc, ◌+◌, ◌-◌, ◌*◌, ◌/◌, ◌%◌, ◌^◌, ◌<◌, ◌≤◌, Bool, not, List, [], ◌∷◌, ◌++◌}
 use Rattle.fax_encode.proofs.Names.{length, take, replicate, eqb, refl, sym, ap, ◌∙◌, arith, bit_at, to_be_bytes, w64, bit_xor}
 use Rattle.fax_encode.proofs.Names.{bit_at_xor, bit_at_ones, bit_at_ones_above, bit_at-lt, HighestFirst, Bits, bit_of, bits_of}
-use Rattle.fax_encode.proofs.Names.{bits_of_byte, low_bits}
-use Rattle.fax_encode.proofs.WrittenBits.{low_bits_split, low_bits_mod}
+use Rattle.fax_encode.proofs.Names.{bits_of_byte, low_bits, low_bits-append}
+use Rattle.fax_encode.proofs.WrittenBits.{low_bits_mod}
 
 -- ---- the bytes of a word
 -- one byte of a number, before the bytes below it
@@ -11,7 +11,7 @@ byte_before : (k n byte : ℕ) (bytes : List ℕ) → byte ≡ (n / 2 ^ k) % 256
     → bits_of (byte ∷ bytes) ≡ low_bits (8 + k) n
 byte_before k n byte bytes is e =
     ap (λ (b : Bits). bits_of_byte HighestFirst byte ++ b) e ∙ ap (λ (b : Bits). b ++ low_bits k n)
-    (ap (low_bits 8) is ∙ low_bits_mod 8 8 (n / 2 ^ k) (omega arith)) ∙ sym (low_bits_split 8 k n)
+    (ap (low_bits 8) is ∙ low_bits_mod 8 8 (n / 2 ^ k) (omega arith)) ∙ sym (low_bits-append 8 k n)
 
 pub bits_of_word : (n : ℕ) → bits_of (to_be_bytes w64 n) ≡ low_bits 64 n
 bits_of_word n =

@@ -6,9 +6,10 @@ use Rattle.fax_encode.proofs.Names.{AreWholeBytes, bits_in, Row, eol, tag_of, pa
 use Rattle.fax_encode.proofs.Names.{pass_last_tag, one_more, GivesAll, BeginsWithRowsT6, BeginsWithRowsT4}
 use Rattle.fax_encode.proofs.Names.{BeginsWithRowsAndEolsT4, Ending, Reading, end_of, eols_here, ending_behind, first_gap}
 use Rattle.fax_encode.proofs.Names.{AreSettings, length-bits_in, bits_are_whole, eols-some, eols_with_tags-some}
-use Rattle.fax_encode.proofs.Names.{eols_with_tags-none, eols_here_counted, body_end, rows_t4_end, ended, plain_ends, eol_stands}
-use Rattle.fax_encode.proofs.Names.{eols_here_one, eols_here_two, limited_t4_end, matches_itself, filled_up, chosen_eols, fill_of}
-use Rattle.fax_encode.proofs.RoundTrip.{no_eol, eols_end}
+use Rattle.fax_encode.proofs.Names.{eols_with_tags-none, eols_here_counted, body_end, rows_t4_end, ended_with, plain_ends}
+use Rattle.fax_encode.proofs.Names.{eol_stands, eols_here_one, eols_here_two, limited_t4_end, matches_itself, filled_up}
+use Rattle.fax_encode.proofs.Names.{chosen_eols, fill_of, zeros_end}
+use Rattle.fax_encode.proofs.RoundTrip.{eols_end}
 
 -- ---- the EOLs of RTC
 abbrev zeros : ℕ → Bits
@@ -40,7 +41,7 @@ tag_before_eol : (fill : ℕ) (more : Bits) → past_tag (true ∷ (eol fill ++ 
 tag_before_eol fill more = rw (eol_stands fill more, past_tag) refl
 
 tag_before_zeros : (k : ℕ) → past_tag (true ∷ zeros k) ≡ true ∷ zeros k
-tag_before_zeros k = rw (no_eol 0 k, past_tag) refl
+tag_before_zeros k = rw (zeros_end 0 k, past_tag) refl
 
 -- of two-dimensional data: the last tag is left
 two_closing : (fills : Bool) (most at n k : ℕ) → suc n ≤ most
@@ -150,7 +151,7 @@ module _ (order : BitOrder) (d : DecodeSettings) (rows : List Row) (bytes : List
       let ends = ap (λ (e : EncodingMode). ending_behind d (first_gap e d (bits ++ more))) begins.encoding
       ∙ body_end d begins.picture.0 (omega (arith, are.columns)) Group4 begins.encoding rows bits more begins.some begins.limit
       begins.picture (λ e. ends_whole) begins.lines in
-      read_all (ended rows found) found begins.picture.0 (ap (end_of d) begins.begins.1 ∙ ends) refl refl (few_left more few)
+      read_all (ended_with rows found) found begins.picture.0 (ap (end_of d) begins.begins.1 ∙ ends) refl refl (few_left more few)
 
   pub all_t4 : (bits : Bits) (begins : BeginsWithRowsT4 d rows bits whole) → length begins.begins.0 < 8
       → GivesAll d whole rows (length bytes)
@@ -160,7 +161,7 @@ module _ (order : BitOrder) (d : DecodeSettings) (rows : List Row) (bytes : List
       let ends_whole : AreWholeBytes (bits ++ more) = subst AreWholeBytes begins.begins.1 (bits_are_whole order bytes) in
       let ends = rows_t4_end d begins.picture.0 (omega (arith, are.columns)) d.encoding refl rows bits more begins.some
       begins.limit begins.picture (λ e. ends_whole) begins.lines begins.encoding begins.end_of_line in
-      read_all (ended rows found) found begins.picture.0 (ap (end_of d) begins.begins.1 ∙ ends) refl refl (few_left more few)
+      read_all (ended_with rows found) found begins.picture.0 (ap (end_of d) begins.begins.1 ∙ ends) refl refl (few_left more few)
 
   pub all_t4_with_eols : (bits : Bits) (begins : BeginsWithRowsAndEolsT4 d rows bits whole) → length begins.begins.0 < 8
       → GivesAll d whole rows (length bytes)

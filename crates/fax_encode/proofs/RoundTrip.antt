@@ -1,10 +1,10 @@
 -- What was encoded is read again.
-use Rattle.fax_encode.proofs.Names.{◌≡◌, ℕ, zero, suc, ◌+◌, ◌-◌, ◌/◌, ◌%◌, ◌^◌, ◌<◌, true, false, List, [], ◌∷◌, ◌++◌, length}
-use Rattle.fax_encode.proofs.Names.{replicate, refl, sym, ap, subst, ◌∙◌, arith, inl, append_assoc, None, Ok, length-append}
+use Rattle.fax_encode.proofs.Names.{◌≡◌, ℕ, suc, ◌+◌, ◌-◌, ◌/◌, ◌%◌, ◌^◌, ◌<◌, true, false, List, [], ◌∷◌, ◌++◌, length}
+use Rattle.fax_encode.proofs.Names.{replicate, refl, sym, ap, subst, ◌∙◌, arith, inl, append_assoc, Ok, length-append}
 use Rattle.fax_encode.proofs.Names.{length-replicate, length-map, All-head, All-tail, All-cons, All-nil, DecodeSettings, Group4}
 use Rattle.fax_encode.proofs.Names.{Group3_1D, HighestFirst, Bits, bits_of, HaveWidth, Row, AreChanges, pixels, white_row}
-use Rattle.fax_encode.proofs.Names.{after_eol, eols, all_eols, IsPicture, padding, EncodesRowsWithEols, ClosesWithEols, PictureT6}
-use Rattle.fax_encode.proofs.Names.{BeginsWithPictureT6, BeginsWithPictureT4, EncodingMode, AreSettings, eols_here}
+use Rattle.fax_encode.proofs.Names.{zeros_end, eols, all_eols, IsPicture, padding, EncodesRowsWithEols, ClosesWithEols}
+use Rattle.fax_encode.proofs.Names.{PictureT6, BeginsWithPictureT6, BeginsWithPictureT4, EncodingMode, AreSettings, eols_here}
 use Rattle.fax_encode.proofs.Names.{length-bits_of, bits_are_whole, length-pixels, eols-none, closed_picture_t6}
 use Rattle.fax_encode.proofs.Names.{closed_picture_t4, eols_here_one, chosen_t6, chosen_t4, chosen_lines_1d, return_to_control}
 use Rattle.fax_encode.proofs.Names.{filled_up, rows_of, AreRows, RoundTripT6, RoundTripT4, ReadToTheEnd}
@@ -58,13 +58,8 @@ round_trip_t6 settings columns lists bytes wide small are to_end group4 e =
     bytes) begins ∙ ap (λ (n : ℕ). record { rows = rows; outcome = Ok n; has_eols = false }) (whole_bytes bits bytes e)
 
 -- ---- T.4
--- a few zeros contain no EOL
-pub no_eol : (seen n : ℕ) → after_eol seen (replicate n false) ≡ None
-no_eol seen zero = refl
-no_eol seen (suc n) = no_eol (suc seen) n
-
 pub eols_end : (most n : ℕ) → eols most (replicate n false) ≡ (0, replicate n false)
-eols_end most n = eols-none most (replicate n false) (no_eol 0 n)
+eols_end most n = eols-none most (replicate n false) (zeros_end 0 n)
 
 -- the EOLs of RTC, and the zeros after them
 eols_of_closing : (most n : ℕ)

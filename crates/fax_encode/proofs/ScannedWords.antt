@@ -5,8 +5,8 @@ use Rattle.fax_encode.proofs.Names.{count_leading_zeros, range_with_len, bit_at,
 use Rattle.fax_encode.proofs.Names.{cases_lt, get_or_past, get_or-map-range_with_len, be_bytes_8, or_shifted, xor_block}
 use Rattle.fax_encode.proofs.Names.{leading_top, leading_length, one_shl, bit_at_xor, bit_at-lt, bit_at-suc, bit_at_above}
 use Rattle.fax_encode.proofs.Names.{bit_at_cat_low, bit_at_cat_high, pow-suc, Bits, bit_of, bits_of, low_bits, Row, last_pixel}
-use Rattle.fax_encode.proofs.Names.{one_times, some_number, changes_from, differences, ones_from}
-use Rattle.fax_encode.proofs.{PaintedWords.bits_of_word, WrittenBits.low_bits_below, WrittenBits.power_positive}
+use Rattle.fax_encode.proofs.Names.{one_times, some_number, changes_from, differences, ones_from, append-nil, low_bits_below}
+use Rattle.fax_encode.proofs.{PaintedWords.bits_of_word, WrittenBits.power_positive}
 
 -- ---- the word of eight bytes
 -- the first eight bytes, and zeros past the end
@@ -116,6 +116,10 @@ take_zeros : (count z : ℕ) (rest : Bits) → count ≤ z → take count (repli
 take_zeros zero z rest le = refl
 take_zeros (suc count) zero rest le = absurd (omega arith)
 take_zeros (suc count) (suc z) rest le = ap (λ (b : Bits). false ∷ b) (take_zeros count z rest (omega arith))
+
+-- all are found, if none is left
+pub all_found : (found rest whole : List ℕ) → found ++ rest ≡ whole → rest ≡ [] → found ≡ whole
+all_found found rest whole e none = sym (append-nil found) ∙ ap (λ (l : List ℕ). found ++ l) (sym none) ∙ e
 
 -- the first one is found after zeros
 first_one : (first count z : ℕ) (rest : Bits) → z < count → ones_from first (take count (replicate z false ++ true ∷ rest))

@@ -1,16 +1,9 @@
 -- b1 is found in steps of two changes, and from near where it was.
-use Rattle.fax_encode.proofs.Names.{◌≡◌, ℕ, zero, suc, ◌+◌, ◌-◌, ◌<◌, ◌≤◌, ◌%◌, ◌⊎◌, false, not, List, length, get_or, refl, sym}
-use Rattle.fax_encode.proofs.Names.{ap, ◌∙◌, arith, inl, inr, cases_lt, get_or_default_zero, Color, White, Black, AreChanges}
-use Rattle.fax_encode.proofs.Names.{pixels, is_black, opposite, b1, TurnsFrom, IsSplit, turned, turned-not, turned_by_parity}
-use Rattle.fax_encode.proofs.Names.{not_not, in_list_if_below, b1_is, rising, turns_next, turns_second, turns_before, Place}
-use Rattle.fax_encode.proofs.Names.{IsNear, color_after}
-
-turns_by : (index : ℕ) (color : Color) → TurnsFrom index color → turned index false ≡ is_black color
-turns_by index White e = (turned_by_parity index).0 e
-turns_by index Black e = (turned_by_parity index).1 e
-
-turned_before : (k : ℕ) (color : Color) → turned (suc k) false ≡ is_black color → turned k false ≡ not (is_black color)
-turned_before k color colored = sym (not_not (turned k false)) ∙ ap not (sym (turned-not k false) ∙ colored)
+use Rattle.fax_encode.proofs.Names.{◌≡◌, ℕ, zero, suc, ◌+◌, ◌-◌, ◌<◌, ◌≤◌, ◌%◌, ◌⊎◌, false, List, length, get_or, refl, sym}
+use Rattle.fax_encode.proofs.Names.{ap, ◌∙◌, arith, inl, inr, cases_lt, get_or_default_zero, White, Black, AreChanges}
+use Rattle.fax_encode.proofs.Names.{pixels, is_black, opposite, b1, IsSplit, turned, turned_before, turns_by}
+use Rattle.fax_encode.proofs.Names.{in_list_if_below, b1_is, rising, turns_next, turns_second, turns_before, Place, IsNear}
+use Rattle.fax_encode.proofs.Names.{color_after}
 
 -- one change turns the colour, and two don't
 even_or_odd : (n : ℕ) → (n % 2 ≡ 0) ⊎ (n % 2 ≡ 1)

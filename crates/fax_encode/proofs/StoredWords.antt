@@ -1,9 +1,9 @@
 -- Words of 64 bits that are stored as eight bytes.
 use Rattle.fax_encode.proofs.Names.{◌≡◌, ℕ, ◌+◌, ◌-◌, ◌*◌, ◌/◌, ◌%◌, ◌^◌, ◌<◌, ◌≤◌, List, ◌++◌, sym, ap, ◌∙◌, arith, append_assoc}
 use Rattle.fax_encode.proofs.Names.{to_be_bytes, w64, bit_or, flat_map-append, HighestFirst, Bits, bits_of, bits_of_byte}
-use Rattle.fax_encode.proofs.Names.{low_bits}
+use Rattle.fax_encode.proofs.Names.{low_bits, low_bits-append}
 use Rattle.fax_encode.proofs.PaintedWords.{bits_of_word}
-use Rattle.fax_encode.proofs.WrittenBits.{put_behind, front_fits, low_bits_split}
+use Rattle.fax_encode.proofs.WrittenBits.{put_behind, front_fits}
 
 -- 64 bits are full and stored, and the word's other bits are pending
 pub stored : (old new : List ℕ) (waiting room width word full : ℕ) → room ≤ 64 → room ≤ width → width ≤ 64 → word < 2 ^ width
@@ -22,6 +22,6 @@ stored old new waiting room width word full le over short fits is new-is =
     ap bits_of new-is ∙ flat_map-append (bits_of_byte HighestFirst) old (to_be_bytes w64 full)
     ∙ ap (λ (b : Bits). bits_of old ++ b) (bits_of_word full ∙ front) in
     let word_bits : low_bits room (word / 2 ^ rest) ++ low_bits rest word ≡ low_bits width word
-    = sym (low_bits_split room rest word) ∙ ap (λ (m : ℕ). low_bits m word) sum in
+    = sym (low_bits-append room rest word) ∙ ap (λ (m : ℕ). low_bits m word) sum in
     ap (λ (m : ℕ). bits_of new ++ low_bits m word) left ∙ ap (λ (b : Bits). b ++ low_bits rest word) bits
     ∙ simp append_assoc (ap (λ (b : Bits). bits_of old ++ (low_bits count waiting ++ b)) word_bits)

@@ -1,22 +1,10 @@
 -- Bits of numbers one after another.
 use Rattle.fax_encode.proofs.Names.{◌≡◌, ℕ, zero, suc, ◌+◌, ◌-◌, ◌*◌, ◌/◌, ◌%◌, ◌^◌, ◌<◌, ◌≤◌, false, List, [], ◌∷◌, ◌++◌, length}
-use Rattle.fax_encode.proofs.Names.{replicate, eqb, refl, sym, ap, ◌∙◌, arith, append_assoc, bit_at, or_zero_r, bit_or}
+use Rattle.fax_encode.proofs.Names.{replicate, eqb, refl, sym, ap, ◌∙◌, arith, append_assoc, or_zero_r, bit_or}
 use Rattle.fax_encode.proofs.Names.{mul-mod_left, flat_map-append, append-nil, length-append, mod-pow-add, shl-shr, shl_whole}
-use Rattle.fax_encode.proofs.Names.{or_shifted, pow-add, div_below, mul-add-lt, bit_at_cat_low, bit_at_cat_high, bit_at_above}
+use Rattle.fax_encode.proofs.Names.{or_shifted, pow-add, div_below, mul-add-lt, bit_at_cat_high, bit_at_above}
 use Rattle.fax_encode.proofs.Names.{padding, filled_up, length-bits_of, length-low_bits, HighestFirst, Bits, bit_of, bits_of}
-use Rattle.fax_encode.proofs.Names.{bits_of_byte, low_bits}
-
-same_bit : (m n j k : ℕ) → bit_at m j ≡ bit_at n k → bit_of m j ≡ bit_of n k
-same_bit m n j k e = ap (λ (b : ℕ). eqb b 1) e
-
--- low bits don't depend on what is above them
-pub low_bits_below : (width a k b : ℕ) → width ≤ k → low_bits width (a * 2 ^ k + b) ≡ low_bits width b
-low_bits_below zero a k b le = refl
-low_bits_below (suc width) a k b le =
-    let one : bit_of (a * 2 ^ k + b) width ≡ bit_of b width =
-    same_bit (a * 2 ^ k + b) b width width (bit_at_cat_low a k b width (omega arith)) in
-    let rest = low_bits_below width a k b (omega arith) in
-    cc
+use Rattle.fax_encode.proofs.Names.{bits_of_byte, low_bits, low_bits-append, low_bits_below, same_bit}
 
 -- the bits of two numbers put together
 pub low_bits_cat : (width k a b : ℕ) → b < 2 ^ k → low_bits (width + k) (a * 2 ^ k + b) ≡ low_bits width a ++ low_bits k b
@@ -45,13 +33,6 @@ pub low_bits_mod : (width k n : ℕ) → width ≤ k → low_bits width (n % 2 ^
 low_bits_mod width k n le =
     sym (low_bits_below width (n / 2 ^ k) k (n % 2 ^ k) le) ∙ ap (low_bits width) (divided n (2 ^ k) (power_positive k))
 
--- the lowest bits taken apart
-pub low_bits_split : (width k n : ℕ) → low_bits (width + k) n ≡ low_bits width (n / 2 ^ k) ++ low_bits k n
-low_bits_split width k n =
-    sym (ap (low_bits (width + k)) (divided n (2 ^ k) (power_positive k)))
-    ∙ low_bits_cat width k (n / 2 ^ k) (n % 2 ^ k) (remainder n (2 ^ k) (power_positive k))
-    ∙ ap (λ (b : Bits). low_bits width (n / 2 ^ k) ++ b) (low_bits_mod k k n (omega arith))
-
 byte_is_low_bits : (n : ℕ) → bits_of_byte HighestFirst n ≡ low_bits 8 n
 byte_is_low_bits n = refl
 
@@ -68,7 +49,7 @@ push_byte bytes count left n byte split is =
     ap (low_bits 8) is ∙ low_bits_mod 8 8 (n / 2 ^ left) (omega arith) in
     ap (λ (b : Bits). b ++ low_bits left n) (bits_of-push bytes byte ∙ ap (λ (b : Bits). bits_of bytes ++ b) eight)
     ∙ append_assoc (bits_of bytes) (low_bits 8 (n / 2 ^ left)) (low_bits left n)
-    ∙ ap (λ (b : Bits). bits_of bytes ++ b) (sym (low_bits_split 8 left n) ∙ ap (λ (m : ℕ). low_bits m n) (sym split))
+    ∙ ap (λ (b : Bits). bits_of bytes ++ b) (sym (low_bits-append 8 left n) ∙ ap (λ (m : ℕ). low_bits m n) (sym split))
 
 -- ---- words one after another, in 64 bits
 -- what is shifted out is lost

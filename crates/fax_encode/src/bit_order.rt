@@ -38,7 +38,7 @@ fn byte_at(table: &[u8], index: usize) -> u8
 
 /// Returns a byte with its bits in the other order.
 #[inline(always)]
-fn turned(byte: u8) -> u8
+fn byte_turned(byte: u8) -> u8
     ensures { bits_of_byte LowestFirst result ≡ bits_of_byte HighestFirst byte }
 {
     byte_at(&TURNED, usize::from(byte))
@@ -50,13 +50,13 @@ fn turn_bytes(bytes: &mut [u8])
 {
     let mut index = 0;
     while index < bytes.len() {
-        bytes[index] = turned(bytes[index]);
+        bytes[index] = byte_turned(bytes[index]);
         index += 1;
     }
 }
 
 /// Returns bytes with their bits in this order, of bytes with the highest bit first.
-pub fn in_order(bytes: Vec<u8>, order: BitOrder) -> Vec<u8>
+pub fn bytes_in_order(bytes: Vec<u8>, order: BitOrder) -> Vec<u8>
     ensures { bits_in order result.items ≡ bits_of bytes.items }
 {
     let mut ordered = bytes;

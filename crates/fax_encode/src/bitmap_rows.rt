@@ -13,7 +13,7 @@ use crate::painting::plain_word;
 use std::alloc::{AllocError, Global};
 
 /// Returns the byte at an index, 0 past the end.
-fn byte_or_zero(bytes: &[u8], index: usize) -> u8
+fn byte_or_white(bytes: &[u8], index: usize) -> u8
     ensures { result ≡ slice_index bytes.now index }
 {
     bytes.get(index).copied().unwrap_or(0)
@@ -21,7 +21,7 @@ fn byte_or_zero(bytes: &[u8], index: usize) -> u8
 
 /// Returns the first 64 pixels of eight bytes or more, the leftmost in the highest bit.
 #[inline(always)]
-fn whole_word(bytes: &[u8]) -> u64
+fn first_pixels(bytes: &[u8]) -> u64
     requires { 8 ≤ length bytes.now }
     ensures { low_bits 64 result ≡ take 64 (bits_of bytes.now ++ replicate 64 false) }
 {
@@ -31,12 +31,12 @@ fn whole_word(bytes: &[u8]) -> u64
 }
 
 /// Returns the first 64 pixels of bytes, the leftmost in the highest bit, and white ones if there are fewer.
-fn last_word(bytes: &[u8]) -> u64
+fn pixels_or_white(bytes: &[u8]) -> u64
     ensures { low_bits 64 result ≡ take 64 (bits_of bytes.now ++ replicate 64 false) }
 {
     let mut first = [0; 8];
     for index in 0..8usize {
-        first[index] = byte_or_zero(bytes, index);
+        first[index] = byte_or_white(bytes, index);
     }
     u64::from_be_bytes(first)
 }
@@ -104,9 +104,9 @@ fn word_of(bytes: &[u8]) -> u64
     ensures { low_bits 64 result ≡ take 64 (bits_of bytes.now ++ replicate 64 false) }
 {
     if bytes.len() >= 8 {
-        whole_word(bytes)
+        first_pixels(bytes)
     } else {
-        last_word(bytes)
+        pixels_or_white(bytes)
     }
 }
 
@@ -116,8 +116,8 @@ fn two_are_plain(bytes: &[u8], is_black: bool) -> bool
     requires { 16 ≤ length bytes.now }
     ensures { IsTrue result → bits_of (take 16 bytes.now) ≡ replicate 128 is_black }
 {
-    let first = whole_word(bytes) == plain_word(is_black);
-    let second = whole_word(&bytes[8..]) == plain_word(is_black);
+    let first = first_pixels(bytes) == plain_word(is_black);
+    let second = first_pixels(&bytes[8..]) == plain_word(is_black);
     first & second
 }
 
@@ -155,7 +155,7 @@ fn count_plain(bytes: &[u8], most: usize, is_black: bool) -> usize
         count += 4;
     }
     let plain = plain_word(is_black);
-    'ones: while count < most && whole_word(&bytes[8 * count..]) == plain {
+    'ones: while count < most && first_pixels(&bytes[8 * count..]) == plain {
         count += 1;
     }
     count
@@ -196,7 +196,7 @@ pub fn scan_row(list: &mut Vec<u32>, columns: u32, bitmap: &[u8]) -> Result<(), 
             rest = &rest[8 * plain..];
             continue;
         }
-        let word = whole_word(rest);
+        let word = first_pixels(rest);
         let ones = turns(before, word);
         push_ones(list, start, 64, ones)?;
         is_plain = ones == 0;

@@ -8,7 +8,7 @@ ghost use Rattle.fax_encode.specs.Refusals.{AreRows, IsFirstUnlawful};
 ghost use Rattle.fax_encode.specs.Settings.{chosen, names_encoding, needs_row, with_end};
 ghost use Rattle.fax_encode.specs.Writing.{all_bits};
 
-use crate::bit_order::in_order;
+use crate::bit_order::bytes_in_order;
 use crate::bit_writer::BitWriter;
 use crate::bitmap_rows::scan_row;
 use crate::encoding::{names_encoding, put_end, put_part};
@@ -63,7 +63,7 @@ fn picture(
     let mut writer = BitWriter::new(alloc);
     put_rows(&mut writer, columns, rows, settings)?;
     put_end(&mut writer, settings)?;
-    Ok(in_order(writer.finish()?, settings.order))
+    Ok(bytes_in_order(writer.finish()?, settings.order))
 }
 
 /// Encodes rows, given as lists of changes, as the settings say: each line, the EOL before it or the zeros after it, EOFB
@@ -160,7 +160,7 @@ fn bitmap_picture(
     let mut writer = BitWriter::new(alloc);
     put_bitmap(&mut writer, alloc, columns, bitmap, settings)?;
     put_end(&mut writer, settings)?;
-    Ok(in_order(writer.finish()?, settings.order))
+    Ok(bytes_in_order(writer.finish()?, settings.order))
 }
 
 /// Encodes the rows of a bitmap as the settings say, as [`encode`] encodes lists of changes. Its rows are those of

@@ -8,7 +8,7 @@ ghost use Rattle.fax_encode.specs.Packed.{bytes_of_row};
 ghost use Rattle.fax_encode.specs.RowByRow.{no_rows, with_row};
 ghost use Rattle.fax_encode.specs.Settings.{names_encoding, needs_row, with_end};
 
-use crate::bit_order::in_order;
+use crate::bit_order::bytes_in_order;
 use crate::bit_writer::BitWriter;
 use crate::bitmap_rows::scan_row;
 use crate::by_settings::needs_row;
@@ -230,7 +230,7 @@ impl Encoder {
         let settings = self.settings;
         let mut writer = self.writer;
         put_end(&mut writer, settings)?;
-        Ok(in_order(writer.finish()?, settings.order))
+        Ok(bytes_in_order(writer.finish()?, settings.order))
     }
 
     /// Returns the bytes of the image: its lines, EOFB or RTC, and zeros up to a whole byte.

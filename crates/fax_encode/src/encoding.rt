@@ -139,7 +139,7 @@ fn put_line_of(
 }
 
 /// Returns whether EOLs precede the lines.
-fn has_eols(settings: EncodeSettings) -> bool
+fn eols_precede_lines(settings: EncodeSettings) -> bool
     ensures { result ≡ has_eols settings.encoding settings.end_of_line }
 {
     match settings.encoding {
@@ -170,7 +170,7 @@ pub fn put_part(
     ensures whole { OnOk result (has_eols settings.encoding settings.end_of_line ≡ false → settings.rows_are_byte_aligned ≡ true
         → length (all_bits writer.new) % 8 ≡ 0) }
 {
-    if has_eols(settings) {
+    if eols_precede_lines(settings) {
         put_filled_eol(writer, settings.eols_end_at_bytes)?;
         return put_line_of(writer, columns, settings, left, reference, changes);
     }

@@ -11,7 +11,7 @@ ghost use Rattle.fax_encode.specs.Coding.{AreAllLeft, place_of, IsNear, color_af
 ghost use Rattle.fax_encode.specs.Writing.{all_bits};
 
 use crate::bit_writer::BitWriter;
-use crate::runs::{put_runs, put_word};
+use crate::runs::{put_code_word, put_runs};
 use crate::words::{below_word, horizontal_word, pass_word, vertical_word};
 use hayro_ccitt::changes::change_or_end;
 use hayro_ccitt::codes::Color;
@@ -115,7 +115,7 @@ fn put_below(writer: &mut BitWriter, _b1: u32, _a1: u32) -> Result<(), AllocErro
     ensures near { is_near _b1 _a1 ≡ true }
     ensures written { OnOk result (all_bits writer.new ≡ all_bits writer.old ++ word_of_mode (vertical_mode _b1 _a1)) }
 {
-    put_word(writer, below_word())
+    put_code_word(writer, below_word())
 }
 
 /// Writes the vertical mode from b1 to a1, if that is at most three positions from it; returns whether it is.
@@ -126,7 +126,7 @@ fn put_vertical(writer: &mut BitWriter, b1: u32, a1: u32) -> Result<bool, AllocE
         ++ (if is_written then word_of_mode (vertical_mode b1 a1) else [])) }
 {
     if let Some(word) = vertical_word(b1, a1) {
-        put_word(writer, word)?;
+        put_code_word(writer, word)?;
         return Ok(true);
     }
     Ok(false)
@@ -143,7 +143,7 @@ fn put_horizontal(
     ensures { OnOk result (all_bits writer.new ≡ all_bits writer.old
         ++ (word_of_mode Horizontal ++ (chosen_run color first ++ chosen_run (opposite color) second))) }
 {
-    put_word(writer, horizontal_word())?;
+    put_code_word(writer, horizontal_word())?;
     put_runs(writer, color, first, second)
 }
 
@@ -182,7 +182,7 @@ fn put_mode(
         });
     }
     if let Some(b2) = b2_left_of(columns, reference, above.index, above.b1, a1) {
-        put_word(writer, pass_word())?;
+        put_code_word(writer, pass_word())?;
         return Ok(Coding {
             from: u64::from(b2) + 1,
             next: at.next,

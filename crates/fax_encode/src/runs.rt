@@ -13,7 +13,7 @@ use std::alloc::AllocError;
 
 /// Writes a word.
 #[inline(always)]
-pub fn put_word(writer: &mut BitWriter, word: Word) -> Result<(), AllocError>
+pub fn put_code_word(writer: &mut BitWriter, word: Word) -> Result<(), AllocError>
     requires few { word.count ≤ 13 }
     requires fits { word.bits < 2 ^ word.count }
     ensures { OnOk result (all_bits writer.new ≡ all_bits writer.old ++ low_bits word.count word.bits) }
@@ -40,7 +40,7 @@ fn put_rest(writer: &mut BitWriter, color: Color, pixels: u32) -> Result<(), All
     ensures { OnOk result (all_bits writer.new ≡ all_bits writer.old ++ chosen_rest color pixels) }
 {
     if pixels < 64 {
-        return put_word(writer, terminating_word(color, pixels));
+        return put_code_word(writer, terminating_word(color, pixels));
     }
     put_two_words(
         writer,
@@ -56,7 +56,7 @@ fn put_long_run(writer: &mut BitWriter, color: Color, pixels: u32) -> Result<(),
 {
     let mut left = pixels;
     while left >= 2560 {
-        put_word(writer, makeup_word(color, 40))?;
+        put_code_word(writer, makeup_word(color, 40))?;
         left -= 2560;
     }
     put_rest(writer, color, left)
@@ -70,7 +70,7 @@ pub fn put_run(writer: &mut BitWriter, color: Color, pixels: u32) -> Result<(), 
     if pixels >= 64 {
         return put_long_run(writer, color, pixels);
     }
-    put_word(writer, terminating_word(color, pixels))
+    put_code_word(writer, terminating_word(color, pixels))
 }
 
 /// Writes the words of a run, and those of a run of the other colour after it.

@@ -20,7 +20,7 @@ pub struct Word {
 
 /// Returns a code word of a table of (run length, number of bits, code word).
 #[inline(always)]
-fn word_at(table: &[(u16, u8, u16)], index: usize) -> Word
+fn word_of_table(table: &[(u16, u8, u16)], index: usize) -> Word
     requires { index < length table.now }
     ensures count { result.count ≡ (get_or table.now index (0, 0, 0)).1 }
     ensures bits { result.bits ≡ (get_or table.now index (0, 0, 0)).2 }
@@ -36,8 +36,8 @@ pub fn terminating_word(color: Color, pixels: u32) -> Word
     ensures { IsWord (word_of_length color pixels) result }
 {
     match color {
-        Color::White => word_at(&WHITE_TERMINATING, pixels as usize),
-        Color::Black => word_at(&BLACK_TERMINATING, pixels as usize),
+        Color::White => word_of_table(&WHITE_TERMINATING, pixels as usize),
+        Color::Black => word_of_table(&BLACK_TERMINATING, pixels as usize),
     }
 }
 
@@ -49,11 +49,11 @@ pub fn makeup_word(color: Color, times: u32) -> Word
     ensures { IsWord (word_of_length color (64 * times)) result }
 {
     if times > 27 {
-        return word_at(&COMMON_MAKEUP, times as usize - 28);
+        return word_of_table(&COMMON_MAKEUP, times as usize - 28);
     }
     match color {
-        Color::White => word_at(&WHITE_MAKEUP, times as usize - 1),
-        Color::Black => word_at(&BLACK_MAKEUP, times as usize - 1),
+        Color::White => word_of_table(&WHITE_MAKEUP, times as usize - 1),
+        Color::Black => word_of_table(&BLACK_MAKEUP, times as usize - 1),
     }
 }
 
@@ -110,5 +110,5 @@ pub fn vertical_word(b1: u32, a1: u32) -> Option<Word>
     if place < least || place - least > 6 {
         return None;
     }
-    Some(word_at(&VERTICAL_WORDS, (place - least) as usize))
+    Some(word_of_table(&VERTICAL_WORDS, (place - least) as usize))
 }

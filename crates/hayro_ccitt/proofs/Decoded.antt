@@ -4,10 +4,11 @@ use Rattle.hayro_ccitt.proofs.Names.{sym, ap, subst, ◌∙◌, arith, IsOk, OnE
 use Rattle.hayro_ccitt.proofs.Names.{Group4, OnAnswer, meaning_after, Bits, AreWholeBytes, Held, Decodes, Damaged}
 use Rattle.hayro_ccitt.proofs.Names.{repairs_by_line, misses_by_line, SinkState, TakesRows, StopsShort, CountsDamage, Line, plain}
 use Rattle.hayro_ccitt.proofs.Names.{lines_of, failed_at, Row, AreSettings, CountsWork}
-use Rattle.hayro_ccitt.proofs.{DamagedLines.Damage.damage_stays, Readings.PlainAnswers.LeavesRows, Readings.RowWidths.plain_width}
+use Rattle.hayro_ccitt.proofs.{DamagedLines.Damage.damage_stays_in_row, Readings.PlainAnswers.LeavesRows}
+use Rattle.hayro_ccitt.proofs.Readings.RowWidths.{plain_width}
 use Rattle.hayro_ccitt.proofs.DamagedLines.DamageByK.{damage_ends}
 use Rattle.hayro_ccitt.proofs.EncodedPictures.PicturesOfEachKind.{closed_pictures, limited_pictures}
-use Rattle.hayro_ccitt.proofs.Readings.Undamaged.{no_repairs, no_misses, closed_strict, limited_strict}
+use Rattle.hayro_ccitt.proofs.Readings.Undamaged.{no_row_repaired, no_misses, closed_strict, limited_strict}
 
 -- what follows is true of the same results
 on_answer : {P Q : Type 0} (answer : Result ℕ DecodeError) → (P → Q) → OnAnswer answer P → OnAnswer answer Q
@@ -91,13 +92,13 @@ decodes settings bits step before after held place ticks answer are whole
       limited_eols = λ rows picture. unmissed (limited_strict settings rows bits are whole picture);
       undamaged = λ ok. (unrepaired ok, unmissed ok);
       damage = on_answer answer
-          (λ e. damage_stays settings bits (take held.taken (plain settings bits).rows) answer are whole e.0 e.1) end;
+          (λ e. damage_stays_in_row settings bits (take held.taken (plain settings bits).rows) answer are whole e.0 e.1) end;
       damage_by_k = on_answer answer (λ e. damage_ends settings bits
           (take held.taken (plain settings bits).rows) answer are whole e.0 e.1) end;
     }
   where
     unrepaired : IsOk (plain (record settings { strict = true }) bits).outcome → held.repairs.rows ≡ 0
-    unrepaired ok = repaired.of_taken ∙ no_repairs settings bits held.taken ok
+    unrepaired ok = repaired.of_taken ∙ no_row_repaired settings bits held.taken ok
 
     unmissed : IsOk (plain (record settings { strict = true }) bits).outcome → held.repairs.missed ≡ 0
     unmissed ok = missed.of_taken ∙ no_misses settings bits held.taken ok

@@ -101,7 +101,8 @@ fn draw_v0(
     requires open { painted < columns }
     requires ended { AreEnded columns places.now }
     requires stroke { IsStroke columns (changes_in places.now) painted index color row.old.items }
-    ensures drawn { IfSome result (λ reached. GoesOn2d _strict columns (row_in columns places.now) (pen_at painted row.old.items color hand.old.at)
+    ensures drawn { IfSome result (λ reached. GoesOn2d _strict columns (row_in columns places.now)
+        (pen_at painted row.old.items color hand.old.at)
         (pen_at reached.0 row.new.items reached.2 hand.new.at) ticks.old ticks.new (index - 1) (reached.1 - 1)) }
     ensures stroke { IfSome result (λ reached. IsStroke columns (changes_in places.now) reached.0 reached.1 reached.2 row.new.items) }
     ensures same_bits { hand.new.at.bits ≡ hand.old.at.bits }
@@ -143,7 +144,8 @@ fn draw_to_end(
     requires open { painted < columns }
     requires ended { AreEnded columns places.now }
     requires stroke { IsStroke columns (changes_in places.now) painted index color row.old.items }
-    ensures drawn { IfSome result (λ reached. GoesOn2d _strict columns (row_in columns places.now) (pen_at painted row.old.items color hand.old.at)
+    ensures drawn { IfSome result (λ reached. GoesOn2d _strict columns (row_in columns places.now)
+        (pen_at painted row.old.items color hand.old.at)
         (pen_at reached.0 row.new.items reached.2 hand.new.at) ticks.old ticks.new (index - 1) (reached.1 - 1)) }
     ensures stroke { IfSome result (λ reached. IsStroke columns (changes_in places.now) reached.0 reached.1 reached.2 row.new.items) }
     ensures same_bits { hand.new.at.bits ≡ hand.old.at.bits }
@@ -183,7 +185,8 @@ fn draw_right(
     requires open { painted < columns }
     requires ended { AreEnded columns places.now }
     requires stroke { IsStroke columns (changes_in places.now) painted index color row.old.items }
-    ensures drawn { IfSome result (λ reached. GoesOn2d _strict columns (row_in columns places.now) (pen_at painted row.old.items color hand.old.at)
+    ensures drawn { IfSome result (λ reached. GoesOn2d _strict columns (row_in columns places.now)
+        (pen_at painted row.old.items color hand.old.at)
         (pen_at reached.0 row.new.items reached.2 hand.new.at) ticks.old ticks.new (index - 1) (reached.1 - 1)) }
     ensures stroke { IfSome result (λ reached. IsStroke columns (changes_in places.now) reached.0 reached.1 reached.2 row.new.items) }
     ensures same_bits { hand.new.at.bits ≡ hand.old.at.bits }
@@ -228,7 +231,8 @@ fn draw_to_edge(
     requires open { painted < columns }
     requires ended { AreEnded columns places.now }
     requires stroke { IsStroke columns (changes_in places.now) painted index color row.old.items }
-    ensures drawn { IfSome result (λ reached. GoesOn2d _strict columns (row_in columns places.now) (pen_at painted row.old.items color hand.old.at)
+    ensures drawn { IfSome result (λ reached. GoesOn2d _strict columns (row_in columns places.now)
+        (pen_at painted row.old.items color hand.old.at)
         (pen_at reached.0 row.new.items reached.2 hand.new.at) ticks.old ticks.new (index - 1) (reached.1 - 1)) }
     ensures stroke { IfSome result (λ reached. IsStroke columns (changes_in places.now) reached.0 reached.1 reached.2 row.new.items) }
     ensures same_bits { hand.new.at.bits ≡ hand.old.at.bits }
@@ -275,7 +279,8 @@ fn draw_left(
     requires open { painted < columns }
     requires ended { AreEnded columns places.now }
     requires stroke { IsStroke columns (changes_in places.now) painted index color row.old.items }
-    ensures drawn { IfSome result (λ reached. GoesOn2d _strict columns (row_in columns places.now) (pen_at painted row.old.items color hand.old.at)
+    ensures drawn { IfSome result (λ reached. GoesOn2d _strict columns (row_in columns places.now)
+        (pen_at painted row.old.items color hand.old.at)
         (pen_at reached.0 row.new.items reached.2 hand.new.at) ticks.old ticks.new (index - 1) (reached.1 - 1)) }
     ensures stroke { IfSome result (λ reached. IsStroke columns (changes_in places.now) reached.0 reached.1 reached.2 row.new.items) }
     ensures same_bits { hand.new.at.bits ≡ hand.old.at.bits }
@@ -316,7 +321,8 @@ fn draw_pass(
     requires open { painted < columns }
     requires ended { AreEnded columns places.now }
     requires stroke { IsStroke columns (changes_in places.now) painted index color row.old.items }
-    ensures drawn { IfSome result (λ reached. GoesOn2d _strict columns (row_in columns places.now) (pen_at painted row.old.items color hand.old.at)
+    ensures drawn { IfSome result (λ reached. GoesOn2d _strict columns (row_in columns places.now)
+        (pen_at painted row.old.items color hand.old.at)
         (pen_at reached.0 row.new.items reached.2 hand.new.at) ticks.old ticks.new (index - 1) (reached.1 - 1)) }
     ensures stroke { IfSome result (λ reached. IsStroke columns (changes_in places.now) reached.0 reached.1 reached.2 row.new.items) }
     ensures same_bits { hand.new.at.bits ≡ hand.old.at.bits }
@@ -402,7 +408,8 @@ fn draw_horizontal(
     requires open { painted < columns }
     requires ended { AreEnded columns places.now }
     requires stroke { IsStroke columns (changes_in places.now) painted index color row.old.items }
-    ensures drawn { IfSome result (λ reached. GoesOn2d _strict columns (row_in columns places.now) (pen_at painted row.old.items color hand.old.at)
+    ensures drawn { IfSome result (λ reached. GoesOn2d _strict columns (row_in columns places.now)
+        (pen_at painted row.old.items color hand.old.at)
         (pen_at reached.0 row.new.items reached.2 hand.new.at) ticks.old ticks.new (index - 1) (reached.1 - 1)) }
     ensures stroke { IfSome result (λ reached. IsStroke columns (changes_in places.now) reached.0 reached.1 reached.2 row.new.items) }
     ensures same_bits { hand.new.at.bits ≡ hand.old.at.bits }
@@ -458,7 +465,8 @@ fn draw_mode_at_hand(
     requires open { painted < columns }
     requires ended { AreEnded columns places.now }
     requires stroke { IsStroke columns (changes_in places.now) painted index color row.old.items }
-    ensures drawn { IfSome result (λ reached. GoesOn2d strict columns (row_in columns places.now) (pen_at painted row.old.items color hand.old.at)
+    ensures drawn { IfSome result (λ reached. GoesOn2d strict columns (row_in columns places.now)
+        (pen_at painted row.old.items color hand.old.at)
         (pen_at reached.0 row.new.items reached.2 hand.new.at) ticks.old ticks.new (index - 1) (reached.1 - 1)) }
     ensures stroke { IfSome result (λ reached. IsStroke columns (changes_in places.now) reached.0 reached.1 reached.2 row.new.items) }
     ensures same_bits { hand.new.at.bits ≡ hand.old.at.bits }

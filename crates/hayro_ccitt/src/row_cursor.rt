@@ -77,7 +77,8 @@ impl RowCursor {
         requires unended { ended self.old.stand ≡ None }
         ensures reads { IsReadingOf (bits_in self.old.order «data».now) self.old → ReadsNext
             (rows_over (bits_in self.old.order «data».now) self.old) (rows_over (bits_in self.old.order «data».now) self.new) result }
-        ensures reading { IsReadingOf (bits_in self.old.order «data».now) self.old → IsReadingOf (bits_in self.old.order «data».now) self.new }
+        ensures reading { IsReadingOf (bits_in self.old.order «data».now) self.old
+            → IsReadingOf (bits_in self.old.order «data».now) self.new }
         ensures settings { self.new.held.settings ≡ self.old.held.settings }
         ensures order { self.new.order ≡ self.old.order }
     {
@@ -102,7 +103,8 @@ impl RowCursor {
         requires fit { BitsFit «data».now }
         ensures reads { IsReadingOf (bits_in self.old.order «data».now) self.old → ended self.old.stand ≡ None → ReadsNext
             (rows_over (bits_in self.old.order «data».now) self.old) (rows_over (bits_in self.old.order «data».now) self.new) result }
-        ensures reading { IsReadingOf (bits_in self.old.order «data».now) self.old → IsReadingOf (bits_in self.old.order «data».now) self.new }
+        ensures reading { IsReadingOf (bits_in self.old.order «data».now) self.old
+            → IsReadingOf (bits_in self.old.order «data».now) self.new }
         ensures work { IsReadingOf (bits_in self.old.order «data».now) self.old
             → CountsWork self.new.held.settings (bits_in self.old.order «data».now) self.new.held.taken self.new.ticks }
         ensures ended { (end : Result (Unit {0}) DecodeError) → ended self.old.stand ≡ Some end

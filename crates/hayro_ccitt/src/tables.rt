@@ -333,7 +333,8 @@ fn fill(entries: &mut Vec<u16>, first: usize, count: usize, entry: u16)
 fn put_word(entries: &mut Vec<u16>, run: u16, width: u8, word: u16)
     requires count { length entries.old.items ≡ 8192 }
     requires row { IsTrue (is_row (run, width, word)) }
-    ensures each { (k : ℕ) → k < 8192 → get_or entries.new.items k 0 ≡ with_table_row (run, width, word) (thirteen_bits k) (get_or entries.old.items k 0) }
+    ensures each { (k : ℕ) → k < 8192 → get_or entries.new.items k 0 ≡ with_table_row (run, width, word) (thirteen_bits k)
+        (get_or entries.old.items k 0) }
     ensures count { length entries.new.items ≡ 8192 }
 {
     // the bits after the word may be any
@@ -346,7 +347,8 @@ fn put_word(entries: &mut Vec<u16>, run: u16, width: u8, word: u16)
 fn put_words(entries: &mut Vec<u16>, words: &[(u16, u8, u16)])
     requires count { length entries.old.items ≡ 8192 }
     requires rows { IsTrue (list_all is_row words.now) }
-    ensures each { (k : ℕ) → k < 8192 → get_or entries.new.items k 0 ≡ with_table_rows words.now (thirteen_bits k) (get_or entries.old.items k 0) }
+    ensures each { (k : ℕ) → k < 8192 → get_or entries.new.items k 0 ≡ with_table_rows words.now (thirteen_bits k)
+        (get_or entries.old.items k 0) }
     ensures count { length entries.new.items ≡ 8192 }
 {
     for (run, width, word) in words {

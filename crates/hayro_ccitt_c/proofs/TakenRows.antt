@@ -5,7 +5,7 @@ use Rattle.hayro_ccitt.specs.Rows.{Row}
 use Rattle.fax_encode.specs.RowByRow.{RowsEncoded, with_row}
 use Rattle.fax_encode.specs.declared.error.EncodeError.{EncodeError}
 use Rattle.fax_encode.specs.declared.error.EncodeError.TheVariants.{NoEncoding, NoColumns, NoRows, NotARow, OutOfMemory}
-use Rattle.hayro_ccitt_c.specs.RowsTaken.{TakesNext, status_of_row}
+use Rattle.hayro_ccitt_c.specs.RowsTaken.{TakesNext, status_of_adding}
 use Rattle.hayro_ccitt_c.specs.declared.strip.Strip.{Strip}
 use Rattle.hayro_ccitt_c.specs.declared.strip.Strip.TheVariants.{Rows}
 
@@ -14,7 +14,7 @@ pub takes_next : (rows new : RowsEncoded) (IsRow IsNone : Type 0) (row : Row) (a
     → ((k : ℕ) → (answer ≡ Err (NotARow k)) ↔ ((rows.wants_memory ≡ false) × IsNone × (k ≡ rows.count)))
     → ((k : ℕ) → answer ≡ Err (NotARow k) → new ≡ rows) → (answer ≢ Err NoEncoding)
     × (answer ≢ Err NoColumns) × (answer ≢ Err NoRows) → (rows.wants_memory ≡ true → answer ≡ Err OutOfMemory)
-    → (answer ≡ Err OutOfMemory → new.wants_memory ≡ true) → TakesNext rows (Rows new) IsRow row (status_of_row answer)
+    → (answer ≡ Err OutOfMemory → new.wants_memory ≡ true) → TakesNext rows (Rows new) IsRow row (status_of_adding answer)
 takes_next rows new IsRow IsNone row (Ok done) out back taken lawful not_a_row kept others wanted wants = record {
   statuses = inl refl;
   taken = λ e. (lawful, ap Rows taken);

@@ -13,13 +13,13 @@ use Rattle.hayro_ccitt_c.specs.declared.strip.Strip.{Strip}
 use Rattle.hayro_ccitt_c.specs.declared.strip.Strip.TheVariants.{Rows, Whole, OutOfMemory}
 
 -- the status of adding a row: 6 if it isn't one
-abbrev pub status_of_row : Result (Unit {0}) EncodeError → ℕ
-status_of_row (Ok done) = 0
-status_of_row (Err NoEncoding) = 6
-status_of_row (Err NoColumns) = 6
-status_of_row (Err NoRows) = 6
-status_of_row (Err (NotARow k)) = 6
-status_of_row (Err NoMemory) = 4
+abbrev pub status_of_adding : Result (Unit {0}) EncodeError → ℕ
+status_of_adding (Ok done) = 0
+status_of_adding (Err NoEncoding) = 6
+status_of_adding (Err NoColumns) = 6
+status_of_adding (Err NoRows) = 6
+status_of_adding (Err (NotARow k)) = 6
+status_of_adding (Err NoMemory) = 4
 
 -- whether an allocation failed
 abbrev pub WantsMemory : Strip → Type 0

@@ -34,7 +34,8 @@ pub fn group4_examples()
     ensures aligned_rows_and_block_end { reading_of (group4 8 0 "ba") "31C0E0001001" ≡ (((3 ∷ 5 ∷ []) ∷ (3 ∷ 5 ∷ []) ∷ []), Ok 6) }
     ensures block_end_after_the_limit { reading_of (group4 8 1 "b") "80080080" ≡ (([] ∷ []), Ok 4) }
     ensures all_line_ends_are_read { reading_of (group4 8 1 "") "80080080001001" ≡ (([] ∷ []), Ok 7) }
-    ensures b1_falls_back_after_verticals_to_the_left { reading_of (group4 8 2 "") "38A08170" ≡ (((5 ∷ 6 ∷ []) ∷ (2 ∷ 3 ∷ 5 ∷ 6 ∷ []) ∷ []), Ok 4) }
+    ensures b1_falls_back_after_verticals_to_the_left { reading_of (group4 8 2 "") "38A08170"
+        ≡ (((5 ∷ 6 ∷ []) ∷ (2 ∷ 3 ∷ 5 ∷ 6 ∷ []) ∷ []), Ok 4) }
     ensures one_white_row { reading_of (group4 8 1 "") "80" ≡ (([] ∷ []), Ok 1) }
     ensures block_end_alone { reading_of (group4 8 0 "b") "001001" ≡ ([], Ok 3) }
     ensures six_zeros_in_a_mode_s_place { reading_of (group4 8 1 "") "00" ≡ ([], Err DecodeError.InvalidCode) }
@@ -58,7 +59,8 @@ pub fn group3_1d_examples()
     ensures three_lines_with_line_ends { reading_of (group3_1d 8 0 "l") "0019800C700033" ≡ (([] ∷ (3 ∷ 5 ∷ []) ∷ [] ∷ []), Ok 7) }
     ensures damaged_middle_line { reading_of (group3_1d 8 0 "l") "0019800C400033" ≡ (([] ∷ (3 ∷ 6 ∷ []) ∷ [] ∷ []), Ok 7) }
     ensures damaged_middle_line_white_front { reading_of (group3_1d 8 0 "l") "0019800C000033" ≡ (([] ∷ [] ∷ [] ∷ []), Ok 7) }
-    ensures last_word_reaches_into_the_line_end { reading_of (group3_1d 8 0 "l") "00198008EE0033" ≡ (([] ∷ (1 ∷ 5 ∷ []) ∷ []), Err DecodeError.InvalidCode) }
+    ensures last_word_reaches_into_the_line_end { reading_of (group3_1d 8 0 "l") "00198008EE0033"
+        ≡ (([] ∷ (1 ∷ 5 ∷ []) ∷ []), Err DecodeError.InvalidCode) }
     ensures repaired_then_the_same_bits_again { reading_of (group3_1d 8 0 "l") "00" ≡ (([] ∷ []), Err DecodeError.InvalidCode) }
     ensures leading_line_ends_are_not_counted { reading_of (group3_1d 8 0 "b") "001001001001001001" ≡ (([] ∷ []), Ok 9) }
     ensures run_longer_than_the_row_lenient { reading_of (group3_1d 4 1 "") "98" ≡ (([] ∷ []), Ok 1) }
@@ -67,7 +69,8 @@ pub fn group3_1d_examples()
     ensures limit_at_the_changed_row_damaged { reading_of (group3_1d 8 2 "l") "0019800C400033" ≡ (([] ∷ (3 ∷ 6 ∷ []) ∷ []), Ok 4) }
     ensures damaged_line_strict { reading_of (group3_1d 8 0 "ls") "0019800C400033" ≡ (([] ∷ []), Err DecodeError.InvalidCode) }
     ensures strict_lines_with_line_ends { reading_of (group3_1d 8 0 "ls") "0019800C700033" ≡ (([] ∷ (3 ∷ 5 ∷ []) ∷ [] ∷ []), Ok 7) }
-    ensures leading_line_ends_then_nothing_strict { reading_of (group3_1d 8 0 "bs") "001001001001001001" ≡ ([], Err DecodeError.UnexpectedEof) }
+    ensures leading_line_ends_then_nothing_strict { reading_of (group3_1d 8 0 "bs") "001001001001001001"
+        ≡ ([], Err DecodeError.UnexpectedEof) }
     ensures no_line_end_after_a_row_strict { reading_of (group3_1d 8 0 "s") "001980" ≡ (([] ∷ []), Err DecodeError.InvalidCode) }
     ensures cut_word_strict { reading_of (group3_1d 8 1 "s") "01" ≡ ([], Err DecodeError.UnexpectedEof) }
     ensures cut_word_strict_2 { reading_of (group3_1d 8 1 "s") "8E" ≡ ([], Err DecodeError.UnexpectedEof) }
@@ -79,7 +82,8 @@ pub fn group3_1d_examples()
     ensures no_line_end_at_once_strict { reading_of (group3_1d 8 2 "ls") "0019F800CC" ≡ (([] ∷ []), Err DecodeError.InvalidCode) }
     ensures a_longer_spelling_of_a_line { reading_of (group3_1d 8 0 "l") "0019800C06F80033" ≡ (([] ∷ [] ∷ [] ∷ []), Ok 8) }
     ensures limit_behind_a_body_of_eight_bits { reading_of (group3_1d 8 3 "l") "0019800C700033" ≡ (([] ∷ (3 ∷ 5 ∷ []) ∷ [] ∷ []), Ok 7) }
-    ensures limit_behind_a_body_of_more_words { reading_of (group3_1d 8 3 "l") "0019800C06E6A1B9A86E6A1B9AF00033" ≡ (([] ∷ (3 ∷ 5 ∷ []) ∷ [] ∷ []), Ok 16) }
+    ensures limit_behind_a_body_of_more_words { reading_of (group3_1d 8 3 "l") "0019800C06E6A1B9A86E6A1B9AF00033"
+        ≡ (([] ∷ (3 ∷ 5 ∷ []) ∷ [] ∷ []), Ok 16) }
     ensures cut_to_0_bytes { reading_of (group3_1d 8 0 "b") "" ≡ ([], Err DecodeError.UnexpectedEof) }
     ensures cut_to_1_bytes { reading_of (group3_1d 8 0 "b") "00" ≡ ([], Err DecodeError.InvalidCode) }
     ensures cut_to_2_bytes { reading_of (group3_1d 8 0 "b") "0019" ≡ (([] ∷ []), Err DecodeError.UnexpectedEof) }
@@ -108,30 +112,37 @@ pub fn group3_1d_examples()
 pub fn group3_2d_examples()
     ensures no_columns_3 { reading_of (group3_2d 0 0 "bals") "FF" ≡ ([], Ok 0) }
     ensures no_columns_4 { reading_of (group3_2d 0 3 "") "" ≡ ([], Ok 0) }
-    ensures two_dimensional_data_closed_by_its_return_to_control { reading_of (group3_2d 8 0 "b") "001CC005001800C006003001800C" ≡ (([] ∷ [] ∷ []), Ok 14) }
+    ensures two_dimensional_data_closed_by_its_return_to_control { reading_of (group3_2d 8 0 "b") "001CC005001800C006003001800C"
+        ≡ (([] ∷ [] ∷ []), Ok 14) }
     ensures tag_one_then_tag_zero { reading_of (group3_2d 8 2 "") "CD" ≡ (([] ∷ [] ∷ []), Ok 1) }
     ensures missing_tag_repaired { reading_of (group3_2d 8 0 "l") "" ≡ (([] ∷ []), Ok 0) }
     ensures missing_tag { reading_of (group3_2d 8 0 "") "" ≡ ([], Err DecodeError.UnexpectedEof) }
     ensures repaired_then_fails_again { reading_of (group3_2d 8 0 "l") "18C0" ≡ (((3 ∷ 5 ∷ []) ∷ []), Err DecodeError.InvalidCode) }
     ensures one_white_row_tagged { reading_of (group3_2d 8 1 "") "CC" ≡ (([] ∷ []), Ok 1) }
     ensures a_repaired_line_read_again_completes { reading_of (group3_2d 1 0 "l") "280005" ≡ (((0 ∷ []) ∷ [] ∷ [] ∷ []), Ok 3) }
-    ensures a_repaired_line_read_again_completes_then_a_fault { reading_of (group3_2d 1 0 "l") "2800A0" ≡ (((0 ∷ []) ∷ [] ∷ [] ∷ []), Err DecodeError.UnexpectedEof) }
-    ensures after_six_line_ends_a_one_is_passed_without_end_of_block { reading_of (group3_2d 8 0 "") "CC006003001800C0060034" ≡ (([] ∷ [] ∷ []), Err DecodeError.UnexpectedEof) }
+    ensures a_repaired_line_read_again_completes_then_a_fault { reading_of (group3_2d 1 0 "l") "2800A0"
+        ≡ (((0 ∷ []) ∷ [] ∷ [] ∷ []), Err DecodeError.UnexpectedEof) }
+    ensures after_six_line_ends_a_one_is_passed_without_end_of_block { reading_of (group3_2d 8 0 "") "CC006003001800C0060034"
+        ≡ (([] ∷ [] ∷ []), Err DecodeError.UnexpectedEof) }
 {}
 
 /// Damage: a line that is repaired, bits that stand before an EOL, and what strict data and data without EOLs have.
 pub fn damage_examples()
     ensures no_damage { damage_in (group3_1d 8 0 "l") "0019800C700033" ≡ [] }
-    ensures middle_line { damage_in (group3_1d 8 0 "l") "0019800C400033" ≡ record { row = 1; start = 29; fault = DecodeError.InvalidCode } ∷ [] }
-    ensures last_line { damage_in (group3_1d 8 2 "l") "0019800C400033" ≡ record { row = 1; start = 29; fault = DecodeError.InvalidCode } ∷ [] }
-    ensures bits_before_an_eol { damage_in (group3_1d 8 2 "l") "0019F800CC" ≡ record { row = 0; start = 17; fault = DecodeError.InvalidCode } ∷ [] }
+    ensures middle_line { damage_in (group3_1d 8 0 "l") "0019800C400033"
+        ≡ record { row = 1; start = 29; fault = DecodeError.InvalidCode } ∷ [] }
+    ensures last_line { damage_in (group3_1d 8 2 "l") "0019800C400033"
+        ≡ record { row = 1; start = 29; fault = DecodeError.InvalidCode } ∷ [] }
+    ensures bits_before_an_eol { damage_in (group3_1d 8 2 "l") "0019F800CC"
+        ≡ record { row = 0; start = 17; fault = DecodeError.InvalidCode } ∷ [] }
     ensures none_of_these_is_repaired { repairs_in (group3_1d 8 2 "l") "0019F800CC" ≡ [] }
     ensures a_missing_line { damage_in (group3_1d 8 0 "l") "" ≡ record { row = 0; start = 0; fault = DecodeError.UnexpectedEof } ∷ [] }
     ensures a_tagged_line { damage_in (group3_2d 8 0 "l") "18C0" ≡ record { row = 0; start = 0; fault = DecodeError.InvalidCode } ∷ [] }
     ensures given_up { damage_in (group3_1d 2 0 "l") "7770" ≡ record { row = 0; start = 4; fault = DecodeError.InvalidCode } ∷ [] }
     ensures strict { damage_in (group3_1d 8 0 "ls") "0019800C400033" ≡ [] }
     ensures without_eols { damage_in (group3_1d 8 1 "") "01" ≡ [] }
-    ensures a_missed_eol { misses_in (group3_1d 8 2 "l") "0019F800CC" ≡ record { row = 0; start = 17; fault = DecodeError.InvalidCode } ∷ [] }
+    ensures a_missed_eol { misses_in (group3_1d 8 2 "l") "0019F800CC"
+        ≡ record { row = 0; start = 17; fault = DecodeError.InvalidCode } ∷ [] }
     ensures no_eol_is_left { misses_in (group3_1d 2 0 "l") "7770" ≡ record { row = 0; start = 4; fault = DecodeError.InvalidCode } ∷ [] }
     ensures none_behind_a_repair { misses_in (group3_1d 8 0 "l") "0019800C400033" ≡ [] }
 {}

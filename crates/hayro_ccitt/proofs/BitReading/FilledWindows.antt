@@ -3,7 +3,7 @@ use Rattle.hayro_ccitt.proofs.Names.{◌≡◌, ℕ, ◌+◌, ◌-◌, ◌*◌, 
 use Rattle.hayro_ccitt.proofs.Names.{sym, ap, ◌∙◌, arith, cases_lt, get_or_past, bit_at-zero, Inside, Bits, bit_of, bits_in}
 use Rattle.hayro_ccitt.proofs.Names.{IsFilled}
 use Rattle.hayro_ccitt.proofs.BitReading.BitLists.{length-bits_in}
-use Rattle.hayro_ccitt.proofs.BitReading.WindowWords.{holds_on, zeros_behind, joined}
+use Rattle.hayro_ccitt.proofs.BitReading.WindowWords.{holds_on, zeros_behind, window_refilled}
 use Rattle.std.specs.Int.RustNames.{bit_or}
 
 -- it has all bits up to the next position
@@ -41,7 +41,7 @@ filled_ahead r n f fits past before =
     let left : ℕ = r.edge * 8 - next in
     let few : most ≤ 64 = omega (arith, f.near) in
     let inside : r.edge ≤ length r.«data».now = f.inside (omega (arith, past, before)) in
-    let window = joined bits r.place n most r.window r.ahead left few
+    let window = window_refilled bits r.place n most r.window r.ahead left few
     (omega (arith, f.reached, before)) fits f.held (λ j lt after. f.behind j lt (omega (arith, after))) (λ j lt.
     let at : 8 * r.edge + j ≡ next + left + j = omega (arith, before) in f.ahead j lt ∙ ap (λ (i : ℕ). get_or bits i false) at) in
     record {
@@ -73,9 +73,10 @@ filled_afresh r n word f few fits past room fresh =
     let next : ℕ = r.place + n in
     let passed : ℕ = next - r.edge * 8 in
     let near : next ≤ r.edge * 8 + 63 = omega (arith, f.within, f.near_edge, few) in
-    let window = joined bits (8 * r.edge) passed 64 r.ahead word (64 - passed) (omega arith) (omega (arith, near)) fits f.ahead
-    (λ j lt after. absurd (omega (arith, lt, after))) (λ j lt. let at : 8 * (r.edge + 8) + j ≡ 8 * r.edge + passed + (64 - passed)
-    + j = omega (arith, near) in fresh j lt ∙ ap (λ (i : ℕ). get_or bits i false) at) in
+    let window = window_refilled bits (8 * r.edge) passed 64 r.ahead word (64 - passed) (omega arith) (omega (arith, near)) fits
+    f.ahead (λ j lt after. absurd (omega (arith, lt, after)))
+    (λ j lt. let at : 8 * (r.edge + 8) + j ≡ 8 * r.edge + passed + (64 - passed) + j = omega (arith, near) in fresh j lt
+    ∙ ap (λ (i : ℕ). get_or bits i false) at) in
     record {
       fit = f.fit;
       within = omega arith;

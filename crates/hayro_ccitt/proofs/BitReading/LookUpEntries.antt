@@ -125,10 +125,10 @@ covers_all (suc n) words (b ∷ here) e h =
         let on = more false both.1 in
         (false ∷ on.0, in_tails false words on.0 on.1, on.2, ap (λ (x : Bits). false ∷ x) on.3)
 
-abbrev words_of : {V : Type 0} → List (Code V) → List Bits
-words_of list = map (λ c. c.word) list
+abbrev words_in : {V : Type 0} → List (Code V) → List Bits
+words_in list = map (λ c. c.word) list
 
-in_words : {V : Type 0} (list : List (Code V)) (w : Bits) → In w (words_of list) → (v : V) × Has list v w
+in_words : {V : Type 0} (list : List (Code V)) (w : Bits) → In w (words_in list) → (v : V) × Has list v w
 in_words [] w i = elim i [ ]
 in_words (c ∷ list) w (inl e) = (c.value, inl (refl, e))
 in_words (c ∷ list) w (inr i) = let on = in_words list w i in (on.0, inr on.1)
@@ -138,16 +138,16 @@ abbrev eight_zeros : Bits
 eight_zeros = false ∷ false ∷ false ∷ false ∷ false ∷ false ∷ false ∷ false ∷ []
 
 -- the words of a run and eight zeros begin any thirteen bits
-codes_cover : (color : Color) → covers 13 (eight_zeros ∷ words_of (codes_of color)) ≡ true
+codes_cover : (color : Color) → covers 13 (eight_zeros ∷ words_in (codes_of color)) ≡ true
 codes_cover White = refl
 codes_cover Black = refl
 
 -- if there is no word of a run, eight zeros are here
 eight_zeros_there : (color : Color) (here : Bits) → length here ≡ 13 → word_at (codes_of color) here ≡ None → (rest : Bits)
     × (here ≡ eight_zeros ++ rest)
-eight_zeros_there color here h e = by_rest (covers_all 13 (eight_zeros ∷ words_of (codes_of color)) here (codes_cover color) h)
+eight_zeros_there color here h e = by_rest (covers_all 13 (eight_zeros ∷ words_in (codes_of color)) here (codes_cover color) h)
   where
-    by_rest : BeginsWithWord (eight_zeros ∷ words_of (codes_of color)) here → (rest : Bits) × (here ≡ eight_zeros ++ rest)
+    by_rest : BeginsWithWord (eight_zeros ∷ words_in (codes_of color)) here → (rest : Bits) × (here ≡ eight_zeros ++ rest)
     by_rest (w, inl same, rest, at) = (rest, at ∙ ap (λ (x : Bits). x ++ rest) (sym same))
     by_rest (w, inr i, rest, at) =
         grind (arith, common_steps, codes_free, common_steps, in_words (codes_of color) w i, word_at_again)

@@ -4,7 +4,8 @@ use Rattle.hayro_ccitt.proofs.Names.{drop, replicate, min, Some, None, sym, ap, 
 use Rattle.hayro_ccitt.proofs.Names.{count_trailing_zeros, bit_at, cases_lt, get_or-drop, length-drop, drop_min, leading_top}
 use Rattle.hayro_ccitt.proofs.Names.{shr-shr, pow-le-pow_right, bit_at_above, bit_at_cat_low, bit_at-trailing_zeros, Bits, BitsAt}
 use Rattle.hayro_ccitt.proofs.Names.{here, bit_of, after_eol, all_eols, past_tag, pass_last_tag, tagged_eols, common_steps}
-use Rattle.hayro_ccitt.proofs.{BitReading.SoughtEols.one_near, BitReading.ZerosPassed.Holds, BitReading.ZerosPassed.run_ahead}
+use Rattle.hayro_ccitt.proofs.{BitReading.SoughtEols.one_near, BitReading.ZerosPassed.HoldsNextBits}
+use Rattle.hayro_ccitt.proofs.BitReading.ZerosPassed.{run_ahead}
 use Rattle.hayro_ccitt.proofs.BitReading.ZeroRuns.{after_eol_run, eols_one, eols_enough}
 use Rattle.hayro_ccitt.proofs.Readings.TurnsMoveOn.{after_eol_shorter, eols_with_tags-some, eols_with_tags-none}
 use Rattle.std.specs.Int.{w32}
@@ -23,7 +24,7 @@ eleven_zeros w small one =
     ] in
     omega (arith, top.1, above, below)
 
-module _ (at : BitsAt) (w : ℕ) (small : w < 2 ^ 32) (held : Holds w at) where
+module _ (at : BitsAt) (w : ℕ) (small : w < 2 ^ 32) (held : HoldsNextBits w at) where
   -- the EOL of a word that begins with one
   module _ (one : w / 1048576 ≡ 1) (next : BitsAt) (e : next ≡ record at { place = min (at.place + 12) (length at.bits) }) where
     pub plain_eol : here at ≡ replicate 11 false ++ true ∷ here next

@@ -35,8 +35,8 @@ turned_bit byte (suc (suc (suc (suc (suc (suc (suc (suc j)))))))) lt h = absurd 
 
 -- ---- All bytes of a word
 
-one : {m n : ℕ} → m ≡ n → eqb m 1 ≡ eqb n 1
-one e = ap (λ (v : ℕ). eqb v 1) e
+ones_alike : {m n : ℕ} → m ≡ n → eqb m 1 ≡ eqb n 1
+ones_alike e = ap (λ (v : ℕ). eqb v 1) e
 
 low_byte : (word j : ℕ) → j < 8 → bit_at (word % 256) j ≡ bit_at word j
 low_byte word j h = grind (arith, common_steps, bit_at_cat_low (word / 256) 8 (word % 256) j h)
@@ -52,12 +52,12 @@ each_byte (suc n) word k h =
     ap (λ (v : ℕ). bit_of v k) joined ∙ elim (cases_lt k 8) [
       | inl low ↦
           let place : 7 - k ≡ 8 * (k / 8) + (7 - k % 8) = omega arith in
-          one (bit_at_cat_low above 8 (turned_byte byte) k low)
-          ∙ turned_bit byte k lt low ∙ one (low_byte word (7 - k) (omega arith)) ∙ ap (bit_of word) place
+          ones_alike (bit_at_cat_low above 8 (turned_byte byte) k low)
+          ∙ turned_bit byte k lt low ∙ ones_alike (low_byte word (7 - k) (omega arith)) ∙ ap (bit_of word) place
       | inr high ↦
           let place : 8 + (8 * ((k - 8) / 8) + (7 - (k - 8) % 8)) ≡ 8 * (k / 8) + (7 - k % 8) = omega arith in
-          one (bit_at_cat_high above 8 (turned_byte byte) k (turned-lt byte lt) high) ∙ each_byte n (word / 256)
-          (k - 8) (omega arith) ∙ one (bit_at-shr word 8 (8 * ((k - 8) / 8) + (7 - (k - 8) % 8))) ∙ ap (bit_of word) place
+          ones_alike (bit_at_cat_high above 8 (turned_byte byte) k (turned-lt byte lt) high) ∙ each_byte n (word / 256)
+          (k - 8) (omega arith) ∙ ones_alike (bit_at-shr word 8 (8 * ((k - 8) / 8) + (7 - (k - 8) % 8))) ∙ ap (bit_of word) place
     ]
 
 -- the first eight of sixteen bytes
@@ -65,5 +65,5 @@ pub bytes_turned : (word k : ℕ) → k < 64
     → bit_of (number_l 256 (map turned_byte (digits_l 256 16 (word + 0))) % 2 ^ 64) k ≡ bit_of word (8 * (k / 8) + (7 - k % 8))
 bytes_turned word k h =
     let none : word + 0 ≡ word = omega arith in
-    one (bit_at-mod (number_l 256 (map turned_byte (digits_l 256 16 (word + 0)))) k h) ∙ each_byte 16 (word + 0) k (omega arith)
-    ∙ ap (λ (w : ℕ). bit_of w (8 * (k / 8) + (7 - k % 8))) none
+    ones_alike (bit_at-mod (number_l 256 (map turned_byte (digits_l 256 16 (word + 0)))) k h)
+    ∙ each_byte 16 (word + 0) k (omega arith) ∙ ap (λ (w : ℕ). bit_of w (8 * (k / 8) + (7 - k % 8))) none

@@ -192,11 +192,11 @@ zeros_behind n most w behind k h past = elim (cases_lt (n + k) 64) [
 ]
 
 -- A window that is shifted, with the word ahead after its own bits, contains 64.
-pub joined : (bits : Bits) (place n most w a t : ℕ) → most ≤ 64 → n + t ≤ most → a < 2 ^ 64 → ((k : ℕ)
+pub window_refilled : (bits : Bits) (place n most w a t : ℕ) → most ≤ 64 → n + t ≤ most → a < 2 ^ 64 → ((k : ℕ)
     → k < most → bit_of w (63 - k) ≡ get_or bits (place + k) false) → ((k : ℕ) → k < 64 → most ≤ k → bit_of w (63 - k) ≡ false)
     → ((k : ℕ) → k < 64 → bit_of a (63 - k) ≡ get_or bits (place + n + t + k) false) → (k : ℕ) → k < 64
     → bit_of (bit_or (w * 2 ^ n % 2 ^ 64) (a / 2 ^ t)) (63 - k) ≡ get_or bits (place + n + k) false
-joined bits place n most w a t le reach fits held behind ahead k h =
+window_refilled bits place n most w a t le reach fits held behind ahead k h =
     let shifted : ℕ = w * 2 ^ n % 2 ^ 64 in
     let down : ℕ = a / 2 ^ t in
     let bit : Bool = get_or bits (place + n + k) false in elim (cases_lt k t) [

@@ -1,11 +1,21 @@
 -- The numbers whose bits begin with a word, and the entries that are written at them.
 use Rattle.hayro_ccitt.proofs.Names.{◌≡◌, ℕ, zero, suc, ◌+◌, ◌-◌, ◌*◌, ◌/◌, ◌%◌, ◌^◌, ◌<◌, ◌≤◌, ◌⊎◌, true, false, eqb, [], ◌∷◌}
-use Rattle.hayro_ccitt.proofs.Names.{◌++◌, length, Option, Some, None, bit_or, refl, sym, ◌∙◌, arith, bit_at, cases_eq, eq-eqb}
-use Rattle.hayro_ccitt.proofs.Names.{ne_eqb, shr-shr, mod-pow-add, div_below, pow_pos, pow-add, mul-le, shl_whole, one_shl}
-use Rattle.hayro_ccitt.proofs.Names.{bit_at-lt, mod-eq_of_lt, Bits, bit_of, low_bits, after, is_prefix, with_table_row, is_row}
-use Rattle.hayro_ccitt.proofs.Names.{common_steps}
+use Rattle.hayro_ccitt.proofs.Names.{◌++◌, length, Option, Some, None, bit_or, refl, sym, ap, ◌∙◌, arith, bit_at, bit_at_cat_low}
+use Rattle.hayro_ccitt.proofs.Names.{cases_eq, eq-eqb, ne_eqb, shr-shr, mod-pow-add, div_below, pow_pos, pow-add, mul-le}
+use Rattle.hayro_ccitt.proofs.Names.{shl_whole, one_shl, bit_at-lt, mod-eq_of_lt, Bits, bit_of, low_bits, after, is_prefix}
+use Rattle.hayro_ccitt.proofs.Names.{with_table_row, is_row, common_steps}
 use Rattle.hayro_ccitt.proofs.{BitReading.BitLists.length-low_bits, CodeWords.ReadCodes.after_at, CodeWords.ReadCodes.after_is}
 use Rattle.hayro_ccitt.specs.LookUps.{thirteen_bits}
+
+-- equal digits are equal bits
+pub same_bit : (m n j k : ℕ) → bit_at m j ≡ bit_at n k → bit_of m j ≡ bit_of n k
+same_bit m n j k e = ap (λ (b : ℕ). eqb b 1) e
+
+-- low bits don't depend on what is above them
+pub low_bits_below : (width a k b : ℕ) → width ≤ k → low_bits width (a * 2 ^ k + b) ≡ low_bits width b
+low_bits_below zero a k b le = refl
+low_bits_below (suc width) a k b le =
+    grind (arith, common_steps, bit_at_cat_low, same_bit, low_bits_below width a k b (omega arith))
 
 -- the bits of a number are its high bits and then its low ones
 pub low_bits-append : (width rest n : ℕ) → low_bits (width + rest) n ≡ low_bits width (n / 2 ^ rest) ++ low_bits rest n

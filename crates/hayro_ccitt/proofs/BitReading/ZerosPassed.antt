@@ -58,11 +58,11 @@ zeros_on first then rest a b e h =
     grind (arith, common_steps, append_assoc (replicate a false) (replicate b false) rest, replicate-append-replicate a b false)
 
 -- a word contains the next 32 bits
-abbrev pub Holds : ℕ → BitsAt → Type 0
-Holds w at = (k : ℕ) → k < 32 → bit_of w (31 - k) ≡ get_or at.bits (at.place + k) false
+abbrev pub HoldsNextBits : ℕ → BitsAt → Type 0
+HoldsNextBits w at = (k : ℕ) → k < 32 → bit_of w (31 - k) ≡ get_or at.bits (at.place + k) false
 
 -- The leading zeros of the word are consumed, up to the end at most, after zeros that were consumed before.
-pub word_passed : (start now next : BitsAt) (w : ℕ) → w < 2 ^ 32 → Holds w now → now.place ≤ next.place → next
+pub word_passed : (start now next : BitsAt) (w : ℕ) → w < 2 ^ 32 → HoldsNextBits w now → now.place ≤ next.place → next
     ≡ record now { place = min (now.place + count_leading_zeros 32 w) (length now.bits) } → start.place ≤ now.place → here start
     ≡ replicate (now.place - start.place) false ++ here now → here start ≡ replicate (next.place - start.place) false ++ here next
 word_passed start now next w small held forward e on before =
@@ -80,13 +80,13 @@ word_passed start now next w small held forward e on before =
     ∙ ap (λ (x : Bits). replicate (next.place - start.place) false ++ drop next.place x) same
 
 -- if they are fewer than 32 a one follows
-one_ahead : (now : BitsAt) (w : ℕ) → w < 2 ^ 32 → Holds w now → count_leading_zeros 32 w < 32
+one_ahead : (now : BitsAt) (w : ℕ) → w < 2 ^ 32 → HoldsNextBits w now → count_leading_zeros 32 w < 32
     → slice_get now.bits (now.place + count_leading_zeros 32 w) ≡ Some true
 one_ahead now w small held few =
     grind (arith, common_steps, cases_lt, false≢true, get_or_past now.bits, slice_get-get_or now.bits, leading_one w small few)
 
 -- and the reader is at it
-pub one_follows : (now next : BitsAt) (w : ℕ) → w < 2 ^ 32 → Holds w now
+pub one_follows : (now next : BitsAt) (w : ℕ) → w < 2 ^ 32 → HoldsNextBits w now
     → next ≡ record now { place = min (now.place + count_leading_zeros 32 w) (length now.bits) } → count_leading_zeros 32 w < 32
     → slice_get next.bits next.place ≡ Some true
 one_follows now next w small held e few =
@@ -103,7 +103,7 @@ one_passed at next one e = grind (arith, common_steps, drop_some, min, slice_get
 
 -- ---- A one that is near.
 -- the zeros of the word, and the one after them
-pub run_ahead : (at : BitsAt) (w : ℕ) → w < 2 ^ 32 → Holds w at → count_leading_zeros 32 w < 32
+pub run_ahead : (at : BitsAt) (w : ℕ) → w < 2 ^ 32 → HoldsNextBits w at → count_leading_zeros 32 w < 32
     → here at ≡ replicate (count_leading_zeros 32 w) false ++ true ∷ drop (at.place + count_leading_zeros 32 w + 1) at.bits
 run_ahead at w small held few =
     let n = count_leading_zeros 32 w in
@@ -124,7 +124,7 @@ near_one w small some = elim (cases_lt (count_leading_zeros 32 w) 11) [
 ]
 
 -- ---- The last one among the next eleven bits.
-module _ (at : BitsAt) (w : ℕ) (small : w < 2 ^ 32) (held : Holds w at) (some : w / 2097152 ≡ 0 → ⊥) where
+module _ (at : BitsAt) (w : ℕ) (small : w < 2 ^ 32) (held : HoldsNextBits w at) (some : w / 2097152 ≡ 0 → ⊥) where
   -- the zeros after it
   abbrev zeros_behind : ℕ
   zeros_behind = count_trailing_zeros 32 (w / 2097152)

@@ -9,10 +9,10 @@ use Rattle.hayro_ccitt.proofs.CodeWords.ReadCodes.{after_is, word_at_again}
 use Rattle.hayro_ccitt.specs.LookUps.{seven_bits}
 
 -- ---- The word that begins seven bits.
-begins : (width word n : ℕ) → width ≤ 7 → word < 2 ^ width → n < 128 → n / 2 ^ (7 - width) ≡ word
+begins_seven_bits : (width word n : ℕ) → width ≤ 7 → word < 2 ^ width → n < 128 → n / 2 ^ (7 - width) ≡ word
     → is_prefix (low_bits width word) (seven_bits n) ≡ true
 unfolding seven_bits
-begins width word n le fits below e = word_begins_of 7 width word n le fits below ∙ eq-eqb (n / 2 ^ (7 - width)) word e
+begins_seven_bits width word n le fits below e = word_begins_of 7 width word n le fits below ∙ eq-eqb (n / 2 ^ (7 - width)) word e
 
 pub mode_begins : (mode : Mode) (width word n : ℕ) → Has mode_codes mode (low_bits width word) → width ≤ 7 → word < 2 ^ width
     → n < 128 → n / 2 ^ (7 - width) ≡ word → ◌≡◌ {A = Option Mode × ℕ} (Some mode, width) (mode_told (seven_bits n))
@@ -20,7 +20,7 @@ mode_begins mode width word n has le fits below e = by_after (after (low_bits wi
   where
     by_after : (o : Option Bits) → after (low_bits width word) (seven_bits n) ≡ o
         → ◌≡◌ {A = Option Mode × ℕ} (Some mode, width) (mode_told (seven_bits n))
-    by_after None a = absurd (false≢true (rw (a, is_prefix) at (begins width word n le fits below e)))
+    by_after None a = absurd (false≢true (rw (a, is_prefix) at (begins_seven_bits width word n le fits below e)))
     by_after (Some rest) a =
         let stands = after_is (low_bits width word) (seven_bits n) rest a in
         grind (arith, common_steps, length-append, length-low_bits, modes_free, option_map, word_at_again)
@@ -39,9 +39,10 @@ pub mode_wrong : (here : Bits) → None ≡ (mode_told (padded 7 here)).0 → te
     → read_code mode_codes here ≡ Err InvalidCode
 mode_wrong here e h = grind (arith, common_steps)
 
-pub mode_found : (here : Bits) (mode : Mode) → Some mode ≡ (mode_told (padded 7 here)).0 → telling_bits mode_codes (padded 7 here)
+pub mode_is_read : (here : Bits) (mode : Mode) → Some mode ≡ (mode_told (padded 7 here)).0
+    → telling_bits mode_codes (padded 7 here)
     ≤ length here → read_code mode_codes here ≡ Ok (mode, drop (telling_bits mode_codes (padded 7 here)) here)
-mode_found here mode e h = grind (arith, common_steps)
+mode_is_read here mode e h = grind (arith, common_steps)
 
 -- at least one bit is needed
 pub some_mode_bits : (here : Bits) → 0 < telling_bits mode_codes (padded 7 here)
@@ -52,7 +53,7 @@ pub mode_stands : (at : BitsAt) (told : Option Mode × ℕ) → told ≡ mode_to
     → IfSome told.0 (λ mode. read_code mode_codes (here at) ≡ Ok (mode, here (moved told.1 at)))
 mode_stands at (None, width) e enough = tt
 mode_stands at (Some mode, width) e enough =
-    grind (arith, common_steps, drop-drop width at.place at.bits, mode_found (here at) mode)
+    grind (arith, common_steps, drop-drop width at.place at.bits, mode_is_read (here at) mode)
 
 -- there is no V0 where there is no bit
 pub v0_there : (here : Bits) → ◌≡◌ {A = Option Mode} (Some (Vertical (pos 0))) (mode_told (padded 7 here)).0 → 0 < length here

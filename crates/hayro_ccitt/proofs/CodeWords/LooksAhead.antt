@@ -66,12 +66,12 @@ longest_bounds (c ∷ list) here v w (inl i) = rw (← i.1) (omega arith)
 longest_bounds (c ∷ list) here v w (inr i) = omega (arith, longest_bounds list here v w i)
 
 -- some word agrees this far
-abbrev pub Agrees : {V : Type 0} → List (Code V) → Bits → ℕ → Type 0
-Agrees {V} list here n = (v : V) × (w : Bits) × Has list v w × (n ≤ agreement w here)
+abbrev pub SomeWordAgrees : {V : Type 0} → List (Code V) → Bits → ℕ → Type 0
+SomeWordAgrees {V} list here n = (v : V) × (w : Bits) × Has list v w × (n ≤ agreement w here)
 
 -- the longest agreement is one of a word, if the list has any
 longest_reached : {V : Type 0} (c : Code V) (list : List (Code V)) (here : Bits)
-    → Agrees (c ∷ list) here (longest_agreement (c ∷ list) here)
+    → SomeWordAgrees (c ∷ list) here (longest_agreement (c ∷ list) here)
 longest_reached c [] here = (c.value, c.word, inl (refl, refl), omega arith)
 longest_reached c (d ∷ list) here = elim (cases_lt (agreement c.word here) (longest_agreement (d ∷ list) here)) [
   | inl lt ↦ let on = longest_reached d list here in (on.0, on.1, inr on.2, omega (arith, on.3))
@@ -84,7 +84,7 @@ has_none [] = true
 has_none (c ∷ list) = false
 
 reached_of : {V : Type 0} (list : List (Code V)) (here : Bits) → has_none list ≡ false
-    → Agrees list here (longest_agreement list here)
+    → SomeWordAgrees list here (longest_agreement list here)
 reached_of [] here e = absurd (false≢true (sym e))
 reached_of (c ∷ list) here e = longest_reached c list here
 

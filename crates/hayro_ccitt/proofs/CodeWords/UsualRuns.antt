@@ -5,9 +5,9 @@ use Rattle.hayro_ccitt.proofs.CodeWords.ReadRuns.{read_code_shorter, words_not_e
 use Rattle.hayro_ccitt.proofs.CodeWords.RunWords.{run_found_ends, run_found_on}
 
 -- a terminating word is a run
-pub run_of_word : (color : Color) (at : BitsAt) (run width : ℕ) → IsWordHere color at run width → run < 64
+pub word_is_run : (color : Color) (at : BitsAt) (run width : ℕ) → IsWordHere color at run width → run < 64
     → IsRunHere color at run width 1
-run_of_word color at run width word short = grind (arith, common_steps)
+word_is_run color at run width word short = grind (arith, common_steps)
 
 -- a make-up word and a terminating one are a run
 pub run_of_two : (color : Color) (at : BitsAt) (run width rest more : ℕ) → IsWordHere color at run width → IsWordHere color

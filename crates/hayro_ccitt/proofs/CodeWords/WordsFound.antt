@@ -16,7 +16,7 @@ use Rattle.hayro_ccitt.proofs.BitReading.ZerosInWords.{no_eleven_in, prefix_of_p
 use Rattle.hayro_ccitt.proofs.CodeWords.ReadRuns.{chosen, word_next, not_done, done_is}
 
 -- ---- Consecutive words here.
-pub record Stands (here : Bits) (found : List Bits) (rest : Bits) : Type 0 where
+pub record WordsStand (here : Bits) (found : List Bits) (rest : Bits) : Type 0 where
   pub words : AreWords found
   pub place : here ≡ joined found ++ rest
 
@@ -31,24 +31,25 @@ joined_append [] b = refl
 joined_append (w ∷ a) b = ap (λ (x : Bits). w ++ x) (joined_append a b) ∙ sym (append_assoc w (joined a) (joined b))
 
 -- words after words
-pub stands_append : (here middle rest : Bits) (a b : List Bits) → Stands here a middle → Stands middle b rest
-    → Stands here (a ++ b) rest
+pub stands_append : (here middle rest : Bits) (a b : List Bits) → WordsStand here a middle → WordsStand middle b rest
+    → WordsStand here (a ++ b) rest
 stands_append here middle rest a b p q = grind (arith, common_steps, append_assoc, are_words_append, joined_append)
 
 -- no words are anywhere
-pub stands_none : (here : Bits) → Stands here [] here
+pub stands_none : (here : Bits) → WordsStand here [] here
 stands_none here = record { words = tt; place = refl }
 
 -- what the turns find is consecutive, and if a result names the rest it is what follows
 pub gathered_stands : {S R : Type 0} (step : S → Turn S R) (late : R) (gives : S → List Bits) (here_of : S → Bits) (Ends : R
-    → Bits → Type 0) → ((b : Bits) → Ends late b) → ((s t : S) → step s ≡ Turn.next t → Stands (here_of s) (gives s) (here_of t))
-    → ((s : S) (r : R) → step s ≡ Turn.done r → (rest : Bits) × Stands (here_of s) (gives s) rest × Ends r rest) → (n : ℕ) (s : S)
-    → (rest : Bits) × Stands (here_of s) (gathered step gives n s) rest × Ends (repeated step late n s) rest
+    → Bits → Type 0) → ((b : Bits) → Ends late b) → ((s t : S) → step s ≡ Turn.next t
+    → WordsStand (here_of s) (gives s) (here_of t)) → ((s : S) (r : R) → step s ≡ Turn.done r → (rest : Bits)
+    × WordsStand (here_of s) (gives s) rest × Ends r rest) → (n : ℕ) (s : S) → (rest : Bits)
+    × WordsStand (here_of s) (gathered step gives n s) rest × Ends (repeated step late n s) rest
 gathered_stands step late gives here_of Ends l goes ends zero s = (here_of s, stands_none (here_of s), l (here_of s))
 gathered_stands {S} {R} step late gives here_of Ends l goes ends (suc n) s =
-    let by_turn : (turn : Turn S R) → step s ≡ turn → (rest : Bits) × Stands (here_of s)
+    let by_turn : (turn : Turn S R) → step s ≡ turn → (rest : Bits) × WordsStand (here_of s)
     (gives s ++ gathered_after (gathered step gives n) turn) rest × Ends (after_turn (repeated step late n) turn) rest =
-    λ turn. elim turn as (λ (t : Turn S R). step s ≡ t → (rest : Bits) × Stands (here_of s)
+    λ turn. elim turn as (λ (t : Turn S R). step s ≡ t → (rest : Bits) × WordsStand (here_of s)
     (gives s ++ gathered_after (gathered step gives n) t) rest × Ends (after_turn (repeated step late n) t) rest) [
       | Turn.next t ↦ λ e. let more = gathered_stands step late gives here_of Ends l goes ends n t in
           (more.0, stands_append (here_of s) (here_of t) more.0 (gives s) (gathered step gives n t) (goes s t e) more.1, more.2)
@@ -63,13 +64,13 @@ take_append (x ∷ a) b = ap (λ (y : Bits). x ∷ y) (take_append a b)
 
 -- a word that a reading found is here
 pub word_stands : {V : Type 0} (list : List (Code V)) (here : Bits) (v : V) (rest : Bits) → ((w : Bits) → Has list v w → IsWord w)
-    → read_code list here ≡ Ok (v, rest) → Stands here (word_found list here) rest
+    → read_code list here ≡ Ok (v, rest) → WordsStand here (word_found list here) rest
 word_stands {V} list here v rest is e =
     grind (arith, common_steps, append-nil, common_steps, length-append, read_code_found list here v rest e, take_append)
 
 -- a reading that found no word
 pub no_word_stands : {V : Type 0} (list : List (Code V)) (here : Bits) (fault : DecodeError) → read_code list here ≡ Err fault
-    → Stands here (word_found list here) here
+    → WordsStand here (word_found list here) here
 no_word_stands list here fault e = grind (arith, common_steps)
 
 -- ---- The words of a run.
@@ -80,8 +81,9 @@ RunEnds (Err fault) rest = Unit {0}
 run_word : (color : Color) (v : ℕ) (w : Bits) → Has (codes_of color) v w → IsWord w
 run_word color v w i = inl (color, v, i)
 
-run_goes : (color : Color) (total : ℕ) (here : Bits) (t : ℕ × Bits) (r : Result (ℕ × Bits) DecodeError) → read_code
-    (codes_of color) here ≡ r → run_turn color (total, here) ≡ Turn.next t → Stands here (word_found (codes_of color) here) t.1
+run_goes : (color : Color) (total : ℕ) (here : Bits) (t : ℕ × Bits) (r : Result (ℕ × Bits) DecodeError)
+    → read_code (codes_of color) here ≡ r → run_turn color (total, here) ≡ Turn.next t
+    → WordsStand here (word_found (codes_of color) here) t.1
 run_goes color total here t (Err e) h k = grind (arith, common_steps)
 run_goes color total here t (Ok found) h k =
     let step = word_stands (codes_of color) here found.0 found.1 (run_word color found.0) h in
@@ -89,7 +91,7 @@ run_goes color total here t (Ok found) h k =
 
 run_stands_at_end : (color : Color) (total : ℕ) (here : Bits)
     (r : Result (ℕ × Bits) DecodeError) (q : Result (ℕ × Bits) DecodeError) → read_code (codes_of color) here ≡ q → run_turn
-    color (total, here) ≡ Turn.done r → (rest : Bits) × Stands here (word_found (codes_of color) here) rest × RunEnds r rest
+    color (total, here) ≡ Turn.done r → (rest : Bits) × WordsStand here (word_found (codes_of color) here) rest × RunEnds r rest
 run_stands_at_end color total here r (Err e) h k = grind (arith, common_steps, done_is, no_word_stands (codes_of color) here e h)
 run_stands_at_end color total here r (Ok found) h k =
     let g : run_of_word total found ≡ Turn.done r = rw (h, run_turn) at k in
@@ -97,7 +99,7 @@ run_stands_at_end color total here r (Ok found) h k =
     grind (arith, common_steps, chosen, done_is, not_done)
 
 -- the words of a run are consecutive
-pub run_stands : (color : Color) (total : ℕ) (here : Bits) → (rest : Bits) × Stands here (run_found color (total, here)) rest
+pub run_stands : (color : Color) (total : ℕ) (here : Bits) → (rest : Bits) × WordsStand here (run_found color (total, here)) rest
     × RunEnds (run_from color (total, here)) rest
 run_stands color total here =
     gathered_stands (run_turn color) (Err UnexpectedEof) (run_gives color) (λ s. s.1) RunEnds
@@ -111,8 +113,8 @@ LineEnds (Line.broken front fault) rest = Unit {0}
 
 -- what a turn finds is consecutive, up to where it continues or ends
 abbrev pub TurnStands : {A : Type 0} → Bits → (A → Bits) → Turn A Line → List Bits → Type 0
-TurnStands here rest_of (Turn.next x) found = Stands here found (rest_of x)
-TurnStands here rest_of (Turn.done line) found = (rest : Bits) × Stands here found rest × LineEnds line rest
+TurnStands here rest_of (Turn.next x) found = WordsStand here found (rest_of x)
+TurnStands here rest_of (Turn.done line) found = (rest : Bits) × WordsStand here found rest × LineEnds line rest
 
 -- what drawing finds is consecutive
 abbrev pub DrawingStands : {A : Type 0} → Bits → (A → Bits) → Drawing A → Type 0
@@ -124,7 +126,7 @@ rest_of_pen pen = pen.rest
 
 -- a turn after words
 pub turn_after : {A : Type 0} (here middle : Bits) (rest_of : A → Bits) (a b : List Bits) (turn : Turn A Line)
-    → Stands here a middle → TurnStands middle rest_of turn b → TurnStands here rest_of turn (a ++ b)
+    → WordsStand here a middle → TurnStands middle rest_of turn b → TurnStands here rest_of turn (a ++ b)
 turn_after here middle rest_of a b (Turn.next x) p q = stands_append here middle (rest_of x) a b p q
 turn_after here middle rest_of a b (Turn.done line) p q = (q.0, stands_append here middle q.0 a b p q.1, q.2)
 
@@ -144,7 +146,7 @@ wordless_stands here pen result = grind (arith, common_steps)
 run_read_stands : (pen : Pen) → DrawingStands pen.rest (λ (run : ℕ × Bits). run.1) (run_here pen)
 run_read_stands pen = by_result (run_from pen.color (0, pen.rest)) stands.2
   where
-    stands : (rest : Bits) × Stands pen.rest (run_found pen.color (0, pen.rest)) rest
+    stands : (rest : Bits) × WordsStand pen.rest (run_found pen.color (0, pen.rest)) rest
         × RunEnds (run_from pen.color (0, pen.rest)) rest
     stands = run_stands pen.color 0 pen.rest
 
@@ -214,7 +216,7 @@ draw_2d_stands strict columns reference pen =
 
 -- what a repeated step finds
 pub pen_stands : (draw : Pen → Drawing Pen) → ((pen : Pen) → DrawingStands pen.rest rest_of_pen (draw pen)) → (n : ℕ) (pen : Pen)
-    → (rest : Bits) × Stands pen.rest (gathered (λ pen. (draw pen).turn) (λ pen. (draw pen).words) n pen) rest
+    → (rest : Bits) × WordsStand pen.rest (gathered (λ pen. (draw pen).turn) (λ pen. (draw pen).words) n pen) rest
     × LineEnds (repeated (λ pen. (draw pen).turn) (Line.broken [] UnexpectedEof) n pen) rest
 pen_stands draw each n pen =
     gathered_stands (λ (p : Pen). (draw p).turn) (Line.broken [] UnexpectedEof) (λ p. (draw p).words) rest_of_pen LineEnds
@@ -222,14 +224,14 @@ pen_stands draw each n pen =
     (λ s r e. subst (λ (x : Turn Pen Line). TurnStands s.rest rest_of_pen x (draw s).words) e (each s)) n pen
 
 -- the words of a one-dimensional line are consecutive
-pub line_1d_stands : (strict : Bool) (columns : ℕ) (here : Bits) → (rest : Bits) × Stands here (found_1d strict columns here) rest
-    × LineEnds (line_1d strict columns here) rest
+pub line_1d_stands : (strict : Bool) (columns : ℕ) (here : Bits) → (rest : Bits)
+    × WordsStand here (found_1d strict columns here) rest × LineEnds (line_1d strict columns here) rest
 line_1d_stands strict columns here =
     pen_stands (draw_1d strict columns) (draw_1d_stands strict columns) (suc (length here)) (start here)
 
 -- the words of a two-dimensional line are consecutive
 pub line_2d_stands : (strict : Bool) (columns : ℕ) (reference : Row) (here : Bits) → (rest : Bits)
-    × Stands here (found_2d strict columns reference here) rest × LineEnds (line_2d strict columns reference here) rest
+    × WordsStand here (found_2d strict columns reference here) rest × LineEnds (line_2d strict columns reference here) rest
 line_2d_stands strict columns reference here =
     pen_stands (draw_2d strict columns reference) (draw_2d_stands strict columns reference) (suc (length here)) (start here)
 
@@ -248,7 +250,7 @@ ends_before tag words here rest free stand before after eol =
           absurd (free (before, f.0, f.1))
     ]
 
-untagged_end : (here rest : Bits) (words : List Bits) → Stands here words rest → EndBeforeEol [] words here
+untagged_end : (here rest : Bits) (words : List Bits) → WordsStand here words rest → EndBeforeEol [] words here
 untagged_end here rest words stands = record {
   are = stands.words;
   stand = (rest, stands.place);
@@ -256,7 +258,7 @@ untagged_end here rest words stands = record {
       (true ∷ holds.0, holds.1, ap (λ (x : Bits). true ∷ x) holds.2)) stands.place;
 }
 
-tagged_end : (tag : Bool) (here rest : Bits) (words : List Bits) → Stands here words rest
+tagged_end : (tag : Bool) (here rest : Bits) (words : List Bits) → WordsStand here words rest
     → EndBeforeEol (tag ∷ []) words (tag ∷ here)
 tagged_end tag here rest words stands =
     let stand : tag ∷ here ≡ (tag ∷ joined words) ++ rest = ap (λ (x : Bits). tag ∷ x) stands.place in

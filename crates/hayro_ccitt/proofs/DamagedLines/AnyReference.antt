@@ -15,7 +15,7 @@ use Rattle.hayro_ccitt.proofs.BitReading.ZerosInWords.{modes_free}
 use Rattle.hayro_ccitt.proofs.CodeWords.ReadRuns.{run_passes, run_ends, run_goes_on}
 use Rattle.hayro_ccitt.proofs.DamagedLines.LineTails.{after_eol_is}
 use Rattle.hayro_ccitt.proofs.DrawingLines.Drawings.{try, run_then, mode_step, step_2d, step_2d_is, horizontal_is}
-use Rattle.hayro_ccitt.proofs.DrawingLines.ReadLines.{next_is, try_next, unless_full_next, try_goes_on, draw_mode_goes_on}
+use Rattle.hayro_ccitt.proofs.DrawingLines.ReadLines.{next_pen_is, try_next, unless_full_next, try_goes_on, draw_mode_goes_on}
 use Rattle.hayro_ccitt.proofs.DrawingLines.ReadLines.{full_by}
 
 -- ---- Words contain no EOL
@@ -65,16 +65,16 @@ quiet_line reference row from color bits
     (quiet_append run2 next (quiet_run (opposite color) _ run2 spells2) (quiet_line reference row _ color next steps)))
 
 -- ---- The words of a run are read, unless they sum to too much
-spelled : (color : Color) (n : ℕ) (bits : Bits) (total : ℕ) (more : Bits) → Spells color n bits
+spelled_is_read : (color : Color) (n : ℕ) (bits : Bits) (total : ℕ) (more : Bits) → Spells color n bits
     → (run_from color (total, bits ++ more) ≡ Ok (total + n, more))
     ⊎ ((fault : DecodeError) × (run_from color (total, bits ++ more) ≡ Err fault))
-spelled color n bits total more (Spells.terminating m word has small) =
+spelled_is_read color n bits total more (Spells.terminating m word has small) =
     let read = read_code_again (codes_of color) n bits more (codes_free color) has in
     elim (cases_lt 4294967295 (total + n)) [
       | inl big ↦ inr (Overflow, run_passes color total n (bits ++ more) more read big)
       | inr fits ↦ inl (run_ends color total n (bits ++ more) more read fits small)
     ]
-spelled color n bits total more (Spells.makeup m word {n = k} {bits = next} has large rest) =
+spelled_is_read color n bits total more (Spells.makeup m word {n = k} {bits = next} has large rest) =
     let here : (word ++ next) ++ more ≡ word ++ (next ++ more) = append_assoc word next more in
     let read : read_code (codes_of color) ((word ++ next) ++ more) ≡ Ok (m, next ++ more)
     = ap (read_code (codes_of color)) here ∙ read_code_again (codes_of color) m word (next ++ more) (codes_free color) has in
@@ -82,7 +82,7 @@ spelled color n bits total more (Spells.makeup m word {n = k} {bits = next} has 
       | inl big ↦ inr (Overflow, run_passes color total m ((word ++ next) ++ more) (next ++ more) read big)
       | inr fits ↦
           let goes = run_goes_on color total m ((word ++ next) ++ more) (next ++ more) read fits large in
-          elim (spelled color k next (total + m) more rest) [
+          elim (spelled_is_read color k next (total + m) more rest) [
             | inl e ↦ inl (goes ∙ e ∙ ap (λ (s : ℕ). Ok (s, more))
                 (let sum : total + m + k ≡ total + (m + k) = omega arith in sum))
             | inr e ↦ inr (e.0, goes ∙ e.1)
@@ -107,19 +107,19 @@ left_behind color here last (ReadsModes.mode next rest found more) =
     subst (LeftBehind here last) (sym found) (inr more)
 
 -- ---- A whole line ends behind modes that are read
-abbrev pen_at : Row → Color → Bits → Pen
-pen_at front color rest = record { front = front; color = color; rest = rest }
+abbrev pen_with : Row → Color → Bits → Pen
+pen_with front color rest = record { front = front; color = color; rest = rest }
 
 -- a run that was drawn was read
-run_on : (strict : Bool) (columns : ℕ) (pen : Pen) (f : Pen → Step) (t : Pen) → run_then strict columns pen f ≡ Turn.next t
+run_was_read : (strict : Bool) (columns : ℕ) (pen : Pen) (f : Pen → Step) (t : Pen) → run_then strict columns pen f ≡ Turn.next t
     → (n : ℕ) × (front : Row) × (rest : Bits) × (read_run pen.color pen.rest ≡ Ok (n, rest))
-    × (f (pen_at front (opposite pen.color) rest) ≡ Turn.next t)
-run_on strict columns pen f t e =
+    × (f (pen_with front (opposite pen.color) rest) ≡ Turn.next t)
+run_was_read strict columns pen f t e =
     let a = try_next pen.front (run_from pen.color (0, pen.rest))
     (λ run. try pen.front (paint strict columns pen.front pen.color run.0)
-    (λ front. f (pen_at front (opposite pen.color) run.1))) t e in
+    (λ front. f (pen_with front (opposite pen.color) run.1))) t e in
     let b = try_next pen.front (paint strict columns pen.front pen.color a.0.0)
-    (λ front. f (pen_at front (opposite pen.color) a.0.1)) t a.2 in
+    (λ front. f (pen_with front (opposite pen.color) a.0.1)) t a.2 in
     (a.0.0, b.0, a.0.1, a.1, b.2)
 
 module _ (strict : Bool) (columns : ℕ) (other : Row) where
@@ -129,25 +129,27 @@ module _ (strict : Bool) (columns : ℕ) (other : Row) where
   -- a mode that was drawn was read
   mode_on : (front : Row) (color : Color) (here last : Bits) (mode : Mode) (rest : Bits) (t : Pen)
       → read_code mode_codes here ≡ Ok (mode, rest)
-      → mode_step strict columns other (pen_at front color rest) mode ≡ Turn.next t → reads_at t last → ReadsModes color here last
+      → mode_step strict columns other (pen_with front color rest) mode ≡ Turn.next t → reads_at t last
+      → ReadsModes color here last
   mode_on front color here last Pass rest t read e reads =
-      let a = try_next front _ (λ more. Turn.next (pen_at more color rest)) t e in
+      let a = try_next front _ (λ more. Turn.next (pen_with more color rest)) t e in
       ReadsModes.mode color rest (ap (behind_read color) read)
-      (subst (λ (p : Pen). reads_at p last) {y = pen_at a.0 color rest} (sym (next_is _ t a.2)) reads)
+      (subst (λ (p : Pen). reads_at p last) {y = pen_with a.0 color rest} (sym (next_pen_is _ t a.2)) reads)
   mode_on front color here last (Vertical k) rest t read e reads =
       let a = try_next front _ (λ place. try front (paint strict columns front color (place - length front))
-      (λ more. Turn.next (pen_at more (opposite color) rest))) t e in
-      let b = try_next front _ (λ more. Turn.next (pen_at more (opposite color) rest)) t a.2 in
+      (λ more. Turn.next (pen_with more (opposite color) rest))) t e in
+      let b = try_next front _ (λ more. Turn.next (pen_with more (opposite color) rest)) t a.2 in
       ReadsModes.mode (opposite color) rest (ap (behind_read color) read)
-      (subst (λ (p : Pen). reads_at p last) {y = pen_at b.0 (opposite color) rest} (sym (next_is _ t b.2)) reads)
+      (subst (λ (p : Pen). reads_at p last) {y = pen_with b.0 (opposite color) rest} (sym (next_pen_is _ t b.2)) reads)
   mode_on front color here last Horizontal rest t read e reads =
-      let one = run_on strict columns (pen_at front color rest) (λ p. run_then strict columns p Turn.next) t
-      (horizontal_is strict columns other (pen_at front color rest) ∙ e) in
-      let two = run_on strict columns (pen_at one.1 (opposite color) one.2) Turn.next t one.4 in
+      let one = run_was_read strict columns (pen_with front color rest) (λ p. run_then strict columns p Turn.next) t
+      (horizontal_is strict columns other (pen_with front color rest) ∙ e) in
+      let two = run_was_read strict columns (pen_with one.1 (opposite color) one.2) Turn.next t one.4 in
       ReadsModes.mode color two.2
       (ap (behind_read color) read ∙ ap (behind_first_run color) one.3 ∙ ap (behind_second_run color) two.3)
       (subst (λ (c : Color). ReadsModes c two.2 last) (opposite_twice color)
-      (subst (λ (p : Pen). reads_at p last) {y = pen_at two.1 (opposite (opposite color)) two.2} (sym (next_is _ t two.4)) reads))
+      (subst (λ (p : Pen). reads_at p last) {y = pen_with two.1 (opposite (opposite color)) two.2} (sym (next_pen_is _ t two.4))
+      reads))
 
   abbrev Keeps : Bits → Pen → Type 0
   Keeps here pen = (last : Bits) → reads_at pen last → ReadsModes White here last
@@ -158,12 +160,12 @@ module _ (strict : Bool) (columns : ℕ) (other : Row) where
 
   abbrev mode_here : Pen → Step
   mode_here pen = try pen.front (read_code mode_codes pen.rest)
-      (λ mode. mode_step strict columns other (pen_at pen.front pen.color mode.1) mode.0)
+      (λ mode. mode_step strict columns other (pen_with pen.front pen.color mode.1) mode.0)
 
   keeps : (here : Bits) (s t : Pen) → Keeps here s → step_2d strict columns other s ≡ Turn.next t → Keeps here t
   keeps here s t kept e last reads =
       let a = try_next s.front (read_code mode_codes s.rest)
-      (λ mode. mode_step strict columns other (pen_at s.front s.color mode.1) mode.0) t
+      (λ mode. mode_step strict columns other (pen_with s.front s.color mode.1) mode.0) t
       (unless_full_next columns s (mode_here s) t (sym (step_2d_is strict columns other s) ∙ e)) in
       kept last (mode_on s.front s.color s.rest last a.0.0 a.0.1 t a.1 a.2 reads)
 
@@ -173,7 +175,7 @@ module _ (strict : Bool) (columns : ℕ) (other : Row) where
   ends here s (Line.whole row rest) kept e =
       let f = full_by columns s (mode_here s) row rest
       (try_goes_on s.front (read_code mode_codes s.rest) _
-      (λ mode. draw_mode_goes_on strict columns other (pen_at s.front s.color mode.1) mode.0))
+      (λ mode. draw_mode_goes_on strict columns other (pen_with s.front s.color mode.1) mode.0))
       (sym (step_2d_is strict columns other s) ∙ e) in
       let there : s.rest ≡ rest = let w = f.1 in cc in
       subst (ReadsModes White here) there (kept s.rest ReadsModes.over)
@@ -201,8 +203,8 @@ long bits tail rest e = omega (arith, ap length e, length-append bits tail)
 runs_are : (color : Color) (n m : ℕ) (run1 run2 more : Bits) → Spells color n run1 → Spells (opposite color) m run2
     → (behind_first_run color (read_run color (run1 ++ (run2 ++ more))) ≡ Some (color, more))
     ⊎ (behind_first_run color (read_run color (run1 ++ (run2 ++ more))) ≡ None)
-runs_are color n m run1 run2 more spells1 spells2 = elim (spelled color n run1 0 (run2 ++ more) spells1) [
-  | inl e ↦ elim (spelled (opposite color) m run2 0 more spells2) [
+runs_are color n m run1 run2 more spells1 spells2 = elim (spelled_is_read color n run1 0 (run2 ++ more) spells1) [
+  | inl e ↦ elim (spelled_is_read (opposite color) m run2 0 more spells2) [
     | inl f ↦ inl (ap (behind_first_run color) e ∙ ap (behind_second_run color) f)
     | inr f ↦ inr (ap (behind_first_run color) e ∙ ap (behind_second_run color) f.1)
   ]

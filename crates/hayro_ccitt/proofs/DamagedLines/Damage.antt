@@ -15,8 +15,8 @@ use Rattle.hayro_ccitt.proofs.DamagedLines.LineTails.{after_eol_is, drop_at, is_
 use Rattle.hayro_ccitt.proofs.DamagedLines.LinesByEols.{past_shorter, seeks}
 use Rattle.hayro_ccitt.proofs.DamagedLines.PastEol.{past, all_eols-none, all_tagged}
 use Rattle.hayro_ccitt.proofs.DamagedLines.RunsAlike.{IsGroup3, Settles, RowsAlike, EndsAlike, RunsAlike, IsTail, moves_alike}
-use Rattle.hayro_ccitt.proofs.DamagedLines.SoughtTurns.{sought, rest_of, line_is}
-use Rattle.hayro_ccitt.proofs.DrawingLines.LinesLeaveBits.{Leaves, leaves_trans}
+use Rattle.hayro_ccitt.proofs.DamagedLines.SoughtTurns.{sought, rest_of, sought_line_is}
+use Rattle.hayro_ccitt.proofs.DrawingLines.LinesLeaveBits.{LeavesBits, leaves_trans}
 use Rattle.hayro_ccitt.proofs.Readings.TurnsMoveOn.{left_to_read, left_below, move_shrinks}
 
 -- ---- From the ends of two runs to their results
@@ -175,12 +175,13 @@ pub record LinesDiffer (settings : DecodeSettings) (one two : Bits) (from : ℕ)
   pub settles : Settles settings lines after
 
 -- a suffix of the bits before a one, with what follows
-leaves_ahead : (whole front bits z : Bits) → whole ≡ front ++ true ∷ z → Leaves front bits → Leaves whole (bits ++ true ∷ z)
+leaves_ahead : (whole front bits z : Bits) → whole ≡ front ++ true ∷ z → LeavesBits front bits
+    → LeavesBits whole (bits ++ true ∷ z)
 leaves_ahead whole front bits z e leaves =
     (leaves.0, e ∙ ap (λ (b : Bits). b ++ true ∷ z) leaves.1 ∙ append_assoc leaves.0 bits (true ∷ z))
 
 -- the EOLs that end where the line begins are few, from wherever they are counted
-few_from : (bits found : Bits) (from count : ℕ) → IsTagOfLine bits from → Leaves bits found
+few_from : (bits found : Bits) (from count : ℕ) → IsTagOfLine bits from → LeavesBits bits found
     → all_tagged found ≡ (count, drop from bits) → count < 6
 few_from bits found from count few leaves e =
     let at : drop (length leaves.0) bits ≡ found = drop_at bits leaves.0 found (length leaves.0) leaves.1 refl in
@@ -199,9 +200,9 @@ module _ (settings : DecodeSettings) (one two : Bits) (from : ℕ) (after : Bits
 
   -- bits that both have before the line
   abbrev Within : Bits → Type 0
-  Within bits = Leaves one (bits ++ true ∷ drop from one) × Leaves two (bits ++ true ∷ drop from two)
+  Within bits = LeavesBits one (bits ++ true ∷ drop from one) × LeavesBits two (bits ++ true ∷ drop from two)
 
-  within_later : (bits rest : Bits) → Within bits → Leaves bits rest → Within rest
+  within_later : (bits rest : Bits) → Within bits → LeavesBits bits rest → Within rest
   within_later bits rest within leaves = (
     leaves_trans one (bits ++ true ∷ drop from one) (rest ++ true ∷ drop from one) within.0
         (leaves_ahead _ bits rest (drop from one) refl leaves),
@@ -378,9 +379,9 @@ locality settings one are whole_one two from to to2 whole_two differ = in_each_c
       stays_one = λ rows reached. stays_1d settings one from to local_one (row_before settings.columns rows);
       stays_two = λ rows reached. stays_1d settings two from to2 local_two (row_before settings.columns rows)
           ∙ ap Some same_after;
-      settles = λ found e. inr (λ reference other. line_is settings local_one.encoding local_one.lenient reference
+      settles = λ found e. inr (λ reference other. sought_line_is settings local_one.encoding local_one.lenient reference
           (eols_here settings found).1
-          ∙ sym (line_is settings local_one.encoding local_one.lenient other (eols_here settings found).1));
+          ∙ sym (sought_line_is settings local_one.encoding local_one.lenient other (eols_here settings found).1));
     }
 
     in_each_case : (settings.columns ≡ 0) ⊎ (settings.columns ≡ 0 → ⊥)
@@ -394,8 +395,8 @@ locality settings one are whole_one two from to to2 whole_two differ = in_each_c
         (one_row_differs settings one two from (plain settings one).rows (plain settings two).rows both.0, both.1)
 
 -- a run with the rows and the result of the plain reading has what the law says
-pub damage_stays : (settings : DecodeSettings) (bits : Bits) (rows : List Row) (outcome : Result ℕ DecodeError)
+pub damage_stays_in_row : (settings : DecodeSettings) (bits : Bits) (rows : List Row) (outcome : Result ℕ DecodeError)
     → AreSettings settings → AreWholeBytes bits → rows ≡ (plain settings bits).rows → outcome ≡ (plain settings bits).outcome
     → DamageStaysInRow settings bits rows outcome
-damage_stays settings bits rows outcome are whole rows_are outcome_is =
+damage_stays_in_row settings bits rows outcome are whole rows_are outcome_is =
     rw (rows_are, outcome_is) (locality settings bits are whole)

@@ -26,9 +26,9 @@ eol_longer next after e =
 
 module _ (settings : DecodeSettings) (encoding : settings.encoding ≡ Group3_2D) where
   -- the EOL before the lines that follow
-  pub eol_before : (lines : ℕ) (here : Bits) → ComeBefore1D settings lines here → IsEolAt here
-  eol_before zero here (eol, ends) = eol
-  eol_before (suc lines) here (line, next, e, is, more) = (false ∷ line, e)
+  pub eol_before_lines : (lines : ℕ) (here : Bits) → ComeBefore1D settings lines here → IsEolAt here
+  eol_before_lines zero here (eol, ends) = eol
+  eol_before_lines (suc lines) here (line, next, e, is, more) = (false ∷ line, e)
 
   -- a one-dimensional line has no reference row
   unreferred : (here : Bits) → ComesBefore1D settings here → Unreferred settings (eols_here settings here)
@@ -100,7 +100,7 @@ module _ (settings : DecodeSettings) (encoding : settings.encoding ≡ Group3_2D
   pub encoded_follows : (lines : ℕ) (reference row : Row) (line next here : Bits) → EncodesLine2D reference row 0 White line
       → ComeBefore1D settings lines next → after_eol 0 here ≡ Some (false ∷ line ++ next) → ComeBefore1D settings (suc lines) here
   encoded_follows lines reference row line next here encodes more e =
-      let eol = eol_before lines next more in
+      let eol = eol_before_lines lines next more in
       let after = eol.0 in
       let q = quiet_line reference row 0 White line encodes 1 (omega arith) in
       let found = found_next (false ∷ line ++ next) after

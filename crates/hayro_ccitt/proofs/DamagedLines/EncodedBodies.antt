@@ -12,22 +12,22 @@ use Rattle.hayro_ccitt.proofs.BitReading.ZerosInWords.{holds_a_one, word_one}
 use Rattle.hayro_ccitt.proofs.DamagedLines.AnyReference.{Quiet, quiet_append, quiet_run, quiet_line, leaves_next, scan_past}
 use Rattle.hayro_ccitt.proofs.DamagedLines.LineTails.{drop_front, drop_at, after_eol_is, after_eol_more, first_one, past_before}
 use Rattle.hayro_ccitt.proofs.DamagedLines.PastEol.{past, past-eol, all_tagged, all_tagged-some, all_tagged-none}
-use Rattle.hayro_ccitt.proofs.DrawingLines.LinesLeaveBits.{Leaves, leaves_trans}
+use Rattle.hayro_ccitt.proofs.DrawingLines.LinesLeaveBits.{LeavesBits, leaves_trans}
 use Rattle.hayro_ccitt.proofs.Readings.TurnsMoveOn.{after_eol_shorter, past_tag_shorter}
 
 -- ---- Suffixes
 
 -- a suffix of two lists is one of the second, or ends with it
-suffix_of : (a b c : Bits) → Leaves (a ++ b) c → Leaves b c ⊎ ((more : Bits) × (c ≡ more ++ b))
+suffix_of : (a b c : Bits) → LeavesBits (a ++ b) c → LeavesBits b c ⊎ ((more : Bits) × (c ≡ more ++ b))
 suffix_of [] b c leaves = inl leaves
 suffix_of (x ∷ a) b c ([], e) = inr (x ∷ a, sym e)
 suffix_of (x ∷ a) b c (y ∷ before, e) = suffix_of a b c (before, cc)
 
 -- a suffix that is long enough ends with the second
-covers : (a b c : Bits) → Leaves (a ++ b) c → length b ≤ length c → (more : Bits) × (c ≡ more ++ b)
-covers a b c leaves le = by_more (suffix_of a b c leaves)
+suffix_ends_with : (a b c : Bits) → LeavesBits (a ++ b) c → length b ≤ length c → (more : Bits) × (c ≡ more ++ b)
+suffix_ends_with a b c leaves le = by_more (suffix_of a b c leaves)
   where
-    by_more : Leaves b c ⊎ ((more : Bits) × (c ≡ more ++ b)) → (more : Bits) × (c ≡ more ++ b)
+    by_more : LeavesBits b c ⊎ ((more : Bits) × (c ≡ more ++ b)) → (more : Bits) × (c ≡ more ++ b)
     by_more (inl ([], e)) = ([], sym e)
     by_more (inl (x ∷ before, e)) = absurd (omega (arith, le, ap length e, length-append before c))
     by_more (inr given) = given
@@ -54,12 +54,12 @@ past_first seen (true ∷ before) here rest next e f = elim (cases_lt seen 11) [
 ]
 
 -- what follows a tag is a suffix
-tag_leaves : (here : Bits) → Leaves here (past_tag here)
+tag_leaves : (here : Bits) → LeavesBits here (past_tag here)
 tag_leaves [] = ([], refl)
 tag_leaves (false ∷ here) = ([], refl)
 tag_leaves (true ∷ here) = by_after_eol (after_eol 0 here) refl
   where
-    by_after_eol : (o : Option Bits) → after_eol 0 here ≡ o → Leaves (true ∷ here) (past_tag (true ∷ here))
+    by_after_eol : (o : Option Bits) → after_eol 0 here ≡ o → LeavesBits (true ∷ here) (past_tag (true ∷ here))
     by_after_eol None e = rw (e, past_tag) ([], refl)
     by_after_eol (Some rest) e = rw (e, past_tag) (true ∷ [], refl)
 
@@ -112,13 +112,13 @@ one_left here last e = by_after_eol (after_eol 0 here) refl
 
 -- the last two of consecutive EOLs
 last_two : (n count : ℕ) (here last : Bits) → length here < n → all_tagged here ≡ (suc (suc count), last)
-    → (found rest : Bits) × Leaves here found × (after_eol 0 found ≡ Some rest) × (after_eol 0 (past_tag rest) ≡ Some last)
+    → (found rest : Bits) × LeavesBits here found × (after_eol 0 found ≡ Some rest) × (after_eol 0 (past_tag rest) ≡ Some last)
 last_two zero count here last lt e = absurd (omega arith)
 last_two (suc n) count here last lt e =
     by_after_eol (λ c next small. last_two n c next last small) count e (after_eol 0 here) refl
   where
     Two : Bits → Type 0
-    Two start = (found rest : Bits) × Leaves start found × (after_eol 0 found ≡ Some rest)
+    Two start = (found rest : Bits) × LeavesBits start found × (after_eol 0 found ≡ Some rest)
         × (after_eol 0 (past_tag rest) ≡ Some last)
 
     by_after_eol : ((c : ℕ) (next : Bits) → length next < n → all_tagged next ≡ (suc (suc c), last) → Two next) → (count : ℕ)
@@ -134,7 +134,7 @@ last_two (suc n) count here last lt e =
         let more : all_tagged (past_tag rest) ≡ (suc (suc count), last) = grind (arith, common_steps) in
         let two = on count (past_tag rest) (omega (arith, lt, after_eol_shorter 0 here rest f, past_tag_shorter rest)) more in
         let is = after_eol_is 0 here rest f in
-        let first : Leaves here rest = (
+        let first : LeavesBits here rest = (
           replicate is.0 false ++ true ∷ [],
           is.1 ∙ sym (append_assoc (replicate is.0 false) (true ∷ []) rest),
         ) in (
@@ -164,14 +164,14 @@ module _ (front words next : Bits) (tag : Bool) (fill : ℕ) (quiet : Quiet word
       none false = let q = quiet 1 (omega arith) in scan_past 1 q.0 words (omega arith) q.1
 
   -- two consecutive EOLs don't end there
-  not_two : (found rest : Bits) → Leaves (front ++ true ∷ (tag ∷ behind)) found → after_eol 0 found ≡ Some rest
+  not_two : (found rest : Bits) → LeavesBits (front ++ true ∷ (tag ∷ behind)) found → after_eol 0 found ≡ Some rest
       → after_eol 0 (past_tag rest) ≡ Some next → ⊥
   not_two found rest leaves e f = in_each_case (suffix_of front (true ∷ (tag ∷ behind)) found leaves)
     where
       longer : length next < length rest
       longer = omega (arith, after_eol_shorter 0 (past_tag rest) next f, past_tag_shorter rest)
 
-      in_each_case : Leaves (true ∷ (tag ∷ behind)) found ⊎ ((more : Bits) × (found ≡ more ++ true ∷ (tag ∷ behind))) → ⊥
+      in_each_case : LeavesBits (true ∷ (tag ∷ behind)) found ⊎ ((more : Bits) × (found ≡ more ++ true ∷ (tag ∷ behind))) → ⊥
       in_each_case (inl (before, split)) =
           omega (arith, longer, past_first 0 before found rest next e (ap (past 0) (sym split) ∙ next_is))
       in_each_case (inr (more, split)) =
@@ -185,13 +185,14 @@ module _ (front words next : Bits) (tag : Bool) (fill : ℕ) (quiet : Quiet word
             length-replicate zeros.0 false,
             length-append more (true ∷ (tag ∷ behind)),
           ) in
-          let after_found : Leaves found rest
+          let after_found : LeavesBits found rest
           = (replicate zeros.0 false ++ true ∷ [], zeros.1 ∙ sym (append_assoc (replicate zeros.0 false) (true ∷ []) rest)) in
-          let in_both : Leaves ((more ++ true ∷ tag ∷ []) ++ behind) rest
+          let in_both : LeavesBits ((more ++ true ∷ tag ∷ []) ++ behind) rest
           = (after_found.0, append_assoc more (true ∷ tag ∷ []) behind ∙ sym split ∙ after_found.1) in
-          let tagged : Leaves ((more ++ true ∷ tag ∷ []) ++ behind) (past_tag rest) = leaves_trans _ rest (past_tag rest) in_both
+          let tagged : LeavesBits ((more ++ true ∷ tag ∷ []) ++ behind) (past_tag rest) =
+          leaves_trans _ rest (past_tag rest) in_both
           (tag_leaves rest) in
-          let covered = covers (more ++ true ∷ tag ∷ []) behind (past_tag rest) tagged
+          let covered = suffix_ends_with (more ++ true ∷ tag ∷ []) behind (past_tag rest) tagged
           (omega (arith, sizes, first, tag_short rest)) in
           let others = after_eol_is 0 (past_tag rest) next f in
           let words_at : past_tag rest ≡ (covered.0 ++ one.0) ++ true ∷ (one.1 ++ (eol fill ++ next))
@@ -213,7 +214,7 @@ module _ (front words next : Bits) (tag : Bool) (fill : ℕ) (quiet : Quiet word
           )
 
   -- so the tag there isn't that of RTC
-  pub few_before : (here : Bits) (count : ℕ) → Leaves (front ++ true ∷ (tag ∷ behind)) here → all_tagged here ≡ (count, next)
+  pub few_before : (here : Bits) (count : ℕ) → LeavesBits (front ++ true ∷ (tag ∷ behind)) here → all_tagged here ≡ (count, next)
       → count < 6
   few_before here zero leaves e = omega arith
   few_before here (suc zero) leaves e = omega arith
@@ -443,11 +444,11 @@ module _ (settings : DecodeSettings) (encoding : settings.encoding ≡ Group3_2D
 
 -- the tag behind lines of an encoding is a line's
 few_tags : (front line : Bits) (fill : ℕ) → (front ≡ []) ⊎ LastLine front → (here : Bits) (count : ℕ)
-    → Leaves ((front ++ eol fill) ++ line) here → all_tagged here ≡ (count, line) → count < 6
+    → LeavesBits ((front ++ eol fill) ++ line) here → all_tagged here ≡ (count, line) → count < 6
 few_tags front line fill (inl none) here count leaves e = by_count count e
   where
-    first : Leaves (eol fill ++ line) here
-    first = subst (λ (b : Bits). Leaves ((b ++ eol fill) ++ line) here) none leaves
+    first : LeavesBits (eol fill ++ line) here
+    first = subst (λ (b : Bits). LeavesBits ((b ++ eol fill) ++ line) here) none leaves
 
     by_count : (count : ℕ) → all_tagged here ≡ (count, line) → count < 6
     by_count zero e = omega arith
@@ -465,7 +466,7 @@ few_tags front line fill (inl none) here count leaves e = by_count count e
         ))
 few_tags front line fill (inr (before, last, fill2, split, is)) here count leaves e =
     few_before (before ++ replicate (11 + fill2) false) is.words line is.tag fill is.quiet is.one here count
-    (subst (λ (b : Bits). Leaves b here) same leaves) e
+    (subst (λ (b : Bits). LeavesBits b here) same leaves) e
   where
     same : (front ++ eol fill) ++ line ≡ (before ++ replicate (11 + fill2) false)
         ++ true ∷ (is.tag ∷ (is.words ++ (eol fill ++ line)))

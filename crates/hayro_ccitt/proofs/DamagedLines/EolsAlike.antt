@@ -6,24 +6,25 @@ use Rattle.hayro_ccitt.proofs.BitReading.ZerosInWords.{scan, scan_holds}
 use Rattle.hayro_ccitt.proofs.DamagedLines.LinesBeforeEol.{Inside}
 use Rattle.hayro_ccitt.proofs.DamagedLines.PastEol.{past, all_eols-some, all_eols-none, all_tagged, all_tagged-some}
 use Rattle.hayro_ccitt.proofs.DamagedLines.PastEol.{all_tagged-none}
-use Rattle.hayro_ccitt.proofs.DrawingLines.LinesLeaveBits.{Leaves, leaves_trans}
+use Rattle.hayro_ccitt.proofs.DrawingLines.LinesLeaveBits.{LeavesBits, leaves_trans}
 
 -- bits that end with the zeros of an EOL
 abbrev pub Closes : Bits → Type 0
 Closes bits = (first : Bits) × (bits ≡ first ++ replicate 11 false)
 
 -- no zeros contain a one
-pub no_one : (n : ℕ) (before after : Bits) → before ++ true ∷ after ≡ replicate n false → ⊥
-no_one zero [] after e = absurd cc
-no_one zero (b ∷ before) after e = absurd cc
-no_one (suc n) [] after e = absurd cc
-no_one (suc n) (b ∷ before) after e = no_one n before after (let f : before ++ true ∷ after ≡ replicate n false = cc in f)
+pub no_one_in_zeros : (n : ℕ) (before after : Bits) → before ++ true ∷ after ≡ replicate n false → ⊥
+no_one_in_zeros zero [] after e = absurd cc
+no_one_in_zeros zero (b ∷ before) after e = absurd cc
+no_one_in_zeros (suc n) [] after e = absurd cc
+no_one_in_zeros (suc n) (b ∷ before) after e = no_one_in_zeros n before after
+    (let f : before ++ true ∷ after ≡ replicate n false = cc in f)
 
 -- what follows a one in them ends with these zeros too
 pub closes_after : (before after first : Bits) → before ++ true ∷ after ≡ first ++ replicate 11 false → Closes after
 closes_after [] after [] e = absurd cc
 closes_after [] after (b ∷ first) e = (first, cc)
-closes_after (b ∷ before) after [] e = absurd (no_one 11 (b ∷ before) after e)
+closes_after (b ∷ before) after [] e = absurd (no_one_in_zeros 11 (b ∷ before) after e)
 closes_after (b ∷ before) after (c ∷ first) e =
     closes_after before after first (let f : before ++ true ∷ after ≡ first ++ replicate 11 false = cc in f)
 
@@ -39,11 +40,11 @@ inside_after bits before after inside e =
     (append_assoc inside.last.0 before (true ∷ after) ∙ ap (λ (x : Bits). inside.last.0 ++ x) (sym e) ∙ inside.last.2)
 
 -- what follows a one is a suffix
-pub leaves_after : (bits before after : Bits) → bits ≡ before ++ true ∷ after → Leaves bits after
+pub leaves_after : (bits before after : Bits) → bits ≡ before ++ true ∷ after → LeavesBits bits after
 leaves_after bits before after e = (before ++ true ∷ [], e ∙ sym (append_assoc before (true ∷ []) after))
 
 -- a suffix isn't longer
-pub leaves_length : (bits rest : Bits) → Leaves bits rest → length rest ≤ length bits
+pub leaves_length : (bits rest : Bits) → LeavesBits bits rest → length rest ≤ length bits
 leaves_length bits rest leaves = omega (arith, ap length leaves.1, length-append leaves.0 rest)
 
 -- what follows a one is shorter
@@ -102,7 +103,7 @@ module _ (x y : Bits) where
 
   -- where counting EOLs ends: within the equal bits, or just past them
   abbrev pub RestAlike : Bits → Bits → Bits → Type 0
-  RestAlike bits here there = ((rest : Bits) × Leaves bits rest × (Closes bits → Closes rest) × (here ≡ rest ++ true ∷ x)
+  RestAlike bits here there = ((rest : Bits) × LeavesBits bits rest × (Closes bits → Closes rest) × (here ≡ rest ++ true ∷ x)
       × (there ≡ rest ++ true ∷ y)) ⊎ ((here ≡ x) × (there ≡ y))
 
   -- counts of EOLs that end alike
@@ -161,7 +162,7 @@ module _ (x y : Bits) where
     module _ (tag_x : past_tag x ≡ x) (tag_y : past_tag y ≡ y) where
       -- what follows a tag among the equal bits, or no tag
       abbrev TagAlike : Bits → Bits → Bits → Type 0
-      TagAlike bits here there = (rest : Bits) × Leaves bits rest × (Closes bits → Closes rest) × (here ≡ rest ++ true ∷ x)
+      TagAlike bits here there = (rest : Bits) × LeavesBits bits rest × (Closes bits → Closes rest) × (here ≡ rest ++ true ∷ x)
           × (there ≡ rest ++ true ∷ y)
 
       past_tag_alike : (bits : Bits) → TagAlike bits (past_tag (bits ++ true ∷ x)) (past_tag (bits ++ true ∷ y))

@@ -1,5 +1,5 @@
 -- Where lines begin, by positions.
-use Rattle.hayro_ccitt.proofs.Readings.TurnsMoveOn.{at_end_length}
+use Rattle.hayro_ccitt.proofs.Readings.TurnsMoveOn.{at_end_length, after_eol_shorter, eol_of}
 use Rattle.hayro_ccitt.proofs.Names.{◌≡◌, ℕ, zero, suc, ◌+◌, ◌<◌, ◌≤◌, Bool, true, false, cond, not, ◌&&◌, leb, List, [], ◌∷◌}
 use Rattle.hayro_ccitt.proofs.Names.{◌++◌, length, take, drop, replicate, Option, Some, None, refl, sym, ap, subst, ◌∙◌}
 use Rattle.hayro_ccitt.proofs.Names.{append_assoc, arith, ◌⊎◌, inl, inr, Contains, All, is_some, cases_lt, le-leb, leb-true}
@@ -7,10 +7,9 @@ use Rattle.hayro_ccitt.proofs.Names.{and_parts, and_from, not-true, not_from_fal
 use Rattle.hayro_ccitt.proofs.Names.{length-replicate, append_cancel_left, Contains-append_left, Contains-append_right}
 use Rattle.hayro_ccitt.proofs.Names.{Contains-append_cases, All-nil, All-append, All-weaker, Bits, after_eol, all_eols, at_end}
 use Rattle.hayro_ccitt.proofs.Names.{begins_line, later_starts, starts, IsStart, Descends, StartsAre, common_steps}
-use Rattle.hayro_ccitt.proofs.{BitReading.ZerosInWords.prefix_of_prefix, DrawingLines.LinesLeaveBits.Leaves}
+use Rattle.hayro_ccitt.proofs.{BitReading.ZerosInWords.prefix_of_prefix, DrawingLines.LinesLeaveBits.LeavesBits}
 use Rattle.hayro_ccitt.proofs.DamagedLines.LineTails.{after_eol_is, first_one, drop_at}
 use Rattle.hayro_ccitt.proofs.DamagedLines.PastEol.{all_eols-some, all_eols-none}
-use Rattle.hayro_ccitt.proofs.Readings.TurnsMoveOn.{after_eol_shorter, eol_of}
 
 -- ---- Later starts come in order
 later_below : (seen : ℕ) (here : Bits) → All (λ other. length other < length here) (later_starts seen here)
@@ -37,7 +36,7 @@ later_descends seen (true ∷ here) = either_way (leb 11 seen && begins_line her
 -- an EOL that ends further on, given the number of zeros just before
 abbrev EndsLater : ℕ → Bits → Bits → Type 0
 EndsLater seen here end =
-    (at : Bits) × Leaves (replicate seen false ++ here) at × (after_eol 0 at ≡ Some end) × (length end < length here)
+    (at : Bits) × LeavesBits (replicate seen false ++ here) at × (after_eol 0 at ≡ Some end) × (length end < length here)
 
 zeros_along : (seen : ℕ) (here : Bits) → replicate (suc seen) false ++ here ≡ replicate seen false ++ false ∷ here
 zeros_along zero here = refl
@@ -81,7 +80,7 @@ from_later seen (true ∷ here) end c =
         )
 
 -- of two suffixes of one list the shorter is a suffix of the longer
-shorter_end : (xs ys us vs : Bits) → xs ++ ys ≡ us ++ vs → length vs ≤ length ys → Leaves ys vs
+shorter_end : (xs ys us vs : Bits) → xs ++ ys ≡ us ++ vs → length vs ≤ length ys → LeavesBits ys vs
 shorter_end xs ys us vs e le =
     let lengths : length xs + length ys ≡ length us + length vs = sym (length-append xs ys) ∙ ap length e ∙ length-append us vs in
     grind (arith, common_steps, append_assoc, append_cancel_left, prefix_of_prefix)
@@ -134,7 +133,7 @@ to_later seen (true ∷ here) end (at, leaves, eol, lt) b = elim (cases_lt (leng
     whole : replicate seen false ++ true ∷ here ≡ (leaves.0 ++ replicate is.0 false) ++ true ∷ end
     whole = leaves.1 ∙ ap (λ (h : Bits). leaves.0 ++ h) is.1 ∙ sym (append_assoc leaves.0 (replicate is.0 false) (true ∷ end))
 
-    inside : length end < length here → Leaves here at
+    inside : length end < length here → LeavesBits here at
     inside less = elim (cases_lt (length here) (length at)) [
       | inl longer ↦ absurd (
           let f = shorter_end leaves.0 at (replicate seen false) (true ∷ here) (sym leaves.1) (omega arith) in
@@ -234,7 +233,7 @@ module _ (bits : Bits) where
       whole : leaves_first.0 ++ (all_eols bits).1 ≡ take at bits ++ drop at bits
       whole = sym leaves_first.1 ∙ sym (take-append-drop at bits)
 
-      inside : Leaves (all_eols bits).1 (drop at bits)
+      inside : LeavesBits (all_eols bits).1 (drop at bits)
       inside = elim (cases_lt (length (all_eols bits).1) (length (drop at bits))) [
         | inr short ↦ shorter_end leaves_first.0 (all_eols bits).1 (take at bits) (drop at bits) whole short
         | inl longer ↦ absurd (before leaves_first.2 longer)

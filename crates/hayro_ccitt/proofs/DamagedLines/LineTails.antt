@@ -7,7 +7,7 @@ use Rattle.hayro_ccitt.proofs.Names.{first_line, row_before, line_here, line_of_
 use Rattle.hayro_ccitt.proofs.Names.{common_steps}
 use Rattle.hayro_ccitt.proofs.DamagedLines.PastEol.{past, past-eol, past_later, next_eol_leaves}
 use Rattle.hayro_ccitt.proofs.DamagedLines.RunsAlike.{IsTail}
-use Rattle.hayro_ccitt.proofs.DamagedLines.SoughtTurns.{sought, rest_of, found_next, line_is}
+use Rattle.hayro_ccitt.proofs.DamagedLines.SoughtTurns.{sought, rest_of, found_next, sought_line_is}
 use Rattle.hayro_ccitt.proofs.DrawingLines.LinesLeaveBits.{LineLeaves, line_by_leaves}
 
 -- without a prefix the rest is left
@@ -152,8 +152,8 @@ module _ (bits : Bits) (from to : ℕ) (after : Bits) (local : IsBody bits from 
           let first = first_one is.0 rest (take n line_on) local.one.3.0 split in
           absurd (not_within [] rest is.0 line_on refl is.1 e (omega (arith, first, short, local.one.1, local.one.2)))
 
-  pub next_is : past 0 line_on ≡ Some after
-  next_is = ap (past 0) cut ∙ past_before 0 body eol_on after none_in_body local.eol
+  pub next_line_is : past 0 line_on ≡ Some after
+  next_line_is = ap (past 0) cut ∙ past_before 0 body eol_on after none_in_body local.eol
 
 -- the next EOL is the same behind a line that is broken or ends before its last twelve bits
 pub line_past_by : (settings : DecodeSettings) (reference : Row) (here after : Bits) → past 0 here ≡ Some after
@@ -184,7 +184,7 @@ is_tail settings bits from to local =
     let body = body_1d settings bits from to local in
     record {
       none = no_eol_here bits from to local.closes.0 body;
-      next = next_is bits from to local.closes.0 body;
+      next = next_line_is bits from to local.closes.0 body;
       tag = λ e. absurd (let f = local.encoding in cc);
     }
 
@@ -193,8 +193,9 @@ pub stays_1d : (settings : DecodeSettings) (bits : Bits) (from to : ℕ) (local 
     → past 0 (rest_of (line_here settings reference (drop from bits)) (drop from bits)) ≡ Some local.closes.0
 stays_1d settings bits from to local reference =
     line_past_by settings reference (drop from bits) local.closes.0
-    (next_is bits from to local.closes.0 (body_1d settings bits from to local))
-    (λ row rest e. local.closes.2 row rest (sym (line_is settings local.encoding local.lenient reference (drop from bits)) ∙ e))
+    (next_line_is bits from to local.closes.0 (body_1d settings bits from to local))
+    (λ row rest e. local.closes.2 row rest (sym (sought_line_is settings local.encoding local.lenient reference (drop from bits))
+    ∙ e))
 
 -- ---- Two-dimensional data
 
@@ -210,9 +211,9 @@ body_2d settings bits from to local = record {
 }
 
 -- the body alone
-behind_tag : (settings : DecodeSettings) (bits : Bits) (from to : ℕ) (local : IsTaggedBody settings bits from to)
+body_behind_tag : (settings : DecodeSettings) (bits : Bits) (from to : ℕ) (local : IsTaggedBody settings bits from to)
     → IsBody bits (suc from) to local.closes.0
-behind_tag settings bits from to local = record {
+body_behind_tag settings bits from to local = record {
   order = omega (arith, local.one.1, local.one.2);
   within = local.within;
   one = (local.one.0, local.one.1, local.one.2, local.one.3);
@@ -227,12 +228,12 @@ is_tagged_tail settings bits from to local =
     let body = body_2d settings bits from to local in
     record {
       none = no_eol_here bits from to local.closes.0 body;
-      next = next_is bits from to local.closes.0 body;
+      next = next_line_is bits from to local.closes.0 body;
       tag = λ e. by_drop (drop from bits) refl;
     }
   where
     none : after_eol 0 (drop (suc from) bits) ≡ None
-    none = no_eol_here bits (suc from) to local.closes.0 (behind_tag settings bits from to local)
+    none = no_eol_here bits (suc from) to local.closes.0 (body_behind_tag settings bits from to local)
 
     by_drop : (here : Bits) → drop from bits ≡ here → past_tag here ≡ here
     by_drop [] e = refl
@@ -251,5 +252,5 @@ pub stays_2d : (settings : DecodeSettings) (bits : Bits) (from to : ℕ) (local 
     → past 0 (rest_of (line_of_turn settings (sought rows (drop from bits))) (drop from bits)) ≡ Some local.closes.0
 stays_2d settings bits from to local rows reached =
     line_past_by settings (row_before settings.columns rows) (drop from bits) local.closes.0
-    (next_is bits from to local.closes.0 (body_2d settings bits from to local))
+    (next_line_is bits from to local.closes.0 (body_2d settings bits from to local))
     (λ row rest e. local.closes.2 (sought rows (drop from bits)) reached refl row rest e)

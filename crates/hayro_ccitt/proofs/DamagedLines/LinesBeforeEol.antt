@@ -11,7 +11,7 @@ use Rattle.hayro_ccitt.proofs.CodeWords.ReadCodes.{read_code_found, read_code_ag
 use Rattle.hayro_ccitt.proofs.CodeWords.ReadRuns.{run_shrinks, size}
 use Rattle.hayro_ccitt.proofs.DrawingLines.Drawings.{try, run_then, mode_step, step_1d, step_2d, step_1d_is, step_2d_is}
 use Rattle.hayro_ccitt.proofs.DrawingLines.Drawings.{horizontal_is}
-use Rattle.hayro_ccitt.proofs.DrawingLines.ReadLines.{left, step_1d_shrinks, step_2d_shrinks}
+use Rattle.hayro_ccitt.proofs.DrawingLines.ReadLines.{pen_left, step_1d_shrinks, step_2d_shrinks}
 use Rattle.hayro_ccitt.proofs.Readings.Repeated.{Follows, repeated_follows}
 
 scan_stays : (n : ℕ) (a b : Bits) → scan n a ≡ None → scan n (a ++ b) ≡ None
@@ -179,8 +179,8 @@ module _ (x y : Bits) where
   pub line_1d_alike : (columns : ℕ) (here there : Bits) → InFront x y here there
       → LineAlike (line_1d false columns here) (line_1d false columns there)
   line_1d_alike columns here there front =
-      repeated_follows (step_1d false columns) (Line.broken [] UnexpectedEof) left (step_1d_shrinks false columns)
-      (step_1d false columns) (Line.broken [] UnexpectedEof) left (step_1d_shrinks false columns) Pens LineAlike
+      repeated_follows (step_1d false columns) (Line.broken [] UnexpectedEof) pen_left (step_1d_shrinks false columns)
+      (step_1d false columns) (Line.broken [] UnexpectedEof) pen_left (step_1d_shrinks false columns) Pens LineAlike
       (pens_alike columns _) (suc (length here)) (suc (length there)) (start here) (start there) (omega arith) (omega arith)
       ([], Color.White, here, there, refl, refl, front)
 
@@ -259,8 +259,8 @@ module _ (x y : Bits) where
   pub line_2d_alike : (columns : ℕ) (reference : Row) (here there : Bits) → InFront x y here there
       → LineAlike (line_2d false columns reference here) (line_2d false columns reference there)
   line_2d_alike columns reference here there front =
-      repeated_follows (step_2d false columns reference) (Line.broken [] UnexpectedEof) left
-      (step_2d_shrinks false columns reference) (step_2d false columns reference) (Line.broken [] UnexpectedEof) left
+      repeated_follows (step_2d false columns reference) (Line.broken [] UnexpectedEof) pen_left
+      (step_2d_shrinks false columns reference) (step_2d false columns reference) (Line.broken [] UnexpectedEof) pen_left
       (step_2d_shrinks false columns reference) Pens LineAlike (step_2d_alike columns reference _) (suc (length here))
       (suc (length there)) (start here) (start there) (omega arith) (omega arith)
       ([], Color.White, here, there, refl, refl, front)

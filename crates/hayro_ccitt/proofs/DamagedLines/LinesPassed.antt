@@ -35,9 +35,9 @@ word_shorter color Pass here found e = omega (arith, ap length (some_rest (color
 word_shorter color (Vertical k) here found e = omega (arith, ap length (some_rest (opposite color, here) found e))
 word_shorter color Horizontal here found e = first_shorter color here (read_run color here) refl found e
 
-pub mode_shorter : (color : Color) (here : Bits) (found : Color × Bits) → behind_mode color here ≡ Some found
+pub behind_mode_shorter : (color : Color) (here : Bits) (found : Color × Bits) → behind_mode color here ≡ Some found
     → length found.1 < length here
-mode_shorter color here found e = by_read_code (read_code mode_codes here) refl e
+behind_mode_shorter color here found e = by_read_code (read_code mode_codes here) refl e
   where
     by_read_code : (r : Result (Mode × Bits) DecodeError) → read_code mode_codes here ≡ r → behind_read color r ≡ Some found
         → length found.1 < length here
@@ -60,7 +60,7 @@ further start color here next rest so_far found = (
 )
   where
     less : length rest < length here
-    less = mode_shorter color here (next, rest) found
+    less = behind_mode_shorter color here (next, rest) found
 
     by_last : (last : Bits) → ReadsModes color here last ⊎ (length here ≤ length last)
         → ReadsModes next rest last ⊎ (length rest ≤ length last)
@@ -137,8 +137,8 @@ line_not_before_1d settings here line next e is =
     (λ block six. absurd (omega (arith, six))) refl
 
 -- as many rows, less one, as lines from the start up to here
-abbrev pub Counted : DecodeSettings → Bits → ℕ → Bits → Type 0
-Counted settings start rows here =
+abbrev pub CountsRows : DecodeSettings → Bits → ℕ → Bits → Type 0
+CountsRows settings start rows here =
     (0 < rows) × ((lines : ℕ) → ComeBefore1D settings lines here → ComeBefore1D settings (lines + (rows - 1)) start) ×
     ((lines : ℕ) → ComeBefore1D settings lines start → (left : ℕ) × (lines ≡ left + (rows - 1)) × ComeBefore1D settings left here)
 
@@ -153,8 +153,8 @@ same_next line other next found same e f =
     let both : ◌≡◌ {A = Option Bits} (Some next) (Some found) = sym e ∙ ap (λ (b : Bits). next_eol (false ∷ b)) same ∙ f in
     cc
 
-pub counted_on : (settings : DecodeSettings) (start here line next : Bits) (rows : ℕ) → Counted settings start rows here
-    → after_eol 0 here ≡ Some (false ∷ line) → IsLine2D line next → Counted settings start (rows + 1) next
+pub counted_on : (settings : DecodeSettings) (start here line next : Bits) (rows : ℕ) → CountsRows settings start rows here
+    → after_eol 0 here ≡ Some (false ∷ line) → IsLine2D line next → CountsRows settings start (rows + 1) next
 counted_on settings start here line next rows so_far e is = (
   omega (arith, so_far.0),
   λ lines comes. subst (λ (n : ℕ). ComeBefore1D settings n start)
@@ -173,9 +173,9 @@ counted_on settings start here line next rows so_far e is = (
           (same_next other line found next (same_line other line (after_eol 0 here) f e) is2.next_is is.next_is) more,
     )
 
-pub counted_last : (settings : DecodeSettings) (start here : Bits) (rows : ℕ) → Counted settings start rows here
+pub last_line_counted : (settings : DecodeSettings) (start here : Bits) (rows : ℕ) → CountsRows settings start rows here
     → ComesBefore1D settings here → (lines : ℕ) → (Some rows ≡ Some (suc lines)) ↔ ComeBefore1D settings lines start
-counted_last settings start here rows so_far comes lines = (
+last_line_counted settings start here rows so_far comes lines = (
   λ e. subst (λ (n : ℕ). ComeBefore1D settings n start) (less e) (so_far.1 0 comes),
   λ given. by_left (so_far.2 lines given),
 )
@@ -189,7 +189,7 @@ counted_last settings start here rows so_far comes lines = (
     by_left (suc left, same, (line, next, e, is, more)) = absurd (line_not_before_1d settings here line next e is comes)
 
 -- if none of these is here, there is no number of lines
-pub counted_none : (settings : DecodeSettings) (start here : Bits) (rows : ℕ) → Counted settings start rows here
+pub counted_none : (settings : DecodeSettings) (start here : Bits) (rows : ℕ) → CountsRows settings start rows here
     → (ComesBefore1D settings here → ⊥) → ((line next : Bits) → after_eol 0 here ≡ Some (false ∷ line) → IsLine2D line next → ⊥)
     → (lines : ℕ) → (None ≡ Some (suc lines)) ↔ ComeBefore1D settings lines start
 counted_none settings start here rows so_far no_end no_line lines = (

@@ -4,7 +4,8 @@ use Rattle.hayro_ccitt.proofs.Names.{drop, replicate, Option, Some, None, refl, 
 use Rattle.hayro_ccitt.proofs.Names.{length-append, length-take-le, length-drop, length-replicate, take-append-drop, drop-drop}
 use Rattle.hayro_ccitt.proofs.Names.{replicate-append-replicate, DecodeSettings, Bits, after_eol, next_eol, IsEol, IsLocal}
 use Rattle.hayro_ccitt.proofs.Names.{IsLocalByTests, LocalByTests, common_steps}
-use Rattle.hayro_ccitt.proofs.{DamagedLines.EolsAlike.no_one, DamagedLines.PastEol.past_is, DamagedLines.PastEol.then_after}
+use Rattle.hayro_ccitt.proofs.{DamagedLines.EolsAlike.no_one_in_zeros, DamagedLines.PastEol.past_is}
+use Rattle.hayro_ccitt.proofs.DamagedLines.PastEol.{then_after}
 use Rattle.hayro_ccitt.proofs.DamagedLines.LineTails.{after_eol_is, drop_at, none_in_body, body_1d}
 use Rattle.hayro_ccitt.proofs.Readings.TurnsMoveOn.{next_eol_found, eol_of}
 
@@ -141,7 +142,7 @@ module _ (settings : DecodeSettings) (bits : Bits) (from to : ℕ) where
           = take-split j (to - from) (drop from bits) (omega (arith, local.one.1, local.one.2))
           ∙ ap (λ (n : ℕ). take j (drop from bits) ++ take n (drop j (drop from bits))) left
           ∙ ap (λ (b : Bits). take j (drop from bits) ++ take (suc m) b) there in
-          no_one (to - from) (take j (drop from bits)) (take m local.one.3.0) (sym split ∙ e)
+          no_one_in_zeros (to - from) (take j (drop from bits)) (take m local.one.3.0) (sym split ∙ e)
 
       none_found : (o : Option Bits) → next_eol (take (to - from) (drop from bits)) ≡ o
           → next_eol (take (to - from) (drop from bits)) ≡ None

@@ -1,13 +1,13 @@
 -- What passing lines counts.
 use Rattle.hayro_ccitt.proofs.Names.{◌≡◌, ℕ, suc, ◌+◌, ◌*◌, ◌<◌, ◌≤◌, true, false, List, [], ◌∷◌, ◌++◌, length, drop, Option}
-use Rattle.hayro_ccitt.proofs.Names.{Some, None, Result, Ok, Err, refl, sym, ap, subst, ◌∙◌, arith, none-some, inr}
-use Rattle.hayro_ccitt.proofs.Names.{length-append, Color, Mode, Pass, Horizontal, Vertical, DecodeError, Bits, mode_codes}
-use Rattle.hayro_ccitt.proofs.Names.{read_code, opposite, read_run, after_eol, next_eol, one_more, pass_last_tag, tagged_eols}
-use Rattle.hayro_ccitt.proofs.Names.{behind_mode, behind_read, behind_word, behind_first_run, behind_second_run, looked}
-use Rattle.hayro_ccitt.proofs.Names.{mode_found, runs_found, runs_found_behind, second_run_found, run_found, word_found}
-use Rattle.hayro_ccitt.proofs.Names.{most_for_lines, IsLine2D}
+use Rattle.hayro_ccitt.proofs.Names.{Some, None, Result, Ok, Err, refl, sym, ap, subst, ◌∙◌, arith, none-some, inr, length-append}
+use Rattle.hayro_ccitt.proofs.Names.{Color, Mode, Pass, Horizontal, Vertical, DecodeError, Bits, mode_codes, read_code, opposite}
+use Rattle.hayro_ccitt.proofs.Names.{read_run, after_eol, next_eol, one_more, pass_last_tag, tagged_eols, behind_mode}
+use Rattle.hayro_ccitt.proofs.Names.{behind_read, behind_word, behind_first_run, behind_second_run, looked, mode_found}
+use Rattle.hayro_ccitt.proofs.Names.{runs_found, runs_found_behind, second_run_found, run_found, word_found, most_for_lines}
+use Rattle.hayro_ccitt.proofs.Names.{IsLine2D}
 use Rattle.hayro_ccitt.proofs.BitReading.ZeroRuns.{looked_eol}
-use Rattle.hayro_ccitt.proofs.CodeWords.WordsFound.{Stands, RunEnds, stands_none, stands_append, word_stands, no_word_stands}
+use Rattle.hayro_ccitt.proofs.CodeWords.WordsFound.{WordsStand, RunEnds, stands_none, stands_append, word_stands, no_word_stands}
 use Rattle.hayro_ccitt.proofs.CodeWords.WordsFound.{run_stands}
 use Rattle.hayro_ccitt.proofs.DamagedLines.LineTails.{after_eol_more}
 use Rattle.hayro_ccitt.proofs.DamagedLines.PastEol.{all_tagged-some, all_tagged-none}
@@ -28,16 +28,16 @@ second_ends color (Ok run) rest ends = ends
 second_ends color (Err fault) rest ends = tt
 
 second_stands : (color : Color) (r : Result (ℕ × Bits) DecodeError) (middle : Bits) → RunEnds r middle
-    → (rest : Bits) × Stands middle (second_run_found color r) rest × ModeEnds (behind_first_run color r) rest
+    → (rest : Bits) × WordsStand middle (second_run_found color r) rest × ModeEnds (behind_first_run color r) rest
 second_stands color (Ok (n, left)) middle ends =
     let run = run_stands (opposite color) 0 left in (
       run.0,
-      subst (λ (b : Bits). Stands b (run_found (opposite color) (0, left)) run.0) ends run.1,
+      subst (λ (b : Bits). WordsStand b (run_found (opposite color) (0, left)) run.0) ends run.1,
       second_ends color (read_run (opposite color) left) run.0 run.2,
     )
 second_stands color (Err fault) middle ends = (middle, stands_none middle, tt)
 
-runs_stand : (color : Color) (mode : Mode) (here : Bits) → (rest : Bits) × Stands here (runs_found color mode here) rest
+runs_stand : (color : Color) (mode : Mode) (here : Bits) → (rest : Bits) × WordsStand here (runs_found color mode here) rest
     × ModeEnds (behind_word color mode here) rest
 runs_stand color Pass here = (here, stands_none here, refl)
 runs_stand color (Vertical k) here = (here, stands_none here, refl)
@@ -50,12 +50,12 @@ runs_stand color Horizontal here =
       second.2,
     )
 
-mode_stands : (color : Color) (here : Bits) → (rest : Bits) × Stands here (mode_found color here) rest
+mode_words_stand : (color : Color) (here : Bits) → (rest : Bits) × WordsStand here (mode_found color here) rest
     × ModeEnds (behind_mode color here) rest
-mode_stands color here = by_read_code (read_code mode_codes here) refl
+mode_words_stand color here = by_read_code (read_code mode_codes here) refl
   where
     by_read_code : (r : Result (Mode × Bits) DecodeError) → read_code mode_codes here ≡ r
-        → (rest : Bits) × Stands here (word_found mode_codes here ++ runs_found_behind color r) rest
+        → (rest : Bits) × WordsStand here (word_found mode_codes here ++ runs_found_behind color r) rest
         × ModeEnds (behind_read color r) rest
     by_read_code (Ok (mode, left)) e =
         let runs = runs_stand color mode left in (
@@ -74,23 +74,23 @@ mode_stands color here = by_read_code (read_code mode_codes here) refl
 
 -- the words that were read from the start up to here are consecutive, and as many were counted
 abbrev pub WordsPassed : Bits → Bits → ℕ → ℕ → Type 0
-WordsPassed start here begun now = (found : List Bits) × Stands start found here × (now ≤ begun + length found)
+WordsPassed start here begun now = (found : List Bits) × WordsStand start found here × (now ≤ begun + length found)
 
 -- a mode more
 pub passed_mode : (start : Bits) (color : Color) (here : Bits) (next : Color) (rest : Bits) (begun before now : ℕ)
     → WordsPassed start here begun before → behind_mode color here ≡ Some (next, rest)
     → now ≤ before + length (mode_found color here) → WordsPassed start rest begun now
 passed_mode start color here next rest begun before now (found, stands, most) e work =
-    let mode = mode_stands color here in
+    let mode = mode_words_stand color here in
     let same : rest ≡ mode.0 = subst (λ (o : Option (Color × Bits)). ModeEnds o mode.0) e mode.2 in (
       found ++ mode_found color here,
       stands_append start here rest found (mode_found color here) stands
-          (subst (λ (b : Bits). Stands here (mode_found color here) b) (sym same) mode.1),
+          (subst (λ (b : Bits). WordsStand here (mode_found color here) b) (sym same) mode.1),
       omega (arith, most, work, length-append found (mode_found color here)),
     )
 
 -- consecutive words are fewer than the bits before the end of the next EOL
-words_before_eol : (here next after rest : Bits) (found : List Bits) → Stands here found rest → next_eol here ≡ Some next
+words_before_eol : (here next after rest : Bits) (found : List Bits) → WordsStand here found rest → next_eol here ≡ Some next
     → after_eol 0 next ≡ Some after → length found + length after < length here
 words_before_eol here next after rest found stands sought eol =
     let within = next_eol_within here next sought in
@@ -109,7 +109,7 @@ pub all_passed : (start : Bits) (color : Color) (here : Bits) (begun before now 
     → now ≤ before + length (mode_found color here) + 1 → (next after : Bits) → next_eol start ≡ Some next
     → after_eol 0 next ≡ Some after → now + length after ≤ begun + length start
 all_passed start color here begun before now (found, stands, most) work next after sought eol =
-    let mode = mode_stands color here in
+    let mode = mode_words_stand color here in
     omega (
       arith,
       most,

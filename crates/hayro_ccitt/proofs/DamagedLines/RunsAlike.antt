@@ -16,7 +16,7 @@ use Rattle.hayro_ccitt.proofs.DamagedLines.PastEol.{past, all_eols-some, all_eol
 use Rattle.hayro_ccitt.proofs.DamagedLines.PastEol.{all_tagged-none}
 use Rattle.hayro_ccitt.proofs.DamagedLines.SoughtTurns.{sought, rest_of, not_past_end, eols_here_same, row_past, move_sought}
 use Rattle.hayro_ccitt.proofs.DamagedLines.SoughtTurns.{sought_done}
-use Rattle.hayro_ccitt.proofs.DrawingLines.LinesLeaveBits.{Leaves, LineLeaves, line_by_leaves}
+use Rattle.hayro_ccitt.proofs.DrawingLines.LinesLeaveBits.{LeavesBits, LineLeaves, line_by_leaves}
 use Rattle.hayro_ccitt.proofs.EncodedPictures.PictureLines.{row_before_push}
 use Rattle.hayro_ccitt.proofs.Readings.RowsAndGaps.{unless_over, seek_from, seek_eol, after_row, row_added, after_whole-is}
 use Rattle.hayro_ccitt.proofs.Readings.RowsAndGaps.{after_damage-is}
@@ -121,11 +121,11 @@ closes_tail tag bits (b ∷ first, e) = closes_inside bits (first, cc)
 module _ (settings : DecodeSettings) (group3 : IsGroup3 settings.encoding) (lenient : settings.strict ≡ false)
     (Begins : List Row → Type 0) (differ from : ℕ) (x y after : Bits)
     (tail_x : IsTail settings after x) (tail_y : IsTail settings after y) (Within : Bits → Type 0)
-    (within_later : (bits rest : Bits) → Within bits → Leaves bits rest → Within rest)
+    (within_later : (bits rest : Bits) → Within bits → LeavesBits bits rest → Within rest)
     (within_short : (bits : Bits) → Within bits → length bits < from)
-    (few_x : (bits found : Bits) (count : ℕ) → settings.encoding ≡ Group3_2D → Within bits → Leaves (bits ++ true ∷ x) found
+    (few_x : (bits found : Bits) (count : ℕ) → settings.encoding ≡ Group3_2D → Within bits → LeavesBits (bits ++ true ∷ x) found
     → all_tagged found ≡ (count, x) → count < 6)
-    (few_y : (bits found : Bits) (count : ℕ) → settings.encoding ≡ Group3_2D → Within bits → Leaves (bits ++ true ∷ y) found
+    (few_y : (bits found : Bits) (count : ℕ) → settings.encoding ≡ Group3_2D → Within bits → LeavesBits (bits ++ true ∷ y) found
     → all_tagged found ≡ (count, y) → count < 6)
     (lines : ℕ) (enough : suc lines ≤ differ) (settles : Settles settings lines after)
     (stays_x : (rows : List Row) → Begins rows → past 0 (rest_of (line_of_turn settings (sought rows x)) x) ≡ Some after)
@@ -305,9 +305,9 @@ module _ (settings : DecodeSettings) (group3 : IsGroup3 settings.encoding) (leni
       by_encoding Group4 block same (inr is) = absurd cc
 
   -- the same from an EOL on that ends among the equal bits
-  counted : (bits more found other : Bits) → Within bits → Leaves (bits ++ true ∷ x) found → Leaves (bits ++ true ∷ y) other
-      → after_eol 0 found ≡ Some (more ++ true ∷ x) → after_eol 0 other ≡ Some (more ++ true ∷ y)
-      → CountAlike x y more (eols_here settings found) (eols_here settings other)
+  counted : (bits more found other : Bits) → Within bits → LeavesBits (bits ++ true ∷ x) found
+      → LeavesBits (bits ++ true ∷ y) other → after_eol 0 found ≡ Some (more ++ true ∷ x) → after_eol 0 other
+      ≡ Some (more ++ true ∷ y) → CountAlike x y more (eols_here settings found) (eols_here settings other)
   counted bits more found other within leaves leaves2 e f = by_encoding settings.encoding settings.end_of_block refl group3
     where
       by_encoding : (encoding : EncodingMode) (block : Bool) → settings.encoding ≡ encoding → IsGroup3 encoding
@@ -425,7 +425,7 @@ module _ (settings : DecodeSettings) (group3 : IsGroup3 settings.encoding) (leni
       by_line (Line.whole row here) (Line.whole same other) (is, (a, inside, e, f)) leaves =
           let split : bits ++ true ∷ x ≡ (leaves.0 ++ a) ++ true ∷ x
           = leaves.1 ∙ ap (λ (b : Bits). leaves.0 ++ b) e ∙ sym (append_assoc leaves.0 a (true ∷ x)) in
-          let suffix : Leaves bits a = (leaves.0, append_cancel_right bits (leaves.0 ++ a) (true ∷ x) split) in
+          let suffix : LeavesBits bits a = (leaves.0, append_cancel_right bits (leaves.0 ++ a) (true ∷ x) split) in
           rw (← is, e, f) (row_ahead (rows ++ row ∷ []) a inside (within_later bits a within suffix))
       by_line (Line.whole row here) (Line.broken front fault) alike leaves = absurd alike
       by_line (Line.broken front fault) (Line.whole row here) alike leaves = absurd alike

@@ -7,7 +7,7 @@ use Rattle.hayro_ccitt.proofs.Names.{eols_by, line_here, limit_met, at_end, ends
 use Rattle.hayro_ccitt.proofs.Names.{line_of_turn, row_of, row_at, common_steps}
 use Rattle.hayro_ccitt.proofs.DamagedLines.PastEol.{past, past-eol, past_is, then_after, all_eols-some, all_eols-none}
 use Rattle.hayro_ccitt.proofs.DamagedLines.PastEol.{all_tagged-some, all_tagged-none, next_eol_leaves}
-use Rattle.hayro_ccitt.proofs.DrawingLines.LinesLeaveBits.{Leaves}
+use Rattle.hayro_ccitt.proofs.DrawingLines.LinesLeaveBits.{LeavesBits}
 use Rattle.hayro_ccitt.proofs.Readings.RowsAndGaps.{unless_over, seek_from, after_row}
 use Rattle.hayro_ccitt.proofs.Readings.TurnsMoveOn.{eols-some, eols-none, eols_here_some}
 
@@ -64,7 +64,7 @@ module _ (settings : DecodeSettings) where
   module _ (lenient : settings.strict ≡ false) where
     -- if an EOL follows and the limit isn't met, the EOLs are counted from the next on
     pub row_past : (rows : List Row) (here after : Bits) → limit_met settings (length rows) ≡ false → past 0 here ≡ Some after
-        → (found : Bits) × Leaves here found × (after_eol 0 found ≡ Some after)
+        → (found : Bits) × LeavesBits here found × (after_eol 0 found ≡ Some after)
         × (after_row settings (sought rows here) ≡ unless_over settings (sought rows here) (eols_here settings found))
     row_past rows here after short e = by_after_eol (after_eol 0 here) refl
       where
@@ -74,8 +74,9 @@ module _ (settings : DecodeSettings) where
         test : Bool
         test = ((eqb (eols_here settings here).0 0 && true) && not (limit_met settings (length rows))) && not (at_end here)
 
-        by_after_eol : (o : Option Bits) → after_eol 0 here ≡ o → (found : Bits) × Leaves here found × (after_eol 0 found ≡ Some
-            after) × (after_row settings (sought rows here) ≡ unless_over settings (sought rows here) (eols_here settings found))
+        by_after_eol : (o : Option Bits) → after_eol 0 here ≡ o → (found : Bits) × LeavesBits here found
+            × (after_eol 0 found ≡ Some after)
+            × (after_row settings (sought rows here) ≡ unless_over settings (sought rows here) (eols_here settings found))
         by_after_eol (Some next) f =
             let same : ◌≡◌ {A = Option Bits} (Some next) (Some after) = sym (past-eol 0 here next f) ∙ e in
             let counts = eols_here_some settings here next f in
@@ -119,8 +120,8 @@ module _ (settings : DecodeSettings) (encoding : settings.encoding ≡ Group3_1D
       next.3 ∙ ap (unless_over settings (sought rows here)) (eols_here_is next.0 ∙ all_eols-some next.0 after next.2)
 
   -- its lines have no reference row
-  pub line_is : (reference : Row) (here : Bits) → line_here settings reference here ≡ line_1d false settings.columns here
-  line_is reference here = ap (λ (e : EncodingMode). line_by e settings.strict settings.columns reference here) encoding
+  pub sought_line_is : (reference : Row) (here : Bits) → line_here settings reference here ≡ line_1d false settings.columns here
+  sought_line_is reference here = ap (λ (e : EncodingMode). line_by e settings.strict settings.columns reference here) encoding
       ∙ ap (λ (s : Bool). line_1d s settings.columns here) lenient
 
   -- a line's row is added, and the EOLs after it are counted
@@ -129,4 +130,4 @@ module _ (settings : DecodeSettings) (encoding : settings.encoding ≡ Group3_1D
       (sought (rows ++ row_at settings.columns here ∷ []) (rest_of (line_1d false settings.columns here) here))
   move_line rows here = move_sought settings lenient rows here
       ∙ ap (λ (line : Line). after_row settings (sought (rows ++ row_of settings.columns line ∷ []) (rest_of line here)))
-      (line_is (row_before settings.columns rows) here)
+      (sought_line_is (row_before settings.columns rows) here)

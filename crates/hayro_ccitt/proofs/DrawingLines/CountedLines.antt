@@ -8,7 +8,7 @@ use Rattle.hayro_ccitt.proofs.Names.{UnexpectedEof, InvalidCode, Overflow, OutOf
 use Rattle.hayro_ccitt.proofs.Names.{paint, run_from, run_found, word_found}
 use Rattle.hayro_ccitt.proofs.{CodeWords.RunWords.one_word, Readings.Gathered.gathered_turn}
 use Rattle.hayro_ccitt.proofs.DrawingLines.Drawings.{try, mode_step, step_1d, step_2d}
-use Rattle.hayro_ccitt.proofs.DrawingLines.ReadLines.{left, step_1d_shrinks, step_2d_shrinks}
+use Rattle.hayro_ccitt.proofs.DrawingLines.ReadLines.{pen_left, step_1d_shrinks, step_2d_shrinks}
 
 -- painting finds no word, nor does what follows it
 none_painted : {A : Type 0} (front : Row) (result : Result A DecodeError)
@@ -70,8 +70,8 @@ mode_turn strict columns reference pen =
 pub found_1d_on : (strict : Bool) (columns : ℕ) (pen : Pen) → length pen.front < columns → found_1d_from strict columns pen
     ≡ (draw_run strict columns pen).words ++ found_after (found_1d_from strict columns) (draw_run strict columns pen).turn
 found_1d_on strict columns pen open_row =
-    gathered_turn (step_1d strict columns) (λ pen. (draw_1d strict columns pen).words) left (step_1d_shrinks strict columns) pen
-    ∙ ap (λ (words : List Bits). words ++ found_after (found_1d_from strict columns) (step_1d strict columns pen))
+    gathered_turn (step_1d strict columns) (λ pen. (draw_1d strict columns pen).words) pen_left (step_1d_shrinks strict columns)
+    pen ∙ ap (λ (words : List Bits). words ++ found_after (found_1d_from strict columns) (step_1d strict columns pen))
     (unless_full_words (leb columns (length pen.front)) (Line.whole pen.front pen.rest) pen (λ pen.
     (draw_run strict columns pen).words) (lt-leb columns (length pen.front) open_row)) ∙ ap (λ (step : Step). (draw_run strict
     columns pen).words ++ found_after (found_1d_from strict columns) step) (unless_full_step (leb columns (length pen.front))
@@ -83,7 +83,7 @@ found_2d_turn : (strict : Bool) (columns : ℕ) (reference : Row) (pen : Pen)
     ++ found_after (found_2d_from strict columns reference) (mode_turn strict columns reference pen)
 found_2d_turn strict columns reference pen open_row =
     gathered_turn (step_2d strict columns reference)
-    (λ pen. (draw_2d strict columns reference pen).words) left (step_2d_shrinks strict columns reference) pen ∙ ap
+    (λ pen. (draw_2d strict columns reference pen).words) pen_left (step_2d_shrinks strict columns reference) pen ∙ ap
     (λ (words : List Bits). words ++ found_after (found_2d_from strict columns reference) (step_2d strict columns reference pen))
     (unless_full_words (leb columns (length pen.front)) (Line.whole pen.front pen.rest) pen (mode_words strict columns reference)
     (lt-leb columns (length pen.front) open_row)) ∙ ap (λ (step : Step). mode_words strict columns reference pen

@@ -13,7 +13,7 @@ use Rattle.hayro_ccitt.proofs.CodeWords.ReadRuns.{chosen, read_code_shorter}
 use Rattle.hayro_ccitt.proofs.DrawingLines.Drawings.{try, run_then, mode_step, step_unless_full, drawn_by, step_1d, step_2d}
 use Rattle.hayro_ccitt.proofs.DrawingLines.Drawings.{step_1d_is, step_2d_is, horizontal_is}
 use Rattle.hayro_ccitt.proofs.DrawingLines.ReadLines.{draw_mode_next, modes_not_empty, drawn1, drawn2, step_1d_shrinks}
-use Rattle.hayro_ccitt.proofs.DrawingLines.ReadLines.{step_2d_shrinks, left}
+use Rattle.hayro_ccitt.proofs.DrawingLines.ReadLines.{step_2d_shrinks, pen_left}
 use Rattle.hayro_ccitt.proofs.Readings.Repeated.{Shrinks, after_turn}
 
 -- ---- What painting yields.
@@ -184,8 +184,8 @@ run_unpainted held new n rest after e reads same unpainted =
 -- ---- A step keeps what is painted: a change after the earlier front is in the finished row.
 
 -- if a front has a change after the earlier front, a step from it has it too
-abbrev Keeps : Row → (Pen → Step) → Type 0
-Keeps stood go_on = (pen : Pen) → StopsAtChange pen.front stood → StopsAtChange (front_after (go_on pen)) stood
+abbrev KeepsChange : Row → (Pen → Step) → Type 0
+KeepsChange stood go_on = (pen : Pen) → StopsAtChange pen.front stood → StopsAtChange (front_after (go_on pen)) stood
 
 pub try_keeps : {A : Type 0} (stood : Row) (front : Row) (r : Result A DecodeError) (go_on : A → Step) → StopsAtChange front stood
     → ((x : A) → r ≡ Ok x → StopsAtChange (front_after (go_on x)) stood) → StopsAtChange (front_after (try front r go_on)) stood
@@ -223,7 +223,8 @@ keeps_either : (stood : Row) (b : Bool) (x y : Step) → StopsAtChange (front_af
 keeps_either stood true x y one other = one
 keeps_either stood false x y one other = other
 
-step_2d_keeps : (stood : Row) (strict : Bool) (columns : ℕ) (reference : Row) → Keeps stood (step_2d strict columns reference)
+step_2d_keeps : (stood : Row) (strict : Bool) (columns : ℕ) (reference : Row)
+    → KeepsChange stood (step_2d strict columns reference)
 step_2d_keeps stood strict columns reference pen stops =
     let modes : Step = try pen.front (read_code mode_codes pen.rest)
     (λ mode. mode_step strict columns reference (record pen { rest = mode.1 }) mode.0) in
@@ -232,20 +233,21 @@ step_2d_keeps stood strict columns reference pen stops =
     pen.front (read_code mode_codes pen.rest) (λ mode. mode_step strict columns reference (record pen { rest = mode.1 }) mode.0)
     stops (λ mode e. draw_mode_keeps stood strict columns reference (record pen { rest = mode.1 }) mode.0 stops)))
 
-step_1d_keeps : (stood : Row) (strict : Bool) (columns : ℕ) → Keeps stood (step_1d strict columns)
+step_1d_keeps : (stood : Row) (strict : Bool) (columns : ℕ) → KeepsChange stood (step_1d strict columns)
 step_1d_keeps stood strict columns pen stops =
     subst (λ (step : Step). StopsAtChange (front_after step) stood) (sym (step_1d_is strict columns pen))
     (keeps_either stood (leb columns (length pen.front)) (Turn.done (Line.whole pen.front pen.rest))
     (run_then strict columns pen Turn.next) stops (draw_run_keeps stood strict columns pen Turn.next (λ q h. h) stops))
 
 -- a line keeps the change that it continues from
-keeps_on : (stood : Row) (step : Pen → Step) → Shrinks step left → Keeps stood step → (n : ℕ) (pen : Pen) → left pen < n
-    → StopsAtChange pen.front stood → StopsAtChange (front_of (repeated step (Line.broken [] UnexpectedEof) n pen)) stood
+keeps_on : (stood : Row) (step : Pen → Step) → Shrinks step pen_left → KeepsChange stood step → (n : ℕ) (pen : Pen)
+    → pen_left pen < n → StopsAtChange pen.front stood → StopsAtChange
+    (front_of (repeated step (Line.broken [] UnexpectedEof) n pen)) stood
 keeps_on stood step shrinks keeps zero pen lt stops = absurd (omega arith)
 keeps_on stood step shrinks keeps (suc n) pen lt stops =
     by_step (λ p small h. keeps_on stood step shrinks keeps n p small h) (step pen) refl (keeps pen stops)
   where
-    by_step : ((p : Pen) → left p < n → StopsAtChange p.front stood → StopsAtChange (front_of (repeated step
+    by_step : ((p : Pen) → pen_left p < n → StopsAtChange p.front stood → StopsAtChange (front_of (repeated step
         (Line.broken [] UnexpectedEof) n p)) stood) → (turn : Step) → step pen ≡ turn → StopsAtChange (front_after turn) stood
         → StopsAtChange (front_of (after_turn (repeated step (Line.broken [] UnexpectedEof) n) turn)) stood
     by_step on (Turn.next p) e h = on p (omega (arith, shrinks pen p e)) h
@@ -253,7 +255,7 @@ keeps_on stood step shrinks keeps (suc n) pen lt stops =
 
 -- ---- The rule of one step of a line.
 
-keeps_after : (stood : Row) (step : Pen → Step) → Shrinks step left → Keeps stood step → (turn : Step)
+keeps_after : (stood : Row) (step : Pen → Step) → Shrinks step pen_left → KeepsChange stood step → (turn : Step)
     → StopsAtChange (front_after turn) stood → StopsAtChange (front_of (after_turn (drawn_by step) turn)) stood
 keeps_after stood step shrinks keeps (Turn.next pen) stops =
     keeps_on stood step shrinks keeps (suc (length pen.rest)) pen (omega arith) stops
@@ -286,7 +288,7 @@ line_mode strict columns reference pen mode rest open_row reads = line_open stri
 -- ---- What a line returns.
 
 -- an error of a step is that of the line
-fails_by : (step : Pen → Step) → Shrinks step left → ((stood : Row) → Keeps stood step)
+fails_by : (step : Pen → Step) → Shrinks step pen_left → ((stood : Row) → KeepsChange stood step)
     → (line : Line) (turn : Step) (e : DecodeError) (pen : Pen) → line ≡ after_turn (drawn_by step) turn
     → DrawsStep turn (Err e) pen → DrawsLine line (Err e) pen.front pen.rest
 fails_by step shrinks keeps line turn UnexpectedEof pen is draws = is ∙ rw draws refl
@@ -352,7 +354,7 @@ mode_shorter strict columns reference pen t at mode reads draws =
 -- ---- Two runs.
 
 -- an error of the first step is that of both, if what follows keeps what is painted
-pub behind_fails : (behind : Pen → Step) (step : Step) (e : DecodeError) (pen : Pen) → Keeps pen.front behind
+pub behind_fails : (behind : Pen → Step) (step : Step) (e : DecodeError) (pen : Pen) → KeepsChange pen.front behind
     → DrawsStep step (Err e) pen → DrawsStep (turn_behind step behind) (Err e) pen
 behind_fails behind step UnexpectedEof pen keeps draws = rw draws refl
 behind_fails behind step InvalidCode pen keeps draws = rw draws refl

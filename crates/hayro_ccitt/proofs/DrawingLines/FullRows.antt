@@ -4,7 +4,7 @@ use Rattle.hayro_ccitt.proofs.Names.{Group3_1D, Group3_2D, line_by, UnexpectedEo
 use Rattle.hayro_ccitt.proofs.Names.{Pen, start, line_1d, line_2d, Step}
 use Rattle.hayro_ccitt.proofs.DrawingLines.Drawings.{try, run_then, mode_step, step_unless_full, drawn_by, step_1d, step_2d}
 use Rattle.hayro_ccitt.proofs.DrawingLines.Drawings.{step_1d_is, step_2d_is}
-use Rattle.hayro_ccitt.proofs.DrawingLines.ReadLines.{GoesOn, full_by, try_goes_on, draw_run_goes_on, draw_mode_goes_on}
+use Rattle.hayro_ccitt.proofs.DrawingLines.ReadLines.{EndsNoLine, full_by, try_goes_on, draw_run_goes_on, draw_mode_goes_on}
 use Rattle.hayro_ccitt.proofs.Readings.Repeated.{repeated_keeps}
 
 -- what a line has, if it is whole
@@ -12,7 +12,7 @@ abbrev pub IsFull : ℕ → Line → Type 0
 IsFull columns (Line.whole row rest) = columns ≤ length row
 IsFull columns (Line.broken front fault) = Unit {0}
 
-module _ (columns : ℕ) (step : Pen → Step) (body : Pen → Step) (goes : (p : Pen) → GoesOn (body p))
+module _ (columns : ℕ) (step : Pen → Step) (body : Pen → Step) (goes : (p : Pen) → EndsNoLine (body p))
     (same : (p : Pen) → step p ≡ step_unless_full columns p (body p)) where
   ends : (s : Pen) (l : Line) → step s ≡ Turn.done l → IsFull columns l
   ends s (Line.broken front fault) e = tt

@@ -8,24 +8,24 @@ use Rattle.hayro_ccitt.proofs.DrawingLines.Drawings.{try, run_then, step_1d, ste
 use Rattle.hayro_ccitt.proofs.DrawingLines.WhatFollows.{line_2d_found}
 
 -- the second bits are a suffix of the first
-abbrev pub Leaves : Bits → Bits → Type 0
-Leaves here rest = (before : Bits) × (here ≡ before ++ rest)
+abbrev pub LeavesBits : Bits → Bits → Type 0
+LeavesBits here rest = (before : Bits) × (here ≡ before ++ rest)
 
 -- a suffix of a suffix is a suffix
-pub leaves_trans : (a b c : Bits) → Leaves a b → Leaves b c → Leaves a c
+pub leaves_trans : (a b c : Bits) → LeavesBits a b → LeavesBits b c → LeavesBits a c
 leaves_trans a b c f g = (f.0 ++ g.0, f.1 ∙ ap (λ (x : Bits). f.0 ++ x) g.1 ∙ sym (append_assoc f.0 g.0 c))
 
 -- what a reading that found something leaves
 abbrev FoundLeaves : Bits → Result (ℕ × Bits) DecodeError → Type 0
-FoundLeaves here (Ok found) = Leaves here found.1
+FoundLeaves here (Ok found) = LeavesBits here found.1
 FoundLeaves here (Err fault) = Unit {0}
 
 -- what a turn of a run leaves
 abbrev TurnLeaves : Bits → Turn (ℕ × Bits) (Result (ℕ × Bits) DecodeError) → Type 0
-TurnLeaves here (Turn.next t) = Leaves here t.1
+TurnLeaves here (Turn.next t) = LeavesBits here t.1
 TurnLeaves here (Turn.done r) = FoundLeaves here r
 
-word_leaves : (here : Bits) (total : ℕ) (found : ℕ × Bits) → Leaves here found.1 → TurnLeaves here (run_of_word total found)
+word_leaves : (here : Bits) (total : ℕ) (found : ℕ × Bits) → LeavesBits here found.1 → TurnLeaves here (run_of_word total found)
 word_leaves here total (n, rest) l = either_way (ltb 4294967295 (total + n)) (ltb n 64)
   where
     either_way : (b c : Bool) → TurnLeaves here
@@ -45,29 +45,29 @@ run_turn_leaves color total here = by_read_code (read_code (codes_of color) here
 
 run_leaves : (color : Color) (total : ℕ) (here : Bits) → FoundLeaves here (run_from color (total, here))
 run_leaves color total here =
-    repeated_keeps (run_turn color) (Err UnexpectedEof) (λ s. Leaves here s.1) (FoundLeaves here) tt
+    repeated_keeps (run_turn color) (Err UnexpectedEof) (λ s. LeavesBits here s.1) (FoundLeaves here) tt
     (λ s t p e. leaves_trans here s.1 t.1 p (subst (TurnLeaves s.1) e (run_turn_leaves color s.0 s.1))) (λ s r p e. ends s.1 r p
     (subst (TurnLeaves s.1) e (run_turn_leaves color s.0 s.1))) (suc (length here)) (total, here) ([], refl)
   where
-    ends : (there : Bits) (r : Result (ℕ × Bits) DecodeError) → Leaves here there → FoundLeaves there r → FoundLeaves here r
+    ends : (there : Bits) (r : Result (ℕ × Bits) DecodeError) → LeavesBits here there → FoundLeaves there r → FoundLeaves here r
     ends there (Ok found) p q = leaves_trans here there found.1 p q
     ends there (Err fault) p q = tt
 
 -- what a whole line leaves
 abbrev pub LineLeaves : Bits → Line → Type 0
-LineLeaves here (Line.whole row rest) = Leaves here rest
+LineLeaves here (Line.whole row rest) = LeavesBits here rest
 LineLeaves here (Line.broken front fault) = Unit {0}
 
 -- what a step of a line leaves
 abbrev StepLeaves : Bits → Step → Type 0
-StepLeaves here (Turn.next pen) = Leaves here pen.rest
+StepLeaves here (Turn.next pen) = LeavesBits here pen.rest
 StepLeaves here (Turn.done line) = LineLeaves here line
 
 step_1d_leaves : (strict : Bool) (columns : ℕ) (pen : Pen) → StepLeaves pen.rest (step_1d strict columns pen)
 step_1d_leaves strict columns pen =
     subst (StepLeaves pen.rest) (sym (step_1d_is strict columns pen)) (full (leb columns (length pen.front)))
   where
-    painted : (n : ℕ) (rest : Bits) (r : Result Row DecodeError) → Leaves pen.rest rest → StepLeaves pen.rest
+    painted : (n : ℕ) (rest : Bits) (r : Result Row DecodeError) → LeavesBits pen.rest rest → StepLeaves pen.rest
         (try pen.front r (λ front. Turn.next (record { front = front; color = opposite pen.color; rest = rest })))
     painted n rest (Ok front) l = l
     painted n rest (Err fault) l = tt
@@ -86,11 +86,11 @@ step_1d_leaves strict columns pen =
 -- a one-dimensional line leaves a suffix of its bits
 pub line_1d_leaves : (strict : Bool) (columns : ℕ) (here : Bits) → LineLeaves here (line_1d strict columns here)
 line_1d_leaves strict columns here =
-    repeated_keeps (step_1d strict columns) (Line.broken [] UnexpectedEof) (λ s. Leaves here s.rest) (LineLeaves here) tt
+    repeated_keeps (step_1d strict columns) (Line.broken [] UnexpectedEof) (λ s. LeavesBits here s.rest) (LineLeaves here) tt
     (λ s t p e. leaves_trans here s.rest t.rest p (subst (StepLeaves s.rest) e (step_1d_leaves strict columns s))) (λ s r p e.
     ends s.rest r p (subst (StepLeaves s.rest) e (step_1d_leaves strict columns s))) (suc (length here)) (start here) ([], refl)
   where
-    ends : (there : Bits) (line : Line) → Leaves here there → LineLeaves there line → LineLeaves here line
+    ends : (there : Bits) (line : Line) → LeavesBits here there → LineLeaves there line → LineLeaves here line
     ends there (Line.whole row rest) p q = leaves_trans here there rest p q
     ends there (Line.broken front fault) p q = tt
 

@@ -24,9 +24,9 @@ module _ {M : Type 0} (line : Line) (row : Result (Row × Bits) DecodeError) (st
       }
 
   -- an allocation fails only if the line paints a black pixel
-  pub wants_memory : DrawsLine line (Err OutOfMemory) new.front rest
+  pub unread_row_wants_memory : DrawsLine line (Err OutOfMemory) new.front rest
       → TakesOneRow line row step sink sink old new (Err OutOfMemory) rest
-  wants_memory draws =
+  unread_row_wants_memory draws =
       record {
         taken = tt;
         fault = λ f. absurd f;
@@ -44,7 +44,7 @@ module _ {M : Type 0} (line : Line) (row : Result (Row × Bits) DecodeError) (st
   is_unread UnexpectedEof fails draws = at_fault UnexpectedEof (fails UnexpectedEof draws) (λ k. cc) (λ k. cc)
   is_unread InvalidCode fails draws = at_fault InvalidCode (fails InvalidCode draws) (λ k. cc) (λ k. cc)
   is_unread Overflow fails draws = at_fault Overflow (fails Overflow draws) (λ k. cc) (λ k. cc)
-  is_unread OutOfMemory fails draws = wants_memory draws
+  is_unread OutOfMemory fails draws = unread_row_wants_memory draws
   is_unread Refused fails draws = absurd draws
 
 -- what a line that fails to allocate, or whose rest does, is taken for
@@ -121,7 +121,7 @@ module _ {M : Type 0} (line : Line) (start : Bits) (step : M → List ℕ → M)
       lenient Overflow draws is one two = one (repairs Overflow tt is)
       lenient OutOfMemory draws is one two =
           subst (λ (r : Result (Unit {0}) DecodeError). TakesOneRow line row step sink sink old new r rest)
-          (sym (two (λ r. r.fault))) (wants_memory line row step sink old new held rest draws)
+          (sym (two (λ r. r.fault))) (unread_row_wants_memory line row step sink old new held rest draws)
       lenient Refused draws is one two = absurd draws
 
       by_strict : (b : Bool) → (old.settings.strict || not old.has_eols) ≡ b

@@ -12,10 +12,11 @@ use Rattle.hayro_ccitt.proofs.DrawingLines.CountedLines.{IsCountedSoFar, found_2
 use Rattle.hayro_ccitt.proofs.DrawingLines.Drawings.{drawn_by, step_2d}
 use Rattle.hayro_ccitt.proofs.DrawingLines.DrawnLines.{IsDrawnSoFar, line_mode, place_ok}
 use Rattle.hayro_ccitt.proofs.DrawingLines.UsualStrokes.{next_lawful, paint_fits, pixels-on, length-pixels-on, pixels-pending}
-use Rattle.hayro_ccitt.proofs.DrawingLines.UsualStrokes.{one_more}
+use Rattle.hayro_ccitt.proofs.DrawingLines.UsualStrokes.{wider_by_one}
 use Rattle.hayro_ccitt.proofs.PixelRows.B1ByParity.{turns_alike, turns_next, b1_of_front, rising, rising_to, near_within}
 use Rattle.hayro_ccitt.proofs.PixelRows.B1ByParity.{near_later, starts_b1, ends_at_b1, after_v0, after_vr, after_pass}
-use Rattle.hayro_ccitt.proofs.PixelRows.ChangesAndPixels.{length-pixels, turned, turned-even, AreChanges-wider, AreChanges-push}
+use Rattle.hayro_ccitt.proofs.PixelRows.ChangesAndPixels.{length-pixels, turned_at, turned_at-even, AreChanges-wider}
+use Rattle.hayro_ccitt.proofs.PixelRows.ChangesAndPixels.{AreChanges-push}
 
 -- ---- Drawing continues.
 pub twice_2d : {strict : Bool} {columns : ℕ} {reference : Row} {a b c : Pen} {m n o p q r : ℕ} → GoesOn2d strict columns reference
@@ -48,9 +49,9 @@ mode_on {strict} {columns} {reference} pen next {mode} {rest} words open_row rea
     }
 
 -- ---- Painting up to a position of the row, in the colour of its end.
-colored_end : (row : List ℕ) (color : Color) → TurnsFrom (length row) color → turned false row ≡ is_black color
-colored_end row White even = turned-even false row ∙ rw even refl
-colored_end row Black odd = turned-even false row ∙ rw odd refl
+colored_end : (row : List ℕ) (color : Color) → TurnsFrom (length row) color → turned_at false row ≡ is_black color
+colored_end row White even = turned_at-even false row ∙ rw even refl
+colored_end row Black odd = turned_at-even false row ∙ rw odd refl
 
 paint_on : (strict : Bool) (columns painted place : ℕ) (row : List ℕ) (color : Color) (n : ℕ) → AreChanges (suc painted) row
     → TurnsFrom (length row) color → painted ≤ place → place ≤ columns → n ≡ place - painted
@@ -61,7 +62,7 @@ paint_on strict columns painted place row color n lawful colored forward within 
     let fits : (n ≤ columns - length front) ⊎ (strict ≡ false) = inl (omega (arith, len, is)) in
     let all : min n (columns - length front) ≡ place - painted = omega (arith, len, is) in
     let sum : painted + (place - painted) ≡ place = omega arith in
-    let on : pixels place row ≡ front ++ replicate (place - painted) (turned false row)
+    let on : pixels place row ≡ front ++ replicate (place - painted) (turned_at false row)
     = ap (λ (m : ℕ). pixels m row) (sym sum) ∙ pixels-on painted (place - painted) row lawful in
     paint_fits strict columns front color n fits ∙ ap (λ (m : ℕ). Ok (front ++ replicate m (is_black color))) all
     ∙ ap (λ (c : Bool). Ok (front ++ replicate (place - painted) c)) (sym (colored_end row color colored)) ∙ ap Ok (sym on)
@@ -95,7 +96,7 @@ one_turn row place Black odd = omega (arith, odd, length-append row (place ∷ [
 module _ {columns : ℕ} {places : List ℕ} {painted index : ℕ} {color : Color} {row : List ℕ} (ascend : AreChanges columns places)
     (open_row : painted < columns) (stroke : IsStroke columns places painted index color row) where
   lawful : AreChanges (suc painted) row
-  lawful = one_more painted row stroke.lawful
+  lawful = wider_by_one painted row stroke.lawful
 
   len : length (pixels painted row) ≡ painted
   len = length-pixels-on painted row lawful

@@ -9,8 +9,8 @@ use Rattle.hayro_ccitt.proofs.{CodeWords.UsualRuns.run_here_too, Readings.Repeat
 use Rattle.hayro_ccitt.proofs.DrawingLines.CountedLines.{found_1d_from, found_after, found_1d_on, words_run}
 use Rattle.hayro_ccitt.proofs.DrawingLines.Drawings.{drawn_by, step_1d, run_then}
 use Rattle.hayro_ccitt.proofs.DrawingLines.DrawnLines.{IsDrawnSoFar, run_open}
-use Rattle.hayro_ccitt.proofs.PixelRows.ChangesAndPixels.{turned, turned-even, AreChanges-wider, AreChanges-push, length-pixels}
-use Rattle.hayro_ccitt.proofs.PixelRows.ChangesAndPixels.{pixels_from-on, pixels_from-push}
+use Rattle.hayro_ccitt.proofs.PixelRows.ChangesAndPixels.{turned_at, turned_at-even, AreChanges-wider, AreChanges-push}
+use Rattle.hayro_ccitt.proofs.PixelRows.ChangesAndPixels.{length-pixels, pixels_from-on, pixels_from-push}
 
 -- ---- Drawing continues.
 pub goes_on_twice : (strict : Bool) (columns : ℕ) (a b c : Pen) (m n o : ℕ) → GoesOn strict columns a b m n
@@ -50,12 +50,12 @@ run_on strict columns pen run words rest front ticks open_row reads found paints
     }
 
 -- ---- Rows of changes whose last one may equal the row's end.
-even_is_white : (row : List ℕ) → length row % 2 ≡ 0 → turned false row ≡ false
-even_is_white row even = turned-even false row ∙ rw even refl
+even_is_white : (row : List ℕ) → length row % 2 ≡ 0 → turned_at false row ≡ false
+even_is_white row even = turned_at-even false row ∙ rw even refl
 
 -- pixels of the colour after the changes
 pub pixels-on : (place more : ℕ) (row : List ℕ) → AreChanges (suc place) row
-    → pixels (place + more) row ≡ pixels place row ++ replicate more (turned false row)
+    → pixels (place + more) row ≡ pixels place row ++ replicate more (turned_at false row)
 pixels-on place more row lawful = pixels_from-on 0 false place more row (omega arith) lawful
 
 pub length-pixels-on : (place : ℕ) (row : List ℕ) → AreChanges (suc place) row → length (pixels place row) ≡ place
@@ -66,8 +66,8 @@ length-pixels-on place row lawful =
       arith,
       whole,
       ap length (pixels-on place 1 row lawful),
-      length-append (pixels place row) (replicate 1 (turned false row)),
-      length-replicate 1 (turned false row),
+      length-append (pixels place row) (replicate 1 (turned_at false row)),
+      length-replicate 1 (turned_at false row),
     )
 
 -- a change where the row ends, and pixels after it
@@ -120,8 +120,8 @@ black_on strict columns painted place row at run width words ticks lawful even o
 -- ---- What a call that draws them returns.
 
 -- one more
-pub one_more : (painted : ℕ) (row : List ℕ) → AreChanges (painted + 1) row → AreChanges (suc painted) row
-one_more painted row lawful = AreChanges-wider (painted + 1) (suc painted) row (omega arith) lawful
+pub wider_by_one : (painted : ℕ) (row : List ℕ) → AreChanges (painted + 1) row → AreChanges (suc painted) row
+wider_by_one painted row lawful = AreChanges-wider (painted + 1) (suc painted) row (omega arith) lawful
 
 -- a white run up to the row's end
 pub white_ends : (strict : Bool) (columns painted : ℕ) (row : List ℕ) (at first next : BitsAt) (run width words ticks now : ℕ)
@@ -129,8 +129,9 @@ pub white_ends : (strict : Bool) (columns painted : ℕ) (row : List ℕ) (at fi
     width words → (run ≤ columns - painted) ⊎ (strict ≡ false) → columns - painted ≤ run → next ≡ moved width first
     → now ≡ ticks + words → GoesOn strict columns (pen_at painted row White at) (pen_at columns row Black next) ticks now
 white_ends strict columns painted row at first next run width words ticks now open_row lawful even same there fits far on counts =
-    rw (on, counts, ← same) (white_on strict columns painted columns row first run width words ticks (one_more painted row lawful)
-    even open_row (run_here_too White first run width words there) fits (omega (arith, open_row, far)))
+    rw (on, counts, ← same) (white_on strict columns painted columns row first run width words ticks
+    (wider_by_one painted row lawful) even open_row (run_here_too White first run width words there) fits
+    (omega (arith, open_row, far)))
 
 -- a white run, and a black one after it
 pub two_runs : (strict : Bool) (columns painted place : ℕ) (row : List ℕ) (at first next last : BitsAt) (run width words
@@ -144,8 +145,8 @@ two_runs strict columns painted place row at first next last run width words run
     rw (on2, on, counts2, counts, ← same)
     (goes_on_twice strict columns (pen_at painted row White first) (pen_at (painted + run) row Black (moved width first)) (pen_at
     place (row ++ (painted + run) ∷ []) White (moved width2 (moved width first))) ticks (ticks + words) (ticks + words + words2)
-    (white_on strict columns painted (painted + run) row first run width words ticks (one_more painted row lawful) even open_row
-    (run_here_too White first run width words there) (inl (omega (arith, short))) (omega (arith, short)))
+    (white_on strict columns painted (painted + run) row first run width words ticks (wider_by_one painted row lawful) even
+    open_row (run_here_too White first run width words there) (inl (omega (arith, short))) (omega (arith, short)))
     (black_on strict columns (painted + run) place row (moved width first) run2 width2 words2 (ticks + words) (AreChanges-wider
     (painted + 1) (suc (painted + run)) row (omega arith) lawful) even (omega (arith, short)) second fits reach))
 
@@ -219,14 +220,15 @@ with_last first width (place ∷ row) last ascend lt =
 pub laid_down : (painted : ℕ) (row new : List ℕ) (last : ℕ) → AreChanges (painted + 1) row → row ≡ new ++ last ∷ []
     → last ≡ painted → AreChanges painted new × (pixels painted new ≡ pixels painted row)
 laid_down painted row new last lawful is same =
-    let all : AreChanges (suc painted) (new ++ last ∷ []) = rw (← is) (one_more painted row lawful) in
+    let all : AreChanges (suc painted) (new ++ last ∷ []) = rw (← is) (wider_by_one painted row lawful) in
     (without_last 0 painted new last all (omega (arith, same)), rw (is, same) (sym (pixels-pending painted new)))
 
 -- and another one stays
-pub kept : (painted : ℕ) (row between new : List ℕ) (last : ℕ) → AreChanges (painted + 1) row → row ≡ between ++ last ∷ []
-    → last ≢ painted → new ≡ between ++ last ∷ [] → AreChanges painted new × (pixels painted new ≡ pixels painted row)
-kept painted row between new last lawful is other again =
-    let all : AreChanges (suc painted) (between ++ last ∷ []) = rw (← is) (one_more painted row lawful) in
+pub other_change_stays : (painted : ℕ) (row between new : List ℕ) (last : ℕ) → AreChanges (painted + 1) row → row
+    ≡ between ++ last ∷ [] → last ≢ painted → new ≡ between ++ last ∷ [] → AreChanges painted new
+    × (pixels painted new ≡ pixels painted row)
+other_change_stays painted row between new last lawful is other again =
+    let all : AreChanges (suc painted) (between ++ last ∷ []) = rw (← is) (wider_by_one painted row lawful) in
     let below : last < suc painted = (last_from 0 (suc painted) between last all).1 in (
       rw again (with_last 0 painted between last all
           (elim (cases_lt last painted) [ inl lt ↦ lt | inr ge ↦ absurd (other (omega (arith, below, ge))) ])),

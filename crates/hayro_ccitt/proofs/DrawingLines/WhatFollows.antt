@@ -10,8 +10,8 @@ use Rattle.hayro_ccitt.proofs.CodeWords.ReadCodes.{read_code_found, read_code_ag
 use Rattle.hayro_ccitt.proofs.CodeWords.ReadRuns.{chosen, read_code_shorter, words_not_empty, run_fails, run_passes, run_ends}
 use Rattle.hayro_ccitt.proofs.CodeWords.ReadRuns.{run_goes_on}
 use Rattle.hayro_ccitt.proofs.DrawingLines.Drawings.{try, run_then, mode_step, drawn_by, step_2d, step_2d_is, horizontal_is}
-use Rattle.hayro_ccitt.proofs.DrawingLines.ReadLines.{try_next, next_is, not_next, full_by, try_goes_on, draw_mode_goes_on, left}
-use Rattle.hayro_ccitt.proofs.DrawingLines.ReadLines.{drawn2, step_2d_shrinks}
+use Rattle.hayro_ccitt.proofs.DrawingLines.ReadLines.{try_next, next_pen_is, no_next_pen, full_by, try_goes_on, draw_mode_goes_on}
+use Rattle.hayro_ccitt.proofs.DrawingLines.ReadLines.{pen_left, drawn2, step_2d_shrinks}
 
 -- ---- A run.
 abbrev pub RunFound : Color → ℕ → Bits → ℕ → Bits → Type 0
@@ -55,9 +55,9 @@ run_found_by (suc fuel) color total here n rest lt e =
     by_read_code (read_code (codes_of color) here) refl
 
 -- a run that was read is read again, whatever follows
-pub run_found : (color : Color) (here : Bits) (n : ℕ) (rest : Bits) → run_from color (0, here) ≡ Ok (n, rest)
+pub run_read_again : (color : Color) (here : Bits) (n : ℕ) (rest : Bits) → run_from color (0, here) ≡ Ok (n, rest)
     → RunFound color 0 here n rest
-run_found color here n rest e = run_found_by (suc (length here)) color 0 here n rest (omega arith) e
+run_read_again color here n rest e = run_found_by (suc (length here)) color 0 here n rest (omega arith) e
 
 -- ---- A step of a line.
 abbrev pub Carries : (Pen → Step) → Type 0
@@ -65,8 +65,9 @@ Carries f = (pen t : Pen) → f pen ≡ Turn.next t → (w : Bits) × (pen.rest 
     × ((more : Bits) → f (record pen { rest = w ++ more }) ≡ Turn.next (record t { rest = more }))
 
 next_carries : Carries Turn.next
-next_carries pen t e = let same : pen ≡ t
-    = next_is pen t e in ([], ap (λ (p : Pen). p.rest) same, λ more. ap (λ (p : Pen). Turn.next (record p { rest = more })) same)
+next_carries pen t e =
+    let same = next_pen_is pen t e in
+    ([], ap (λ (p : Pen). p.rest) same, λ more. ap (λ (p : Pen). Turn.next (record p { rest = more })) same)
 
 -- what keeps the bits is preserved
 keeps_carries : (f : Pen → Step) → ((pen t : Pen) → f pen ≡ Turn.next t → (pen.rest ≡ t.rest)
@@ -81,7 +82,7 @@ draw_run_carries strict columns g carries pen t e =
     let b = try_next pen.front (paint strict columns pen.front pen.color a.0.0)
     (λ front. g (record { front = front; color = opposite pen.color; rest = a.0.1 })) t a.2 in
     let c = carries (record { front = b.0; color = opposite pen.color; rest = a.0.1 }) t b.2 in
-    let d = run_found pen.color pen.rest a.0.0 a.0.1 a.1 in (
+    let d = run_read_again pen.color pen.rest a.0.0 a.0.1 a.1 in (
       d.0 ++ c.0,
       d.1 ∙ ap (λ (x : Bits). d.0 ++ x) c.1 ∙ sym (append_assoc d.0 c.0 t.rest),
       λ more. draws strict columns pen.front pen.color ((d.0 ++ c.0) ++ more) a.0.0 (c.0 ++ more) b.0 g
@@ -93,7 +94,7 @@ mode_carries : (strict : Bool) (columns : ℕ) (reference : Row) (mode : Mode)
 mode_carries strict columns reference Pass = keeps_carries (λ pen. mode_step strict columns reference pen Pass) (λ pen t e.
     let painted = paint strict columns pen.front pen.color (b2 reference (right_of pen.front) pen.color - length pen.front) in
     let a = try_next pen.front painted (λ front. Turn.next (record pen { front = front })) t e in
-    let same : record pen { front = a.0 } ≡ t = next_is _ t a.2 in (
+    let same : record pen { front = a.0 } ≡ t = next_pen_is _ t a.2 in (
       ap (λ (p : Pen). p.rest) same,
       λ more. ap (λ (r : Result Row DecodeError).
           try pen.front r (λ front. Turn.next (record { front = front; color = pen.color; rest = more }))) a.1
@@ -111,7 +112,7 @@ mode_carries strict columns reference (Vertical k) =
     let a = try_next pen.front place (paints pen.rest) t e in
     let b = try_next pen.front (paint strict columns pen.front pen.color (a.0 - length pen.front))
     (λ front. Turn.next (record { front = front; color = opposite pen.color; rest = pen.rest })) t a.2 in
-    let same : record { front = b.0; color = opposite pen.color; rest = pen.rest } ≡ t = next_is _ t b.2 in (
+    let same : record { front = b.0; color = opposite pen.color; rest = pen.rest } ≡ t = next_pen_is _ t b.2 in (
       ap (λ (p : Pen). p.rest) same,
       λ more. ap (λ (r : Result ℕ DecodeError). try pen.front r (paints more)) a.1 ∙ ap (λ (r : Result Row DecodeError).
           try pen.front r (λ front. Turn.next (record { front = front; color = opposite pen.color; rest = more }))) b.1
@@ -132,7 +133,7 @@ step_2d_found : (strict : Bool) (columns : ℕ) (reference : Row) (pen t : Pen) 
     → StepFound strict columns reference pen t
 step_2d_found strict columns reference pen t e =
     elim (chosen (leb columns (length pen.front)) _ _ _ (sym (step_2d_is strict columns reference pen) ∙ e)) [
-      | inl x ↦ absurd (not_next _ t x.1)
+      | inl x ↦ absurd (no_next_pen _ t x.1)
       | inr x ↦
           let a = try_next pen.front (read_code mode_codes pen.rest)
           (λ mode. mode_step strict columns reference (record pen { rest = mode.1 }) mode.0) t x.1 in
@@ -161,8 +162,9 @@ pub record LineFound (strict : Bool) (columns : ℕ) (reference : Row) (pen : Pe
   pub begins : length pen.front < columns → (mode : Mode) × (word others : Bits) × Has mode_codes mode word
       × (bits ≡ word ++ others)
 
-line_found_by : (fuel : ℕ) (strict : Bool) (columns : ℕ) (reference : Row) (pen : Pen) (row : Row) (rest : Bits) → left pen < fuel
-    → drawn_by (step_2d strict columns reference) pen ≡ Line.whole row rest → LineFound strict columns reference pen row rest
+line_found_by : (fuel : ℕ) (strict : Bool) (columns : ℕ) (reference : Row) (pen : Pen) (row : Row) (rest : Bits)
+    → pen_left pen < fuel → drawn_by (step_2d strict columns reference) pen ≡ Line.whole row rest
+    → LineFound strict columns reference pen row rest
 line_found_by zero strict columns reference pen row rest lt e = absurd (omega arith)
 line_found_by (suc fuel) strict columns reference pen row rest lt e =
     let step : Pen → Step = step_2d strict columns reference in

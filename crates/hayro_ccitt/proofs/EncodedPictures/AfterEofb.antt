@@ -200,10 +200,10 @@ closed_plain settings last w rest four wide ends stream more is whole =
     grind (arith, common_steps, length-append, plain_ends)
 
 -- data with the same first bytes begin with the same bits, and continue with whole bytes
-same_front : (one two : Bits) (count : ℕ) (w rest : Bits) → AreWholeBytes one → AreWholeBytes two → one ≡ w ++ rest
+begins_alike : (one two : Bits) (count : ℕ) (w rest : Bits) → AreWholeBytes one → AreWholeBytes two → one ≡ w ++ rest
     → (length w + 7) / 8 ≡ count → take (8 * count) two ≡ take (8 * count) one → (more : Bits) × (two ≡ w ++ more)
     × (length more % 8 ≡ length rest % 8)
-same_front one two count w rest whole_one whole_two is count_is same =
+begins_alike one two count w rest whole_one whole_two is count_is same =
     let step = take-append-drop (8 * count) one in
     let step2 = take-append-drop (8 * count) two in
     let step3 = length-take-le (8 * count) one in
@@ -228,6 +228,6 @@ after_eofb settings one two count are whole_one whole_two four block comes count
       ≡ record { rows = comes.0.rows; outcome = Ok ((length found.0 + 7) / 8); has_eols = comes.0.has_eols } =
       closed_plain settings comes.0 found.0 rest four wide found.2 one rest found.1 refl in
       let count_is : (length found.0 + 7) / 8 ≡ count = grind (arith, common_steps) in
-      let front = same_front one two count found.0 rest whole_one whole_two found.1 count_is same in
+      let front = begins_alike one two count found.0 rest whole_one whole_two found.1 count_is same in
       closed_plain settings comes.0 found.0 rest four wide found.2 two front.0 front.1 front.2 ∙ sym first
 ]

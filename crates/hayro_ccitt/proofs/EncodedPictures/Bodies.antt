@@ -8,7 +8,7 @@ use Rattle.hayro_ccitt.proofs.Names.{ending_behind, end_of, EncodesLine, IsPictu
 use Rattle.hayro_ccitt.proofs.Names.{ReadsLimitedRowsT4, common_steps}
 use Rattle.hayro_ccitt.proofs.{EncodedPictures.EncodedLines.line_2d_again, Readings.TurnsMoveOn.eols-none}
 use Rattle.hayro_ccitt.proofs.EncodedPictures.PictureLines.{IsLineStart, line_2d_starts, allows_sum, not_met, row_before_push}
-use Rattle.hayro_ccitt.proofs.EncodedPictures.PictureLines.{plain_ends, fill, aligned_again, aligned_on, between, ended}
+use Rattle.hayro_ccitt.proofs.EncodedPictures.PictureLines.{plain_ends, fill, aligned_again, aligned_on, between, ended_with}
 use Rattle.hayro_ccitt.proofs.EncodedPictures.PicturesT4.{line_t4_again, line_t4_starts}
 use Rattle.hayro_ccitt.proofs.Readings.GapsAndRows.{first_gap_t4, reaches_end}
 
@@ -27,7 +27,7 @@ module _ (settings : DecodeSettings) where
 
   -- the limit ends the reading
   pub gap_at_limit : (rows : List Row) (here : Bits) → limit_met settings (length rows) ≡ true
-      → pass_gap settings (between rows here) ≡ Turn.done (ended rows (eols_here settings here).1)
+      → pass_gap settings (between rows here) ≡ Turn.done (ended_with rows (eols_here settings here).1)
   gap_at_limit rows here met = grind (arith, common_steps)
 
   -- so does EOFB
@@ -107,12 +107,12 @@ module _ (settings : DecodeSettings) (wide : 0 < settings.columns) (small : sett
 
       -- a limit of as many rows ends the lines
       pub body_end : ending_behind settings (pass_gap settings (between [] (body ++ more)))
-          ≡ ended rows (eols_here settings more).1
+          ≡ ended_with rows (eols_here settings more).1
       body_end =
           let met : limit_met settings (length rows) ≡ true
           = grind (arith, common_steps, and_from, eq-eqb, ne_eqb, not_from_false) in
           reaches_end settings wide (between [] (body ++ more)) (between rows more)
-          (ended rows (eols_here settings more).1) (body_again [] rows body more (allows_sum settings (length rows) allows)
+          (ended_with rows (eols_here settings more).1) (body_again [] rows body more (allows_sum settings (length rows) allows)
           (length-replicate settings.columns false) is.1 whole lines) (gap_at_limit settings rows more met)
 
       -- they begin where there is no EOL
@@ -130,10 +130,10 @@ module _ (settings : DecodeSettings) (wide : 0 < settings.columns) (small : sett
 
       -- T.4 lines without EOLs are read as their rows, up to the limit
       pub rows_t4_end : settings.encoding ≢ Group4 → settings.end_of_line ≡ false
-          → end_of settings (body ++ more) ≡ ended rows (eols_here settings more).1
+          → end_of settings (body ++ more) ≡ ended_with rows (eols_here settings more).1
       rows_t4_end other no_line =
           grind (arith, common_steps, allows, between, body_end, body_starts, eols-none, first_gap_t4, gap_at_line, not_met)
 
 -- the law
 pub limited_rows_t4 : ReadsLimitedRowsT4
-limited_rows_t4 settings rows bits stream are all begins = grind (arith, common_steps, ended, plain_ends, rows_t4_end)
+limited_rows_t4 settings rows bits stream are all begins = grind (arith, common_steps, ended_with, plain_ends, rows_t4_end)

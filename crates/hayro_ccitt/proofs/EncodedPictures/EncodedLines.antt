@@ -7,7 +7,7 @@ use Rattle.hayro_ccitt.proofs.Names.{Turn, Row, is_black, opposite, pixel, pixel
 use Rattle.hayro_ccitt.proofs.Names.{run_from, Line, Pen, line_2d, Step, Spells, EncodesLine2D, common_steps}
 use Rattle.hayro_ccitt.proofs.{DrawingLines.ReadLines.drawn2, Readings.Repeated.after_turn}
 use Rattle.hayro_ccitt.proofs.DrawingLines.Drawings.{run_then, mode_step, drawn_by, step_2d, horizontal_is}
-use Rattle.hayro_ccitt.proofs.EncodedPictures.EncodedRuns.{run_spelled, read_as, paint_fits, draws}
+use Rattle.hayro_ccitt.proofs.EncodedPictures.EncodedRuns.{run_spelled, read_as, whole_run_painted, draws}
 use Rattle.hayro_ccitt.proofs.PixelRows.ChangePlaces.{a1_next, a2_next, a2_least, b2_above, b1_right, b2_right, before_same}
 use Rattle.hayro_ccitt.proofs.PixelRows.ChangePlaces.{pixels_same, at_change, take_painted}
 
@@ -56,10 +56,10 @@ length_at : (row front : Row) (from : ℕ) (color : Color) → from ≤ length r
 length_at row front from color le at = ap length at.painted ∙ length-take-le (from - 1) row (omega arith)
 
 -- painting up to a position before which there is no change
-painted_to : (row front : Row) (from p : ℕ) (color : Color) → IsAt row front from color
+painted_to_place : (row front : Row) (from p : ℕ) (color : Color) → IsAt row front from color
     → from ≤ length row → from ≤ p → p ≤ length row → ((q : ℕ) → from ≤ q → q < p → is_change row q ≡ false)
     → front ++ replicate (p - length front) (is_black color) ≡ take p row
-painted_to row front from p color at inside above within none =
+painted_to_place row front from p color at inside above within none =
     let step = pixels_same row from p (is_black color) (at.inside inside) none in
     grind (arith, common_steps, length_at row front from color (omega arith), step, take_painted row (from - 1))
 
@@ -69,7 +69,7 @@ second_painted : (row front : Row) (p r : ℕ) (color : Color) → IsAt row fron
     → front ++ replicate (r - p) (is_black color) ≡ take r row
 second_painted row front p r color at len p_within above within none = elim (cases_lt p r) [
   | inl lt ↦ ap (λ (n : ℕ). front ++ replicate (r - n) (is_black color)) (sym len)
-      ∙ painted_to row front (suc p) r color at (omega arith) lt within none
+      ∙ painted_to_place row front (suc p) r color at (omega arith) lt within none
   | inr ge ↦
       let same : r ≡ p = omega arith in
       let nothing : r - p ≡ 0 = omega arith in
@@ -97,7 +97,7 @@ module _ (strict : Bool) (columns : ℕ) (reference row : Row) (wide : 0 < colum
       let p : ℕ = b2 reference from color in
       let within : a1 row from ≤ length row = one.within in
       let above = b2_above reference from color (omega arith) in
-      let painted = painted_to row front from p color at inside (omega (arith, above.0, above.1)) (omega arith)
+      let painted = painted_to_place row front from p color at inside (omega (arith, above.0, above.1)) (omega arith)
       (λ q ge lt. one.before q ge (omega arith)) in
       let same : pixel row p ≡ is_black color = pixels_same row from (a1 row from) (is_black color)
       (at.inside inside) one.before p (omega (arith, above.0, above.1)) left_of in
@@ -117,7 +117,7 @@ module _ (strict : Bool) (columns : ℕ) (reference row : Row) (wide : 0 < colum
       let above : from ≤ p = one.above inside in
       let place : pos (b1 reference (right_of front) color) +ℤ k ≡ pos p =
       ap (λ (b : ℕ). pos b +ℤ k) (b1_right reference front from color len at.first) ∙ sym exact in
-      let painted = painted_to row front from p color at inside above within one.before in
+      let painted = painted_to_place row front from p color at inside above within one.before in
       let before : pixel_before row p ≡ is_black color =
       before_same row from p (is_black color) (at.inside inside) one.before p above (omega arith) in
       reads_on _ _ more (mode_drawn strict columns reference front color (Vertical k) word (next ++ more) _
@@ -143,7 +143,7 @@ module _ (strict : Bool) (columns : ℕ) (reference row : Row) (wide : 0 < colum
       let here : (word ++ (run1 ++ (run2 ++ next))) ++ more ≡ word ++ (run1 ++ rest2) = simp append_assoc in
       let front1 : Row = front ++ replicate (p - length front) (is_black color) in
       let front2 : Row = front1 ++ replicate (r - p) (is_black (opposite color)) in
-      let painted1 : front1 ≡ take p row = painted_to row front from p color at inside p_above p_within one.before in
+      let painted1 : front1 ≡ take p row = painted_to_place row front from p color at inside p_above p_within one.before in
       let len1 : length front1 ≡ p = ap length painted1 ∙ length-take-le p row p_within in
       let count1 : p - (from - 1) ≡ p - length front = omega (arith, len) in
       let read1 =
@@ -162,10 +162,11 @@ module _ (strict : Bool) (columns : ℕ) (reference row : Row) (wide : 0 < colum
       (mode_drawn strict columns reference front color Horizontal word (run1 ++ rest2) _ (omega (arith, len)) has here ∙ sym
       (horizontal_is strict columns reference (record { front = front; color = color; rest = run1 ++ rest2 })) ∙ draws strict
       columns front color (run1 ++ rest2) (p - length front) rest2 front1 (λ pen. run_then strict columns pen Turn.next) read1
-      (paint_fits strict columns front color (p - length front) (omega (arith, len))) ∙ draws strict columns front1
-      (opposite color) rest2 (r - p) (next ++ more) front2 Turn.next read2 (paint_fits strict columns front1 (opposite color)
-      (r - p) (omega (arith, len1))) ∙ ap (λ (c : Color). Turn.next (record { front = front2; color = c; rest = next ++ more }))
-      (opposite_twice color)) (line_2d_from front2 (suc r) color next more steps (record {
+      (whole_run_painted strict columns front color (p - length front) (omega (arith, len))) ∙ draws strict columns front1
+      (opposite color) rest2 (r - p) (next ++ more) front2 Turn.next read2
+      (whole_run_painted strict columns front1 (opposite color) (r - p) (omega (arith, len1)))
+      ∙ ap (λ (c : Color). Turn.next (record { front = front2; color = c; rest = next ++ more })) (opposite_twice color))
+      (line_2d_from front2 (suc r) color next more steps (record {
         painted = painted_at row front2 r painted2;
         inside = λ le.
             let r_over : suc p ≤ r = two.above (omega arith) in

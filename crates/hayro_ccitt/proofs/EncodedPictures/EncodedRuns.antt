@@ -22,9 +22,9 @@ abbrev pub read_as : Bits → ℕ → Result (ℕ × Bits) DecodeError
 read_as rest n = Ok (n, rest)
 
 -- pixels that fit are painted
-pub paint_fits : (strict : Bool) (columns : ℕ) (front : Row) (color : Color) (n : ℕ) → length front + n ≤ columns
+pub whole_run_painted : (strict : Bool) (columns : ℕ) (front : Row) (color : Color) (n : ℕ) → length front + n ≤ columns
     → paint strict columns front color n ≡ Ok (front ++ replicate n (is_black color))
-paint_fits strict columns front color n le = grind (arith, common_steps)
+whole_run_painted strict columns front color n le = grind (arith, common_steps)
 
 -- a run that is read and fits is drawn
 pub draws : (strict : Bool) (columns : ℕ) (front : Row) (color : Color) (here : Bits) (n : ℕ) (rest : Bits)
@@ -46,7 +46,7 @@ line_1d_again strict columns front row color bits more
     let here : (word ++ next) ++ more ≡ word ++ (next ++ more) = append_assoc word next more in
     let sum : 0 + n ≡ n = omega arith in
     let read : run_from color (0, (word ++ next) ++ more) ≡ Ok (n, next ++ more) = grind (arith, common_steps, run_spelled) in
-    let painted = paint_fits strict columns front color n (omega (arith, len)) in
+    let painted = whole_run_painted strict columns front color n (omega (arith, len)) in
     let stepped : step_1d strict columns (record { front = front; color = color; rest = (word ++ next) ++ more }) ≡ Turn.next
     (record { front = front ++ replicate n (is_black color); color = opposite color; rest = next ++ more })
     = grind (arith, common_steps, draws, lt-leb) in

@@ -3,12 +3,13 @@ use Rattle.hayro_ccitt.proofs.Names.{reverse, ◌≡◌, ℕ, zero, suc, ◌+◌
 use Rattle.hayro_ccitt.proofs.Names.{eqb, List, [], ◌∷◌, ◌++◌, length, replicate, Option, Some, None, is_some, refl, sym, ap}
 use Rattle.hayro_ccitt.proofs.Names.{subst, ◌∙◌, arith, ◌⊎◌, inl, inr, All, agree_below_at, eqb-true, false≢true, cases_lt}
 use Rattle.hayro_ccitt.proofs.Names.{All-head, All-tail, All-cons, length-reverse, reverse-reverse, length-append}
-use Rattle.hayro_ccitt.proofs.Names.{length-replicate, bit_at_cat_low, bit_at_cat_high, bit_at, Color, White, Black, BitOrder}
+use Rattle.hayro_ccitt.proofs.Names.{length-replicate, bit_at_cat_high, Color, White, Black, BitOrder}
 use Rattle.hayro_ccitt.proofs.Names.{HighestFirst, LowestFirst, Bits, bit_of, bits_of_byte, bits_in, low_bits, Code, Has, Row}
 use Rattle.hayro_ccitt.proofs.Names.{is_black, opposite, a1, a2, codes_of, Spells, EncodesLine1D, EncodesLine2D, EncodesLine}
 use Rattle.hayro_ccitt.proofs.Names.{padding, EncodesRows, eol, EncodesRowsWithEols, tag_of, ClosesWithEols}
 use Rattle.hayro_ccitt.proofs.Names.{EveryPictureHasAnEncoding, BytesBeginWithAnyBits, Group4, Group3_1D, Group3_2D, EncodingMode}
 use Rattle.hayro_ccitt.proofs.Names.{common_steps}
+use Rattle.hayro_ccitt.proofs.BitReading.WordRanges.{low_bits_below, same_bit}
 use Rattle.hayro_ccitt.proofs.CodeWords.ReadRuns.{chosen}
 use Rattle.hayro_ccitt.proofs.PixelRows.ChangePlaces.{a1_next, a2_next, a2_least}
 
@@ -185,15 +186,6 @@ value_below (true ∷ bits) =
 value_below (false ∷ bits) =
     subst (λ (n : ℕ). 0 * 2 ^ length bits + value bits < n) (sym (power_doubles (length bits))) (omega (arith, value_below bits))
 
-same_bit : (m n j k : ℕ) → bit_at m j ≡ bit_at n k → bit_of m j ≡ bit_of n k
-same_bit m n j k e = ap (λ (b : ℕ). eqb b 1) e
-
--- the low bits of a number are those of what it is after a shift
-low_bits_of_low : (width a k b : ℕ) → width ≤ k → low_bits width (a * 2 ^ k + b) ≡ low_bits width b
-low_bits_of_low zero a k b le = refl
-low_bits_of_low (suc width) a k b le =
-    grind (arith, common_steps, bit_at_cat_low, same_bit, low_bits_of_low width a k b (omega arith))
-
 digit_bit : (bit : Bool) → bit_of (digit bit) 0 ≡ bit
 digit_bit bit = grind (arith, common_steps)
 
@@ -202,13 +194,14 @@ low_bits_value : (bits : Bits) → low_bits (length bits) (value bits) ≡ bits
 unfolding value
 low_bits_value [] = refl
 low_bits_value (bit ∷ bits) =
-    grind (arith, common_steps, bit_at_cat_high, digit_bit, low_bits_of_low, same_bit, value, value_below, low_bits_value bits)
+    grind (arith, common_steps, bit_at_cat_high, digit_bit, low_bits_below, same_bit, value, value_below, low_bits_value bits)
 
 -- the first n of them
-cut : (n : ℕ) (bits : Bits) → n ≤ length bits → (front rest : Bits) × (bits ≡ front ++ rest) × (length front ≡ n)
-cut zero bits le = ([], bits, refl, refl)
-cut (suc n) [] le = absurd (omega arith)
-cut (suc n) (bit ∷ bits) le = let f = cut n bits (omega arith) in (bit ∷ f.0, f.1, ap (λ (b : Bits). bit ∷ b) f.2, ap suc f.3)
+cut_front : (n : ℕ) (bits : Bits) → n ≤ length bits → (front rest : Bits) × (bits ≡ front ++ rest) × (length front ≡ n)
+cut_front zero bits le = ([], bits, refl, refl)
+cut_front (suc n) [] le = absurd (omega arith)
+cut_front (suc n) (bit ∷ bits) le = let f = cut_front n bits (omega arith) in
+    (bit ∷ f.0, f.1, ap (λ (b : Bits). bit ∷ b) f.2, ap suc f.3)
 
 -- these bits, the highest first
 abbrev highest_first : BitOrder → Bits → Bits
@@ -239,7 +232,7 @@ bytes_of : (order : BitOrder) (n : ℕ) (bits : Bits) → length bits ≡ 8 * n 
 bytes_of order zero [] e = ([], (λ k d lt. absurd (omega arith)), refl)
 bytes_of order zero (bit ∷ bits) e = absurd (omega arith)
 bytes_of order (suc n) bits e =
-    let f = cut 8 bits (omega (arith, e)) in
+    let f = cut_front 8 bits (omega (arith, e)) in
     let on = bytes_of order n f.1 (omega (arith, e, ap length f.2, length-append f.0 f.1, f.3)) in
     let first : Bits = highest_first order f.0 in
     let small : value first < 256 =

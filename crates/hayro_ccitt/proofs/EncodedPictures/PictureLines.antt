@@ -18,21 +18,21 @@ closed_settings encoding columns aligned =
     }
 
 -- ---- There is no EOL at a mode word.
-abbrev pub misses_eol : ℕ → Bits → Bool
-misses_eol seen [] = false
-misses_eol seen (false ∷ word) = misses_eol (suc seen) word
-misses_eol seen (true ∷ word) = not (leb 11 seen)
+abbrev pub begins_no_eol : ℕ → Bits → Bool
+begins_no_eol seen [] = false
+begins_no_eol seen (false ∷ word) = begins_no_eol (suc seen) word
+begins_no_eol seen (true ∷ word) = not (leb 11 seen)
 
 -- there is no EOL before such a word
-pub missed : (seen : ℕ) (word more : Bits) → misses_eol seen word ≡ true → after_eol seen (word ++ more) ≡ None
-missed seen [] more e = absurd (false≢true e)
-missed seen (false ∷ word) more e = missed (suc seen) word more e
-missed seen (true ∷ word) more e = rw (not-true (leb 11 seen) e) refl
+pub no_eol_at_word : (seen : ℕ) (word more : Bits) → begins_no_eol seen word ≡ true → after_eol seen (word ++ more) ≡ None
+no_eol_at_word seen [] more e = absurd (false≢true e)
+no_eol_at_word seen (false ∷ word) more e = no_eol_at_word (suc seen) word more e
+no_eol_at_word seen (true ∷ word) more e = rw (not-true (leb 11 seen) e) refl
 
 -- nor do the data end there
-pub goes_on : (word more : Bits) → misses_eol 0 word ≡ true → at_end (word ++ more) ≡ false
-goes_on [] more e = absurd (false≢true e)
-goes_on (b ∷ word) more e = refl
+pub bits_at_word : (word more : Bits) → begins_no_eol 0 word ≡ true → at_end (word ++ more) ≡ false
+bits_at_word [] more e = absurd (false≢true e)
+bits_at_word (b ∷ word) more e = refl
 
 -- where a line begins there is no EOL, and not the end
 pub record IsLineStart (here : Bits) : Type 0 where
@@ -83,8 +83,8 @@ pub eofb_stands : (more : Bits) → eols 2 (eol 0 ++ (eol 0 ++ more)) ≡ (2, mo
 eofb_stands more = refl
 
 -- the end of a run that reached its end
-abbrev pub ended : List Row → Bits → Ending
-ended rows rest = record { rows = rows; has_eols = false; outcome = Ok rest }
+abbrev pub ended_with : List Row → Bits → Ending
+ended_with rows rest = record { rows = rows; has_eols = false; outcome = Ok rest }
 
 -- ---- Over whole data.
 pub plain_ends : (settings : DecodeSettings) (stream : Bits) (end : Ending) (rest : Bits) → 0 < settings.columns

@@ -6,29 +6,29 @@ use Rattle.hayro_ccitt.proofs.Names.{append_assoc, arith, inl, inr, All, and_rig
 use Rattle.hayro_ccitt.proofs.Names.{eq-eqb, ne_eqb, length-append, length-replicate, append-nil, All-head, All-tail, Color}
 use Rattle.hayro_ccitt.proofs.Names.{White, UnexpectedEof, EncodingMode, Group3_1D, Group3_2D, Group4, DecodeSettings, Bits, Turn}
 use Rattle.hayro_ccitt.proofs.Names.{repeated, Row, codes_of, Line, line_1d, line_2d, after_eol, one_more, eols, all_eols}
-use Rattle.hayro_ccitt.proofs.Names.{past_tag, eols_with_tags, tagged_eols, eols_of_end, ending_behind, Progress}
-use Rattle.hayro_ccitt.proofs.Names.{Ending, row_before, aligned, at_end, limit_met, line_here, eols_here, after_line, move_on}
+use Rattle.hayro_ccitt.proofs.Names.{past_tag, eols_with_tags, tagged_eols, eols_of_end, ending_behind, Progress, Ending}
+use Rattle.hayro_ccitt.proofs.Names.{row_before, aligned, at_end, limit_met, line_here, eols_here, after_line, move_on}
 use Rattle.hayro_ccitt.proofs.Names.{ending_from, end_of, Spells, EncodesLine1D, EncodesLine2D, EncodesLine, eol, tag_of}
 use Rattle.hayro_ccitt.proofs.Names.{IsPicture, EncodesRowsWithEols, ClosesWithEols, PictureT4, each_word, ReadsPictureT4}
 use Rattle.hayro_ccitt.proofs.Names.{ReadsLimitedPictureT4, OnePictureT4, Allows, common_steps}
 use Rattle.hayro_ccitt.proofs.{BitReading.ZerosInWords.each_word_at, EncodedPictures.EncodedLines.line_2d_again}
 use Rattle.hayro_ccitt.proofs.{EncodedPictures.EncodedRuns.line_1d_again, Readings.Repeated.after_turn}
-use Rattle.hayro_ccitt.proofs.EncodedPictures.PictureLines.{closed_settings, misses_eol, missed, goes_on, IsLineStart, not_met}
-use Rattle.hayro_ccitt.proofs.EncodedPictures.PictureLines.{row_before_push, plain_ends}
+use Rattle.hayro_ccitt.proofs.EncodedPictures.PictureLines.{closed_settings, begins_no_eol, no_eol_at_word, bits_at_word}
+use Rattle.hayro_ccitt.proofs.EncodedPictures.PictureLines.{IsLineStart, not_met, row_before_push, plain_ends}
 use Rattle.hayro_ccitt.proofs.Readings.GapsAndRows.{first_gap_t4, ending_t4}
 use Rattle.hayro_ccitt.proofs.Readings.RowsAndGaps.{unless_over, after_row, after_whole-is}
 use Rattle.hayro_ccitt.proofs.Readings.TurnsMoveOn.{few_eols, eols-none, one_more-count, eol_of, eols_with_tags-some}
 use Rattle.hayro_ccitt.proofs.Readings.TurnsMoveOn.{eols_with_tags-none, last_tag_count}
 
 -- ---- What a line begins with.
-codes_miss : (color : Color) → each_word (misses_eol 0) (codes_of color) ≡ true
+codes_miss : (color : Color) → each_word (begins_no_eol 0) (codes_of color) ≡ true
 codes_miss color = grind (arith, common_steps)
 
 run_starts : (color : Color) (n : ℕ) (word more : Bits) → Spells color n word → IsLineStart (word ++ more)
 run_starts color n word more (Spells.terminating m w has small) =
-    grind (arith, common_steps, codes_miss, each_word_at, goes_on, missed, misses_eol)
+    grind (arith, common_steps, codes_miss, each_word_at, bits_at_word, no_eol_at_word, begins_no_eol)
 run_starts color n word more (Spells.makeup m w {n = k} {bits = next} has large rest) =
-    grind (arith, common_steps, append_assoc, codes_miss, each_word_at, goes_on, missed, misses_eol)
+    grind (arith, common_steps, append_assoc, codes_miss, each_word_at, bits_at_word, no_eol_at_word, begins_no_eol)
 
 line_1d_starts : (color : Color) (row : Row) (bits more : Bits) → EncodesLine1D color row bits → 0 < length row
     → IsLineStart (bits ++ more)

@@ -5,7 +5,8 @@ use Rattle.hayro_ccitt.proofs.Names.{DecodeSettings, Bits, AreWholeBytes, Reache
 use Rattle.hayro_ccitt.proofs.Names.{gap_and_row, for_t6, ComesToEofb, PicturesComeToEofb, ReadsPictureT6, ReadsLimitedRowsT6}
 use Rattle.hayro_ccitt.proofs.Names.{OnePictureT6, eol, PictureT6, common_steps}
 use Rattle.hayro_ccitt.proofs.EncodedPictures.Bodies.{gap_at_eofb, body_again, body_end}
-use Rattle.hayro_ccitt.proofs.EncodedPictures.PictureLines.{closed_settings, allows_sum, between, ended, eofb_stands, plain_ends}
+use Rattle.hayro_ccitt.proofs.EncodedPictures.PictureLines.{closed_settings, allows_sum, between, ended_with, eofb_stands}
+use Rattle.hayro_ccitt.proofs.EncodedPictures.PictureLines.{plain_ends}
 use Rattle.hayro_ccitt.proofs.Readings.GapsAndRows.{t6_end}
 
 -- A T.6 picture, closed by EOFB: the run reaches its end with its rows.
@@ -25,11 +26,12 @@ picture_t6_reaches settings rows bits more four small limit whole pic =
 pub picture_t6_end : (settings : DecodeSettings) (rows : List Row) (bits more : Bits) → settings.encoding ≡ Group4
     → settings.end_of_block ≡ true → settings.columns ≤ 4294967295
     → Allows settings (length rows) → (settings.rows_are_byte_aligned ≡ true → length (bits ++ more) % 8 ≡ 0)
-    → PictureT6 settings.columns settings.rows_are_byte_aligned rows bits → end_of settings (bits ++ more) ≡ ended rows more
+    → PictureT6 settings.columns settings.rows_are_byte_aligned rows bits → end_of settings (bits ++ more) ≡ ended_with rows more
 picture_t6_end settings rows bits more four block small limit whole pic =
     let wide : 0 < settings.columns = pic.1.0 in
     let tail : Bits = eol 0 ++ (eol 0 ++ more) in
-    t6_end settings wide (bits ++ more) (between rows tail) (ended rows more) four (picture_t6_reaches settings rows bits more
+    t6_end settings wide (bits ++ more) (between rows tail) (ended_with rows more) four
+    (picture_t6_reaches settings rows bits more
     four small limit whole pic) (gap_at_eofb settings (between rows tail) more refl four block (eofb_stands more))
 
 -- Such data are among those that `AfterEofb` is about.
@@ -50,13 +52,13 @@ closed_picture_t6 settings rows bits stream are all begins =
     let whole : AreWholeBytes (bits ++ more) = subst AreWholeBytes is all in
     let count : (length stream - length more + 7) / 8 ≡ (length bits + 7) / 8 =
     omega (arith, ap length is, length-append bits more) in
-    plain_ends settings stream (ended rows more) more begins.picture.1.0 (ap (end_of settings) is ∙ picture_t6_end settings
+    plain_ends settings stream (ended_with rows more) more begins.picture.1.0 (ap (end_of settings) is ∙ picture_t6_end settings
     rows bits more begins.encoding begins.end_of_block (omega (arith, are.columns)) begins.limit (λ e. whole) begins.picture) refl
     ∙ ap {B = Reading} (λ (k : ℕ). record { rows = rows; outcome = Ok k; has_eols = false }) count
 
 -- the law
 pub limited_rows_t6 : ReadsLimitedRowsT6
-limited_rows_t6 settings rows bits stream are all begins = grind (arith, common_steps, body_end, ended, plain_ends)
+limited_rows_t6 settings rows bits stream are all begins = grind (arith, common_steps, body_end, ended_with, plain_ends)
 
 -- a picture reaches its EOFB
 pub pictures_come_to_eofb : PicturesComeToEofb

@@ -7,9 +7,13 @@ use Rattle.hayro_ccitt.proofs.PixelRows.ReferencePlaces.{turned, turned-not, tur
 use Rattle.hayro_ccitt.proofs.PixelRows.ReferencePlaces.{IsSplit-none, order, end_within, in_list_if_below, b1_is, b2_after_b1}
 
 -- ---- The colour that a change turns from.
-turns_by : (index : ℕ) (color : Color) → TurnsFrom index color → turned index false ≡ is_black color
+pub turns_by : (index : ℕ) (color : Color) → TurnsFrom index color → turned index false ≡ is_black color
 turns_by index White e = (turned_by_parity index).0 e
 turns_by index Black e = (turned_by_parity index).1 e
+
+-- one change less gives the other colour
+pub turned_before : (k : ℕ) (color : Color) → turned (suc k) false ≡ is_black color → turned k false ≡ not (is_black color)
+turned_before k color colored = sym (not_not (turned k false)) ∙ ap not (sym (turned-not k false) ∙ colored)
 
 -- an index with the parity of the number of changes that are drawn
 pub turns_alike : (index drawn : ℕ) (color : Color) → index % 2 ≡ drawn % 2 → TurnsFrom drawn color → TurnsFrom index color
@@ -110,9 +114,6 @@ module _ (columns : ℕ) (places : List ℕ) (ascend : AreChanges columns places
         left k l,
         get_or_default_zero places k columns (in_list_if_below columns places ascend k (omega (arith, inside, left k l))),
       )
-
-  turned_before : (k : ℕ) (color : Color) → turned (suc k) false ≡ is_black color → turned k false ≡ not (is_black color)
-  turned_before k color colored = sym (not_not (turned k false)) ∙ ap not (sym (turned-not k false) ∙ colored)
 
   -- the number of changes that are not right of a0 is the index of b1, or the one before it, which turns from the other colour
   split_near : (painted index : ℕ) (color : Color) → painted < columns → turned index false ≡ is_black color

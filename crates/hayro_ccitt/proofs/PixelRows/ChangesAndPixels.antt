@@ -16,7 +16,7 @@ AscendFrom-wider low first width wider (place ∷ places) le below ascend =
     grind (arith, common_steps, AscendFrom-wider (suc place) (suc place) width wider places (omega arith) below ascend.2)
 
 -- positions that ascend right of a position ascend from it on
-AscendFrom-here : (place width : ℕ) (places : List ℕ) → AscendFrom (suc place) width places → AscendFrom place width places
+pub AscendFrom-here : (place width : ℕ) (places : List ℕ) → AscendFrom (suc place) width places → AscendFrom place width places
 AscendFrom-here place width places ascend =
     AscendFrom-wider place (suc place) width width places (omega arith) (omega arith) ascend
 
@@ -73,9 +73,9 @@ last_pixel-same zero color = refl
 last_pixel-same (suc n) color = last_pixel-same n color
 
 -- the colour after these changes: it turns at each
-abbrev pub turned : Bool → List ℕ → Bool
-turned color [] = color
-turned color (place ∷ places) = turned (not color) places
+abbrev pub turned_at : Bool → List ℕ → Bool
+turned_at color [] = color
+turned_at color (place ∷ places) = turned_at (not color) places
 
 -- one more number is even where the number is odd
 eqb-suc_even : (n : ℕ) → eqb (suc n % 2) 0 ≡ not (eqb (n % 2) 0)
@@ -86,14 +86,14 @@ beq-not : (a b color : Bool) → b ≡ not a → beq a (not color) ≡ beq b col
 beq-not a b color e = grind (arith, common_steps)
 
 -- after an even number of changes the colour is the same, and else the other one
-pub turned-even : (color : Bool) (places : List ℕ) → turned color places ≡ beq (eqb (length places % 2) 0) color
-turned-even true [] = refl
-turned-even false [] = refl
-turned-even color (place ∷ places) = grind (arith, common_steps, beq-not, eqb-suc_even, turned-even (not color) places)
+pub turned_at-even : (color : Bool) (places : List ℕ) → turned_at color places ≡ beq (eqb (length places % 2) 0) color
+turned_at-even true [] = refl
+turned_at-even false [] = refl
+turned_at-even color (place ∷ places) = grind (arith, common_steps, beq-not, eqb-suc_even, turned_at-even (not color) places)
 
 -- each lawful change is followed by a pixel, so the last pixel has the colour after all of them
 pub last_pixel-pixels_from : (place : ℕ) (color : Bool) (width : ℕ) (places : List ℕ) → AscendFrom place width places
-    → last_pixel color (pixels_from place color width places) ≡ turned color places
+    → last_pixel color (pixels_from place color width places) ≡ turned_at color places
 last_pixel-pixels_from place color width [] ascend = last_pixel-same (width - place) color
 last_pixel-pixels_from place color width (change ∷ places) ascend =
     let step = last_pixel-pixels_from change (not color) width places (AscendFrom-here change width places ascend.2) in
@@ -101,20 +101,21 @@ last_pixel-pixels_from place color width (change ∷ places) ascend =
 
 -- the last pixel of a row of lawful changes
 pub last_pixel-pixels : (width : ℕ) (places : List ℕ) → AreChanges width places
-    → last_pixel false (pixels width places) ≡ turned false places
+    → last_pixel false (pixels width places) ≡ turned_at false places
 last_pixel-pixels width places ascend = last_pixel-pixels_from 0 false width places ascend
 
 -- it is black exactly where the number of changes is odd
 pub last_pixel-odd : (width : ℕ) (places : List ℕ) → AreChanges width places
     → last_pixel false (pixels width places) ≡ not (eqb (length places % 2) 0)
-last_pixel-odd width places ascend = grind (arith, common_steps, last_pixel-pixels, turned-even)
+last_pixel-odd width places ascend = grind (arith, common_steps, last_pixel-pixels, turned_at-even)
 
 -- ---- Painting.
 
 -- a wider row continues in its last colour
 pub pixels_from-wider : (place : ℕ) (color : Bool) (width more : ℕ) (places : List ℕ)
     → place ≤ width → AscendFrom place width places
-    → pixels_from place color (width + more) places ≡ pixels_from place color width places ++ replicate more (turned color places)
+    → pixels_from place color (width + more) places ≡ pixels_from place color width places ++ replicate more
+    (turned_at color places)
 pixels_from-wider place color width more [] le ascend = grind (arith, common_steps, replicate-append-replicate)
 pixels_from-wider place color width more (change ∷ places) le ascend =
     grind (
@@ -128,7 +129,8 @@ pixels_from-wider place color width more (change ∷ places) le ascend =
 -- the same if the last change may equal the width
 pub pixels_from-on : (place : ℕ) (color : Bool) (width more : ℕ) (places : List ℕ)
     → place ≤ width → AscendFrom place (suc width) places
-    → pixels_from place color (width + more) places ≡ pixels_from place color width places ++ replicate more (turned color places)
+    → pixels_from place color (width + more) places ≡ pixels_from place color width places ++ replicate more
+    (turned_at color places)
 pixels_from-on place color width more [] le ascend = grind (arith, common_steps, replicate-append-replicate)
 pixels_from-on place color width more (change ∷ places) le ascend =
     grind (
@@ -147,7 +149,7 @@ pixels-same width more places ascend =
 
 -- one change more at the end of a row continues in the other colour
 pub pixels_from-push : (place : ℕ) (color : Bool) (width more : ℕ) (places : List ℕ) → pixels_from place color (width + more)
-    (places ++ width ∷ []) ≡ pixels_from place color width places ++ replicate more (not (turned color places))
+    (places ++ width ∷ []) ≡ pixels_from place color width places ++ replicate more (not (turned_at color places))
 pixels_from-push place color width more [] = let e : width + more - width ≡ more = omega arith in rw e refl
 pixels_from-push place color width more (change ∷ places) =
     rw (pixels_from-push change (not color) width more places) (sym (append_assoc (replicate (change - place) color) _ _))

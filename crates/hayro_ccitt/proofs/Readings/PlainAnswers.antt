@@ -22,9 +22,9 @@ LeavesRows settings bits step before after held answer =
     answer × StopsShort (plain settings bits).rows (lines_of settings bits) before after held answer
 
 -- the same, if the reading and its lines are known
-abbrev Leaves : {M : Type 0} → Reading → List Line → (M → List ℕ → M) → SinkState M → SinkState M → Held → Result ℕ DecodeError
+abbrev LeavesBy : {M : Type 0} → Reading → List Line → (M → List ℕ → M) → SinkState M → SinkState M → Held → Result ℕ DecodeError
     → Type 0
-Leaves reading lines step before after held answer =
+LeavesBy reading lines step before after held answer =
     TakesRows reading.rows reading.outcome reading.has_eols step before after held answer
     × StopsShort reading.rows lines before after held answer
 
@@ -50,14 +50,14 @@ module _ {M : Type 0} (settings : DecodeSettings) (bits : Bits) (step : M → Li
     abbrev lines : List Line
     lines = gathered_of settings (line_of_turn settings) bits
 
-    known : (answer : Result ℕ DecodeError) → Leaves (whole_reading bits end) lines step before after held answer
+    known : (answer : Result ℕ DecodeError) → LeavesBy (whole_reading bits end) lines step before after held answer
         → LeavesRows settings bits step before after held answer
     known answer leaves =
         let reading : plain settings bits ≡ whole_reading bits end =
         cond-false (eqb settings.columns 0) _ _ (some_columns settings.columns some) in
         let all : lines_of settings bits ≡ lines = cond-false (eqb settings.columns 0) _ _ (some_columns settings.columns some) in
-        subst (λ (r : Reading). Leaves r (lines_of settings bits) step before after held answer) (sym reading)
-        (subst (λ (ls : List Line). Leaves (whole_reading bits end) ls step before after held answer) (sym all) leaves)
+        subst (λ (r : Reading). LeavesBy r (lines_of settings bits) step before after held answer) (sym reading)
+        (subst (λ (ls : List Line). LeavesBy (whole_reading bits end) ls step before after held answer) (sym all) leaves)
 
     -- where the driver ended well at a position
     pub decodes_well : (place : ℕ) → place ≤ length bits → TakesRows end.rows end.outcome end.has_eols step before after held

@@ -348,9 +348,9 @@ is_read {settings} {bits} {held} {here} stands {new} {left_over} takes =
     }
 
 -- if it has no row, the reading fails there
-pub fails_at_line : {settings : DecodeSettings} {bits : Bits} {held : Held} {here : Bits} → StandsAtLine settings bits held here
-    → length bits - length here ≡ failed_at settings bits held.taken
-fails_at_line {settings} {bits} stands =
+pub reader_fails_at_line : {settings : DecodeSettings} {bits : Bits} {held : Held} {here : Bits}
+    → StandsAtLine settings bits held here → length bits - length here ≡ failed_at settings bits held.taken
+reader_fails_at_line {settings} {bits} stands =
     ap (λ (x : Bits). length bits - length x) stands.rest_is ∙ sym (ap (λ (n : ℕ). failed_at settings bits n)
     (ap (λ (h : Held). h.taken) stands.held_is) ∙ line_start_is settings stands.wide bits stands.begins stands.reaches _)
 

@@ -257,11 +257,11 @@ module _ {M : Type 0} {settings : DecodeSettings} (wide : 0 < settings.columns) 
     module _ {last : Held} (left_over : Bits) (answer : Result Bool DecodeError)
         (said : gap_behind_row new.settings new.taken new.has_eols rest ≡ gap_said answer last.has_eols left_over)
         (frame : last ≡ record new { has_eols = last.has_eols; repairs = last.repairs }) where
-      pub gap_is : gap_behind_row settings (length next.rows) so_far.has_eols rest ≡ gap_said answer last.has_eols left_over
-      gap_is = ap (λ (h : Held). gap_behind_row h.settings h.taken h.has_eols rest) (sym next_held) ∙ said
+      pub next_gap_is : gap_behind_row settings (length next.rows) so_far.has_eols rest ≡ gap_said answer last.has_eols left_over
+      next_gap_is = ap (λ (h : Held). gap_behind_row h.settings h.taken h.has_eols rest) (sym next_held) ∙ said
 
       turn : move_on settings so_far ≡ at_gap next (gap_said answer last.has_eols left_over)
-      turn = turn_is settings so_far taken.taken rest (gap_said answer last.has_eols left_over) taken.is gap_is
+      turn = turn_is settings so_far taken.taken rest (gap_said answer last.has_eols left_over) taken.is next_gap_is
 
       pub last_taken : last.taken ≡ length next.rows
       last_taken = ap (λ (h : Held). h.taken)

@@ -1,20 +1,17 @@
 -- What a strict run reads, a lenient run reads too.
-use Rattle.hayro_ccitt.proofs.Readings.TurnsAddRows.{turn_extends}
+use Rattle.hayro_ccitt.proofs.Readings.TurnsAddRows.{turn_extends, Adds, seek_from_keeps, move_adds, prefix_trans}
 use Rattle.hayro_ccitt.proofs.Names.{◌≡◌, ℕ, suc, ◌<◌, true, false, cond, not, ◌&&◌, eqb, List, [], ◌∷◌, ◌++◌, length, Result, Ok}
-use Rattle.hayro_ccitt.proofs.Names.{refl, sym, ap, subst, arith, inl, inr, IsOk, cases_lt, cases_eq, eq-eqb}
-use Rattle.hayro_ccitt.proofs.Names.{ne_eqb, false≢true, Color, Mode, Pass, Horizontal, Vertical, DecodeError, UnexpectedEof}
-use Rattle.hayro_ccitt.proofs.Names.{DecodeSettings, EncodingMode, Bits, IsPrefix, Turn, Row, paint, Line, Pen, start, line_1d}
-use Rattle.hayro_ccitt.proofs.Names.{line_2d, Step, Progress, Ending, Move, row_before, aligned, whole_reading, bytes_before}
-use Rattle.hayro_ccitt.proofs.Names.{line_by, after_line, move_on, first_gap, ending_from, end_of, StrictThenLenient}
-use Rattle.hayro_ccitt.proofs.Names.{common_steps}
+use Rattle.hayro_ccitt.proofs.Names.{refl, sym, ap, subst, arith, inl, inr, IsOk, cases_lt, cases_eq, eq-eqb, ne_eqb, false≢true}
+use Rattle.hayro_ccitt.proofs.Names.{Color, Mode, Pass, Horizontal, Vertical, DecodeError, UnexpectedEof, DecodeSettings}
+use Rattle.hayro_ccitt.proofs.Names.{EncodingMode, Bits, IsPrefix, Turn, Row, paint, Line, Pen, start, line_1d, line_2d, Step}
+use Rattle.hayro_ccitt.proofs.Names.{Progress, Ending, Move, row_before, aligned, whole_reading, bytes_before, line_by}
+use Rattle.hayro_ccitt.proofs.Names.{after_line, move_on, first_gap, ending_from, end_of, StrictThenLenient, common_steps}
 use Rattle.hayro_ccitt.proofs.DrawingLines.Drawings.{try, run_then, mode_step, step_unless_full, step_1d, step_2d, step_1d_is}
 use Rattle.hayro_ccitt.proofs.DrawingLines.Drawings.{step_2d_is, horizontal_is}
-use Rattle.hayro_ccitt.proofs.DrawingLines.ReadLines.{step_1d_shrinks, step_2d_shrinks}
+use Rattle.hayro_ccitt.proofs.DrawingLines.ReadLines.{step_1d_shrinks, step_2d_shrinks, pen_left}
 use Rattle.hayro_ccitt.proofs.Readings.GapsAndRows.{readings_follow}
 use Rattle.hayro_ccitt.proofs.Readings.Repeated.{Follows, after_turn, repeated_follows}
 use Rattle.hayro_ccitt.proofs.Readings.RowsAndGaps.{unless_over, seek_from, after_row, after_whole-is}
-use Rattle.hayro_ccitt.proofs.Readings.TurnsAddRows.{Adds, seek_from_keeps, move_adds, prefix_trans}
-use Rattle.hayro_ccitt.proofs.DrawingLines.ReadLines.{left as pen_left}
 
 -- ---- Lines
 

@@ -216,9 +216,9 @@ no_damage settings bits ok =
     flat_cond false xs are = joined_empty xs are
 
 -- and no row that is repaired
-pub no_repairs : (settings : DecodeSettings) (bits : Bits) (taken : ℕ) → IsOk
+pub no_row_repaired : (settings : DecodeSettings) (bits : Bits) (taken : ℕ) → IsOk
     (plain (record settings { strict = true }) bits).outcome → sum_by length (take taken (repairs_by_line settings bits)) ≡ 0
-no_repairs settings bits taken ok =
+no_row_repaired settings bits taken ok =
     let are = nothing_given settings bits (λ given. repaired_by_turn given bits)
     (λ given s none. front_empty (repaired_by_turn given bits s) _ none) ok in
     omega (arith, sum_by-take-le length (repairs_by_line settings bits) taken, sum_empty (repairs_by_line settings bits) are)

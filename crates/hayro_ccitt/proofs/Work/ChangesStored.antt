@@ -12,7 +12,7 @@ use Rattle.hayro_ccitt.proofs.Names.{word_found, run_found}
 use Rattle.hayro_ccitt.proofs.{CodeWords.RunWords.one_word, DrawingLines.CountedLines.words_run, DrawingLines.Drawings.try}
 use Rattle.hayro_ccitt.proofs.{PixelRows.ChangesAndPixels.changes-recursive, Readings.Repeated.after_turn}
 use Rattle.hayro_ccitt.proofs.CodeWords.ReadRuns.{chosen, run_shorter}
-use Rattle.hayro_ccitt.proofs.CodeWords.WordsFound.{Stands, run_stands}
+use Rattle.hayro_ccitt.proofs.CodeWords.WordsFound.{WordsStand, run_stands}
 use Rattle.hayro_ccitt.proofs.PixelRows.RowChanges.{changes_from, changes_from-append, changes_from-same}
 
 -- how many changes a row has
@@ -69,7 +69,7 @@ run_has_word color here n rest e = by_found (run_found color (0, here)) (run_sta
     ends : (run_stands color 0 here).0 ≡ rest
     ends = let last = (run_stands color 0 here).2 in let same = rw e at last in sym same
 
-    by_found : (found : List Bits) → Stands here found (run_stands color 0 here).0 → 0 < length found
+    by_found : (found : List Bits) → WordsStand here found (run_stands color 0 here).0 → 0 < length found
     by_found [] p = absurd (omega (arith, run_shorter color 0 here n rest e, ap length p.place, ap length ends))
     by_found (word ∷ found) p = omega arith
 

@@ -1,5 +1,5 @@
 -- The EOLs that are consumed before a line, and the bits that are examined ahead of it.
-use Rattle.hayro_ccitt.proofs.Names.{◌<◌, ◌≡◌, ℕ, suc, ◌+◌, ◌-◌, ◌*◌, ◌≤◌, Bool, true, false, not, ◌&&◌, ◌||◌, eqb, leb, [], ◌∷◌}
+use Rattle.hayro_ccitt.proofs.Names.{◌<◌, ◌≡◌, ℕ, ◌+◌, ◌-◌, ◌*◌, ◌≤◌, Bool, true, false, not, ◌&&◌, ◌||◌, eqb, leb, [], ◌∷◌}
 use Rattle.hayro_ccitt.proofs.Names.{◌++◌, length, replicate, drop, Option, Some, None, Result, Ok, Err, refl, sym, ap, ◌∙◌}
 use Rattle.hayro_ccitt.proofs.Names.{subst, arith, ◌⊎◌, inl, inr, and_parts, or_parts, false≢true, length-append}
 use Rattle.hayro_ccitt.proofs.Names.{length-replicate, replicate-append-replicate, DecodeError, InvalidCode, EncodingMode, Group4}
@@ -290,12 +290,6 @@ looked_most [] = omega arith
 looked_most (false ∷ here) = omega (arith, looked_most here)
 looked_most (true ∷ here) = omega arith
 
--- after the first bit at most one bit less is examined
-pub looked_later : (here : Bits) → looked here ≤ suc (looked (drop 1 here))
-looked_later [] = omega arith
-looked_later (false ∷ here) = omega arith
-looked_later (true ∷ here) = omega arith
-
 -- no bit after a one is examined
 looked_to_one : (before after : Bits) → looked (before ++ true ∷ after) + length after ≤ length (before ++ true ∷ after)
 looked_to_one [] after = omega arith
@@ -305,12 +299,6 @@ looked_to_one (true ∷ before) after = omega (arith, length-append before (true
 length-later : (here : Bits) → length (drop 1 here) ≤ length here
 length-later [] = omega arith
 length-later (bit ∷ here) = omega arith
-
--- a count of zeros examines no more than one bit besides what is ahead
-pub looked_before : (encoding : EncodingMode) (here : Bits) → looked here ≤ suc (looked_ahead encoding here)
-looked_before Group3_2D here = looked_later here
-looked_before Group3_1D here = omega arith
-looked_before Group4 here = omega arith
 
 -- no more than the bits here are examined ahead
 pub looked_ahead_most : (encoding : EncodingMode) (here : Bits) → looked_ahead encoding here ≤ length here

@@ -4,22 +4,22 @@ use Rattle.hayro_ccitt.proofs.Names.{replicate, sym, ap, ◌∙◌, subst, arith
 use Rattle.hayro_ccitt.proofs.Names.{length-append, length-drop, EncodingMode, Group4, Group3_1D, Group3_2D, Bits, AreWords}
 use Rattle.hayro_ccitt.proofs.Names.{joined, Line, found_1d, found_2d, line_1d, line_2d, line_found, aligned, Row, looked}
 use Rattle.hayro_ccitt.proofs.BitReading.ZerosInWords.{holds_a_one, word_one, no_eleven_in, prefix_of_prefix}
-use Rattle.hayro_ccitt.proofs.CodeWords.WordsFound.{Stands, LineEnds, line_1d_stands, line_2d_stands}
+use Rattle.hayro_ccitt.proofs.CodeWords.WordsFound.{WordsStand, LineEnds, line_1d_stands, line_2d_stands}
 use Rattle.hayro_ccitt.proofs.DrawingLines.ReadLines.{TookBits, line_1d_took_bits, line_2d_took_bits}
 
 -- ---- Consecutive words have a bit each, and contain a one.
 
-not_empty : (word : Bits) → holds_a_one word ≡ true → 0 < length word
-not_empty [] e = absurd (false≢true e)
-not_empty (bit ∷ word) e = omega arith
+some_bit : (word : Bits) → holds_a_one word ≡ true → 0 < length word
+some_bit [] e = absurd (false≢true e)
+some_bit (bit ∷ word) e = omega arith
 
 words_bits : (words : List Bits) → AreWords words → length words ≤ length (joined words)
 words_bits [] are = omega arith
 words_bits (word ∷ words) are =
-    omega (arith, words_bits words are.1, not_empty word (word_one word are.0), length-append word (joined words))
+    omega (arith, words_bits words are.1, some_bit word (word_one word are.0), length-append word (joined words))
 
 -- there are no more words than bits
-pub stands_count : (here : Bits) (found : List Bits) (rest : Bits) → Stands here found rest
+pub stands_count : (here : Bits) (found : List Bits) (rest : Bits) → WordsStand here found rest
     → length found + length rest ≤ length here
 stands_count here found rest stands =
     omega (arith, words_bits found stands.words, ap length stands.place, length-append (joined found) rest)
@@ -30,7 +30,7 @@ looked_word (true ∷ word) more e = omega arith
 looked_word (false ∷ word) more e = omega (arith, looked_word word more e)
 
 -- a count of zeros from the start of words ends within them
-stands_looked : (here : Bits) (word : Bits) (found : List Bits) (rest : Bits) → Stands here (word ∷ found) rest
+stands_looked : (here : Bits) (word : Bits) (found : List Bits) (rest : Bits) → WordsStand here (word ∷ found) rest
     → looked here + length rest ≤ length here
 stands_looked here word found rest stands =
     let same : here ≡ word ++ (joined found ++ rest) = stands.place ∙ append_assoc word (joined found) rest in
@@ -39,7 +39,7 @@ stands_looked here word found rest stands =
     omega (arith, ends, ap length same, length-append word (joined found ++ rest), length-append (joined found) rest)
 
 -- an EOL at or after a line's start, its tag included, ends past each word
-pub stands_before_eol : (tag : Bool) (here : Bits) (found : List Bits) (rest fill after : Bits) → Stands here found rest
+pub stands_before_eol : (tag : Bool) (here : Bits) (found : List Bits) (rest fill after : Bits) → WordsStand here found rest
     → tag ∷ here ≡ fill ++ replicate 11 false ++ true ∷ after → length after < length rest
 stands_before_eol tag here found rest fill after stands e =
     let cut : (tag ∷ joined found) ++ rest ≡ (fill ++ replicate 11 false) ++ (true ∷ after) =
@@ -62,7 +62,7 @@ stands_before_eol tag here found rest fill after stands e =
 -- ---- What a line pays.
 
 -- a whole line: some words, within the bits that it consumed, and zeros ahead within them
-pub record IsPaid (here rest : Bits) (found : List Bits) : Type 0 where
+pub record LineIsPaid (here rest : Bits) (found : List Bits) : Type 0 where
   pub some : 0 < length found
   pub words : length found + length rest ≤ length here
   pub zeros : looked here + length rest ≤ length here
@@ -72,7 +72,8 @@ pub either_shorter : (aligns : Bool) (rest : Bits) → length (cond aligns (alig
 either_shorter true rest = omega (arith, length-drop (length rest % 8) rest)
 either_shorter false rest = omega arith
 
-paid_by : (here rest : Bits) (found : List Bits) → Stands here found rest → length rest < length here → IsPaid here rest found
+paid_by : (here rest : Bits) (found : List Bits) → WordsStand here found rest → length rest < length here
+    → LineIsPaid here rest found
 paid_by here rest [] stands lt = absurd (omega (arith, lt, ap length stands.place))
 paid_by here rest (word ∷ found) stands lt =
     record {
@@ -81,22 +82,22 @@ paid_by here rest (word ∷ found) stands lt =
       zeros = stands_looked here word found rest stands;
     }
 
-whole_paid : (here : Bits) (line : Line) (found : List Bits) (end : Bits) (row : Row) (rest : Bits) → Stands here found end
-    → LineEnds line end → TookBits (length here) line → line ≡ Line.whole row rest → IsPaid here rest found
+whole_paid : (here : Bits) (line : Line) (found : List Bits) (end : Bits) (row : Row) (rest : Bits) → WordsStand here found end
+    → LineEnds line end → TookBits (length here) line → line ≡ Line.whole row rest → LineIsPaid here rest found
 whole_paid here line found end row rest stands ends took e =
     let same : rest ≡ end = subst (λ (l : Line). LineEnds l end) e ends in
     let lt : length rest < length here = subst (λ (l : Line). TookBits (length here) l) e took in
-    paid_by here rest found (subst (λ (x : Bits). Stands here found x) (sym same) stands) lt
+    paid_by here rest found (subst (λ (x : Bits). WordsStand here found x) (sym same) stands) lt
 
 pub line_1d_paid : (strict : Bool) (columns : ℕ) (here : Bits) (row : Row) (rest : Bits) → 0 < columns
-    → line_1d strict columns here ≡ Line.whole row rest → IsPaid here rest (found_1d strict columns here)
+    → line_1d strict columns here ≡ Line.whole row rest → LineIsPaid here rest (found_1d strict columns here)
 line_1d_paid strict columns here row rest wide e =
     let stands = line_1d_stands strict columns here in
     whole_paid here (line_1d strict columns here) (found_1d strict columns here) stands.0 row rest stands.1 stands.2
     (line_1d_took_bits strict columns here wide) e
 
 pub line_2d_paid : (strict : Bool) (columns : ℕ) (reference : Row) (here : Bits) (row : Row) (rest : Bits) → 0 < columns
-    → line_2d strict columns reference here ≡ Line.whole row rest → IsPaid here rest (found_2d strict columns reference here)
+    → line_2d strict columns reference here ≡ Line.whole row rest → LineIsPaid here rest (found_2d strict columns reference here)
 line_2d_paid strict columns reference here row rest wide e =
     let stands = line_2d_stands strict columns reference here in
     whole_paid here (line_2d strict columns reference here) (found_2d strict columns reference here) stands.0 row rest stands.1

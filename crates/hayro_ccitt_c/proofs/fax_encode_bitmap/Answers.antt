@@ -2,13 +2,13 @@ use Rattle.std.proofs.Common.{◌≡◌, ◌/◌, ℕ, length, sym, ap, ◌∙�
 use Rattle.fax_encode.specs.Packed.{bytes_of_row}
 use Rattle.fax_encode.proofs.ScannedRows.{length-shown}
 use Rattle.hayro_ccitt_c.specs.Encoding.{asked}
-use Rattle.hayro_ccitt_c.proofs.Encoded.{no_room}
+use Rattle.hayro_ccitt_c.proofs.Encoded.{bits_have_no_room}
 use Rattle.hayro_ccitt_c.proofs.fax_encode_bitmap.Goals as goal
 
 pub returns-then-length-data-clause-refused : goal.returns-then-length-data-clause-refused
 returns-then-length-data-clause-refused c = λ five.
     let long : c.len-length.result ≡ length c.in-Ok.bytes.items = search rules in
-    no_room
+    bits_have_no_room
     (asked c.args.settings.now c.args.bitmap.now) _ _ c.in-Ok.bytes.items _ _ c.in-Ok.ensures.encoded long c.if-length-data.true
 
 pub returns-then-length-data-clause-rows : goal.returns-then-length-data-clause-rows

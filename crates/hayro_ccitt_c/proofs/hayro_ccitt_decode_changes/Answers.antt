@@ -45,14 +45,14 @@ module _ (c : goal.After-told) where
       c.new-rows.ensures.end ∙ c.new-rows.ensures.numbers) c.new-rows.ensures.changes refl refl c.decoded-report.ensures.meaning
 
 -- a statement about what was decoded, and about the memory afterwards, is one about what C gets
-on : (c : goal.After-told) (P : DecodeSettings → Bits → List ℕ → Type 0) (memory : List ℕ)
+on_changes : (c : goal.After-told) (P : DecodeSettings → Bits → List ℕ → Type 0) (memory : List ℕ)
     → P c.in-Some.meant (bits_in c.order_of.result c.args.«data».now) memory → BitsFit c.args.«data».now
     → IfSome (settings_of c.args.settings.now) (λ s. P s (bits_in (order_of c.args.settings.now) c.args.«data».now) memory)
-on c P memory = on_settings c.args.settings.now c.in-Some.meant c.args.«data».now c.order_of.result (λ s bits. P s bits memory)
-    (meant c) c.order_of.ensures
+on_changes c P memory = on_settings c.args.settings.now c.in-Some.meant c.args.«data».now c.order_of.result
+    (λ s bits. P s bits memory) (meant c) c.order_of.ensures
 
 pub returns-clause-changes : goal.returns-clause-changes
-returns-clause-changes c = rw c.told.ensures.outcome (λ fit. on c (λ s bits memory.
+returns-clause-changes c = rw c.told.ensures.outcome (λ fit. on_changes c (λ s bits memory.
     c.changes.result ≡ changes_taken s bits c.decoded-report.result.rows) [] (c.changes.ensures ∙ (holds c).changes) fit)
 
 pub returns-clause-listed : goal.returns-clause-listed
@@ -60,7 +60,8 @@ returns-clause-listed c =
     let are = (holds c).listed in
     let name = sym c.new-rows.ensures.same_reference ∙ (holds c).name in
     rw c.told.ensures.outcome
-    (λ fit. on c (λ s bits memory. AreListed s bits c.decoded-report.result.rows c.args.lists.now memory) _ (search rules) fit)
+    (λ fit. on_changes c (λ s bits memory. AreListed s bits c.decoded-report.result.rows c.args.lists.now memory) _ (search rules)
+    fit)
 
 pub returns-clause-refused : goal.returns-clause-refused
 returns-clause-refused c = λ full.
@@ -69,5 +70,6 @@ returns-clause-refused c = λ full.
     (get_or (plain c.in-Some.meant (bits_in c.order_of.result c.args.«data».now)).rows c.decoded-report.result.rows [])) =
     omega (arith, c.decoded-report.ensures.refused_row (sym c.told.ensures.status ∙ full), (holds c).end) in
     let name = sym c.new-rows.ensures.same_reference ∙ (holds c).name in
-    rw c.told.ensures.outcome (λ fit. on c (λ s bits memory. length memory < numbers_taken s bits c.decoded-report.result.rows + 1
-    + length (changes (get_or (plain s bits).rows c.decoded-report.result.rows []))) _ (search rules) fit)
+    rw c.told.ensures.outcome (λ fit. on_changes c (λ s bits memory. length memory < numbers_taken s bits
+    c.decoded-report.result.rows + 1 + length (changes (get_or (plain s bits).rows c.decoded-report.result.rows []))) _
+    (search rules) fit)

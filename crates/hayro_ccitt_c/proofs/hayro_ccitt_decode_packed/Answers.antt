@@ -59,14 +59,14 @@ module _ (c : goal.After-told) where
       c.new-rows.ensures.changes refl refl c.decoded-report.new.sink.within enough c.decoded-report.ensures.meaning
 
 -- a statement about what was decoded, and about the memory afterwards, is one about what C gets
-on : (c : goal.After-told) (P : DecodeSettings → Bits → List ℕ → Type 0) (memory : List ℕ)
+on_packed : (c : goal.After-told) (P : DecodeSettings → Bits → List ℕ → Type 0) (memory : List ℕ)
     → P c.in-Some.meant (bits_in c.order_of.result c.args.«data».now) memory → BitsFit c.args.«data».now
     → IfSome (settings_of c.args.settings.now) (λ s. P s (bits_in (order_of c.args.settings.now) c.args.«data».now) memory)
-on c P memory = on_settings c.args.settings.now c.in-Some.meant c.args.«data».now c.order_of.result (λ s bits. P s bits memory)
-    (meant c) c.order_of.ensures
+on_packed c P memory = on_settings c.args.settings.now c.in-Some.meant c.args.«data».now c.order_of.result
+    (λ s bits. P s bits memory) (meant c) c.order_of.ensures
 
 pub returns-clause-changes : goal.returns-clause-changes
-returns-clause-changes c = rw c.told.ensures.outcome (λ fit. on c (λ s bits memory.
+returns-clause-changes c = rw c.told.ensures.outcome (λ fit. on_packed c (λ s bits memory.
     c.changes.result ≡ changes_taken s bits c.decoded-report.result.rows) [] (c.changes.ensures ∙ (lent c).changes) fit)
 
 pub returns-clause-packed : goal.returns-clause-packed
@@ -74,7 +74,8 @@ returns-clause-packed c =
     let are = (lent c).packed in
     let name = sym c.new-rows.ensures.same_reference ∙ same c in
     rw c.told.ensures.outcome
-    (λ fit. on c (λ s bits memory. ArePacked s bits c.decoded-report.result.rows c.args.bitmap.now memory) _ (search rules) fit)
+    (λ fit. on_packed c (λ s bits memory. ArePacked s bits c.decoded-report.result.rows c.args.bitmap.now memory) _ (search rules)
+    fit)
 
 pub returns-clause-refused : goal.returns-clause-refused
 returns-clause-refused c = λ full.
@@ -84,5 +85,5 @@ returns-clause-refused c = λ full.
     no_room c.in-Some.meant c.decoded-report.result.rows c.decoded-report.new.sink.end c.decoded-report.new.sink.columns _
     (lent c).end wide (c.decoded-report.new.sink.full (c.decoded-report.ensures.flag (sym c.told.ensures.status ∙ full))) in
     let name = sym c.new-rows.ensures.same_reference ∙ same c in
-    rw c.told.ensures.outcome (λ fit. on c
+    rw c.told.ensures.outcome (λ fit. on_packed c
     (λ s bits memory. length memory < (c.decoded-report.result.rows + 1) * bytes_of_row s.columns) _ (search rules) fit)

@@ -1,12 +1,12 @@
 use Rattle.std.proofs.Common.{◌≡◌, refl, ◌∙◌, arith}
 use Rattle.std.proofs.lemmas.Result.{err_from_is_err_and}
-use Rattle.fax_callers.proofs.PagesCut.{one_more, same_pages}
+use Rattle.fax_callers.proofs.PagesCut.{one_page_more, same_pages}
 use Rattle.fax_callers.proofs.pages.page_ends.Goals as goal
 use Rattle.fax_callers.proofs.pages.page_ends.Goals.{else-loop-begin-test, then-loop-begin-test+in_ok-count+then-count-eq0}
 
 pub loop-begin-preserved : goal.loop-begin-preserved
 loop-begin-preserved c =
-    let cut = one_more c.args.columns c.args.order c.args.«data».now 0 c.loop-begin.ends.items c.loop-begin.begin
+    let cut = one_page_more c.args.columns c.args.order c.args.«data».now 0 c.loop-begin.ends.items c.loop-begin.begin
     c.in_ok-count.count c.loop-begin.invariant.0 (omega (arith, c.if-count-eq0.false)) c.in_ok-count.ensures.within
     (c.in_ok-count.ensures.page c.args.columns c.loop-begin.invariant.2) in
     (rw (c.in_ok-push.ensures.items) cut, c.in_ok-count.ensures.within, c.skip_page.ensures.settings ∙ c.loop-begin.invariant.2)

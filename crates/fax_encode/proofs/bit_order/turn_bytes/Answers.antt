@@ -5,12 +5,12 @@ use Rattle.fax_encode.proofs.bit_order.turn_bytes.Goals as goal
 pub loop-index-preserved : goal.loop-index-preserved
 loop-index-preserved c =
     let i : ℕ = c.loop-index.index in
-    let byte : ℕ = c.turned.result in
+    let byte : ℕ = c.byte_turned.result in
     record {
       same_length = length-set c.loop-index.bytes i byte ∙ c.loop-index.invariant.same_length;
-      turned = turned_more c.loop-index.bytes c.args.bytes.now i byte c.loop-index-test.true c.turned.ensures
+      turned = turned_more c.loop-index.bytes c.args.bytes.now i byte c.loop-index-test.true c.byte_turned.ensures
           c.loop-index.invariant.kept c.loop-index.invariant.turned;
-      kept = kept_more c.loop-index.bytes c.args.bytes.now i byte c.loop-index-test.true c.turned.ensures
+      kept = kept_more c.loop-index.bytes c.args.bytes.now i byte c.loop-index-test.true c.byte_turned.ensures
           c.loop-index.invariant.kept;
     }
 

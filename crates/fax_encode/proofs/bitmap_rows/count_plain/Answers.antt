@@ -31,10 +31,10 @@ fours-preserved c =
 pub ones-preserved : goal.ones-preserved
 ones-preserved c =
     let count : ℕ = c.ones.count in
-    let same : c.whole_word.result ≡ c.plain_word-plain.result = c.if-whole_word-plain.true in
+    let same : c.first_pixels.result ≡ c.plain_word-plain.result = c.if-first_pixels-plain.true in
     record {
       within = omega (arith, c.ones-test.true);
-      same = plain_more count c.whole_word.result c.args.is_black c.args.bytes.now _
-          (omega (arith, c.requires, c.ones-test.true)) (take_rest c.args.bytes.now (8 * count)) c.whole_word.ensures
+      same = plain_more count c.first_pixels.result c.args.is_black c.args.bytes.now _
+          (omega (arith, c.requires, c.ones-test.true)) (take_rest c.args.bytes.now (8 * count)) c.first_pixels.ensures
           (ap (low_bits 64) same ∙ c.plain_word-plain.ensures) c.ones.invariant.same;
     }

@@ -1,11 +1,7 @@
 use Rattle.fax_encode.proofs.Names.{◌≡◌, ◌+◌, ◌-◌, ◌*◌, ◌%◌, ◌^◌, ◌<◌, ◌++◌, ◌∷◌, [], List, ℕ, take, refl, sym, ap, ◌∙◌, arith}
-use Rattle.fax_encode.proofs.Names.{append_assoc, count_leading_zeros, append-nil, low_bits, ones_from}
-use Rattle.fax_encode.proofs.ScannedWords.{one_taken, one_less, one_turned, no_ones, ones-none}
+use Rattle.fax_encode.proofs.Names.{append_assoc, count_leading_zeros, low_bits, ones_from}
+use Rattle.fax_encode.proofs.ScannedWords.{one_taken, one_less, one_turned, no_ones, ones-none, all_found}
 use Rattle.fax_encode.proofs.bitmap_rows.push_ones.Goals as goal
-
--- nothing is left to add
-abbrev all_found : (found rest whole : List ℕ) → found ++ rest ≡ whole → rest ≡ [] → found ≡ whole
-all_found found rest whole e none = sym (append-nil found) ∙ ap (λ (l : List ℕ). found ++ l) (sym none) ∙ e
 
 pub returns-then-ahead-count : goal.returns-then-ahead-count
 returns-then-ahead-count c =

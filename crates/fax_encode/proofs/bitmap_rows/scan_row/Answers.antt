@@ -46,10 +46,10 @@ loop-start-preserved c =
     let more : n - 64 ≡ c.args.columns - (start + 64) = omega arith in
     let behind : take (length rest - 8) (drop 8 rest) ≡ drop 8 rest = take_rest rest 8 in
     let some : 64 ≤ n = c.loop-start-test.true in
-    let scanned = word_scanned start n c.loop-start.before c.whole_word-word.result c.turns-ones.result rest some
-    c.loop-start.invariant.room c.whole_word-word.ensures c.turns-ones.ensures in
+    let scanned = word_scanned start n c.loop-start.before c.first_pixels-word.result c.turns-ones.result rest some
+    c.loop-start.invariant.room c.first_pixels-word.ensures c.turns-ones.ensures in
     let after : List ℕ → List ℕ = λ (l : List ℕ).
-    changes_from (start + 64) (bit_of c.whole_word-word.result 0) (take (c.args.columns - (start + 64)) (bits_of l)) in
+    changes_from (start + 64) (bit_of c.first_pixels-word.result 0) (take (c.args.columns - (start + 64)) (bits_of l)) in
     let found : List ℕ = ones_from start (take 64 (low_bits 64 c.turns-ones.result)) in
     record {
       within = omega arith;
@@ -57,8 +57,8 @@ loop-start-preserved c =
       left = ap (λ (l : List ℕ). c.push_ones.new.list.items ++ after l) behind
           ∙ ap (λ (l : List ℕ). l ++ after (drop 8 rest)) c.in_ok-push_ones.ensures
           ∙ append_assoc c.loop-start.list.items found (after (drop 8 rest)) ∙ ap (λ (m : ℕ). c.loop-start.list.items
-          ++ (found ++ changes_from (start + 64) (bit_of c.whole_word-word.result 0) (take m (bits_of (drop 8 rest))))) (sym more)
-          ∙ ap (λ (l : List ℕ). c.loop-start.list.items ++ l) (sym scanned) ∙ c.loop-start.invariant.left;
+          ++ (found ++ changes_from (start + 64) (bit_of c.first_pixels-word.result 0) (take m (bits_of (drop 8 rest)))))
+          (sym more) ∙ ap (λ (l : List ℕ). c.loop-start.list.items ++ l) (sym scanned) ∙ c.loop-start.invariant.left;
     }
 
 -- all changes are found

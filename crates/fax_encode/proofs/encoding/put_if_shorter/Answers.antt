@@ -19,18 +19,18 @@ pub returns-clause-shorter : goal.returns-clause-shorter
 returns-clause-shorter c = sym c.if-takes_at_least.false ∙ answered (goal.at.returns-clause-shorter c).After-takes_at_least
 
 -- the tag and the line
-behind : (c : After-takes_at_least) → all_bits c.put_line.new.writer ≡ all_bits c.args.writer.now
+tag_and_line : (c : After-takes_at_least) → all_bits c.put_line.new.writer ≡ all_bits c.args.writer.now
     ++ (false ∷ chosen_line_2d (pixels c.args.columns c.args.reference.now) (pixels c.args.columns c.args.changes.now))
-behind c =
+tag_and_line c =
     let line : Bits = chosen_line_2d (pixels c.args.columns c.args.reference.now) (pixels c.args.columns c.args.changes.now) in
     c.in_ok-put_line.ensures ∙ ap (λ (b : Bits). b ++ line) c.in_ok-put.ensures
     ∙ append_assoc (all_bits c.args.writer.now) (false ∷ []) line
 
 pub cut_back-requires : goal.cut_back-requires
 cut_back-requires c = marked_within c.args.writer.now c.mark-mark.result (all_bits c.put_line.new.writer) _ c.mark-mark.ensures
-    (behind (goal.at.cut_back-requires c).After-takes_at_least)
+    (tag_and_line (goal.at.cut_back-requires c).After-takes_at_least)
 
 pub returns-clause-written : goal.returns-clause-written
 returns-clause-written c = cut_to_mark c.args.writer.now c.mark-mark.result (all_bits c.put_line.new.writer) _ c.mark-mark.ensures
-    (behind (goal.at.returns-clause-written c).After-takes_at_least) (all_bits c.cut_back.new.self) c.cut_back.ensures
+    (tag_and_line (goal.at.returns-clause-written c).After-takes_at_least) (all_bits c.cut_back.new.self) c.cut_back.ensures
     ∙ sym (append-nil (all_bits c.args.writer.now))

@@ -9,7 +9,7 @@ returns-clause-written c =
     let row : Row = pixels c.args.columns c.args.changes.now in
     let line : Bits = chosen_line c.args.settings.encoding c.args.left reference row in
     let none : has_eols c.args.settings.encoding c.args.settings.end_of_line ≡ false =
-    sym c.has_eols.ensures ∙ c.if-has_eols.false in
+    sym c.eols_precede_lines.ensures ∙ c.if-eols_precede_lines.false in
     padded_line c.args.settings.rows_are_byte_aligned old (all_bits c.put_line_of-2.new.writer)
     (all_bits c.put_padding.new.writer) line (c.requires.whole none) c.in_ok-after.ensures.written c.in_ok-put_padding.ensures
     ∙ ap (λ (b : Bits). old ++ b) (sym (part_without_eol c.args.settings (length old) c.args.left reference row none))

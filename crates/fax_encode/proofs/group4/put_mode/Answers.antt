@@ -1,10 +1,10 @@
 use Rattle.fax_encode.proofs.Names.{◌≡◌, ◌+◌, ◌-◌, ◌<◌, ◌≤◌, ◌++◌, ℕ, suc, Bool, true, false, cond, [], length, get_or, refl, sym}
 use Rattle.fax_encode.proofs.Names.{ap, subst, ◌∙◌, arith, Color, Horizontal, Bits, Row, pixels, opposite, a1, a2, b1, b2}
 use Rattle.fax_encode.proofs.Names.{length-pixels, Place, chosen_run, word_of_mode, vertical_mode, append-nil, IsNear}
-use Rattle.fax_encode.proofs.Names.{color_after, place_of, a1_next, all_bits}
+use Rattle.fax_encode.proofs.Names.{color_after, place_of, a1_next, a2_least, all_bits}
 use Rattle.fax_encode.proofs.Elements.{a1_found, a2_found, next_is_right, left_of_next, still_left}
 use Rattle.fax_encode.proofs.ModesWritten.{pass_bits, vertical_bits, horizontal_bits, pass_place, vertical_place}
-use Rattle.fax_encode.proofs.ModesWritten.{horizontal_place, first_run, second_run, near_same, step_right}
+use Rattle.fax_encode.proofs.ModesWritten.{horizontal_place, first_run, near_same, step_right}
 use Rattle.fax_encode.proofs.StepsToB1.{color_next, color_second, near_next, near_pass, near_right}
 use Rattle.fax_encode.proofs.group4.put_mode.Goals.{After-find_above-above}
 use Rattle.fax_encode.proofs.group4.put_mode.Goals as goal
@@ -32,7 +32,7 @@ returns-in-Some-clause-written c =
     let row : Row = pixels c.args.columns c.args.changes.now in
     let left : b2 reference c.args.at.from (color_after c.args.at.next) < a1 row c.args.at.from =
     omega (arith, c.in-Some.ensures.0, c.in-Some.ensures.1, c.find_above-above.ensures.b2, a1_is d) in
-    c.in_ok-put_word.ensures ∙ ap (λ (b : Bits). all_bits c.args.writer.now ++ b)
+    c.in_ok-put_code_word.ensures ∙ ap (λ (b : Bits). all_bits c.args.writer.now ++ b)
     (c.pass_word.ensures.spells ∙ sym (pass_bits reference row (place_of c.args.at) (inside d) left))
 
 pub returns-in-Some-clause-place : goal.returns-in-Some-clause-place
@@ -187,7 +187,7 @@ overflow_sub-a2 c =
       a1_is d,
       a2_is d,
       c.change_or_end-a2.ensures,
-      second_run (pixels c.args.columns c.args.changes.now) c.args.at.from,
+      a2_least (pixels c.args.columns c.args.changes.now) c.args.at.from,
     )
 
 pub returns-then-is_vertical-clause-near : goal.returns-then-is_vertical-clause-near
@@ -257,7 +257,7 @@ returns-clause-near c =
       c.change_or_end-a2.ensures,
       a1_is d,
       a2_is d,
-      second_run (pixels c.args.columns c.args.changes.now) c.args.at.from,
+      a2_least (pixels c.args.columns c.args.changes.now) c.args.at.from,
     ) in
     subst (λ (k : Color).
     IsNear c.args.columns c.args.reference.now (record { from = c.from-2.result + 1; color = k }) c.find_above-above.result.index)

@@ -3,10 +3,10 @@ use Rattle.fax_encode.proofs.RunsWritten.{run_more, run_rest, one_part}
 use Rattle.fax_encode.proofs.runs.put_long_run.Goals as goal
 
 pub loop-left-preserved : goal.loop-left-preserved
-loop-left-preserved c = one_part (all_bits c.put_word.new.writer) (all_bits c.loop-left.writer)
+loop-left-preserved c = one_part (all_bits c.put_code_word.new.writer) (all_bits c.loop-left.writer)
     (chosen_run c.args.color c.loop-left.left) (word_of_length c.args.color 2560) (chosen_run c.args.color
     (c.loop-left.left - 2560)) _ c.loop-left.invariant (run_more c.args.color c.loop-left.left c.loop-left-test.true)
-    (c.in_ok-put_word.ensures ∙ ap (λ (b : Bits). all_bits c.loop-left.writer ++ b) c.makeup_word.ensures.spells)
+    (c.in_ok-put_code_word.ensures ∙ ap (λ (b : Bits). all_bits c.loop-left.writer ++ b) c.makeup_word.ensures.spells)
 
 pub returns : goal.returns
 returns c =

@@ -4,11 +4,12 @@ use Rattle.faxpack.specs.Arguments.{picture_words}
 use Rattle.faxpack.proofs.arguments.picture_words.Goals as goal
 
 -- fewer than two arguments are invalid
-too_few : (words : List (List ℕ)) → length words < 2 → None ≡ picture_words words
-too_few [] few = refl
-too_few (a ∷ []) few = refl
-too_few (a ∷ b ∷ more) few = absurd (omega (arith, few))
+too_few_for_picture : (words : List (List ℕ)) → length words < 2 → None ≡ picture_words words
+too_few_for_picture [] few = refl
+too_few_for_picture (a ∷ []) few = refl
+too_few_for_picture (a ∷ b ∷ more) few = absurd (omega (arith, few))
 
 pub returns-in_default : goal.returns-in_default
 returns-in_default c =
-    too_few (map string_bytes c.args.words.now) (omega (arith, length-map c.args.words.now string_bytes, c.in_default.len_below))
+    too_few_for_picture (map string_bytes c.args.words.now) (omega
+    (arith, length-map c.args.words.now string_bytes, c.in_default.len_below))

@@ -4,13 +4,14 @@ use Rattle.faxpack.specs.Arguments.{rows_words}
 use Rattle.faxpack.proofs.arguments.rows_words.Goals as goal
 
 -- fewer than four arguments are invalid
-too_few : (words : List (List ℕ)) → length words < 4 → None ≡ rows_words words
-too_few [] few = refl
-too_few (a ∷ []) few = refl
-too_few (a ∷ b ∷ []) few = refl
-too_few (a ∷ b ∷ c ∷ []) few = refl
-too_few (a ∷ b ∷ c ∷ d ∷ more) few = absurd (omega (arith, few))
+too_few_for_rows : (words : List (List ℕ)) → length words < 4 → None ≡ rows_words words
+too_few_for_rows [] few = refl
+too_few_for_rows (a ∷ []) few = refl
+too_few_for_rows (a ∷ b ∷ []) few = refl
+too_few_for_rows (a ∷ b ∷ c ∷ []) few = refl
+too_few_for_rows (a ∷ b ∷ c ∷ d ∷ more) few = absurd (omega (arith, few))
 
 pub returns-in_default : goal.returns-in_default
 returns-in_default c =
-    too_few (map string_bytes c.args.words.now) (omega (arith, length-map c.args.words.now string_bytes, c.in_default.len_below))
+    too_few_for_rows (map string_bytes c.args.words.now) (omega
+    (arith, length-map c.args.words.now string_bytes, c.in_default.len_below))

@@ -14,11 +14,11 @@ next_row g c =
     (c.in-Ok-true.is ∙ ap Ok c.in-Ok-true.field-0-test) c.next_row.ensures.reads)
 
 -- its line is that of its changes
-lines : (g : Over) (c : After-put_row g)
+line_of_changes : (g : Over) (c : After-put_row g)
     → lines_of_rows (take c.loop-rows.rows.taken (rows_of c.args.rows.now.settings c.args.rows.now.bits))
     ++ line_of_row c.row.result.now
     ≡ lines_of_rows (take c.next_row.new.self.taken (rows_of c.args.rows.now.settings c.args.rows.now.bits))
-lines g c =
+line_of_changes g c =
     ap (λ (l : List ℕ). lines_of_rows (take c.loop-rows.rows.taken
     (rows_of c.args.rows.now.settings c.args.rows.now.bits)) ++ line_of_row l) c.row.ensures ∙ (next_row g c).lines
 
@@ -32,7 +32,7 @@ loop-rows-preserved g c =
       within = row.within;
       lines =
           subst (λ l. PassesOn (g.W.Write.contents c.args.writer.now.0)
-          (g.W.Write.contents c.put_row.new.writer.0) [] l c.put_row.new.waiting.items) (lines g at)
+          (g.W.Write.contents c.put_row.new.writer.0) [] l c.put_row.new.waiting.items) (line_of_changes g at)
           (passes_both _ _ _ [] _ c.loop-rows.waiting.items _ c.put_row.new.waiting.items c.loop-rows.invariant.lines
           c.in_ok-put_row-in-Ok-true.ensures.ok);
       flag = search rules;
@@ -45,8 +45,9 @@ returns-in_err-put_row-in-Ok-true-clause-front g c =
     let taken = c.next_row.new.self.taken in
     let so_far : AppendsFront (g.W.Write.contents c.args.writer.now.0)
     (g.W.Write.contents c.put_row.new.writer.0) (lines_of_rows (take taken rows)) =
-    subst (AppendsFront (g.W.Write.contents c.args.writer.now.0) (g.W.Write.contents c.put_row.new.writer.0)) (lines g at)
-    (front_behind _ _ _ [] _ c.loop-rows.waiting.items _ c.loop-rows.invariant.lines c.in_err-put_row-in-Ok-true.ensures.front) in
+    subst (AppendsFront (g.W.Write.contents c.args.writer.now.0) (g.W.Write.contents c.put_row.new.writer.0))
+    (line_of_changes g at) (front_behind _ _ _ [] _ c.loop-rows.waiting.items _ c.loop-rows.invariant.lines
+    c.in_err-put_row-in-Ok-true.ensures.front) in
     let front : AppendsFront (g.W.Write.contents c.args.writer.now.0)
     (g.W.Write.contents c.put_row.new.writer.0) (lines_of_rows rows) =
     subst (AppendsFront (g.W.Write.contents c.args.writer.now.0) (g.W.Write.contents c.put_row.new.writer.0))

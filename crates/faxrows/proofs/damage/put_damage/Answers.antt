@@ -38,18 +38,18 @@ reads g c =
     (c.in-Ok-true.is ∙ ap Ok c.in-Ok-true.field-0-test) c.next_row-answer.ensures.reads
 
 -- it is the next one
-next_row : (g : Over) (c : After-put_last_row g)
+next_row_came : (g : Over) (c : After-put_last_row g)
     → Came c.args.rows.now.settings c.args.rows.now.bits c.loop-rows.rows.taken c.next_row-answer.new.self
-next_row g c =
+next_row_came g c =
     came c.args.rows.now.settings c.args.rows.now.bits c.loop-rows.rows c.next_row-answer.new.self c.loop-rows.invariant.settings
     c.loop-rows.invariant.bits (reads g c)
 
 -- its line is that of its damage
-lines : (g : Over) (c : After-put_last_row g) → damage_lines c.args.rows.now.settings c.args.rows.now.bits c.loop-rows.rows.taken
-    ++ line_of_damage (c.next_row-answer.new.self.taken - 1) c.next_row-answer.new.self.line_start
+line_of_damage_put : (g : Over) (c : After-put_last_row g) → damage_lines c.args.rows.now.settings c.args.rows.now.bits
+    c.loop-rows.rows.taken ++ line_of_damage (c.next_row-answer.new.self.taken - 1) c.next_row-answer.new.self.line_start
     c.next_row-answer.new.self.damage
     ≡ damage_so_far c.args.rows.now.settings c.args.rows.now.bits c.next_row-answer.new.self.taken
-lines g c =
+line_of_damage_put g c =
     damage_more c.args.rows.now.settings c.args.rows.now.bits c.loop-rows.rows c.next_row-answer.new.self
     c.loop-rows.invariant.settings c.loop-rows.invariant.bits (reads g c)
 
@@ -57,14 +57,14 @@ pub loop-rows-preserved : goal.loop-rows-preserved
 loop-rows-preserved g c =
     let at = (goal.at.loop-rows-preserved g c).After-put_last_row in
     let before = (goal.at.loop-rows-preserved g c).After-put_missed in
-    let row = next_row g at in
+    let row = next_row_came g at in
     record {
       settings = row.settings_are;
       bits = row.bits_are;
       within = row.within;
       lines =
           subst (λ l. PassesOn (g.W.Write.contents c.args.writer.now.0) (g.W.Write.contents c.put_last_row.new.writer.0) [] l
-          c.put_last_row.new.waiting.items) (lines g at)
+          c.put_last_row.new.waiting.items) (line_of_damage_put g at)
           (passes_both _ _ _ [] _ c.put_missed.new.waiting.items _ c.put_last_row.new.waiting.items
           (rows_came g before c.in_ok-put_missed.ensures.ok)
           c.in_ok-put_last_row-in-Ok-true.ensures.ok);
@@ -125,9 +125,8 @@ returns-in_err-put_last_row-in-Ok-true-clause-front g c =
     let so_far : AppendsFront (g.W.Write.contents c.args.writer.now.0) (g.W.Write.contents c.put_last_row.new.writer.0)
     (damage_so_far settings bits taken)
     = subst (AppendsFront (g.W.Write.contents c.args.writer.now.0) (g.W.Write.contents c.put_last_row.new.writer.0))
-    (lines g at)
-    (front_behind _ _ _ [] _ c.put_missed.new.waiting.items _ (rows_came g before c.in_ok-put_missed.ensures.ok)
-    c.in_err-put_last_row-in-Ok-true.ensures.front) in
+    (line_of_damage_put g at) (front_behind _ _ _ [] _ c.put_missed.new.waiting.items _
+    (rows_came g before c.in_ok-put_missed.ensures.ok) c.in_err-put_last_row-in-Ok-true.ensures.front) in
     let front : AppendsFront (g.W.Write.contents c.args.writer.now.0) (g.W.Write.contents c.put_last_row.new.writer.0)
-    (damage_lines settings bits all) = front_so_far _ _ settings bits taken all (next_row g at).within so_far in
+    (damage_lines settings bits all) = front_so_far _ _ settings bits taken all (next_row_came g at).within so_far in
     search rules

@@ -19,9 +19,9 @@ room_left number rest start end old new small before within same e =
     omega (arith, lengths, length-decimal-le 20 number (omega arith) (omega arith) small)
 
 -- a digit written before the others
-one_more : (front : List ℕ) (digit start : ℕ) (bytes : List ℕ) → start < length bytes
+digit_before : (front : List ℕ) (digit start : ℕ) (bytes : List ℕ) → start < length bytes
     → (front ++ digit ∷ []) ++ drop (start + 1) bytes ≡ front ++ drop start (set bytes start digit)
-one_more front digit start bytes within =
+digit_before front digit start bytes within =
     append_assoc front (digit ∷ []) (drop (start + 1) bytes) ∙ ap (λ l. front ++ l) (sym (drop-set bytes start digit within))
 
 pub overflow_sub-start-in-loop-rest : goal.overflow_sub-start-in-loop-rest
@@ -41,14 +41,14 @@ loop-rest-preserved c =
       same_length = search rules;
       digits = rw next (c.loop-rest.invariant.digits ∙ ap (λ l. l ++ drop (c.loop-rest.start + 1) c.loop-rest.bytes)
           (decimal_step c.loop-rest.rest c.loop-rest-test.true c.loop-rest.auto.rest-fits.fits)
-          ∙ one_more _ _ c.loop-rest.start c.loop-rest.bytes (omega arith));
+          ∙ digit_before _ _ c.loop-rest.start c.loop-rest.bytes (omega arith));
     }
 
 pub returns-clause-digits : goal.returns-clause-digits
 returns-clause-digits c =
     sym (c.loop-rest.invariant.digits
     ∙ ap (λ l. l ++ drop (c.loop-rest.start + 1) c.loop-rest.bytes) (decimal_digit c.loop-rest.rest c.loop-rest-test.false)
-    ∙ one_more [] _ c.loop-rest.start c.loop-rest.bytes (omega arith))
+    ∙ digit_before [] _ c.loop-rest.start c.loop-rest.bytes (omega arith))
 
 pub returns-clause-most : goal.returns-clause-most
 returns-clause-most c =

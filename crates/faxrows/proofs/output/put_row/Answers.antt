@@ -13,8 +13,8 @@ one_more g c = ap (λ l. 114 ∷ l)
     (pieces_more text_of_change c.args.changes.now c.loop-change.change-index 0 c.loop-change-test.true)
 
 -- all changes came
-all_changes : (g : Over) (c : After-put-2 g) → take c.loop-change.change-index c.args.changes.now ≡ c.args.changes.now
-all_changes g c = take_all c.loop-change.change-index c.args.changes.now c.loop-change-test.false
+all_changes_put : (g : Over) (c : After-put-2 g) → take c.loop-change.change-index c.args.changes.now ≡ c.args.changes.now
+all_changes_put g c = take_all c.loop-change.change-index c.args.changes.now c.loop-change-test.false
 
 pub returns-in_err-put-clause-front : goal.returns-in_err-put-clause-front
 returns-in_err-put-clause-front g c =
@@ -52,7 +52,7 @@ pub returns-clause-ok : goal.returns-clause-ok
 returns-clause-ok g c =
     subst (λ (l : List ℕ). OnOk c.put-2.result (PassesOn (g.W.Write.contents c.args.writer.now.0)
     (g.W.Write.contents c.put-2.new.writer.0) c.args.waiting.now.items
-    (114 ∷ (flat_map text_of_change l ++ 10 ∷ [])) c.put-2.new.waiting.items)) (all_changes g c)
+    (114 ∷ (flat_map text_of_change l ++ 10 ∷ [])) c.put-2.new.waiting.items)) (all_changes_put g c)
     (on_ok_weaker c.put-2.result
     (passes_both _ _ _ c.args.waiting.now.items _ c.loop-change.waiting.items _ c.put-2.new.waiting.items
     c.loop-change.invariant.line) c.put-2.ensures.ok)
@@ -61,7 +61,7 @@ pub returns-clause-front : goal.returns-clause-front
 returns-clause-front g c =
     subst (λ (l : List ℕ). OnErr c.put-2.result (AppendsFront (g.W.Write.contents c.args.writer.now.0)
     (g.W.Write.contents c.put-2.new.writer.0)
-    (c.args.waiting.now.items ++ 114 ∷ (flat_map text_of_change l ++ 10 ∷ [])))) (all_changes g c)
+    (c.args.waiting.now.items ++ 114 ∷ (flat_map text_of_change l ++ 10 ∷ [])))) (all_changes_put g c)
     (on_err_weaker c.put-2.result
     (front_behind _ _ _ c.args.waiting.now.items _ c.loop-change.waiting.items _ c.loop-change.invariant.line)
     c.put-2.ensures.front)

@@ -47,46 +47,59 @@ returns-clause-memory c =
     rw lenient c.line_ends_before.ensures.memory
 
 -- what the first test counts
-behind : (c : After-is_behind_eol)
+behind_counted : (c : After-is_behind_eol)
     → c.is_behind_eol.new.ticks ≤ c.args.ctx.now.ticks + looked (drop (c.args.from - 12) (bits_of c.args.data.now))
-behind c = omega (arith, c.is_behind_eol.ensures.at_most, c.ticks.ensures.value)
+behind_counted c = omega (arith, c.is_behind_eol.ensures.at_most, c.ticks.ensures.value)
 
 -- and the second
-one : (c : After-holds_one)
+one_counted : (c : After-holds_one)
     → c.holds_one.new.ticks ≡ c.is_behind_eol.new.ticks + looked (drop c.args.from (bits_of c.args.data.now))
-one c = omega (arith, c.holds_one.ensures.work, c.ticks-2.ensures.value)
+one_counted c = omega (arith, c.holds_one.ensures.work, c.ticks-2.ensures.value)
 
 -- and the third
-end : (c : After-end_of_eol) → c.end_of_eol.new.ticks ≡ c.holds_one.new.ticks + looked (drop c.args.to (bits_of c.args.data.now))
-end c = omega (arith, c.end_of_eol.ensures.work, c.ticks-3.ensures.value)
+end_counted : (c : After-end_of_eol) → c.end_of_eol.new.ticks
+    ≡ c.holds_one.new.ticks + looked (drop c.args.to (bits_of c.args.data.now))
+end_counted c = omega (arith, c.end_of_eol.ensures.work, c.ticks-3.ensures.value)
 
 -- and the last
-eol : (c : After-holds_eol) → c.holds_eol.new.ticks ≤ c.end_of_eol.new.ticks + 2 * (c.args.to - c.args.from) + 2
+eol_counted : (c : After-holds_eol) → c.holds_eol.new.ticks ≤ c.end_of_eol.new.ticks + 2 * (c.args.to - c.args.from) + 2
     * looked (drop c.args.to (bits_of c.args.data.now))
-eol c = omega (arith, c.holds_eol.ensures.at_most, c.ticks-4.ensures.value)
+eol_counted c = omega (arith, c.holds_eol.ensures.at_most, c.ticks-4.ensures.value)
 
 pub returns-then-not-is_behind_eol-clause-at_most : goal.returns-then-not-is_behind_eol-clause-at_most
 returns-then-not-is_behind_eol-clause-at_most c =
     let at = goal.at.returns-then-not-is_behind_eol-clause-at_most c in
-    omega (arith, tests_looked (bits_of c.args.data.now) c.args.from c.args.to c.if-from-to.false, behind at.After-is_behind_eol)
+    omega (
+      arith,
+      tests_looked (bits_of c.args.data.now) c.args.from c.args.to c.if-from-to.false,
+      behind_counted
+          at.After-is_behind_eol,
+    )
 
 pub returns-then-not-holds_one-clause-at_most : goal.returns-then-not-holds_one-clause-at_most
 returns-then-not-holds_one-clause-at_most c =
     let at = goal.at.returns-then-not-holds_one-clause-at_most c in
     let looks = tests_looked (bits_of c.args.data.now) c.args.from c.args.to c.if-from-to.false in
-    omega (arith, looks, behind at.After-is_behind_eol, one at.After-holds_one)
+    omega (arith, looks, behind_counted at.After-is_behind_eol, one_counted at.After-holds_one)
 
 pub returns-in_default-clause-at_most : goal.returns-in_default-clause-at_most
 returns-in_default-clause-at_most c =
     let at = goal.at.returns-in_default-clause-at_most c in
     let looks = tests_looked (bits_of c.args.data.now) c.args.from c.args.to c.if-from-to.false in
-    omega (arith, looks, behind at.After-is_behind_eol, one at.After-holds_one, end at.After-end_of_eol)
+    omega (arith, looks, behind_counted at.After-is_behind_eol, one_counted at.After-holds_one, end_counted at.After-end_of_eol)
 
 pub returns-then-holds_eol-clause-at_most : goal.returns-then-holds_eol-clause-at_most
 returns-then-holds_eol-clause-at_most c =
     let at = goal.at.returns-then-holds_eol-clause-at_most c in
     let looks = tests_looked (bits_of c.args.data.now) c.args.from c.args.to c.if-from-to.false in
-    omega (arith, looks, behind at.After-is_behind_eol, one at.After-holds_one, end at.After-end_of_eol, eol at.After-holds_eol)
+    omega (
+      arith,
+      looks,
+      behind_counted at.After-is_behind_eol,
+      one_counted at.After-holds_one,
+      end_counted at.After-end_of_eol,
+      eol_counted at.After-holds_eol,
+    )
 
 pub returns-clause-at_most : goal.returns-clause-at_most
 returns-clause-at_most c =
@@ -95,9 +108,9 @@ returns-clause-at_most c =
     omega (
       arith,
       looks,
-      behind at.After-is_behind_eol,
-      one at.After-holds_one,
-      end at.After-end_of_eol,
-      eol at.After-holds_eol,
+      behind_counted at.After-is_behind_eol,
+      one_counted at.After-holds_one,
+      end_counted at.After-end_of_eol,
+      eol_counted at.After-holds_eol,
       c.line_ends_before.ensures.at_most,
     )

@@ -2,7 +2,7 @@ use Rattle.hayro_ccitt.proofs.Names.{◌≡◌, ◌+◌, ◌-◌, ◌*◌, ◌�
 use Rattle.hayro_ccitt.proofs.Names.{here, after_eol, next_eol, looked, common_steps}
 use Rattle.hayro_ccitt.proofs.{BitReading.BitLists.length-bits_of, locality.holds_eol.Goals.After-end_of_eol}
 use Rattle.hayro_ccitt.proofs.DamagedLines.BodyTests.{no_eol_in_front, eol_by_ends, eol_found_stands}
-use Rattle.hayro_ccitt.proofs.DamagedLines.BodyWork.{eol_stands, sought_work}
+use Rattle.hayro_ccitt.proofs.DamagedLines.BodyWork.{eol_behind_body, sought_work}
 use Rattle.hayro_ccitt.proofs.locality.holds_eol.Goals as goal
 
 pub returns-then-not-skip_to_eol-clause-eol : goal.returns-then-not-skip_to_eol-clause-eol
@@ -28,12 +28,13 @@ pub returns-in-None-clause-eol : goal.returns-in-None-clause-eol
 returns-in-None-clause-eol c = grind (arith, common_steps, eol_found_stands)
 
 pub returns-then-not-skip_to_eol-clause-at_most : goal.returns-then-not-skip_to_eol-clause-at_most
-returns-then-not-skip_to_eol-clause-at_most c = grind (arith, common_steps, eol_stands, length-bits_of)
+returns-then-not-skip_to_eol-clause-at_most c = grind (arith, common_steps, eol_behind_body, length-bits_of)
 
 -- what is counted while the next EOL is sought and read
-counted : (c : After-end_of_eol) → (c.args.ticks.now ≤ c.end_of_eol.new.ticks) × (c.end_of_eol.new.ticks ≤ c.args.ticks.now + 2
+sought_counted : (c : After-end_of_eol) → (c.args.ticks.now ≤ c.end_of_eol.new.ticks)
+    × (c.end_of_eol.new.ticks ≤ c.args.ticks.now + 2
     * (c.args.to - c.args.from) + 2 * looked (drop c.args.to (bits_of c.args.data.now)))
-counted c =
+sought_counted c =
     let bits = bits_of c.args.data.now in
     let start : here c.starting_at-reader.result ≡ drop c.args.from bits =
     ap (λ (at : BitsAt). here at) c.starting_at-reader.ensures in
@@ -48,13 +49,13 @@ counted c =
     (omega (arith, passed, ap length start, ap length found, ap looked found)) c.end_of_eol.ensures.work
 
 pub returns-in-Some-clause-counts : goal.returns-in-Some-clause-counts
-returns-in-Some-clause-counts c = (counted (goal.at.returns-in-Some-clause-counts c).After-end_of_eol).0
+returns-in-Some-clause-counts c = (sought_counted (goal.at.returns-in-Some-clause-counts c).After-end_of_eol).0
 
 pub returns-in-Some-clause-at_most : goal.returns-in-Some-clause-at_most
-returns-in-Some-clause-at_most c = (counted (goal.at.returns-in-Some-clause-at_most c).After-end_of_eol).1
+returns-in-Some-clause-at_most c = (sought_counted (goal.at.returns-in-Some-clause-at_most c).After-end_of_eol).1
 
 pub returns-in-None-clause-counts : goal.returns-in-None-clause-counts
-returns-in-None-clause-counts c = (counted (goal.at.returns-in-None-clause-counts c).After-end_of_eol).0
+returns-in-None-clause-counts c = (sought_counted (goal.at.returns-in-None-clause-counts c).After-end_of_eol).0
 
 pub returns-in-None-clause-at_most : goal.returns-in-None-clause-at_most
-returns-in-None-clause-at_most c = (counted (goal.at.returns-in-None-clause-at_most c).After-end_of_eol).1
+returns-in-None-clause-at_most c = (sought_counted (goal.at.returns-in-None-clause-at_most c).After-end_of_eol).1

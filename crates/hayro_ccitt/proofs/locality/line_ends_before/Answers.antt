@@ -49,9 +49,9 @@ returns-in-Err-2-clause-before c =
     )
 
 -- what is counted while the line is read
-counted : (c : After-decode_1d_line) → c.decode_1d_line.new.ctx.ticks ≤ c.args.ctx.now.ticks + length (found_1d
+counted_by_line : (c : After-decode_1d_line) → c.decode_1d_line.new.ctx.ticks ≤ c.args.ctx.now.ticks + length (found_1d
     c.args.ctx.now.held.settings.strict c.args.ctx.now.held.settings.columns (drop c.args.from (bits_of c.args.data.now))) + 1
-counted c =
+counted_by_line c =
     let settings = c.args.ctx.now.held.settings in
     let rest = drop c.args.from (bits_of c.args.data.now) in
     let words = ap (λ (ctx : Context). words_from_1d ctx.held (here c.starting_at-reader.result)) c.reset.ensures.frame
@@ -61,10 +61,10 @@ counted c =
     (ap (λ (ctx : Context). ctx.ticks) c.reset.ensures.frame) words c.decode_1d_line.ensures.at_most
 
 pub returns-in-Ok-clause-at_most : goal.returns-in-Ok-clause-at_most
-returns-in-Ok-clause-at_most c = counted (goal.at.returns-in-Ok-clause-at_most c).After-decode_1d_line
+returns-in-Ok-clause-at_most c = counted_by_line (goal.at.returns-in-Ok-clause-at_most c).After-decode_1d_line
 
 pub returns-in-Err-clause-at_most : goal.returns-in-Err-clause-at_most
-returns-in-Err-clause-at_most c = counted (goal.at.returns-in-Err-clause-at_most c).After-decode_1d_line
+returns-in-Err-clause-at_most c = counted_by_line (goal.at.returns-in-Err-clause-at_most c).After-decode_1d_line
 
 pub returns-in-Err-2-clause-at_most : goal.returns-in-Err-2-clause-at_most
-returns-in-Err-2-clause-at_most c = counted (goal.at.returns-in-Err-2-clause-at_most c).After-decode_1d_line
+returns-in-Err-2-clause-at_most c = counted_by_line (goal.at.returns-in-Err-2-clause-at_most c).After-decode_1d_line

@@ -1,5 +1,5 @@
 use Rattle.hayro_ccitt.proofs.Names.{◌≡◌, ◌+◌, ℕ, subst, arith, Color, BitsAt, opposite, IsWordHere, IsRunHere, moved}
-use Rattle.hayro_ccitt.proofs.CodeWords.UsualRuns.{run_of_word}
+use Rattle.hayro_ccitt.proofs.CodeWords.UsualRuns.{word_is_run}
 use Rattle.hayro_ccitt.proofs.modes.runs_at_hand.Goals as goal
 
 pub returns-then-run2-lt64-clause-runs : goal.returns-then-run2-lt64-clause-runs
@@ -15,10 +15,10 @@ returns-then-run2-lt64-clause-runs c =
     let on : IsWordHere (opposite color) (moved first.result.1 (moved 3 at)) second.result.0 second.result.1 = subst
     (λ (p : ℕ). IsWordHere (opposite color) (record { bits = at.bits; place = p }) second.result.0 second.result.1) sum there in
     record {
-      first = run_of_word color (moved 3 at) first.result.0 first.result.1
+      first = word_is_run color (moved 3 at) first.result.0 first.result.1
           (first.ensures.word (omega (arith, c.if-run-lt64.true))) c.if-run-lt64.true;
       second =
-          run_of_word (opposite color) (moved first.result.1 (moved 3 at)) second.result.0 second.result.1 on c.if-run2-lt64.true;
+          word_is_run (opposite color) (moved first.result.1 (moved 3 at)) second.result.0 second.result.1 on c.if-run2-lt64.true;
     }
 
 pub returns-clause-runs : goal.returns-clause-runs

@@ -1,11 +1,11 @@
 use Rattle.hayro_ccitt.proofs.Names.{sym, ap, ◌∙◌, arith, length, BitsAt, here, ReadsModes, behind_mode, mode_found}
-use Rattle.hayro_ccitt.proofs.DamagedLines.LinesPassed.{mode_shorter, further, all_read}
+use Rattle.hayro_ccitt.proofs.DamagedLines.LinesPassed.{behind_mode_shorter, further, all_read}
 use Rattle.hayro_ccitt.proofs.DamagedLines.PassedWork.{passed_mode, all_passed}
 use Rattle.hayro_ccitt.proofs.reach.pass_modes.Goals as goal
 
 pub modes-smaller : goal.modes-smaller
 modes-smaller c =
-    mode_shorter c.modes.color (here c.modes.reader) (c.in-Some.behind, here c.pass_mode.new.reader)
+    behind_mode_shorter c.modes.color (here c.modes.reader) (c.in-Some.behind, here c.pass_mode.new.reader)
     (ap (λ (at : BitsAt). behind_mode c.modes.color (here at)) (sym c.copy-next.ensures.value) ∙ sym c.in-Some.ensures.behind)
 
 pub modes-preserved : goal.modes-preserved

@@ -2,7 +2,7 @@ use Rattle.hayro_ccitt.proofs.Names.{◌≡◌, ℕ, ◌+◌, ◌*◌, ◌≤◌
 use Rattle.hayro_ccitt.proofs.Names.{arith, DecodeSettings, Bits, BitsAt, here, Held, after_eol, tagged_eols, looked}
 use Rattle.hayro_ccitt.proofs.Names.{most_for_lines}
 use Rattle.hayro_ccitt.proofs.{EncodedPictures.PicturesT4.eols_here_two, reach.rows_before_1d.Goals.After-read_tagged_eols-count}
-use Rattle.hayro_ccitt.proofs.DamagedLines.LinesPassed.{before_1d, not_before_1d, counted_on, counted_last, counted_none}
+use Rattle.hayro_ccitt.proofs.DamagedLines.LinesPassed.{before_1d, not_before_1d, counted_on, last_line_counted, counted_none}
 use Rattle.hayro_ccitt.proofs.DamagedLines.LinesPassed.{no_eol_no_end, no_eol_no_line, no_line_there}
 use Rattle.hayro_ccitt.proofs.DamagedLines.PassedWork.{line_paid, lines_end, lines_end_behind}
 use Rattle.hayro_ccitt.proofs.Readings.TurnsMoveOn.{after_eol_shorter, eols_here_counted}
@@ -28,7 +28,7 @@ returns-then-is_before_1d-clause-rows c =
     let counted : tagged_eols now ≡ (count, rest)
     = ap (λ (at : BitsAt). tagged_eols (here at)) (sym c.copy-behind.ensures.value) ∙ c.read_tagged_eols-count.ensures.eols in
     let same : c.settings.result ≡ settings = c.settings.ensures.value ∙ ap (λ (h : Held). h.settings) c.lines.invariant.1 in
-    counted_last settings (here c.args.reader.now) now c.lines.rows c.lines.invariant.4
+    last_line_counted settings (here c.args.reader.now) now c.lines.rows c.lines.invariant.4
     (before_1d settings now (here c.pass_eol.new.self) rest count eol counted
     (subst (λ (s : DecodeSettings). ((s.end_of_block ≡ true) × (6 ≤ count))
     ⊎ (((line : Bits) × (rest ≡ true ∷ line)) ⊎ (rest ≡ []))) same (c.is_before_1d.ensures.ends c.if-is_before_1d.true)))
@@ -51,8 +51,8 @@ returns-then-not-pass_line-clause-rows c =
     (no_line_there now (here c.pass_eol.new.self) eol (c.pass_line.ensures.no_line c.if-not-pass_line.true))
 
 -- what is counted until the tag of the next line
-counted : (c : After-read_tagged_eols-count) → c.args.ctx.now.ticks ≤ c.read_tagged_eols-count.new.ticks
-counted c =
+counted_to_tag : (c : After-read_tagged_eols-count) → c.args.ctx.now.ticks ≤ c.read_tagged_eols-count.new.ticks
+counted_to_tag c =
     let settings = c.args.ctx.now.held.settings in
     let now = here c.lines.reader in
     let same =
@@ -71,13 +71,13 @@ counted c =
 
 pub returns-then-is_before_1d-clause-counts : goal.returns-then-is_before_1d-clause-counts
 returns-then-is_before_1d-clause-counts c =
-    counted (goal.at.returns-then-is_before_1d-clause-counts c).After-read_tagged_eols-count
+    counted_to_tag (goal.at.returns-then-is_before_1d-clause-counts c).After-read_tagged_eols-count
 
 pub returns-then-not-pass_line-clause-counts : goal.returns-then-not-pass_line-clause-counts
 returns-then-not-pass_line-clause-counts c =
     omega (
       arith,
-      counted (goal.at.returns-then-not-pass_line-clause-counts c).After-read_tagged_eols-count,
+      counted_to_tag (goal.at.returns-then-not-pass_line-clause-counts c).After-read_tagged_eols-count,
       c.pass_line.ensures.counts,
     )
 
@@ -113,22 +113,23 @@ returns-then-not-pass_eol-clause-at_most c =
     ))
 
 -- where no line follows, what was counted is within the bound, and so are three times the bits behind the EOL
-ended : (c : After-read_tagged_eols-count) (now : ℕ) → after_eol 0 (here c.lines.reader) ≡ Some (here c.pass_eol.new.self)
+within_bound : (c : After-read_tagged_eols-count) (now : ℕ) → after_eol 0 (here c.lines.reader) ≡ Some (here c.pass_eol.new.self)
     → now ≤ c.read_tagged_eols-count.new.ticks + 3 * length (here c.pass_eol.new.self)
     → now ≤ c.args.ctx.now.ticks + most_for_lines (length (here c.args.reader.now))
-ended c now eol passed =
+within_bound c now eol passed =
     lines_end_behind (here c.args.reader.now) (here c.lines.reader) (here c.pass_eol.new.self)
     (here c.read_tagged_eols-count.new.self) c.args.ctx.now.ticks c.lines.ctx.ticks c.pass_eol.new.ticks
     c.read_tagged_eols-count.new.ticks now c.lines.invariant.5 eol (read c) (ahead c) passed
 
 pub returns-then-is_before_1d-clause-at_most : goal.returns-then-is_before_1d-clause-at_most
 returns-then-is_before_1d-clause-at_most c =
-    ended (goal.at.returns-then-is_before_1d-clause-at_most c).After-read_tagged_eols-count c.read_tagged_eols-count.new.ticks
-    (ap (λ (at : BitsAt). after_eol 0 (here at)) (sym c.copy-line.ensures.value) ∙ c.if-not-pass_eol.ensures.eol) (omega arith)
+    within_bound (goal.at.returns-then-is_before_1d-clause-at_most c).After-read_tagged_eols-count
+    c.read_tagged_eols-count.new.ticks (ap (λ (at : BitsAt). after_eol 0 (here at)) (sym c.copy-line.ensures.value)
+    ∙ c.if-not-pass_eol.ensures.eol) (omega arith)
 
 pub returns-then-not-pass_line-clause-at_most : goal.returns-then-not-pass_line-clause-at_most
 returns-then-not-pass_line-clause-at_most c =
-    ended (goal.at.returns-then-not-pass_line-clause-at_most c).After-read_tagged_eols-count c.pass_line.new.ctx.ticks
+    within_bound (goal.at.returns-then-not-pass_line-clause-at_most c).After-read_tagged_eols-count c.pass_line.new.ctx.ticks
     (ap (λ (at : BitsAt). after_eol 0 (here at)) (sym c.copy-line.ensures.value) ∙ c.if-not-pass_eol.ensures.eol)
     (omega (arith, c.pass_line.ensures.at_most))
 
@@ -150,7 +151,7 @@ lines-preserved c =
       c.pass_line.ensures.same_bits ∙ c.pass_eol.ensures.same_bits ∙ ap (λ (at : BitsAt). at.bits) c.copy-line.ensures.value
           ∙ c.lines.invariant.0,
       c.pass_line.ensures.held ∙ c.lines.invariant.1,
-      omega (arith, counted (goal.at.lines-preserved c).After-read_tagged_eols-count, c.pass_line.ensures.counts),
+      omega (arith, counted_to_tag (goal.at.lines-preserved c).After-read_tagged_eols-count, c.pass_line.ensures.counts),
       omega (
         arith,
         c.lines.invariant.3,

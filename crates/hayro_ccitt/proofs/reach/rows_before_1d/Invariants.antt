@@ -1,5 +1,5 @@
 use Rattle.hayro_ccitt.proofs.Names.{◌≡◌, ◌+◌, ◌≤◌, length, here}
-use Rattle.hayro_ccitt.proofs.DamagedLines.LinesPassed.{Counted}
+use Rattle.hayro_ccitt.proofs.DamagedLines.LinesPassed.{CountsRows}
 use Rattle.hayro_ccitt.proofs.DamagedLines.PassedWork.{LinesPaid}
 use Rattle.hayro_ccitt.proofs.reach.rows_before_1d.Given as goal
 
@@ -8,7 +8,7 @@ abbrev pub invariant-lines : goal.invariant-lines
 invariant-lines l =
     (l.reader.bits ≡ l.fn.reader.bits) × (l.ctx.held ≡ l.fn.ctx.held) × (l.fn.ctx.ticks ≤ l.ctx.ticks)
     × (l.rows + length (here l.reader) ≤ 1 + length (here l.fn.reader))
-    × Counted l.fn.ctx.held.settings (here l.fn.reader) l.rows (here l.reader)
+    × CountsRows l.fn.ctx.held.settings (here l.fn.reader) l.rows (here l.reader)
     × LinesPaid (here l.fn.reader) (here l.reader) l.fn.ctx.ticks l.ctx.ticks
 
 abbrev pub decreases-lines : goal.decreases-lines

@@ -9,9 +9,10 @@ use Rattle.hayro_ccitt.proofs.Work.CallsPaid.{first_gap_paid, first_line_paid}
 use Rattle.hayro_ccitt.proofs.row_reader.first_stand.Goals as goal
 
 -- what the gap says
-said : (c : goal.After-stand_after_gap) → gap_behind_row c.args.ctx.now.held.settings 0 false c.args.reader.now.bits ≡ gap_said
-    c.pass_gap-over.result c.pass_gap-over.new.ctx.held.has_eols (drop c.pass_gap-over.new.reader.place c.args.reader.now.bits)
-said c =
+first_gap_said : (c : goal.After-stand_after_gap) → gap_behind_row c.args.ctx.now.held.settings 0 false c.args.reader.now.bits
+    ≡ gap_said c.pass_gap-over.result c.pass_gap-over.new.ctx.held.has_eols
+    (drop c.pass_gap-over.new.reader.place c.args.reader.now.bits)
+first_gap_said c =
     let held = c.args.ctx.now.held in
     let last = c.pass_gap-over.new.ctx.held in
     ap (λ (h : Held). gap_behind_row held.settings h.taken h.has_eols c.args.reader.now.bits) (sym c.requires.fresh)
@@ -33,7 +34,7 @@ returns-in-Group4-clause-stands c =
     subst (λ (s : Stand). ReaderStands s settings bits last at.place) (sym c.stand_after_gap.ensures) (first_gap_stands
     settings wide bits (ap (λ (s : DecodeSettings). s.encoding) (sym c.settings-2.ensures.value) ∙ c.in-Group4.is) last at.place
     (omega (arith, c.bit_pos-place.ensures.place, c.bit_pos-place.ensures.within, ap length c.pass_gap-over.ensures.same_bits))
-    frame c.pass_gap-over.result (said c)
+    frame c.pass_gap-over.result (first_gap_said c)
     (IfErr-weaker c.pass_gap-over.result _ _ (λ error code. code.0) c.pass_gap-over.ensures.only_code))
 
 pub returns-in-Group4-clause-damage : goal.returns-in-Group4-clause-damage
@@ -74,7 +75,7 @@ returns-in-Group4-clause-paid c =
     (here c.args.reader.now) c.requires.fresh c.pass_gap-over.ensures.held c.pass_gap-over.ensures.missed in
     subst (λ (s : Stand). IsPaid s settings bits last at.place now) (sym c.stand_after_gap.ensures)
     (first_gap_paid settings (ap (λ (s : DecodeSettings). s.encoding) (sym c.settings-2.ensures.value) ∙ c.in-Group4.is)
-    bits last at.place now frame c.pass_gap-over.result (said c) (IfOk-weaker c.pass_gap-over.result _ _ (λ over kept
+    bits last at.place now frame c.pass_gap-over.result (first_gap_said c) (IfOk-weaker c.pass_gap-over.result _ _ (λ over kept
     is. kept is ∙ unsought) c.pass_gap-over.ensures.given_up) (on_ok_weaker c.pass_gap-over.result (λ work unsought_on. omega (
       arith,
       c.requires.uncounted,

@@ -1,6 +1,6 @@
 use Rattle.hayro_ccitt.proofs.Names.{◌+◌, inl, ℕ, List, [], ◌∷◌, ◌++◌, refl, arith, White, Black, GoesOn, IsRunHere, pen_at}
 use Rattle.hayro_ccitt.proofs.Names.{moved, Pen}
-use Rattle.hayro_ccitt.proofs.CodeWords.UsualRuns.{run_of_word}
+use Rattle.hayro_ccitt.proofs.CodeWords.UsualRuns.{word_is_run}
 use Rattle.hayro_ccitt.proofs.DrawingLines.UsualStrokes.{two_runs, next_lawful, reached_both, pixels-pending}
 use Rattle.hayro_ccitt.proofs.usual.draw_short_runs.Goals as goal
 
@@ -15,8 +15,8 @@ returns-clause-drawn c =
     let short = c.if-not-is_short.ensures refl in
     let short2 = c.if-not-is_short-2.ensures refl in
     let here_first : IsRunHere White (moved 0 at) first.0 first.1 1 =
-    run_of_word White (moved 0 at) first.0 first.1 (c.word_at_hand-run.ensures.word (omega (arith, short.1))) short.1 in
-    let here_second : IsRunHere Black (moved first.1 at) second.0 second.1 1 = run_of_word Black
+    word_is_run White (moved 0 at) first.0 first.1 (c.word_at_hand-run.ensures.word (omega (arith, short.1))) short.1 in
+    let here_second : IsRunHere Black (moved first.1 at) second.0 second.1 1 = word_is_run Black
     (moved first.1 at) second.0 second.1 (c.word_at_hand-run2.ensures.word (omega (arith, short2.1))) short2.1 in
     let seen : GoesOn c.args._strict c.args.columns pen
     (pen_at place row White c.pass-2.new.self.at) c.args.ticks.now c.tick_times-2.new.self =

@@ -1,4 +1,4 @@
-use Rattle.hayro_ccitt.proofs.DrawingLines.UsualStrokes.{laid_down, kept}
+use Rattle.hayro_ccitt.proofs.DrawingLines.UsualStrokes.{laid_down, other_change_stays}
 use Rattle.hayro_ccitt.proofs.usual.lay_down.Goals as goal
 
 pub returns-then-last-painted-clause-lawful : goal.returns-then-last-painted-clause-lawful
@@ -13,5 +13,5 @@ returns-then-last-painted-clause-same c =
 
 pub returns-clause-lawful : goal.returns-clause-lawful
 returns-clause-lawful c =
-    (kept c.args.painted c.args.changes.now.items c.take_last-last.new.self.items c.push_reserved.new.self.items
+    (other_change_stays c.args.painted c.args.changes.now.items c.take_last-last.new.self.items c.push_reserved.new.self.items
     c.take_last-last.result c.requires c.take_last-last.ensures.items c.if-last-painted.false c.push_reserved.ensures.items).0

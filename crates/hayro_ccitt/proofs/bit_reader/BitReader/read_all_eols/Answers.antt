@@ -8,19 +8,19 @@ abbrev max : ℕ
 max = 2 ^ 64 - 1
 
 -- bits that fit are fewer
-few : (at : BitsAt) → length at.bits + 64 < 2 ^ 64 → length (here at) < max
-few at fit = omega (arith, length-drop at.place at.bits, fit)
+bits_are_few : (at : BitsAt) → length at.bits + 64 < 2 ^ 64 → length (here at) < max
+bits_are_few at fit = omega (arith, length-drop at.place at.bits, fit)
 
 pub returns-clause-eols : goal.returns-clause-eols
 returns-clause-eols c =
-    sym (eols_enough max (here c.args.self.now) (omega (arith, few c.args.self.now c.at_end.ensures.fit)))
+    sym (eols_enough max (here c.args.self.now) (omega (arith, bits_are_few c.args.self.now c.at_end.ensures.fit)))
     ∙ c.read_eols.ensures.eols
 
 pub returns-clause-ticks : goal.returns-clause-ticks
-returns-clause-ticks c = grind (arith, common_steps, eols_look_on, few)
+returns-clause-ticks c = grind (arith, common_steps, eols_look_on, bits_are_few)
 
 pub returns-clause-few : goal.returns-clause-few
 returns-clause-few c =
     let counted = eols_fewer max (here c.args.self.now) in
     let count = ap (λ (found : ℕ × Bits). found.0) c.read_eols.ensures.eols in
-    omega (arith, counted, count, few c.args.self.now c.at_end.ensures.fit)
+    omega (arith, counted, count, bits_are_few c.args.self.now c.at_end.ensures.fit)

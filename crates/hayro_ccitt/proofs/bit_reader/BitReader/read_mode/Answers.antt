@@ -2,7 +2,7 @@ use Rattle.hayro_ccitt.proofs.Names.{ℕ, Option, Err, refl, sym, ap, ◌∙◌,
 use Rattle.hayro_ccitt.proofs.Names.{padded, mode_told, telling_bits}
 use Rattle.hayro_ccitt.proofs.BitReading.BitPlaces.{moved_on, bits_enough, bits_missing}
 use Rattle.hayro_ccitt.proofs.BitReading.PeekedBits.{peeked_seven}
-use Rattle.hayro_ccitt.proofs.CodeWords.LookedUpModes.{mode_cut, mode_wrong, mode_found, some_mode_bits}
+use Rattle.hayro_ccitt.proofs.CodeWords.LookedUpModes.{mode_cut, mode_wrong, mode_is_read, some_mode_bits}
 use Rattle.hayro_ccitt.proofs.bit_reader.BitReader.read_mode.Goals as goal
 
 pub returns-in_err-consume-clause-mode : goal.returns-in_err-consume-clause-mode
@@ -24,7 +24,7 @@ returns-in-Some-clause-mode c =
     let enough = bits_enough at c.mode_of-mode.result.1 bits width (λ lt. false≢true (c.in_ok-consume.ensures.end.1 lt)) in
     let moved = moved_on at c.consume.new.self c.mode_of-mode.result.1 bits width c.in_ok-consume.ensures.moved enough
     (some_mode_bits (here at)) in
-    mode_found (here at) c.in-Some.mode (sym c.in-Some.is ∙ ap (λ (t : Option Mode × ℕ). t.0) told) enough ∙ cc
+    mode_is_read (here at) c.in-Some.mode (sym c.in-Some.is ∙ ap (λ (t : Option Mode × ℕ). t.0) told) enough ∙ cc
 
 pub returns-in-None-clause-mode : goal.returns-in-None-clause-mode
 returns-in-None-clause-mode c =

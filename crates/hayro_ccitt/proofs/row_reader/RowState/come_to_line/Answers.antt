@@ -11,9 +11,9 @@ use Rattle.hayro_ccitt.proofs.Readings.RowByRow.{misses_after, miss_told, told_a
 use Rattle.hayro_ccitt.proofs.row_reader.RowState.come_to_line.Goals as goal
 
 -- the reader is behind a row
-behind_row : (c : After-line_after_gap) → IsStanding c.args.self.now c.args.reader.now
+is_behind_row : (c : After-line_after_gap) → IsStanding c.args.self.now c.args.reader.now
     → StandsBehindRow c.args.self.now.ctx.held.settings c.args.reader.now.bits c.args.self.now.ctx.held (here c.args.reader.now)
-behind_row c stands =
+is_behind_row c stands =
     behind_row_stands c.args.self.now.stand c.args.self.now.ctx.held.settings c.args.reader.now.bits c.args.self.now.ctx.held
     c.args.reader.now.place c.requires (sym c.is_at_line.ensures ∙ c.if-is_at_line.false) stands.0
 
@@ -36,7 +36,7 @@ passed c stands =
     let bits = c.args.reader.now.bits in
     let last = c.pass_gap-over.new.ctx.held in
     let at = c.pass_gap-over.new.reader in
-    gap_stands held.settings bits held (here c.args.reader.now) (behind_row c stands) last at.place
+    gap_stands held.settings bits held (here c.args.reader.now) (is_behind_row c stands) last at.place
     (omega (arith, c.bit_pos-place.ensures.place, c.bit_pos-place.ensures.within, ap length c.pass_gap-over.ensures.same_bits))
     c.pass_gap-over.ensures.held c.pass_gap-over.result (said c)
     (IfErr-weaker c.pass_gap-over.result _ _ (λ error code. code.0) c.pass_gap-over.ensures.only_code)
@@ -59,7 +59,7 @@ started c stands =
     ) in
     subst
     (λ (n : ℕ). OnErr c.pass_gap-over.result (n ≡ failed_at held.settings bits held.taken)) (sym c.start_after_gap-self.ensures)
-    (starts_behind held.settings bits held (here c.args.reader.now) (behind_row c stands) last at.place
+    (starts_behind held.settings bits held (here c.args.reader.now) (is_behind_row c stands) last at.place
     (omega (arith, c.bit_pos-place.ensures.place, c.bit_pos-place.ensures.within, ap length c.pass_gap-over.ensures.same_bits))
     c.pass_gap-over.ensures.held c.pass_gap-over.result (said c) c.bit_pos-gap_start.result _ gap_start)
 
@@ -118,7 +118,7 @@ paid c stands =
         c.pass_gap-over.ensures.counts,
         ap (λ (h : Held). sum_by length (take h.taken (words_of held.settings bits))) c.pass_gap-over.ensures.held,
       );
-      paid = gap_paid held.settings (behind_row c stands).wide bits held (here c.args.reader.now)
+      paid = gap_paid held.settings (is_behind_row c stands).wide bits held (here c.args.reader.now)
           rows.ctx.ticks row last at.place c.pass_gap-over.new.ctx.ticks c.pass_gap-over.ensures.held c.pass_gap-over.result
           (said c) c.pass_gap-over.ensures.given_up (subst (λ (b : Bits). OnOk c.pass_gap-over.result (last.has_eols
           ≡ held.has_eols → c.pass_gap-over.new.ctx.ticks + 4 * length (drop at.place b) ≤ rows.ctx.ticks + 4 * length
@@ -137,7 +137,7 @@ returns-clause-stands c stands =
     let stand = c.args.self.now.stand in
     let taken = ap (λ (h : Held). h.taken) c.pass_gap-over.ensures.held in
     let no_line = sym c.is_at_line.ensures ∙ c.if-is_at_line.false in
-    let missed = misses_passed settings bits held (here c.args.reader.now) (behind_row c stands)
+    let missed = misses_passed settings bits held (here c.args.reader.now) (is_behind_row c stands)
     (misses_behind_row stand settings bits held c.requires no_line stands.1.misses) last c.pass_gap-over.ensures.missed taken in
     let stays = λ (P : DecodeSettings → Bits → ℕ → Type 0) (known : P settings bits held.taken).
     subst (λ (n : ℕ). P last.settings at.bits n) (sym taken)

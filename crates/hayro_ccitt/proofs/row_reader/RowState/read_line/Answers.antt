@@ -3,8 +3,8 @@ use Rattle.hayro_ccitt.proofs.Names.{arith, length-drop, White, DecodeSettings, 
 use Rattle.hayro_ccitt.proofs.Names.{DecodeError, line_here, row_of_line, Row, changes, StandsAtLine, StandsBehindRow, HasFailed}
 use Rattle.hayro_ccitt.proofs.Names.{damage_since, IsStandingAtLine, MissesAreCounted, WorkIsPaid, found_here, words_of}
 use Rattle.hayro_ccitt.proofs.Names.{BehindRow, AtFault, missed_before}
-use Rattle.hayro_ccitt.proofs.Readings.RowByRow.{IsRead, at_line_stands, fails_at_line, damage_stays, misses_at_line, is_read}
-use Rattle.hayro_ccitt.proofs.Readings.RowByRow.{isnt_read, told_at_line}
+use Rattle.hayro_ccitt.proofs.Readings.RowByRow.{IsRead, at_line_stands, reader_fails_at_line, damage_stays, misses_at_line}
+use Rattle.hayro_ccitt.proofs.Readings.RowByRow.{is_read, isnt_read, told_at_line}
 use Rattle.hayro_ccitt.proofs.Work.CallsPaid.{at_line_paid, failed_most}
 use Rattle.hayro_ccitt.proofs.row_reader.RowState.read_line.Goals.{After-self-in-Ok-2-1, After-self-in-Err-1}
 use Rattle.hayro_ccitt.proofs.row_reader.RowState.read_line.Goals as goal
@@ -220,7 +220,7 @@ returns-in-Err-clause-reads c at =
       end = λ e. cc;
       error = (refl, taken_left c, row_was_not_read c at);
       fault_start = λ unended. line_start_of reader.place reader.bits c.bit_pos-self.result c.bit_pos-self.ensures.place
-          c.bit_pos-self.ensures.within ∙ fails_at_line stands;
+          c.bit_pos-self.ensures.within ∙ reader_fails_at_line stands;
       missed = told_at_line c.args.self.now.stand c.args.self.now.ctx.held.settings reader.bits
           c.args.self.now.ctx.held.taken _ at.0 at.1.3;
       last = λ none. (row_left c, refl);

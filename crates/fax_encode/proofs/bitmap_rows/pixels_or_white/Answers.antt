@@ -1,14 +1,14 @@
 use Rattle.fax_encode.proofs.Names.{◌≡◌, ◌<◌, ℕ, List, get_or, ap, ◌∙◌, arith, from_be_bytes, w64, length-set, fill_by_more}
 use Rattle.fax_encode.proofs.Names.{fill_by_all}
 use Rattle.fax_encode.proofs.ScannedWords.{eight, word_of_bytes}
-use Rattle.fax_encode.proofs.bitmap_rows.last_word.Goals as goal
+use Rattle.fax_encode.proofs.bitmap_rows.pixels_or_white.Goals as goal
 
 pub loop-index-preserved : goal.loop-index-preserved
 loop-index-preserved c =
     let first : List ℕ = c.loop-index.first in
     let index : ℕ = c.loop-index.index in
     let bytes : List ℕ = c.args.bytes.now in
-    rw c.byte_or_zero.ensures (record {
+    rw c.byte_or_white.ensures (record {
       long = length-set first index (get_or bytes index 0) ∙ c.loop-index.invariant.long;
       filled = fill_by_more (λ k. get_or bytes k 0) first index 0
           (omega (arith, c.loop-index-test.true, c.loop-index.invariant.long)) c.loop-index.invariant.filled;

@@ -1,5 +1,5 @@
 use Rattle.fax_encode.proofs.Names.{◌≡◌, ◌<◌, ℕ, length, get_or}
-use Rattle.fax_encode.proofs.bitmap_rows.last_word.Given as goal
+use Rattle.fax_encode.proofs.bitmap_rows.pixels_or_white.Given as goal
 
 abbrev pub invariant-loop-index : goal.invariant-loop-index
 invariant-loop-index l = record {
