@@ -211,29 +211,38 @@ def is_field(text, start, indent):
     return bool(above) and re.match(r" *(pub )?record ", above[-1]) is not None
 
 
+IMPORT = re.compile(r"^(?:pub |ghost )?use (Rattle\.[^\s{]*)\.\{(.*)\};?$", re.MULTILINE)
+
+
+def imported_names(text):
+    """The whole names that a file imports."""
+    for path, names in IMPORT.findall(text):
+        for name in names.split(","):
+            yield f"{path}.{name.split(' as ')[0].strip()}"
+
+
 def each_lemma_is_cited():
-    """A lemma of the library that nothing cites is useless: each is named somewhere besides its declaration."""
+    """A lemma that nothing cites is useless: each is named besides its declaration, or another file imports it. Examples aren't
+    cited."""
     texts = {}
     for name in tracked():
         if name.endswith((".antt", ".rt")):
             with open(name, encoding="utf-8") as file:
                 texts[name] = re.sub(r"--.*" if name.endswith(".antt") else r"//.*", "", file.read())
-    # How often a name occurs in each file, and in how many files.
-    words = {name: collections.Counter(re.findall(NAME, text)) for name, text in texts.items()}
-    files = collections.Counter(word for count in words.values() for word in count)
+    imported = {whole for text in texts.values() for whole in imported_names(text)}
     dead = []
     for name, text in texts.items():
-        if not name.startswith("crates/hayro_ccitt/proofs/") or name.endswith(NOT_CITED):
+        if "/proofs/" not in name or not name.endswith(".antt") or name.endswith((*NOT_CITED, "/Examples.antt")):
             continue
+        words = collections.Counter(re.findall(NAME, text))
+        module = "Rattle." + name.removeprefix("crates/").removesuffix(".antt").replace("/", ".")
         for found in DECLARED.finditer(text):
             indent, modifiers, lemma = found.groups()
             if is_field(text, found.start(), indent):
                 continue
             head = rf"^{indent}(?:(?:pub|abbrev|unfoldable) )*{re.escape(lemma)} (?::|[^\n]*=$|[^\n]* = |=)"
             given = len(re.findall(head, text, re.MULTILINE))
-            cited_here = words[name][lemma] > given
-            cited_elsewhere = "pub" in modifiers and files[lemma] > 1
-            if not cited_here and not cited_elsewhere:
+            if words[lemma] <= given and f"{module}.{lemma}" not in imported:
                 dead.append(f"{name}: {lemma}")
     assert not dead, "\n".join(dead)
 

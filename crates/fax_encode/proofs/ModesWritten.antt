@@ -78,13 +78,7 @@ first_run row from inside = omega (arith, (a1_next row from).above inside)
 pub near_same : (b x a y : ℕ) (t : Bool) → b ≡ x → a ≡ y → is_near b a ≡ t → is_near x y ≡ t
 near_same b x a y t e f near = cc
 
--- a mode's word and its runs, as they are written one after another
-pub three_written : (old one two three word first second : Bits) → one ≡ old ++ word → two ≡ one ++ first → three ≡ two ++ second
-    → three ≡ old ++ (word ++ (first ++ second))
-three_written old one two three word first second a b c =
-    c ∙ ap (λ (x : Bits). x ++ second) (b ∙ ap (λ (x : Bits). x ++ first) a) ∙ simp append_assoc
-
--- ---- From mode to mode, and from line to line.
+-- ---- From mode to mode.
 module _ (columns : ℕ) (reference changes : List ℕ) (lawful : AreChanges columns reference)
     (are : AreChanges columns changes) where
   one_width : length (pixels columns reference) ≡ length (pixels columns changes)
@@ -140,21 +134,3 @@ pub padded_whole : (aligned : Bool) (drawn after : Bits) → after ≡ drawn ++ 
 padded_whole true drawn after a is =
     omega (arith, ap length a, length-append drawn (padding (length drawn)), length-replicate ((8 - length drawn % 8) % 8) false)
 padded_whole false drawn after a is = absurd (false≢true is)
-
-pub lines_first : (aligned : Bool) (reference row : Row) (rows : List Row) → chosen_lines_2d aligned reference (row ∷ rows)
-    ≡ (chosen_line_2d reference row ++ cond aligned (padding (length (chosen_line_2d reference row))) [])
-    ++ chosen_lines_2d aligned row rows
-lines_first aligned reference row rows = refl
-
--- and precedes the lines that are left
-pub line_2d_next : {X : Type 0} (columns : ℕ) (aligned : Bool) (reference : Row) (list_of : X → List ℕ)
-    (items : List X) (i : ℕ) (item : X) → i < length items → item ≡ get_or items i item → chosen_lines_2d aligned reference
-    (rows_of columns (drop i (map list_of items))) ≡ (chosen_line_2d reference (pixels columns (list_of item))
-    ++ cond aligned (padding (length (chosen_line_2d reference (pixels columns (list_of item))))) [])
-    ++ chosen_lines_2d aligned (pixels columns (list_of item)) (rows_of columns (drop (i + 1) (map list_of items)))
-line_2d_next columns aligned reference list_of items i item lt is =
-    let row : Row = pixels columns (list_of item) in
-    let rows : List Row = rows_of columns (drop (i + 1) (map list_of items)) in
-    let lists : rows_of columns (drop i (map list_of items)) ≡ row ∷ rows =
-    ap (rows_of columns) (item_next list_of items i item lt is) in
-    ap (chosen_lines_2d aligned reference) lists ∙ lines_first aligned reference row rows

@@ -63,20 +63,6 @@ pub record IsPainted (columns : ℕ) (changes : List ℕ) (done : ℕ) (brush : 
   pub left : front ++ pixels_from place brush.is_black columns (drop done changes) ≡ pixels columns changes
   pub painted : under brush row ≡ front ++ replicate (8 * brush.start + 64 - place) brush.is_black
 
--- nothing is painted
-pub unpainted : (columns : ℕ) (changes : List ℕ) (row : List ℕ) → AreChanges columns changes
-    → IsPainted columns changes 0 (record { start = 0; word = 0; is_black = false }) row
-unpainted columns changes row lawful = record {
-  place = 0;
-  front = [];
-  stands = record { begun = refl; from = omega arith; below = omega arith };
-  within = omega arith;
-  ascend = lawful;
-  long = refl;
-  left = refl;
-  painted = refl;
-}
-
 -- the row up to a position right of it is painted in the present colour
 module _ (row row' : List ℕ) (brush at : Brush) (place next : ℕ) (front : Bits)
     (right : place ≤ next) (stands : StandsAt brush place) (there : StandsAt at next) (forward : brush.start ≤ at.start)

@@ -27,12 +27,3 @@ pub line_of_list : (columns : ℕ) (list : List ℕ) → AreChanges columns list
 line_of_list columns list lawful =
     ap (λ (n : ℕ). chosen_runs n White 0 (changes (pixels columns list))) (length-pixels columns list lawful)
     ∙ ap (chosen_runs columns White 0) (changes-pixels columns list lawful)
-
--- a line with its EOL precedes those that are left
-pub line_1d_next : {X : Type 0} (columns : ℕ) (list_of : X → List ℕ) (items : List X) (i : ℕ) (item : X) → i < length items → item
-    ≡ get_or items i item → AreChanges columns (list_of item) → chosen_lines_1d (rows_of columns (drop i (map list_of items))) ≡
-    (eol 0 ++ chosen_runs columns White 0 (list_of item)) ++ chosen_lines_1d (rows_of columns (drop (i + 1) (map list_of items)))
-line_1d_next columns list_of items i item lt is lawful =
-    ap (λ (lists : List (List ℕ)). chosen_lines_1d (rows_of columns lists)) (item_next list_of items i item lt is)
-    ∙ ap (λ (b : Bits). (eol 0 ++ b) ++ chosen_lines_1d (rows_of columns (drop (i + 1) (map list_of items))))
-    (line_of_list columns (list_of item) lawful)

@@ -27,10 +27,6 @@ color_second n = elim (even_or_odd n) [
   | inr odd ↦ black_after (n + 2) (omega arith) ∙ sym (black_after n odd)
 ]
 
--- a line begins at the first change
-pub near_start : (columns : ℕ) (places : List ℕ) → IsNear columns places (record { from = 0; color = White }) 0
-near_start columns places = record { turns = refl; left = λ k l. absurd (omega arith) }
-
 module _ (columns : ℕ) (places : List ℕ) (lawful : AreChanges columns places) (at : Place) (index : ℕ)
     (near : IsNear columns places at index) where
   -- the index is the number of changes and one more at most

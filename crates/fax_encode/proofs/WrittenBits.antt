@@ -25,9 +25,6 @@ power_positive (suc k) = omega (arith, power_positive k)
 divided : (n d : ℕ) → 0 < d → n / d * d + n % d ≡ n
 divided n d lt = omega arith
 
-remainder : (n d : ℕ) → 0 < d → n % d < d
-remainder n d lt = omega arith
-
 -- the low bits of a number and of its remainder
 pub low_bits_mod : (width k n : ℕ) → width ≤ k → low_bits width (n % 2 ^ k) ≡ low_bits width n
 low_bits_mod width k n le =

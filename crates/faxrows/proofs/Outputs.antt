@@ -9,10 +9,6 @@ regrouped : (waited text front waits more : List ℕ) → waited ++ text ≡ fro
 regrouped waited text front waits more e = sym (append_assoc waited text more) ∙ ap (λ l. l ++ more) e
     ∙ append_assoc front waits more
 
--- nothing came, and nothing was written
-pub passes_none : (a : Option (List ℕ)) (waits : List ℕ) → PassesOn a a waits [] waits
-passes_none a waits = ([], Appends-nil a, append-nil waits)
-
 -- two texts that came one after the other are one
 pub passes_both : (a b c : Option (List ℕ)) (waited text waits more last : List ℕ)
     → PassesOn a b waited text waits → PassesOn b c waits more last → PassesOn a c waited (text ++ more) last
@@ -35,11 +31,6 @@ front_behind a b c waited text waits more p q = (
 -- a front of a text is one of a longer text
 pub front_of_more : (a b : Option (List ℕ)) (text more : List ℕ) → AppendsFront a b text → AppendsFront a b (text ++ more)
 front_of_more a b text more p = (p.0, p.1 ++ more, p.2, ap (λ l. l ++ more) p.3 ∙ append_assoc p.0 p.1 more)
-
--- what was written is a front of all that came
-pub front_of_passed : (a b : Option (List ℕ)) (waited text waits : List ℕ) → PassesOn a b waited text waits
-    → AppendsFront a b (waited ++ text)
-front_of_passed a b waited text waits p = (p.0, waits, p.1, p.2)
 
 -- and of a text to which more is added
 pub front_of_longer : (a b : Option (List ℕ)) (waited text more : List ℕ) → AppendsFront a b (waited ++ text)

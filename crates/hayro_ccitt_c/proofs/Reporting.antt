@@ -18,18 +18,6 @@ use Rattle.hayro_ccitt_c.specs.Reports.{EndsAfter, FailsAt, IsReport, OnSettings
 use Rattle.hayro_ccitt_c.specs.Settings.{order_of, settings_of}
 use Rattle.hayro_ccitt_c.specs.declared.settings.Settings.{Settings}
 
--- decoding ends as it may after the accepted rows
-pub ends_after : {M : Type 0} (step : M → List ℕ → M) (settings : DecodeSettings) (bits : Bits) (before after : SinkState M)
-    (held : Held) (answer : Result ℕ DecodeError) → TakesRows (plain settings bits).rows (plain settings bits).outcome
-    (plain settings bits).has_eols step before after held answer → StopsShort (plain settings bits).rows
-    (lines_of settings bits) before after held answer → EndsAfter settings bits held.taken answer
-ends_after step settings bits before after held (Ok n) takes short = (takes.all, takes.ok)
-ends_after step settings bits before after held (Err UnexpectedEof) takes short = (takes.all tt, takes.fault tt)
-ends_after step settings bits before after held (Err InvalidCode) takes short = (takes.all tt, takes.fault tt)
-ends_after step settings bits before after held (Err Overflow) takes short = (takes.all tt, takes.fault tt)
-ends_after step settings bits before after held (Err OutOfMemory) takes short = (takes.taken, inr (short.memory refl))
-ends_after step settings bits before after held (Err Refused) takes short = short.refused refl
-
 -- if the first allocation fails, nothing is accepted
 pub no_memory : (settings : DecodeSettings) (bits : Bits) → IsReport settings bits 4 0 0 0
 no_memory settings bits =
@@ -40,13 +28,6 @@ no_memory settings bits =
       bytes_are = refl;
       fault_is = inr (refl, refl, refl);
     }
-
--- the place that the context tells is that of the end
-pub fails_at : (settings : DecodeSettings) (bits : Bits) (taken : ℕ) (answer : Result ℕ DecodeError) (place : Option ℕ)
-    → OnErr answer (place ≡ Some (failed_at settings bits taken)) → OnOk answer (place ≡ None) → (told : ℕ)
-    → ((n : ℕ) → place ≡ Some n → told ≡ n) → (place ≡ None → told ≡ 0) → FailsAt settings bits taken answer told
-fails_at settings bits taken (Ok count) place fails none told is isnt = isnt none
-fails_at settings bits taken (Err error) place fails none told is isnt = inl (is (failed_at settings bits taken) fails)
 
 -- a statement about the settings that C passes
 on_meant : (meant : Option DecodeSettings) (settings : DecodeSettings) (P : DecodeSettings → Type 0) → meant ≡ Some settings

@@ -363,18 +363,6 @@ behind_fails behind (Turn.next p) OutOfMemory pen keeps draws = keeps p draws
 behind_fails behind (Turn.done line) OutOfMemory pen keeps draws = draws
 behind_fails behind step Refused pen keeps draws = absurd draws
 
--- a second run, where the first was drawn
-pub second_run : (held new : Held) (rest after : Bits) (r : Result (Unit {0}) DecodeError) (pen : Pen)
-    → step_of_run held rest ≡ Turn.next (pen_of new after) → new ≡ redrawn held new.front new.color
-    → DrawsStep (step_of_run new after) r pen → DrawsStep (step_of_mode held rest Horizontal) r pen
-second_run held new rest after r pen first kept second =
-    let settings : new.settings ≡ held.settings = ap (λ (h : Held). h.settings) kept in
-    let behind : Pen → Step = λ pen. run_then held.settings.strict held.settings.columns pen Turn.next in
-    let whole : step_of_mode held rest Horizontal ≡ behind (pen_of new after) =
-    ap (λ (step : Step). turn_behind step behind) first in
-    subst (λ (s : Step). DrawsStep s r pen) (sym whole)
-    (subst (λ (s : DecodeSettings). DrawsStep (run_then s.strict s.columns (pen_of new after) Turn.next) r pen) settings second)
-
 -- two runs, if the first is refused
 pub first_run_fails : (held : Held) (rest : Bits) (left : Pen) (e : DecodeError) → DrawsStep (step_of_run held rest) (Err e) left
     → DrawsStep (step_of_mode held rest Horizontal) (Err e) left

@@ -207,9 +207,6 @@ module _ {settings : DecodeSettings} {bits : Bits} {held : Held} {here : Bits}
   taken_is : held.taken ≡ length so_far.rows
   taken_is = ap (λ (h : Held). h.taken) stands.held_is
 
-  pub settings_are : held.settings ≡ settings
-  settings_are = ap (λ (h : Held). h.settings) stands.held_is
-
   pub few : held.taken ≤ length bits + 1
   few = omega (arith, few_rows settings stands.wide bits stands.begins stands.reaches stands.room, taken_is)
 
