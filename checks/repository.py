@@ -214,11 +214,18 @@ def is_field(text, start, indent):
 IMPORT = re.compile(r"^(?:pub |ghost )?use (Rattle\.[^\s{]*)\.\{(.*)\};?$", re.MULTILINE)
 
 
-def imported_names(text):
+# The lemmas that a function gives to the search.
+GIVEN = re.compile(r"\busing\(([^)]*)\)")
+
+
+def imported_names(name, text):
     """The whole names that a file imports."""
     for path, names in IMPORT.findall(text):
-        for name in names.split(","):
-            yield f"{path}.{name.split(' as ')[0].strip()}"
+        for lemma in names.split(","):
+            yield f"{path}.{lemma.split(' as ')[0].strip()}"
+    for given in GIVEN.findall(text):
+        for lemma in given.split(","):
+            yield f"Rattle.{lemma.strip().replace('crate', name.split('/')[1], 1).replace('::', '.')}"
 
 
 def each_lemma_is_cited():
@@ -229,7 +236,7 @@ def each_lemma_is_cited():
         if name.endswith((".antt", ".rt")):
             with open(name, encoding="utf-8") as file:
                 texts[name] = re.sub(r"--.*" if name.endswith(".antt") else r"//.*", "", file.read())
-    imported = {whole for text in texts.values() for whole in imported_names(text)}
+    imported = {whole for name, text in texts.items() for whole in imported_names(name, text)}
     dead = []
     for name, text in texts.items():
         if "/proofs/" not in name or not name.endswith(".antt") or name.endswith((*NOT_CITED, "/Examples.antt")):

@@ -18,6 +18,10 @@ not_black : (color : Color) → not (is_black color) ≡ is_black (opposite colo
 not_black White = refl
 not_black Black = refl
 
+colors_differ : (color : Color) → not (is_black color) ≡ is_black color → ⊥
+colors_differ White e = false≢true (sym e)
+colors_differ Black e = false≢true e
+
 begins_other : (color : Color) (change width : ℕ) (places : List ℕ) → change < width → AscendFrom (suc change) width places
     → (rest : Row) → pixels_from change (not (is_black color)) width places ≢ is_black color ∷ rest
 begins_other color change width places lt ascend rest e =

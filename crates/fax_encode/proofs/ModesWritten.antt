@@ -1,12 +1,11 @@
 -- The bits of one mode, by what an encoder finds.
-use Rattle.fax_encode.proofs.Names.{◌≡◌, ℕ, suc, ◌+◌, ◌-◌, ◌%◌, ◌<◌, ◌≤◌, Bool, true, false, cond, ltb, leb, List, [], ◌∷◌, ◌++◌}
-use Rattle.fax_encode.proofs.Names.{length, get_or, drop, map, replicate, refl, sym, ap, ◌∙◌, arith, append_assoc, lt-ltb, le-ltb}
+use Rattle.fax_encode.proofs.Names.{◌≡◌, ℕ, suc, ◌+◌, ◌-◌, ◌%◌, ◌<◌, ◌≤◌, Bool, true, false, cond, ltb, leb, List, [], ◌++◌}
+use Rattle.fax_encode.proofs.Names.{length, replicate, refl, sym, ap, ◌∙◌, arith, append_assoc, lt-ltb, le-ltb}
 use Rattle.fax_encode.proofs.Names.{false≢true, append-nil, length-append, length-replicate, Mode, Pass, Horizontal, Bits, Row}
 use Rattle.fax_encode.proofs.Names.{AreChanges, pixels, opposite, a1, a2, b1, b2, padding, length-pixels, a1_next}
 use Rattle.fax_encode.proofs.Names.{Place, word_of_mode, vertical_mode, is_near, is_coded, chosen_mode, runs_of_mode, place_after}
-use Rattle.fax_encode.proofs.Names.{bits_at, chosen_run, chosen_from, chosen_line_2d, chosen_lines_2d, rows_of}
+use Rattle.fax_encode.proofs.Names.{bits_at, chosen_run, chosen_from}
 use Rattle.fax_encode.proofs.ChosenLines.{goes_right, chooses, chosen_more, chosen_over}
-use Rattle.fax_encode.proofs.RowLists.{item_next}
 
 module _ (reference row : Row) (at : Place) (inside : at.from ≤ length row) where
   open_bits : (mode : Mode) → chosen_mode reference row at ≡ mode

@@ -1,8 +1,8 @@
 -- The lists of a picture, one after another.
-use Rattle.fax_encode.proofs.Names.{◌≡◌, ℕ, ◌+◌, ◌<◌, List, [], ◌∷◌, ◌++◌, length, get_or, drop, map, Some, sym, ap, subst, ◌∙◌}
-use Rattle.fax_encode.proofs.Names.{arith, get_or-map, length-map, slice_get-get_or, White, Bits, AreChanges, pixels, changes}
-use Rattle.fax_encode.proofs.Names.{eol, drop_some, length-pixels, changes-pixels, chosen_runs, chosen_line_1d, chosen_lines_1d}
-use Rattle.fax_encode.proofs.Names.{rows_of, AreRows}
+use Rattle.fax_encode.proofs.Names.{◌≡◌, ℕ, ◌+◌, ◌<◌, List, [], ◌∷◌, length, get_or, drop, map, Some, sym, ap, subst, ◌∙◌}
+use Rattle.fax_encode.proofs.Names.{arith, get_or-map, length-map, slice_get-get_or, White, AreChanges, pixels, changes}
+use Rattle.fax_encode.proofs.Names.{drop_some, length-pixels, changes-pixels, chosen_runs, chosen_line_1d}
+use Rattle.fax_encode.proofs.Names.{AreRows}
 
 -- an item that a loop has at hand
 pub item_at : {X : Type 0} (list_of : X → List ℕ) (items : List X) (i : ℕ) (item : X) → i < length items

@@ -24,6 +24,11 @@ AscendFrom-here place width places ascend =
 pub AreChanges-wider : (width wider : ℕ) (places : List ℕ) → width ≤ wider → AreChanges width places → AreChanges wider places
 AreChanges-wider width wider places below ascend = AscendFrom-wider 0 0 width wider places (omega arith) below ascend
 
+-- a sink that is as wide as the row accepts the changes of a front
+pub front_fits : (painted columns width : ℕ) (places : List ℕ) → painted ≤ columns → columns ≤ width → AreChanges painted places
+    → AreChanges width places
+front_fits painted columns width places within wide ascend = AreChanges-wider painted width places (omega arith) ascend
+
 -- one position more, at the old width
 pub AscendFrom-push : (first width more : ℕ) (places : List ℕ) → first ≤ width → 0 < more → AscendFrom first width places
     → AscendFrom first (width + more) (places ++ width ∷ [])
