@@ -398,24 +398,24 @@ fn cut_after_the_row_limit(rt: HostRuntime) {
 
 #[test]
 fn cut_between_and_in_rows(rt: HostRuntime) {
-    let cut = Err(UnexpectedEof);
+    let unexpected_end = Err(UnexpectedEof);
     let aligned = group_4(8, 0, "ba");
     let rows: &[&[u32]] = &[&[3, 5], &[3, 5]];
     let data = [0x31, 0xC0, 0xE0, 0x00, 0x10];
     for (length, count, answer) in [
         (0, 0, Ok(0)),
-        (1, 0, cut),
+        (1, 0, unexpected_end),
         (2, 1, Ok(2)),
         (3, 2, Ok(3)),
         (4, 2, Err(InvalidCode)),
-        (5, 2, cut),
+        (5, 2, unexpected_end),
     ] {
         decodes(&rt, aligned, &data[..length], &rows[..count], answer);
     }
     let packed = group_4(8, 2, "");
-    decodes(&rt, packed, &[0x31], &[], cut);
-    decodes(&rt, packed, &[0x31, 0xDB], &[&[3, 5]], cut);
-    decodes(&rt, packed, &[0x38, 0xA0, 0x81], &[&[5, 6]], cut);
+    decodes(&rt, packed, &[0x31], &[], unexpected_end);
+    decodes(&rt, packed, &[0x31, 0xDB], &[&[3, 5]], unexpected_end);
+    decodes(&rt, packed, &[0x38, 0xA0, 0x81], &[&[5, 6]], unexpected_end);
 }
 
 #[test]
@@ -761,10 +761,10 @@ fn tells_damage(
 #[test]
 fn damage_is_told(rt: HostRuntime) {
     // The black run of the middle line has no word.
-    let cut = [0x00, 0x19, 0x80, 0x0C, 0x40, 0x00, 0x33];
+    let damaged = [0x00, 0x19, 0x80, 0x0C, 0x40, 0x00, 0x33];
     let middle = [None, Some(InvalidCode), None];
-    tells_damage(&rt, &cut, group_3_1d(8, 0, "l"), &middle);
-    tells_damage(&rt, &cut, group_3_1d(8, 2, "l"), &middle[..2]);
+    tells_damage(&rt, &damaged, group_3_1d(8, 0, "l"), &middle);
+    tells_damage(&rt, &damaged, group_3_1d(8, 2, "l"), &middle[..2]);
     // A line's end is damaged: the row is whole, and a strict reading fails at the bits behind it.
     let whole = [0x00, 0x19, 0xF8, 0x00, 0xCC];
     tells_damage(&rt, &whole, group_3_1d(8, 2, "l"), &[None, None]);
@@ -846,8 +846,8 @@ fn missed_eols_are_told(rt: HostRuntime) {
     // No EOL is left.
     tells_missed(&rt, &[0x77, 0x70], group_3_1d(2, 0, "l"), usize::MAX, 1);
     // The search for an EOL is the repair of the damaged line.
-    let cut = [0x00, 0x19, 0x80, 0x0C, 0x40, 0x00, 0x33];
-    tells_missed(&rt, &cut, group_3_1d(8, 0, "l"), usize::MAX, 0);
+    let damaged = [0x00, 0x19, 0x80, 0x0C, 0x40, 0x00, 0x33];
+    tells_missed(&rt, &damaged, group_3_1d(8, 0, "l"), usize::MAX, 0);
     tells_missed(&rt, &[0x31, 0xC0], group_4(8, 0, ""), usize::MAX, 0);
 }
 
@@ -911,8 +911,8 @@ fn refused_at(
 #[test]
 fn faults_have_a_place(rt: HostRuntime) {
     // The second line's black run has no word.
-    let cut = [0x00, 0x19, 0x80, 0x0C, 0x40, 0x00, 0x33];
-    fails_at(&rt, &cut, group_3_1d(8, 0, "ls"), 1, 29);
+    let damaged = [0x00, 0x19, 0x80, 0x0C, 0x40, 0x00, 0x33];
+    fails_at(&rt, &damaged, group_3_1d(8, 0, "ls"), 1, 29);
     // Bits stand before the second EOL, from the end of the first line on.
     let whole = [0x00, 0x19, 0xF8, 0x00, 0xCC];
     fails_at(&rt, &whole, group_3_1d(8, 2, "ls"), 1, 17);
@@ -920,7 +920,7 @@ fn faults_have_a_place(rt: HostRuntime) {
     fails_at(&rt, &[0x31, 0xC0], group_4(8, 0, ""), 1, 10);
     // A whole row is refused, and one that was repaired.
     refused_at(&rt, &[0x31, 0xF8], group_4(8, 2, ""), 1, 10);
-    refused_at(&rt, &cut, group_3_1d(8, 3, "l"), 1, 29);
+    refused_at(&rt, &damaged, group_3_1d(8, 3, "l"), 1, 29);
 }
 
 #[test]

@@ -128,8 +128,8 @@ fn bitmaps_of_strips(rt: HostRuntime) -> std::result::Result<(), Fail> {
     same(&rt, one.as_slice(), [0x18u8].as_slice());
     let two = strip_to_bitmap(rt.alloc(), group4_pages(8), HighestFirst, &TWO_ROWS)?;
     same(&rt, two.as_slice(), [0x18u8, 0x18].as_slice());
-    let cut = strip_to_bitmap(rt.alloc(), group4_pages(8), HighestFirst, &CUT_ROW);
-    same(&rt, cut.err(), Some(UnexpectedEof));
+    let of_cut_row = strip_to_bitmap(rt.alloc(), group4_pages(8), HighestFirst, &CUT_ROW);
+    same(&rt, of_cut_row.err(), Some(UnexpectedEof));
     Ok(())
 }
 
@@ -215,13 +215,13 @@ fn pages(rt: HostRuntime) -> std::result::Result<(), Fail> {
         ),
         ("no columns", [].as_slice()),
     );
-    let cut = page_ends(
+    let ends_of_cut_page = page_ends(
         alloc,
         8,
         HighestFirst,
         &[0x31, 0xC0, 0x04, 0x00, 0x40, 0x31],
     );
-    same(&rt, cut.err(), Some(UnexpectedEof));
+    same(&rt, ends_of_cut_page.err(), Some(UnexpectedEof));
     Ok(())
 }
 

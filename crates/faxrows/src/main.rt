@@ -86,8 +86,9 @@ fn run_words(rt: &HostRuntime) -> Result<u8, RunFault>
 }
 
 /// What `--help` prints.
-const USAGE: &str =
-    "faxrows MODE COLUMNS ROWS FLAGS\nfaxrows -o MODE COLUMNS ROWS FLAGS\nfaxrows -i MODE COLUMNS ROWS FLAGS\nfaxrows -d MODE COLUMNS ROWS FLAGS\nfaxrows --help\nfaxrows --version";
+const USAGE: &str = "faxrows MODE COLUMNS ROWS FLAGS\nfaxrows -o MODE COLUMNS ROWS FLAGS\n\
+     faxrows -i MODE COLUMNS ROWS FLAGS\nfaxrows -d MODE COLUMNS ROWS FLAGS\n\
+     faxrows --help\nfaxrows --version";
 
 /// What `--version` prints.
 const VERSION: &str = "faxrows 0.6.0";

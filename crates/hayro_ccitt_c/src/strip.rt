@@ -4,7 +4,7 @@ ghost use Rattle.std.specs.Prelude.{◌≡◌, ◌≢◌, ◌<◌, ◌≤◌, �
 ghost use Rattle.hayro_ccitt.specs.Bits.{bits_of};
 ghost use Rattle.hayro_ccitt.specs.Rows.{AreChanges, pixels};
 ghost use Rattle.fax_encode.specs.Packed.{bytes_of_row};
-ghost use Rattle.hayro_ccitt_c.specs.RowsTaken.{Finishes, IfFinished, IsGiven, TakesRow, status_of_row, strip_told};
+ghost use Rattle.hayro_ccitt_c.specs.RowsTaken.{Finishes, IfFinished, IsGiven, TakesRow, status_of_adding, strip_told};
 
 use crate::encoding::EncodeOutcome;
 use fax_encode::{EncodeError, Encoder};
@@ -51,8 +51,8 @@ pub enum Strip {
 }
 
 /// Returns the status of adding a row.
-fn status_of_row(answer: Result<(), EncodeError>) -> u32
-    ensures { result ≡ status_of_row answer }
+fn status_of_adding(answer: Result<(), EncodeError>) -> u32
+    ensures { result ≡ status_of_adding answer }
 {
     match answer {
         Ok(()) => 0,
@@ -68,7 +68,7 @@ impl Strip {
             (λ columns. pixels columns changes.now) result }
     {
         match self {
-            Strip::Rows(encoder) => status_of_row(encoder.push_changes(changes)),
+            Strip::Rows(encoder) => status_of_adding(encoder.push_changes(changes)),
             Strip::Whole(_) => 6,
             Strip::OutOfMemory => 4,
         }
@@ -80,7 +80,7 @@ impl Strip {
             (λ columns. take columns (bits_of row.now)) result }
     {
         match self {
-            Strip::Rows(encoder) => status_of_row(encoder.push_packed_row(row)),
+            Strip::Rows(encoder) => status_of_adding(encoder.push_packed_row(row)),
             Strip::Whole(_) => 6,
             Strip::OutOfMemory => 4,
         }

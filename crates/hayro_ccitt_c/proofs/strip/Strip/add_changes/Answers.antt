@@ -6,7 +6,7 @@ pub returns-in-Rows : goal.returns-in-Rows
 returns-in-Rows c =
     let rows = c.in-Rows.encoder in
     let e = c.push_changes.ensures in
-    rw (c.in-Rows.is, c.status_of_row.ensures)
+    rw (c.in-Rows.is, c.status_of_adding.ensures)
     (takes_next rows c.push_changes.new.self (AreChanges rows.columns c.args.changes.now)
     (¬ AreChanges rows.columns c.args.changes.now) (pixels rows.columns c.args.changes.now) c.push_changes.result (λ no. no)
     (λ no. no) e.taken e.lawful e.not_a_row e.kept e.others e.wanted e.wants)

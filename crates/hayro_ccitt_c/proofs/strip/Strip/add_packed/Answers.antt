@@ -10,7 +10,7 @@ returns-in-Rows c =
     let rows = c.in-Rows.encoder in
     let row = c.args.row.now in
     let e = c.push_packed_row.ensures in
-    rw (c.in-Rows.is, c.status_of_row.ensures)
+    rw (c.in-Rows.is, c.status_of_adding.ensures)
     (takes_next rows c.push_packed_row.new.self (bytes_of_row rows.columns ≤ length row)
     (length row < bytes_of_row rows.columns) (take rows.columns (bits_of row)) c.push_packed_row.result
     (λ short whole. absurd (omega (arith, short, whole)))
