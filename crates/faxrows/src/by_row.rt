@@ -11,10 +11,10 @@ ghost use Rattle.faxrows.specs.Runs.{Outcome, OnKnown, whole_text, rows_of, text
 ghost use Rattle.faxrows.specs.RunsByRow.{EndsByRow, IsTextByRow, IsTextWithoutMemory};
 ghost use Rattle.faxrows.specs.Text.{lines_of_rows};
 
-use crate::arguments::arguments_of;
+use crate::input::read_input;
 use crate::output::{flush, put_last_line, put_row};
 use crate::program::{Done, done_of};
-use fax_program::{Device, RunFault, read_all};
+use fax_program::{Device, RunFault};
 use hayro_ccitt::RowReader;
 use std::alloc::Global;
 use std::io::{Read, Write};
@@ -55,10 +55,7 @@ pub fn run_by_row<R: Read, W: Write>(
     ensures read { reader.old.1 ≡ false → ((result ≡ Err RunFault.Read) ↔ (reader.new.1 ≡ true)) }
     ensures write { writer.old.1 ≡ false → ((result ≡ Err RunFault.Write) ↔ (writer.new.1 ≡ true)) }
 {
-    let Some(arguments) = arguments_of(words) else {
-        return Err(RunFault::BadArguments);
-    };
-    let input = read_all(alloc, reader)?;
+    let (arguments, input) = read_input(alloc, words, reader)?;
     let Ok(mut rows) = RowReader::new(alloc, input.as_slice(), arguments.order, arguments.settings)
     else {
         return Err(RunFault::Memory);

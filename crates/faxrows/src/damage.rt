@@ -13,12 +13,12 @@ ghost use Rattle.faxrows.specs.Output.{PassesOn};
 ghost use Rattle.faxrows.specs.Runs.{Outcome, OnKnown, rows_of, outcome_of, done_of, IsEndOfRun};
 ghost use Rattle.faxrows.specs.RunsByRow.{EndsByRow};
 
-use crate::arguments::arguments_of;
 use crate::damage_lines::{put_fault, put_good_end, put_missed, put_strict};
+use crate::input::read_input;
 use crate::output::flush;
 use crate::program::{Done, done_of};
 use crate::strict_reading::{StrictFault, strict_fault};
-use fax_program::{Device, RunFault, read_all};
+use fax_program::{Device, RunFault};
 use hayro_ccitt::{DecodeError, RowReader};
 use std::alloc::Global;
 use std::io::{Read, Write};
@@ -62,10 +62,7 @@ pub fn run_damage<R: Read, W: Write>(
     ensures read { reader.old.1 ≡ false → ((result ≡ Err RunFault.Read) ↔ (reader.new.1 ≡ true)) }
     ensures write { writer.old.1 ≡ false → ((result ≡ Err RunFault.Write) ↔ (writer.new.1 ≡ true)) }
 {
-    let Some(arguments) = arguments_of(words) else {
-        return Err(RunFault::BadArguments);
-    };
-    let input = read_all(alloc, reader)?;
+    let (arguments, input) = read_input(alloc, words, reader)?;
     let found = strict_fault(alloc, input.as_slice(), arguments.order, arguments.settings)?;
     let Ok(mut rows) = RowReader::new(alloc, input.as_slice(), arguments.order, arguments.settings)
     else {

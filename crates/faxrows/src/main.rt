@@ -14,6 +14,7 @@ pub mod by_row;
 pub mod damage;
 mod damage_lines;
 mod digits;
+mod input;
 mod last_line;
 mod output;
 pub mod packed;

@@ -9,10 +9,10 @@ ghost use Rattle.faxrows.specs.Arguments.{arguments_of_words};
 ghost use Rattle.faxrows.specs.Runs.{OnKnown};
 ghost use Rattle.faxrows.specs.PackedRuns.{IsPackedOf, answer_of};
 
-use crate::arguments::arguments_of;
+use crate::input::read_input;
 use fax_encode::BitmapSink;
 use fax_encode::laws::rows_are_packed;
-use fax_program::{Device, RunFault, read_all, write_all};
+use fax_program::{Device, RunFault, write_all};
 use hayro_ccitt::bit_reader::BitOrder;
 use hayro_ccitt::{DecodeError, DecoderContext, decode_in};
 use std::alloc::Global;
@@ -50,10 +50,7 @@ pub fn run_packed<R: Read, W: Write>(
     ensures read { reader.old.1 ≡ false → ((result ≡ Err RunFault.Read) ↔ (reader.new.1 ≡ true)) }
     ensures write { writer.old.1 ≡ false → ((result ≡ Err RunFault.Write) ↔ (writer.new.1 ≡ true)) }
 {
-    let Some(arguments) = arguments_of(words) else {
-        return Err(RunFault::BadArguments);
-    };
-    let input = read_all(alloc, reader)?;
+    let (arguments, input) = read_input(alloc, words, reader)?;
     let Ok(mut ctx) = DecoderContext::new(alloc, arguments.settings) else {
         return Err(RunFault::Memory);
     };

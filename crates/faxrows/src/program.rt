@@ -10,10 +10,10 @@ ghost use Rattle.faxrows.specs.Text.{line_of_outcome};
 ghost use Rattle.faxrows.specs.Runs.{Outcome, OnKnown, EndsAfter, IsTextOfWant, whole_text, text_after, outcome_of, done_of};
 ghost use Rattle.faxrows.specs.Runs.{IsEndOfRun};
 
-use crate::arguments::arguments_of;
+use crate::input::read_input;
 use crate::last_line::{ROOM, error_line, put_ok};
 use crate::text_sink::TextSink;
-use fax_program::{Device, RunFault, read_all, write_all};
+use fax_program::{Device, RunFault, write_all};
 use hayro_ccitt::bit_reader::BitOrder;
 use hayro_ccitt::{DecodeError, DecoderContext, decode_in};
 use std::alloc::Global;
@@ -60,10 +60,7 @@ pub fn run<R: Read, W: Write>(
     ensures read { reader.old.1 ≡ false → ((result ≡ Err RunFault.Read) ↔ (reader.new.1 ≡ true)) }
     ensures write { writer.old.1 ≡ false → ((result ≡ Err RunFault.Write) ↔ (writer.new.1 ≡ true)) }
 {
-    let Some(arguments) = arguments_of(words) else {
-        return Err(RunFault::BadArguments);
-    };
-    let input = read_all(alloc, reader)?;
+    let (arguments, input) = read_input(alloc, words, reader)?;
     let Ok(mut ctx) = DecoderContext::new(alloc, arguments.settings) else {
         return Err(RunFault::Memory);
     };

@@ -35,7 +35,7 @@ module _ (g : Over) (c : goal.After-drop-input-2 g) where
 
   known : (P : DecodeSettings → Bits → Type 0) → P settings bits → Known P
   known P holds =
-      on_known _ c.in-Some.arguments settings _ c.as_slice.result.now P (search rules) (search rules) (search rules)
+      on_known _ c.in_ok-arguments.arguments settings _ c.as_slice.result.now P (search rules) (search rules) (search rules)
       (subst (P settings) (search rules) holds)
 
   -- what is written for each way to end

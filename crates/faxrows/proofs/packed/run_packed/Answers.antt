@@ -11,5 +11,5 @@ module _ (g : Over) (c : goal.After-drop-input-2 g) where
 
 pub returns-clause-packed : goal.returns-clause-packed
 returns-clause-packed g c =
-    IfOk-weaker c.write_packed.result _ _ (λ answer wrote. on_known _ c.in-Some.arguments c.in-Ok.ctx.held.settings _
+    IfOk-weaker c.write_packed.result _ _ (λ answer wrote. on_known _ c.in_ok-arguments.arguments c.in-Ok.ctx.held.settings _
     c.as_slice.result.now (Wrote g c answer) (search rules) (search rules) (search rules) wrote) c.write_packed.ensures.written

@@ -11,7 +11,7 @@ module _ (g : Over) (c : goal.After-drop-input-2 g) where
 
   -- the bits of what was read, in the order that the arguments select
   abbrev bits : Bits
-  bits = bits_in c.in-Some.arguments.order c.as_slice.result.now
+  bits = bits_in c.in_ok-arguments.arguments.order c.as_slice.result.now
 
   -- how many rows were accepted
   abbrev taken : ℕ
@@ -33,7 +33,7 @@ module _ (g : Over) (c : goal.After-drop-input-2 g) where
 
   known : (P : DecodeSettings → Bits → Type 0) → P settings bits → Known P
   known P holds =
-      on_known _ c.in-Some.arguments settings _ c.as_slice.result.now P (search rules) (search rules) (search rules) holds
+      on_known _ c.in_ok-arguments.arguments settings _ c.as_slice.result.now P (search rules) (search rules) (search rules) holds
 
   -- what is written for each way to end
   ended : (done : Done) → Written done → Known (λ s b. IsEndOfRun done (outcome_of s b) (whole_text s b) (IsTextOfWant s b) Grew)
