@@ -1,0 +1,46 @@
+-- Rows that come one after another, as lines.
+use Rattle.faxrows_runs.proofs.Names.{◌≡◌, ◌<◌, ◌≤◌, ◌+◌, ℕ, List, [], ◌++◌, refl, true, Ok, length, take, get_or, sym, ap, ◌∙◌, arith}
+use Rattle.faxrows_runs.proofs.Names.{get_or-map, length-map, DecodeSettings, Bits, plain, changes, RowsRead, ReadsNext, rows_of}
+use Rattle.faxrows_runs.proofs.Names.{line_of_row, lines_of_rows}
+use Rattle.faxrows_runs.proofs.Outputs.{pieces_more}
+
+-- the row of some data with this index came
+pub record Came (settings : DecodeSettings) (bits : Bits) (index : ℕ) (new : RowsRead) : Type 0 where
+  pub settings_are : new.settings ≡ settings
+  pub bits_are : new.bits ≡ bits
+  pub taken : new.taken ≡ index + 1
+  pub within : new.taken ≤ length (rows_of settings bits)
+  pub lines : lines_of_rows (take index (rows_of settings bits)) ++ line_of_row (changes new.row) ≡ lines_of_rows
+      (take new.taken (rows_of settings bits))
+
+-- the rows of the same data
+same_rows : (s t : DecodeSettings) (b c : Bits) → s ≡ t → b ≡ c → rows_of s b ≡ rows_of t c
+same_rows s t b c p q = ap (λ (x : DecodeSettings). rows_of x b) p ∙ ap (rows_of t) q
+
+-- the lines of the first n rows, and of the next one
+lines_more : (rows : List (List ℕ)) (row : List ℕ) (index taken : ℕ) → index < length rows → row ≡ get_or rows index []
+    → taken ≡ index + 1 → lines_of_rows (take index rows) ++ line_of_row row ≡ lines_of_rows (take taken rows)
+lines_more rows row index taken inside is next =
+    ap (λ (r : List ℕ). lines_of_rows (take index rows) ++ line_of_row r) is ∙ pieces_more line_of_row rows index [] inside
+    ∙ ap (λ (n : ℕ). lines_of_rows (take n rows)) (sym next)
+
+-- a call that reads a row reads the next one
+pub came : (settings : DecodeSettings) (bits : Bits) (old new : RowsRead) → old.settings ≡ settings → old.bits ≡ bits
+    → ReadsNext old new (Ok true) → Came settings bits old.taken new
+came settings bits old new of_settings of_bits reads =
+    let more = reads.more refl in
+    let rows = (plain old.settings old.bits).rows in
+    let same : rows_of old.settings old.bits ≡ rows_of settings bits
+    = same_rows old.settings settings old.bits bits of_settings of_bits in
+    let long : length (rows_of settings bits) ≡ length rows = ap length (sym same) ∙ length-map rows changes in
+    let inside : old.taken < length (rows_of settings bits) = omega (arith, long, more.1, more.2) in
+    let row : changes new.row ≡ get_or (rows_of settings bits) old.taken []
+    = ap changes (reads.row refl) ∙ sym (get_or-map changes rows old.taken [] [] (omega (arith, more.1, more.2))) ∙ ap
+    (λ (l : List (List ℕ)). get_or l old.taken []) same in
+    record {
+      settings_are = reads.settings ∙ of_settings;
+      bits_are = reads.bits ∙ of_bits;
+      taken = more.1;
+      within = omega (arith, long, more.2);
+      lines = lines_more (rows_of settings bits) (changes new.row) old.taken new.taken inside row more.1;
+    }
