@@ -24,7 +24,7 @@ pub use Rattle.hayro_ccitt.specs.Damage.{misses_by_line, missed_before, start_in
 pub use Rattle.hayro_ccitt.specs.Decoding.{SinkState, StopsShort, TakesRows}
 pub use Rattle.hayro_ccitt.specs.PlainReading.{failed_at, line_starts, lines_of, plain}
 pub use Rattle.hayro_ccitt.specs.Rows.{HaveWidth, Row, changes}
-pub use Rattle.hayro_ccitt.specs.RowsRead.{ReadsNext, RowsRead, at_end_of_rows}
+pub use Rattle.hayro_ccitt.specs.RowsRead.{HasFailed, ReadsNext, RowsRead, at_end_of_rows}
 pub use Rattle.hayro_ccitt.specs.declared.bit_reader.BitOrder.TheVariants.{HighestFirst, LowestFirst}
 pub use Rattle.hayro_ccitt.specs.declared.error.DecodeError.{DecodeError}
 pub use Rattle.hayro_ccitt.specs.declared.error.DecodeError.TheVariants.{InvalidCode, OutOfMemory, Overflow, Refused}

@@ -1,4 +1,5 @@
 use Rattle.faxrows_runs.proofs.Names.{rules, ◌≡◌, ◌++◌, ◌∙◌, [], take, Ok, List, ℕ, Result, Bool, ap, subst, DecodeError, ReadsNext}
+use Rattle.faxrows_runs.proofs.RowsInTurn.{ended_badly, ended_well}
 use Rattle.faxrows_runs.proofs.Names.{AppendsFront, PassesOn, rows_of, line_of_row, lines_of_rows}
 use Rattle.faxrows_runs.proofs.{RowsInTurn.Came, RowsInTurn.came, by_row.put_rows.Given.Over, by_row.put_rows.Goals.After-put_row}
 use Rattle.faxrows_runs.proofs.Outputs.{passes_both, front_behind, front_of_longer, pieces_rest}
@@ -52,3 +53,15 @@ returns-in_err-put_row-in-Ok-true-clause-front g c =
     subst (AppendsFront (g.W.Write.contents c.args.writer.now.0) (g.W.Write.contents c.put_row.new.writer.0))
     (pieces_rest line_of_row rows taken) (front_of_longer _ _ [] (lines_of_rows (take taken rows)) _ so_far) in
     search rules
+
+pub returns-in-Ok-false-clause-ends : goal.returns-in-Ok-false-clause-ends
+returns-in-Ok-false-clause-ends g c =
+    let reads = subst (λ (r : Result Bool DecodeError). ReadsNext c.loop-rows.rows c.next_row.new.self r)
+    (c.in-Ok-false.is ∙ ap Ok c.in-Ok-false.field-0-test) c.next_row.ensures.reads in
+    ended_well _ _ _ _ _ c.loop-rows.invariant.settings c.loop-rows.invariant.bits reads c.bytes_read.ensures
+
+pub returns-in-Err-clause-ends : goal.returns-in-Err-clause-ends
+returns-in-Err-clause-ends g c =
+    let reads = subst (λ (r : Result Bool DecodeError). ReadsNext c.loop-rows.rows c.next_row.new.self r) c.in-Err.is
+    c.next_row.ensures.reads in
+    ended_badly _ _ _ _ _ c.loop-rows.invariant.settings c.loop-rows.invariant.bits c.loop-rows.invariant.within reads

@@ -1,4 +1,5 @@
 use Rattle.faxrows_runs.proofs.Names.{rules, ◌≡◌, ◌++◌, ◌-◌, ◌∙◌, [], true, false, length, refl, sym, Ok, Result, Bool, ℕ}
+use Rattle.faxrows_runs.proofs.RowsInTurn.{ended_badly, ended_well}
 use Rattle.faxrows_runs.proofs.Names.{Option, ap, subst, DecodeError, ReadsNext, AppendsFront, damage_lines, line_of_damage}
 use Rattle.faxrows_runs.proofs.Names.{line_of_miss, PassesOn, rows_of}
 use Rattle.faxrows_runs.proofs.{Outputs.front_behind, Outputs.passes_both, RowsInTurn.Came, RowsInTurn.came}
@@ -131,3 +132,15 @@ returns-in_err-put_last_row-in-Ok-true-clause-front g c =
     let front : AppendsFront (g.W.Write.contents c.args.writer.now.0) (g.W.Write.contents c.put_last_row.new.writer.0)
     (damage_lines settings bits all) = front_so_far _ _ settings bits taken all (next_row g at).within so_far in
     search rules
+
+pub returns-in-Ok-false-clause-ends : goal.returns-in-Ok-false-clause-ends
+returns-in-Ok-false-clause-ends g c =
+    let reads = subst (λ (r : Result Bool DecodeError). ReadsNext c.loop-rows.rows c.next_row-answer.new.self r)
+    (c.in-Ok-false.is ∙ ap Ok c.in-Ok-false.field-0-test) c.next_row-answer.ensures.reads in
+    ended_well _ _ _ _ _ c.loop-rows.invariant.settings c.loop-rows.invariant.bits reads c.bytes_read.ensures
+
+pub returns-in-Err-clause-ends : goal.returns-in-Err-clause-ends
+returns-in-Err-clause-ends g c =
+    let reads = subst (λ (r : Result Bool DecodeError). ReadsNext c.loop-rows.rows c.next_row-answer.new.self r) c.in-Err.is
+    c.next_row-answer.ensures.reads in
+    ended_badly _ _ _ _ _ c.loop-rows.invariant.settings c.loop-rows.invariant.bits c.loop-rows.invariant.within reads
