@@ -1,11 +1,15 @@
 -- What a run writes of the damage, from how the reading ended.
 use Rattle.faxrows_runs.proofs.Names.{◌≡◌, ◌≢◌, ◌≤◌, ◌+◌, ◌-◌, ℕ, zero, suc, Bool, List, [], ◌++◌, refl, true, inl, inr, sym, ap}
-use Rattle.faxrows_runs.proofs.Names.{subst, ◌∙◌, Result, Ok, Err, length, get_or, append_assoc, append-nil, arith, Option, None, Some}
+use Rattle.faxrows_runs.proofs.Names.{subst, ◌∙◌, Result, Ok, Err, length, get_or, append_assoc, append-nil, arith, Option}
+use Rattle.faxrows_runs.proofs.Names.{None, Some}
 use Rattle.faxrows_runs.proofs.Names.{IsOk, IsErr, DecodeError, UnexpectedEof, InvalidCode, Overflow, OutOfMemory, Refused}
-use Rattle.faxrows_runs.proofs.Names.{DecodeSettings, Bits, line_starts, failed_at, RowsRead, ReadsNext, at_end_of_rows, AppendsFront}
+use Rattle.faxrows_runs.proofs.Names.{DecodeSettings, Bits, line_starts, failed_at, RowsRead, ReadsNext, at_end_of_rows}
+use Rattle.faxrows_runs.proofs.Names.{AppendsFront}
 use Rattle.faxrows_runs.proofs.Names.{Good, Faulty, Memory, IsDamageText, IsDamageWithoutMemory, damage_after, damage_lines}
-use Rattle.faxrows_runs.proofs.Names.{damage_of_row, line_of_damage, whole_damage, Outcome, EndsAfter, done_of, outcome_of, rows_of}
-use Rattle.faxrows_runs.proofs.Names.{EndsByRow, line_of_miss, miss_of_row, missed_before, misses_by_line, repair_of_row, start_in}
+use Rattle.faxrows_runs.proofs.Names.{damage_of_row, line_of_damage, whole_damage, Outcome, EndsAfter, done_of, outcome_of}
+use Rattle.faxrows_runs.proofs.Names.{rows_of}
+use Rattle.faxrows_runs.proofs.Names.{EndsByRow, line_of_miss, miss_of_row, missed_before, misses_by_line, repair_of_row}
+use Rattle.faxrows_runs.proofs.Names.{start_in}
 use Rattle.faxrows_runs.proofs.Outputs.{front_of_longer, front_of_more}
 
 -- ---- The lines of the rows

@@ -17,7 +17,7 @@ pub use Rattle.faxrows_runs.specs.declared.arguments.Arguments.{Arguments}
 pub use Rattle.faxrows_runs.specs.declared.program.Done.{Done}
 pub use Rattle.faxrows_runs.specs.declared.strict_reading.StrictFault.{StrictFault}
 pub use Rattle.faxrows_runs.specs.declared.program.Done.TheVariants.{Faulty, Good, Memory}
-pub use Rattle.hayro_ccitt.specs.Answers.{meaning_after}
+pub use Rattle.hayro_ccitt.specs.Answers.{IsFault, meaning_after}
 pub use Rattle.hayro_ccitt.specs.Bits.{Bits, bits_in, bits_of}
 pub use Rattle.hayro_ccitt.specs.Context.{Held}
 pub use Rattle.hayro_ccitt.specs.Damage.{misses_by_line, missed_before, start_in}

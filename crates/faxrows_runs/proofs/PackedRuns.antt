@@ -1,6 +1,7 @@
 -- What a run with packed rows writes, from what decoding returns.
 use Rattle.faxrows_runs.proofs.Names.{◌≡◌, false, List, [], length, take, ap, ◌∙◌, All-take, DecodeSettings, meaning_after, Bits}
-use Rattle.faxrows_runs.proofs.Names.{bits_of, Held, SinkState, plain, Row, HaveWidth, RowsArePacked, packed, with_packed_row, Bitmap}
+use Rattle.faxrows_runs.proofs.Names.{bits_of, Held, SinkState, plain, Row, HaveWidth, RowsArePacked, packed, with_packed_row}
+use Rattle.faxrows_runs.proofs.Names.{Bitmap}
 use Rattle.faxrows_runs.proofs.Names.{Outcome}
 use Rattle.faxrows_runs.proofs.Texts.{Takes}
 

@@ -1,8 +1,10 @@
 -- Rows that come one after another, as lines.
-use Rattle.faxrows_runs.proofs.Names.{◌≡◌, ◌≢◌, ◌<◌, ◌≤◌, ◌+◌, ◌/◌, ℕ, List, [], ◌++◌, refl, true, false, Ok, Err, length, take, get_or, sym}
-use Rattle.faxrows_runs.proofs.Names.{ap, ◌∙◌, subst, rules, arith, get_or-map, length-map, DecodeError, UnexpectedEof, InvalidCode}
+use Rattle.faxrows_runs.proofs.Names.{◌≡◌, ◌<◌, ◌≤◌, ◌+◌, ◌/◌, ℕ, List, [], ◌++◌, refl, true, false, Ok, Err, length, take}
+use Rattle.faxrows_runs.proofs.Names.{get_or, sym}
+use Rattle.faxrows_runs.proofs.Names.{ap, ◌∙◌, subst, rules, arith, get_or-map, length-map, DecodeError, UnexpectedEof}
+use Rattle.faxrows_runs.proofs.Names.{InvalidCode}
 use Rattle.faxrows_runs.proofs.Names.{Overflow, OutOfMemory, Refused, DecodeSettings, Bits, plain, changes, RowsRead, ReadsNext}
-use Rattle.faxrows_runs.proofs.Names.{HasFailed, EndsByRow, Outcome, rows_of, line_of_row, lines_of_rows}
+use Rattle.faxrows_runs.proofs.Names.{HasFailed, EndsAfter, EndsByRow, IsFault, outcome_of, rows_of, line_of_row, lines_of_rows}
 use Rattle.faxrows_runs.proofs.{Outputs.pieces_more}
 
 -- the row of some data with this index came
@@ -53,25 +55,24 @@ ended_well settings bits old new count of_settings of_bits reads is =
     let end = (reads.end refl).2 in
     let all : new.taken ≡ length (rows_of old.settings old.bits)
     = end.all ∙ sym (length-map (plain old.settings old.bits).rows changes) in
-    let here : EndsByRow old.settings old.bits new.taken (Ok count) = ((all, end.count ∙ ap Ok (sym is)), λ never. search rules) in
+    let here : EndsByRow old.settings old.bits new.taken (Ok count)
+    = ((all, end.count ∙ ap Ok (sym is)), λ never. search rules) in
     subst (λ (s : DecodeSettings). EndsByRow s bits new.taken (Ok count)) of_settings
     (subst (λ (b : Bits). EndsByRow old.settings b new.taken (Ok count)) of_bits here)
 
--- an error that isn't a refusal is no result of one
-never_refused : (error : DecodeError) (outcome : Outcome) → outcome ≡ Err error → error ≢ Refused → outcome ≢ Err Refused
-never_refused error outcome is not_refused refused = let same = sym is ∙ refused in not_refused (search rules)
+-- a fault that ends a reading ends it after all rows
+ended_by : (settings : DecodeSettings) (bits : Bits) (taken : ℕ) (error : DecodeError) → HasFailed settings bits taken error
+    → IsFault error → (taken ≡ length (rows_of settings bits)) × (outcome_of settings bits ≡ Err error)
+ended_by settings bits taken error failed fault =
+    (failed.all fault ∙ sym (length-map (plain settings bits).rows changes), failed.fault fault)
 
 -- a reading that has failed, after at most all rows, ends like this
 failed_so : (settings : DecodeSettings) (bits : Bits) (taken : ℕ) (error : DecodeError) → HasFailed settings bits taken error
-    → taken ≤ length (rows_of settings bits) → EndsByRow settings bits taken (Err error)
-failed_so settings bits taken UnexpectedEof failed within =
-    ((failed.all tt ∙ sym (length-map (plain settings bits).rows changes), failed.fault tt), never_refused UnexpectedEof (Err UnexpectedEof) refl failed.not_refused)
-failed_so settings bits taken InvalidCode failed within =
-    ((failed.all tt ∙ sym (length-map (plain settings bits).rows changes), failed.fault tt), never_refused InvalidCode (Err InvalidCode) refl failed.not_refused)
-failed_so settings bits taken Overflow failed within =
-    ((failed.all tt ∙ sym (length-map (plain settings bits).rows changes), failed.fault tt), never_refused Overflow (Err Overflow) refl failed.not_refused)
-failed_so settings bits taken OutOfMemory failed within =
-    ((within, failed.memory refl), never_refused OutOfMemory (Err OutOfMemory) refl failed.not_refused)
+    → taken ≤ length (rows_of settings bits) → EndsAfter settings bits taken (Err error)
+failed_so settings bits taken UnexpectedEof failed within = ended_by settings bits taken UnexpectedEof failed tt
+failed_so settings bits taken InvalidCode failed within = ended_by settings bits taken InvalidCode failed tt
+failed_so settings bits taken Overflow failed within = ended_by settings bits taken Overflow failed tt
+failed_so settings bits taken OutOfMemory failed within = (within, failed.memory refl)
 failed_so settings bits taken Refused failed within = absurd (failed.not_refused refl)
 
 -- after a call that fails the reading has ended with its error
@@ -83,5 +84,7 @@ ended_badly settings bits old new error of_settings of_bits within reads =
     = same_rows old.settings settings old.bits bits of_settings of_bits in
     let failed : HasFailed settings bits new.taken error
     = subst (λ (s : DecodeSettings). HasFailed s bits new.taken error) of_settings
-    (subst (λ (b : Bits). HasFailed old.settings b new.taken error) of_bits reads.error.2) in
-    failed_so settings bits new.taken error failed (omega (arith, within, reads.error.1))
+    (subst (λ (b : Bits). HasFailed old.settings b new.taken error) of_bits reads.error.2) in (
+      failed_so settings bits new.taken error failed (omega (arith, within, reads.error.1)),
+      λ refused. failed.not_refused (search rules),
+    )

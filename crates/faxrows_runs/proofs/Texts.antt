@@ -3,7 +3,8 @@ use Rattle.faxrows_runs.proofs.Names.{◌≡◌, ℕ, List, [], ◌∷◌, ◌++
 use Rattle.faxrows_runs.proofs.Names.{append_assoc, append-nil, Option, None, Some, Ok, Err, IfSome, IsOk, IsErr, fold, take-map}
 use Rattle.faxrows_runs.proofs.Names.{length-map, UnexpectedEof, InvalidCode, Overflow, OutOfMemory, Refused, DecodeSettings}
 use Rattle.faxrows_runs.proofs.Names.{meaning_after, Bits, bits_in, Held, SinkState, TakesRows, StopsShort, plain, lines_of, Row}
-use Rattle.faxrows_runs.proofs.Names.{changes, Arguments, Good, Faulty, Outcome, OnKnown, EndsAfter, rows_of, outcome_of, text_after}
+use Rattle.faxrows_runs.proofs.Names.{changes, Arguments, Good, Faulty, Outcome, OnKnown, EndsAfter, rows_of, outcome_of}
+use Rattle.faxrows_runs.proofs.Names.{text_after}
 use Rattle.faxrows_runs.proofs.Names.{whole_text, done_of, line_of_row, lines_of_rows}
 
 -- the lines added one by one are the lines of all

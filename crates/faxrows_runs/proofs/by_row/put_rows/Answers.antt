@@ -1,4 +1,5 @@
-use Rattle.faxrows_runs.proofs.Names.{rules, ◌≡◌, ◌++◌, ◌∙◌, [], take, Ok, List, ℕ, Result, Bool, ap, subst, DecodeError, ReadsNext}
+use Rattle.faxrows_runs.proofs.Names.{rules, ◌≡◌, ◌++◌, ◌∙◌, [], take, Ok, List, ℕ, Result, Bool, ap, subst, DecodeError}
+use Rattle.faxrows_runs.proofs.Names.{ReadsNext}
 use Rattle.faxrows_runs.proofs.RowsInTurn.{ended_badly, ended_well}
 use Rattle.faxrows_runs.proofs.Names.{AppendsFront, PassesOn, rows_of, line_of_row, lines_of_rows}
 use Rattle.faxrows_runs.proofs.{RowsInTurn.Came, RowsInTurn.came, by_row.put_rows.Given.Over, by_row.put_rows.Goals.After-put_row}

@@ -1,5 +1,6 @@
 use Rattle.faxrows_runs.proofs.Names.{rules, ◌≡◌, List, ℕ, subst, sym, IsOk, IsErr, map, string_bytes, Appends, IfOk-weaker}
-use Rattle.faxrows_runs.proofs.Names.{IfErr-at_err, DecodeSettings, Bits, AppendsFront, Done, Good, Faulty, Memory, arguments_of_words}
+use Rattle.faxrows_runs.proofs.Names.{IfErr-at_err, DecodeSettings, Bits, AppendsFront, Done, Good, Faulty, Memory}
+use Rattle.faxrows_runs.proofs.Names.{arguments_of_words}
 use Rattle.faxrows_runs.proofs.Names.{Outcome, OnKnown, done_of, outcome_of, text_after, whole_text, IsEndOfRun, EndsByRow}
 use Rattle.faxrows_runs.proofs.Names.{IsTextByRow, IsTextWithoutMemory}
 use Rattle.faxrows_runs.proofs.{RunsByRow.text_without_memory, by_row.run_by_row.Given.Over}

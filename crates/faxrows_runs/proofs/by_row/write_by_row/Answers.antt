@@ -1,4 +1,5 @@
-use Rattle.faxrows_runs.proofs.Names.{rules, [], List, ℕ, refl, inl, take, AppendsFront, PassesOn, whole_text, rows_of, outcome_of}
+use Rattle.faxrows_runs.proofs.Names.{rules, [], List, ℕ, refl, inl, take, AppendsFront, PassesOn, whole_text, rows_of}
+use Rattle.faxrows_runs.proofs.Names.{outcome_of}
 use Rattle.faxrows_runs.proofs.Names.{text_after, IsTextByRow, lines_of_rows, line_of_outcome}
 use Rattle.faxrows_runs.proofs.Outputs.{passes_both, front_behind, front_of_more, front_of_waiting}
 use Rattle.faxrows_runs.proofs.RunsByRow.{text_by_row}

@@ -1,4 +1,5 @@
-use Rattle.faxrows_runs.proofs.Names.{◌++◌, ◌≡◌, ◌∙◌, List, ℕ, ap, subst, sym, OnErr, codes, failed_at, AppendsFront, end_with_fault}
+use Rattle.faxrows_runs.proofs.Names.{◌++◌, ◌≡◌, ◌∙◌, List, ℕ, ap, subst, sym, OnErr, codes, failed_at, AppendsFront}
+use Rattle.faxrows_runs.proofs.Names.{end_with_fault}
 use Rattle.faxrows_runs.proofs.Names.{last_line_of_damage, numbered, Outcome}
 use Rattle.faxrows_runs.proofs.damage.put_end.Goals as goal
 

@@ -1,5 +1,6 @@
 use Rattle.faxrows_runs.proofs.Names.{rules, ◌≡◌, List, ℕ, subst, sym, IsOk, IsErr, map, string_bytes, Appends, IfOk-weaker}
-use Rattle.faxrows_runs.proofs.Names.{IfErr-at_err, DecodeSettings, Bits, AppendsFront, Done, Good, Faulty, Memory, arguments_of_words}
+use Rattle.faxrows_runs.proofs.Names.{IfErr-at_err, DecodeSettings, Bits, AppendsFront, Done, Good, Faulty, Memory}
+use Rattle.faxrows_runs.proofs.Names.{arguments_of_words}
 use Rattle.faxrows_runs.proofs.Names.{Outcome, OnKnown, done_of, outcome_of, IsEndOfRun, IsDamageText, IsDamageWithoutMemory}
 use Rattle.faxrows_runs.proofs.Names.{damage_after, whole_damage, EndsByRow}
 use Rattle.faxrows_runs.proofs.{Texts.on_known, damage.run_damage.Given.Over}

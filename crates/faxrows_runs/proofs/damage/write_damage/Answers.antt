@@ -1,8 +1,10 @@
 use Rattle.faxrows_runs.proofs.Names.{rules, ◌≡◌, ◌++◌, [], List, ℕ, refl, inl, length, subst, sym, Appends, Appends-trans}
 use Rattle.faxrows_runs.proofs.Names.{DecodeSettings, Bits, AppendsFront, IsDamageText, damage_after, damage_lines}
-use Rattle.faxrows_runs.proofs.Names.{◌∙◌, Option, StrictFault, ap, end_of_damage, line_of_strict, last_line_of_damage, whole_damage}
+use Rattle.faxrows_runs.proofs.Names.{◌∙◌, Option, StrictFault, ap, end_of_damage, line_of_strict, last_line_of_damage}
+use Rattle.faxrows_runs.proofs.Names.{whole_damage}
 use Rattle.faxrows_runs.proofs.Names.{PassesOn, Outcome, rows_of, outcome_of}
-use Rattle.faxrows_runs.proofs.{DamageTexts.is_damage_text, damage.write_damage.Given.Over, damage.write_damage.Goals.After-put_ends}
+use Rattle.faxrows_runs.proofs.{DamageTexts.is_damage_text, damage.write_damage.Given.Over}
+use Rattle.faxrows_runs.proofs.{damage.write_damage.Goals.After-put_ends}
 use Rattle.faxrows_runs.proofs.Outputs.{passes_both, front_behind, front_of_more, front_of_waiting}
 use Rattle.faxrows_runs.proofs.damage.write_damage.Goals as goal
 

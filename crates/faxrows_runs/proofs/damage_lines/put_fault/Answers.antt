@@ -1,4 +1,5 @@
-use Rattle.faxrows_runs.proofs.Names.{rules, ◌++◌, List, ℕ, subst, OnErr, OnOk, on_err_weaker, on_ok_weaker, AppendsFront, numbered}
+use Rattle.faxrows_runs.proofs.Names.{rules, ◌++◌, List, ℕ, subst, OnErr, OnOk, on_err_weaker, on_ok_weaker, AppendsFront}
+use Rattle.faxrows_runs.proofs.Names.{numbered}
 use Rattle.faxrows_runs.proofs.Names.{end_with_fault, PassesOn}
 use Rattle.faxrows_runs.proofs.Outputs.{passes_both, front_behind, front_of_longer}
 use Rattle.faxrows_runs.proofs.damage_lines.put_fault.Goals as goal

@@ -1,4 +1,5 @@
-use Rattle.faxrows_runs.proofs.Names.{◌++◌, ◌∙◌, ◌-◌, List, ℕ, subst, arith, drop, length-drop, take_all, sym, ap, OnErr, AppendsFront}
+use Rattle.faxrows_runs.proofs.Names.{◌++◌, ◌∙◌, ◌-◌, List, ℕ, subst, arith, drop, length-drop, take_all, sym, ap, OnErr}
+use Rattle.faxrows_runs.proofs.Names.{AppendsFront}
 use Rattle.faxrows_runs.proofs.Names.{line_of_outcome}
 use Rattle.faxrows_runs.proofs.output.put_last_line.Goals as goal
 

@@ -1,6 +1,7 @@
 use Rattle.faxrows_runs.proofs.Names.{rules, ◌≡◌, ◌+◌, ◌++◌, [], ◌∷◌, OnOk, OnErr, List, ℕ, take, get_or, take_all, ap, subst}
 use Rattle.faxrows_runs.proofs.Names.{flat_map, on_err_weaker, on_ok_weaker, AppendsFront, PassesOn, line_of_row, text_of_change}
-use Rattle.faxrows_runs.proofs.{output.put_row.Given.Over, output.put_row.Goals.After-put-2, output.put_row.Goals.After-put_change}
+use Rattle.faxrows_runs.proofs.{output.put_row.Given.Over, output.put_row.Goals.After-put-2}
+use Rattle.faxrows_runs.proofs.output.put_row.Goals.{After-put_change}
 use Rattle.faxrows_runs.proofs.Outputs.{passes_both, front_behind, front_of_line, pieces_more}
 use Rattle.faxrows_runs.proofs.output.put_row.Goals as goal
 

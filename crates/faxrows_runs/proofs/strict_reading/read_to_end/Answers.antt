@@ -1,4 +1,5 @@
-use Rattle.faxrows_runs.proofs.Names.{◌∙◌, Bool, Ok, Result, ap, sym, subst, Bits, DecodeError, DecodeSettings, ReadsNext, failed_at}
+use Rattle.faxrows_runs.proofs.Names.{◌∙◌, Bool, Ok, Result, ap, sym, subst, Bits, DecodeError, DecodeSettings, ReadsNext}
+use Rattle.faxrows_runs.proofs.Names.{failed_at}
 use Rattle.faxrows_runs.proofs.{DamageTexts.unended_before, RowsInTurn.ended_badly, RowsInTurn.ended_well}
 use Rattle.faxrows_runs.proofs.strict_reading.read_to_end.Goals as goal
 
