@@ -59,7 +59,7 @@ jobs=
 [ "${available:-0}" -ge 16000000 ] && jobs=$(nproc)
 part ci env RT_JOBS="$jobs" rt ci &
 ci=$!
-part edits nice -n 15 python3 "$copy/checks/edits.py" --ready "$said/ready" &
+part edits nice -n 15 python3 "$copy/checks/edits.py" --ready "$said/ready" --ci "$said/ci" &
 edits=$!
 part run other_checks &
 run=$!

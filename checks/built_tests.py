@@ -15,7 +15,7 @@ NAMED = {
         "tests::refused_memory": (34, 28),
         "tests::sink_without_memory": (1, 0),
     },
-    "faxrows": {
+    "faxrows_tests": {
         "tests::refused_memory_by_row": (57, 18),
         "tests::refused_memory_of_damage": (38, 16),
         "tests::sink_without_memory": (1, 0),

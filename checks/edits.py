@@ -7,6 +7,7 @@
     python3 checks/edits.py --show             also prints what refused each edit
     python3 checks/edits.py --keep FOLDER      writes what each check printed into this folder
     python3 checks/edits.py --write            writes into the edits what refused them: see below
+    python3 checks/edits.py --ci FILE          takes what `rt ci` says of the edits in must-fail/ from FILE: see below
 
 An edit is a file in crates/NAME/edits or crates/NAME/must-fail: a line 'file: src/x.rt', then pairs of lines 'old: TEXT' and
 'new: TEXT', and a line 'breaks: FUNCTION: CLAUSE', which says what must refuse it: a goal of that function that names that
@@ -25,6 +26,8 @@ functions that don't call one another, and then alone.
 With --write an edit that another clause of its function refuses gets that clause's name, and one at whose goal the check's own
 searches gave up gets its line 'search: GOAL'. Look at what was written: a clause that has nothing to do with what the edit breaks
 means that the edit is a bad one.
+`rt ci` tries the edits in must-fail/ too, and prints the first line of what refused each. With --ci these are judged by that
+line, once rt ci has ended and there is a file FILE.end; only where it doesn't show that the clause refuses the edit is it tried here.
 The last line is 'N refused, M not'.
 """
 import argparse
@@ -329,6 +332,27 @@ def judged(edit, said, output):
     return False, f"no goal of {edit.function} that names `{edit.clause}` is refused by a value; {'; '.join([*others, *weak]) or it.line[:200]}"
 
 
+TOLD = re.compile(r"^rt: must-fail (\w+)/(\S+)\.edit: refused, as it must be: (.*)$", re.MULTILINE)
+
+
+def told_by_ci(path):
+    """Waits until rt ci has ended, and returns the line that it prints of each edit, by the names of crate and edit."""
+    while not os.path.exists(f"{path}.end"):
+        time.sleep(1)
+    with open(path, encoding="utf-8", errors="replace") as file:
+        return {(crate, name): told for crate, name, told in TOLD.findall(file.read())}
+
+
+def judged_by_line(edit, told, source):
+    """Whether one line of a check shows that the edit is refused for its reason, and what to print."""
+    place = re.match(r"note: (src/\S+?):(\d+):", told)
+    if place and place[1] in source.texts:  # the line of a function, which the check names below it
+        lines = source.texts[place[1]].splitlines(keepends=True)
+        item = source.item_at(place[1], len("".join(lines[: int(place[2]) - 1])))
+        told += f"\nfn {edit.crate.name}::{item.name}: not proved" if item else ""
+    return judged(edit, read(told, edit.crate.name), told)
+
+
 class Lanes:
     """Runs calls in parallel, those of the lowest rank first."""
 
@@ -542,6 +566,7 @@ def main():
     words.add_argument("--show", action="store_true", help="print what refused each edit")
     words.add_argument("--keep", default="", help="a folder for what each check printed")
     words.add_argument("--write", action="store_true", help="write into the edits what refused them")
+    words.add_argument("--ci", default="", help="a file with what `rt ci` prints, and once it has ended, one more with .end")
     words.add_argument("--ready", default="", help="a file to make once the crates are checked without edits")
     words = words.parse_args()
     began = time.time()
@@ -593,11 +618,22 @@ def main():
                     last = edit.function.rpartition("::")[2]
                     near = sorted(name for name in whole.functions[crate] if name.rpartition("::")[2] == last)
                     results[edit] = False, f"a check names no function {edit.function}: is it {' or '.join(near) or 'another'}?"
-            told, alone = {edit for edit in own if edit in results}, set()
+            told = {edit for edit in own if edit in results}
+            later = [edit for edit in own if words.ci and os.path.basename(os.path.dirname(edit.file)) == "must-fail"]
+            attempt([edit for edit in own if edit not in told and edit not in later])
+            if later:
+                said, source = told_by_ci(words.ci), Source(crate.folder)
+                lines = {edit: said.get((crate.name, edit.name), "") for edit in later if edit not in told}
+                results.update({edit: judged_by_line(edit, line, source) for edit, line in lines.items()})
+                attempt([edit for edit in lines if not results[edit][0]])
+
+        def attempt(own):
+            """Tries edits of one crate."""
+            alone = set()
             # First as few batches as possible, even if one function calls another, which decides most; then functions that don't
             # call one another; then each alone.
             for is_mixed, is_alone in ((True, False), (False, False), (False, True)):
-                left = [it for it in own if it not in told | alone and not results.get(it, (False,))[0]]
+                left = [it for it in own if it not in alone and not results.get(it, (False,))[0]]
                 if is_mixed:
                     batches = mixed_batches(left, words.most)
                 else:

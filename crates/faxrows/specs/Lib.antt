@@ -1,8 +1,1 @@
-pub mod Arguments
-pub mod DamageText
-pub mod Output
-pub mod PackedRuns
-pub mod Runs
-pub mod RunsByRow
 pub mod Statuses
-pub mod Text

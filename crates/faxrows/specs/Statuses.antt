@@ -3,8 +3,8 @@
 use Rattle.std.specs.Prelude.{◌≡◌, ◌⊎◌, ℕ, Result, Ok, Err}
 use Rattle.hayro_ccitt.specs.declared.error.DecodeError.{DecodeError}
 use Rattle.hayro_ccitt.specs.declared.error.DecodeError.TheVariants.{UnexpectedEof, InvalidCode, Overflow, OutOfMemory, Refused}
-use Rattle.faxrows.specs.declared.program.Done.{Done}
-use Rattle.faxrows.specs.declared.program.Done.TheVariants.{Good, Faulty, Memory}
+use Rattle.faxrows_runs.specs.declared.program.Done.{Done}
+use Rattle.faxrows_runs.specs.declared.program.Done.TheVariants.{Good, Faulty, Memory}
 
 -- the status of a run that wrote its text
 abbrev pub status_of_done : Done → ℕ

@@ -9,29 +9,13 @@
 ghost use Rattle.std.specs.Prelude.{◌≡◌, IfOk};
 ghost use Rattle.faxrows.specs.Statuses.{IsStatusOfRun, status_of_answer, status_of_done};
 
-mod arguments;
-pub mod by_row;
-pub mod damage;
-mod damage_lines;
-mod digits;
-mod last_line;
-mod output;
-pub mod packed;
-pub mod program;
-mod strict_reading;
-pub mod text_sink;
-
-pub use by_row::run_by_row;
-pub use damage::run_damage;
 use fax_program::status_of_fault;
 use fax_program::words::{is_first_word, is_only_word};
 pub use fax_program::{Device, Failed, RunFault};
+pub use faxrows_runs::{Done, TextSink, run, run_by_row, run_damage, run_packed};
 use hayro_ccitt::DecodeError;
-pub use packed::run_packed;
-pub use program::{Done, run};
 use std::env;
 use std::process::ExitCode;
-pub use text_sink::TextSink;
 
 fn main(rt: HostRuntime) -> ExitCode {
     match run_words(&rt) {
@@ -114,6 +98,3 @@ fn status_of_answer(answer: Result<(), DecodeError>) -> u8
         Err(_) => 1,
     }
 }
-
-#[cfg(test)]
-mod tests;

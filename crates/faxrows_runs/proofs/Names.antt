@@ -1,0 +1,48 @@
+-- The names of std and of the definitions that proofs cite.
+pub use Rattle.fax_encode.specs.Laws.{RowsArePacked}
+pub use Rattle.fax_encode.specs.Packed.{Bitmap, packed, with_packed_row}
+pub use Rattle.fax_program.specs.Devices.{AppendsFront}
+pub use Rattle.faxrows_runs.specs.Arguments.{arguments_of_words}
+pub use Rattle.faxrows_runs.specs.DamageText.{IsDamageText, IsDamageWithoutMemory, damage_after, damage_lines, damage_of_row}
+pub use Rattle.faxrows_runs.specs.DamageText.{end_with_fault, last_line_of_damage, line_of_damage, line_of_miss, miss_of_row}
+pub use Rattle.faxrows_runs.specs.DamageText.{end_of_damage, fault_after, line_of_strict, strict_fault, strictly}
+pub use Rattle.faxrows_runs.specs.DamageText.{number_and, numbered, repair_of_row, whole_damage}
+pub use Rattle.faxrows_runs.specs.Output.{PassesOn}
+pub use Rattle.faxrows_runs.specs.PackedRuns.{IsPackedOf}
+pub use Rattle.faxrows_runs.specs.Runs.{EndsAfter, IsEndOfRun, IsTextOfWant, OnKnown, Outcome, done_of, outcome_of, rows_of}
+pub use Rattle.faxrows_runs.specs.Runs.{text_after, whole_text}
+pub use Rattle.faxrows_runs.specs.RunsByRow.{EndsByRow, IsTextByRow, IsTextWithoutMemory}
+pub use Rattle.faxrows_runs.specs.Text.{line_of_outcome, line_of_row, lines_of_rows, text_of, text_of_change}
+pub use Rattle.faxrows_runs.specs.declared.arguments.Arguments.{Arguments}
+pub use Rattle.faxrows_runs.specs.declared.program.Done.{Done}
+pub use Rattle.faxrows_runs.specs.declared.strict_reading.StrictFault.{StrictFault}
+pub use Rattle.faxrows_runs.specs.declared.program.Done.TheVariants.{Faulty, Good, Memory}
+pub use Rattle.hayro_ccitt.specs.Answers.{IsFault, meaning_after}
+pub use Rattle.hayro_ccitt.specs.Bits.{Bits, bits_in, bits_of}
+pub use Rattle.hayro_ccitt.specs.Context.{Held}
+pub use Rattle.hayro_ccitt.specs.Damage.{misses_by_line, missed_before, start_in}
+pub use Rattle.hayro_ccitt.specs.Decoding.{SinkState, StopsShort, TakesRows}
+pub use Rattle.hayro_ccitt.specs.PlainReading.{failed_at, line_starts, lines_of, plain}
+pub use Rattle.hayro_ccitt.specs.Rows.{HaveWidth, Row, changes}
+pub use Rattle.hayro_ccitt.specs.RowsRead.{HasFailed, ReadsNext, RowsRead, at_end_of_rows}
+pub use Rattle.hayro_ccitt.specs.declared.bit_reader.BitOrder.TheVariants.{HighestFirst, LowestFirst}
+pub use Rattle.hayro_ccitt.specs.declared.error.DecodeError.{DecodeError}
+pub use Rattle.hayro_ccitt.specs.declared.error.DecodeError.TheVariants.{InvalidCode, OutOfMemory, Overflow, Refused}
+pub use Rattle.hayro_ccitt.specs.declared.error.DecodeError.TheVariants.{UnexpectedEof}
+pub use Rattle.hayro_ccitt.specs.declared.settings.DecodeSettings.{DecodeSettings}
+pub use Rattle.hayro_ccitt.specs.declared.settings.EncodingMode.TheVariants.{Group3_1D, Group3_2D, Group4}
+pub use Rattle.std.proofs.Common.{Bool, Err, IfSome, List, None, Ok, OnErr, OnOk, Option, Result, Some, [], ap, append-nil}
+pub use Rattle.std.proofs.Common.{append_assoc, arith, drop, drop_of_length-le, false, get_or, inl, inr, length, length-append}
+pub use Rattle.std.proofs.Common.{length-drop, map, refl, rules, set, string_bytes, subst, suc, sym, take, take-append-drop}
+pub use Rattle.std.proofs.Common.{take_all, true, zero, ℕ, ◌++◌, ◌+◌, ◌-◌, ◌/◌, ◌<◌, ◌^◌, ◌∙◌, ◌∷◌, ◌≡◌, ◌≢◌, ◌≤◌}
+pub use Rattle.std.proofs.KnownBytes.{Appends-nil, Appends-trans}
+pub use Rattle.std.proofs.lemmas.Fmt.{decimal_digit, decimal_nonempty, decimal_step, length-decimal-le}
+pub use Rattle.std.proofs.lemmas.Grind.{drop-set_at, flat_map-append}
+pub use Rattle.std.proofs.lemmas.List.{drop-set, get_or-map, length-map, take-append-le, take-map, take-take, take_more}
+pub use Rattle.std.proofs.lemmas.List.Elements.{All-take}
+pub use Rattle.std.proofs.lemmas.Result.{IfErr-at_err, IfOk-weaker, on_err_weaker, on_ok_weaker}
+pub use Rattle.std.specs.Fmt.{decimal}
+pub use Rattle.std.specs.Io.{StartsWith}
+pub use Rattle.std.specs.Io.KnownBytes.{Appends}
+pub use Rattle.std.specs.List.{fold}
+pub use Rattle.std.specs.Prelude.{IsErr, IsOk, codes, flat_map}

@@ -1,0 +1,102 @@
+-- What a run writes, from what decoding returns.
+use Rattle.faxrows_runs.proofs.Names.{◌≡◌, ℕ, List, [], ◌∷◌, ◌++◌, refl, sym, ap, ◌∙◌, subst, take, length, map, take_all, arith}
+use Rattle.faxrows_runs.proofs.Names.{append_assoc, append-nil, Option, None, Some, Ok, Err, IfSome, IsOk, IsErr, fold, take-map}
+use Rattle.faxrows_runs.proofs.Names.{length-map, UnexpectedEof, InvalidCode, Overflow, OutOfMemory, Refused, DecodeSettings}
+use Rattle.faxrows_runs.proofs.Names.{meaning_after, Bits, bits_in, Held, SinkState, TakesRows, StopsShort, plain, lines_of, Row}
+use Rattle.faxrows_runs.proofs.Names.{changes, Arguments, Good, Faulty, Outcome, OnKnown, EndsAfter, rows_of, outcome_of}
+use Rattle.faxrows_runs.proofs.Names.{text_after}
+use Rattle.faxrows_runs.proofs.Names.{whole_text, done_of, line_of_row, lines_of_rows}
+
+-- the lines added one by one are the lines of all
+fold_lines : (text : List ℕ) (rows : List (List ℕ)) → fold (λ t row. t ++ line_of_row row) text rows ≡ text ++ lines_of_rows rows
+fold_lines text [] = sym (append-nil text)
+fold_lines text (row ∷ rows) =
+    fold_lines (text ++ line_of_row row) rows ∙ append_assoc text (line_of_row row) (lines_of_rows rows)
+
+-- the rows of some data were accepted, each by a step
+abbrev pub Takes : {M : Type 0} → (M → List ℕ → M) → DecodeSettings → Bits → SinkState M → SinkState M → Held → Outcome → Type 0
+Takes step settings bits before after held outcome =
+    TakesRows (plain settings bits).rows (plain settings bits).outcome
+    (plain settings bits).has_eols step before after held outcome
+
+-- and as lines of text
+abbrev pub TakesLines : DecodeSettings → Bits → SinkState (List ℕ) → SinkState (List ℕ) → Held → Outcome → Type 0
+TakesLines = Takes (λ text row. text ++ line_of_row row)
+
+-- the sink's text is the lines of the accepted rows
+pub sink_text : (settings : DecodeSettings) (bits : Bits) (before after : SinkState (List ℕ)) (held : Held) (outcome : Outcome)
+    → before.meaning ≡ [] → TakesLines settings bits before after held outcome
+    → after.meaning ≡ lines_of_rows (take held.taken (rows_of settings bits))
+sink_text settings bits before after held outcome empty takes =
+    takes.meaning
+    ∙ ap (λ text. meaning_after (λ t row. t ++ line_of_row row) text (take held.taken (plain settings bits).rows)) empty
+    ∙ fold_lines [] (map changes (take held.taken (plain settings bits).rows))
+    ∙ ap lines_of_rows (sym (take-map changes held.taken (plain settings bits).rows))
+
+-- as many rows were accepted as their changes are listed
+all_changes : (rows : List Row) (taken : ℕ) → taken ≡ length rows → taken ≡ length (map changes rows)
+all_changes rows taken e = e ∙ sym (length-map rows changes)
+
+-- decoding ends as it may after the accepted rows
+pub ends_after : {M : Type 0} (step : M → List ℕ → M) (settings : DecodeSettings) (bits : Bits) (before after : SinkState M)
+    (held : Held) (outcome : Outcome) → Takes step settings bits before after held outcome → StopsShort (plain settings bits).rows
+    (lines_of settings bits) before after held outcome → EndsAfter settings bits held.taken outcome
+ends_after step settings bits before after held (Ok n) takes short = (all_changes _ held.taken takes.all, takes.ok)
+ends_after step settings bits before after held (Err UnexpectedEof) takes short =
+    (all_changes _ held.taken (takes.all tt), takes.fault tt)
+ends_after step settings bits before after held (Err InvalidCode) takes short =
+    (all_changes _ held.taken (takes.all tt), takes.fault tt)
+ends_after step settings bits before after held (Err Overflow) takes short =
+    (all_changes _ held.taken (takes.all tt), takes.fault tt)
+ends_after step settings bits before after held (Err OutOfMemory) takes short =
+    (rw (length-map (plain settings bits).rows changes) takes.taken, short.memory refl)
+ends_after step settings bits before after held (Err Refused) takes short =
+    rw (length-map (plain settings bits).rows changes) (short.refused refl)
+
+-- with all rows and the result of the plain reading, the whole text is written
+all_text : (settings : DecodeSettings) (bits : Bits) (taken : ℕ) (outcome : Outcome) → taken ≡ length (rows_of settings bits)
+    → outcome_of settings bits ≡ outcome → text_after settings bits taken outcome ≡ whole_text settings bits
+all_text settings bits taken outcome all same = rw (same, take_all taken (rows_of settings bits) (omega arith)) refl
+
+-- a good run writes the whole text
+pub text_of_good : (settings : DecodeSettings) (bits : Bits) (taken : ℕ) (outcome : Outcome)
+    → EndsAfter settings bits taken outcome → done_of outcome ≡ Good
+    → (text_after settings bits taken outcome ≡ whole_text settings bits) × IsOk (outcome_of settings bits)
+text_of_good settings bits taken (Ok n) ends e = (all_text settings bits taken (Ok n) ends.0 ends.1, rw (ends.1) refl)
+text_of_good settings bits taken (Err UnexpectedEof) ends e = cc
+text_of_good settings bits taken (Err InvalidCode) ends e = cc
+text_of_good settings bits taken (Err Overflow) ends e = cc
+text_of_good settings bits taken (Err OutOfMemory) ends e = cc
+text_of_good settings bits taken (Err Refused) ends e = cc
+
+-- a faulty run writes the whole text
+pub text_of_faulty : (settings : DecodeSettings) (bits : Bits) (taken : ℕ) (outcome : Outcome)
+    → EndsAfter settings bits taken outcome → done_of outcome ≡ Faulty
+    → (text_after settings bits taken outcome ≡ whole_text settings bits) × IsErr (outcome_of settings bits)
+text_of_faulty settings bits taken (Ok n) ends e = cc
+text_of_faulty settings bits taken (Err UnexpectedEof) ends e =
+    (all_text settings bits taken (Err UnexpectedEof) ends.0 ends.1, rw (ends.1) refl)
+text_of_faulty settings bits taken (Err InvalidCode) ends e =
+    (all_text settings bits taken (Err InvalidCode) ends.0 ends.1, rw (ends.1) refl)
+text_of_faulty settings bits taken (Err Overflow) ends e =
+    (all_text settings bits taken (Err Overflow) ends.0 ends.1, rw (ends.1) refl)
+text_of_faulty settings bits taken (Err OutOfMemory) ends e = cc
+text_of_faulty settings bits taken (Err Refused) ends e = cc
+
+-- a statement about the bytes that were read is one about the bytes that the reader specifies
+on_input : (known : Option (List ℕ)) (input : List ℕ) (P : List ℕ → Type 0) → IfSome known (λ xs. input ≡ xs) → P input
+    → IfSome known P
+on_input None input P same p = tt
+on_input (Some xs) input P same p = subst P same p
+
+-- a statement about the settings and the bits of a run is one about what is known of them
+pub on_known : (meant : Option Arguments) (arguments : Arguments) (settings : DecodeSettings) (known : Option (List ℕ))
+    (input : List ℕ) (P : DecodeSettings → Bits → Type 0) → meant ≡ Some arguments → settings ≡ arguments.settings
+    → IfSome known (λ xs. input ≡ xs) → P settings (bits_in arguments.order input) → OnKnown meant known P
+on_known None arguments settings known input P e kept same p = cc
+on_known (Some meant) arguments settings known input P e kept same p =
+    let same_arguments : arguments ≡ meant = cc in
+    let of_arguments : P arguments.settings (bits_in arguments.order input) =
+    subst (λ (s : DecodeSettings). P s (bits_in arguments.order input)) kept p in
+    on_input known input (λ xs. P meant.settings (bits_in meant.order xs)) same
+    (subst (λ (a : Arguments). P a.settings (bits_in a.order input)) same_arguments of_arguments)

@@ -1,0 +1,64 @@
+use Rattle.faxrows_runs.proofs.Names.{rules, ◌≡◌, List, ℕ, subst, sym, IsOk, IsErr, map, string_bytes, Appends, IfOk-weaker}
+use Rattle.faxrows_runs.proofs.Names.{IfErr-at_err, DecodeSettings, Bits, AppendsFront, Done, Good, Faulty, Memory}
+use Rattle.faxrows_runs.proofs.Names.{arguments_of_words}
+use Rattle.faxrows_runs.proofs.Names.{Outcome, OnKnown, done_of, outcome_of, IsEndOfRun, IsDamageText, IsDamageWithoutMemory}
+use Rattle.faxrows_runs.proofs.Names.{damage_after, whole_damage, EndsByRow}
+use Rattle.faxrows_runs.proofs.{Texts.on_known, damage.run_damage.Given.Over}
+use Rattle.faxrows_runs.proofs.DamageTexts.{damage_of_good, damage_of_faulty, damage_without_memory}
+use Rattle.faxrows_runs.proofs.damage.run_damage.Goals as goal
+
+module _ (g : Over) (c : goal.After-drop-input-2 g) where
+  -- the settings that the arguments mean
+  abbrev settings : DecodeSettings
+  settings = c.in-Ok.rows.settings
+
+  -- the bits of what was read, in the order that the arguments select
+  abbrev bits : Bits
+  bits = c.in-Ok.rows.bits
+
+  -- the number of rows read
+  abbrev read : ℕ
+  read = c.write_damage.new.rows.taken
+
+  -- a text was appended to what the writer has
+  abbrev Grew : List ℕ → Type 0
+  Grew text = Appends (g.W.Write.contents c.args.writer.now.0) (g.W.Write.contents c.write_damage.new.writer.0) text
+
+  -- what was written, if the run ended like this
+  abbrev Written : Done → Type 0
+  Written done =
+      (outcome : Outcome) × EndsByRow settings bits read outcome × (done ≡ done_of outcome)
+      × Grew (damage_after settings bits read outcome)
+
+  -- a statement about what was read is one about what is known
+  abbrev Known : (DecodeSettings → Bits → Type 0) → Type 0
+  Known = OnKnown (arguments_of_words (map string_bytes c.args.words.now)) (g.R.Read.remaining c.args.reader.now.0)
+
+  known : (P : DecodeSettings → Bits → Type 0) → P settings bits → Known P
+  known P holds =
+      on_known _ c.in_ok-arguments.arguments settings _ c.as_slice.result.now P (search rules) (search rules) (search rules)
+      (subst (P settings) (search rules) holds)
+
+  -- what is written for each way to end
+  ended : (done : Done) → Written done
+      → Known (λ s b. IsEndOfRun done (outcome_of s b) (whole_damage s b) (IsDamageWithoutMemory s b) Grew)
+  ended Good (outcome, ends, same, grew) =
+      let (all, holds) = damage_of_good settings bits read outcome ends.0 (sym same) in
+      known (λ s b. IsOk (outcome_of s b) × Grew (whole_damage s b)) (holds, subst Grew all grew)
+  ended Faulty (outcome, ends, same, grew) =
+      let (all, holds) = damage_of_faulty settings bits read outcome ends.0 (sym same) in
+      known (λ s b. IsErr (outcome_of s b) × Grew (whole_damage s b)) (holds, subst Grew all grew)
+  ended Memory (outcome, ends, same, grew) =
+      known (λ s b. (text : List ℕ) × IsDamageWithoutMemory s b text × Grew text)
+      (_, damage_without_memory settings bits read outcome ends (sym same), grew)
+
+pub returns-clause-ended : goal.returns-clause-ended
+returns-clause-ended g c = IfOk-weaker c.write_damage.result _ _ (ended g c) c.write_damage.ensures.written
+
+pub returns-clause-front : goal.returns-clause-front
+returns-clause-front g c = λ e.
+    let front = IfErr-at_err (λ _. (text : List ℕ) × IsDamageText (settings g c) (bits g c) text
+    × AppendsFront (g.W.Write.contents c.args.writer.now.0)
+    (g.W.Write.contents c.write_damage.new.writer.0) text) e c.write_damage.ensures.front in
+    known g c (λ s b. (text : List ℕ) × IsDamageText s b text
+    × AppendsFront (g.W.Write.contents c.args.writer.now.0) (g.W.Write.contents c.write_damage.new.writer.0) text) front

@@ -1,0 +1,50 @@
+use Rattle.faxrows_runs.proofs.Names.{rules, ◌≡◌, List, ℕ, subst, refl, sym, IsOk, IsErr, map, string_bytes, Appends, IfOk-weaker}
+use Rattle.faxrows_runs.proofs.Names.{DecodeSettings, Bits, bits_in, Done, Good, Faulty, Memory, arguments_of_words, Outcome}
+use Rattle.faxrows_runs.proofs.Names.{EndsAfter, OnKnown, IsTextOfWant, done_of, outcome_of, text_after, whole_text, IsEndOfRun}
+use Rattle.faxrows_runs.proofs.{Texts.on_known, Texts.text_of_faulty, Texts.text_of_good, program.run.Given.Over}
+use Rattle.faxrows_runs.proofs.program.run.Goals as goal
+
+module _ (g : Over) (c : goal.After-drop-input-2 g) where
+  -- the settings that the arguments mean
+  abbrev settings : DecodeSettings
+  settings = c.in-Ok.ctx.held.settings
+
+  -- the bits of what was read, in the order that the arguments select
+  abbrev bits : Bits
+  bits = bits_in c.in_ok-arguments.arguments.order c.as_slice.result.now
+
+  -- how many rows were accepted
+  abbrev taken : ℕ
+  taken = c.write_decoded.new.ctx.held.taken
+
+  -- a text was appended to what the writer has
+  abbrev Grew : List ℕ → Type 0
+  Grew text = Appends (g.W.Write.contents c.args.writer.now.0) (g.W.Write.contents c.write_decoded.new.writer.0) text
+
+  -- what was written, if the run ended like this
+  abbrev Written : Done → Type 0
+  Written done =
+      (outcome : Outcome) × EndsAfter settings bits taken outcome × (done ≡ done_of outcome)
+      × Grew (text_after settings bits taken outcome)
+
+  -- a statement about what was decoded is one about what is known
+  abbrev Known : (DecodeSettings → Bits → Type 0) → Type 0
+  Known = OnKnown (arguments_of_words (map string_bytes c.args.words.now)) (g.R.Read.remaining c.args.reader.now.0)
+
+  known : (P : DecodeSettings → Bits → Type 0) → P settings bits → Known P
+  known P holds =
+      on_known _ c.in_ok-arguments.arguments settings _ c.as_slice.result.now P (search rules) (search rules) (search rules) holds
+
+  -- what is written for each way to end
+  ended : (done : Done) → Written done → Known (λ s b. IsEndOfRun done (outcome_of s b) (whole_text s b) (IsTextOfWant s b) Grew)
+  ended Good (outcome, ends, same, grew) =
+      let (all, holds) = text_of_good settings bits taken outcome ends (sym same) in
+      known (λ s b. IsOk (outcome_of s b) × Grew (whole_text s b)) (holds, subst Grew all grew)
+  ended Faulty (outcome, ends, same, grew) =
+      let (all, holds) = text_of_faulty settings bits taken outcome ends (sym same) in
+      known (λ s b. IsErr (outcome_of s b) × Grew (whole_text s b)) (holds, subst Grew all grew)
+  ended Memory (outcome, ends, same, grew) =
+      known (λ s b. (text : List ℕ) × IsTextOfWant s b text × Grew text) (_, (_, outcome, ends, sym same, refl), grew)
+
+pub returns-clause-ended : goal.returns-clause-ended
+returns-clause-ended g c = IfOk-weaker c.write_decoded.result _ _ (ended g c) c.write_decoded.ensures.written

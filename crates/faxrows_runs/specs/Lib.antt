@@ -1,0 +1,7 @@
+pub mod Arguments
+pub mod DamageText
+pub mod Output
+pub mod PackedRuns
+pub mod Runs
+pub mod RunsByRow
+pub mod Text

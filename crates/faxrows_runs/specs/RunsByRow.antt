@@ -1,0 +1,19 @@
+-- What a run writes that writes each row as it is read.
+use Rattle.std.specs.Prelude.{◌≡◌, ◌≢◌, ◌⊎◌, ℕ, List, Err}
+use Rattle.hayro_ccitt.specs.declared.error.DecodeError.TheVariants.{OutOfMemory, Refused}
+use Rattle.hayro_ccitt.specs.declared.settings.DecodeSettings.{DecodeSettings}
+use Rattle.hayro_ccitt.specs.Bits.{Bits}
+use Rattle.faxrows_runs.specs.Runs.{Outcome, EndsAfter, text_after, whole_text}
+
+-- reading row by row may end like this after this number of rows: as decoding may, but no row is refused
+abbrev pub EndsByRow : DecodeSettings → Bits → ℕ → Outcome → Type 0
+EndsByRow settings bits read outcome = EndsAfter settings bits read outcome × (outcome ≢ Err Refused)
+
+-- the lines of the rows that were read, and then that of the allocation failure that ended the reading there
+abbrev pub IsTextWithoutMemory : DecodeSettings → Bits → List ℕ → Type 0
+IsTextWithoutMemory settings bits text =
+    (read : ℕ) × EndsAfter settings bits read (Err OutOfMemory) × (text ≡ text_after settings bits read (Err OutOfMemory))
+
+-- the whole text of some data, or that of an allocation failure
+abbrev pub IsTextByRow : DecodeSettings → Bits → List ℕ → Type 0
+IsTextByRow settings bits text = (text ≡ whole_text settings bits) ⊎ IsTextWithoutMemory settings bits text

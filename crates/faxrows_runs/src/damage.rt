@@ -1,0 +1,215 @@
+//! A run of the program that writes the damage of the data instead of its rows.
+
+ghost use Rattle.std.specs.Prelude.{◌≡◌, ◌<◌, ◌-◌, ◌↔◌, ◌≢◌, ◌++◌, [], IfOk, IfErr, OnOk, OnErr, IfSome, IsOk, IsErr, true};
+ghost use Rattle.std.specs.Prelude.{false, map, string_bytes, length, None, Some, Ok, Err, List, ℕ};
+ghost use Rattle.std.specs.Io.KnownBytes.{Appends, IsAtEnd};
+ghost use Rattle.hayro_ccitt.specs.Bits.{BitsFit};
+ghost use Rattle.hayro_ccitt.specs.PlainReading.{failed_at};
+ghost use Rattle.fax_program.specs.Devices.{AppendsFront, WasRead};
+ghost use Rattle.faxrows_runs.specs.Arguments.{arguments_of_words};
+ghost use Rattle.faxrows_runs.specs.DamageText.{IsDamageText, IsDamageWithoutMemory, damage_after, damage_lines};
+ghost use Rattle.faxrows_runs.specs.DamageText.{last_line_of_damage};
+ghost use Rattle.faxrows_runs.specs.DamageText.{line_of_damage, line_of_strict, strict_fault, whole_damage};
+ghost use Rattle.faxrows_runs.specs.Output.{PassesOn};
+ghost use Rattle.faxrows_runs.specs.Runs.{Outcome, OnKnown, rows_of, outcome_of, done_of, IsEndOfRun};
+ghost use Rattle.faxrows_runs.specs.RunsByRow.{EndsByRow};
+
+use crate::damage_lines::{put_fault, put_good_end, put_missed, put_strict};
+use crate::input::read_input;
+use crate::output::flush;
+use crate::program::{Done, done_of};
+use crate::strict_reading::{StrictFault, strict_fault};
+use fax_program::{Device, RunFault};
+use hayro_ccitt::{DecodeError, RowReader};
+use std::alloc::Global;
+use std::io::{Read, Write};
+
+/// Reads all that the reader has, decodes it row by row as the arguments mean, and writes the damage instead of the rows:
+/// for each row that was repaired a line of `damaged`, the row's index, the offset in bits at which its line begins, and
+/// the fault; for each EOL that was missed a line of `missed`, the index of the row before it, and the offset in bits at
+/// which it is expected; unless the settings are strict, and a strict reading fails, a line of `strict`, the index of
+/// the row at which it does, the offset in bits at which its line begins or its EOL is missing, and the error; and then
+/// `ok`, the rows, the number of them that were repaired, and the byte count, or `error`, the index of
+/// the row that can't be read, the offset in bits at which its line begins or its EOL is missing, and the error.
+///
+/// # Errors
+///
+/// Those of [`run_by_row`](crate::run_by_row).
+pub fn run_damage<R: Read, W: Write>(
+    alloc: Global,
+    words: &[String],
+    reader: &mut Device<R>,
+    writer: &mut Device<W>,
+) -> std::result::Result<Done, RunFault>
+    ensures bad_arguments { (result ≡ Err RunFault.BadArguments)
+        ↔ (arguments_of_words (map string_bytes words.now) ≡ None) }
+    ensures unread { result ≡ Err RunFault.BadArguments → reader.new ≡ reader.old }
+    ensures unwritten { IfErr result (λ fault. fault ≢ RunFault.Write → writer.new ≡ writer.old) }
+    ensures ended { IfOk result (λ done.
+        OnKnown (arguments_of_words (map string_bytes words.now)) (R.remaining reader.old.0) (λ settings bits.
+        IsEndOfRun done (outcome_of settings bits) (whole_damage settings bits) (IsDamageWithoutMemory settings bits) (λ text.
+        Appends (W.contents writer.old.0) (W.contents writer.new.0) text))) }
+    ensures front { result ≡ Err RunFault.Write
+        → OnKnown (arguments_of_words (map string_bytes words.now)) (R.remaining reader.old.0) (λ settings bits.
+        (text : List ℕ) × IsDamageText settings bits text
+        × AppendsFront (W.contents writer.old.0) (W.contents writer.new.0) text) }
+    ensures drained { IfOk result (λ _. IsAtEnd (R.remaining reader.new.0)) }
+    ensures fit { IfOk result (λ _. IfSome (R.remaining reader.old.0) BitsFit) }
+    ensures fit_write { result ≡ Err RunFault.Write → IfSome (R.remaining reader.old.0) BitsFit }
+    ensures fit_so_far { result ≢ Err RunFault.TooLong
+        → WasRead (R.remaining reader.old.0) (R.remaining reader.new.0) BitsFit }
+    ensures too_long { result ≡ Err RunFault.TooLong
+        → IfSome (R.remaining reader.old.0) (λ input. ¬ (BitsFit input)) }
+    ensures read { reader.old.1 ≡ false → ((result ≡ Err RunFault.Read) ↔ (reader.new.1 ≡ true)) }
+    ensures write { writer.old.1 ≡ false → ((result ≡ Err RunFault.Write) ↔ (writer.new.1 ≡ true)) }
+{
+    let (arguments, input) = read_input(alloc, words, reader)?;
+    let found = strict_fault(alloc, input.as_slice(), arguments.order, arguments.settings)?;
+    let Ok(mut rows) = RowReader::new(alloc, input.as_slice(), arguments.order, arguments.settings)
+    else {
+        return Err(RunFault::Memory);
+    };
+    write_damage(alloc, &mut rows, found, writer)
+}
+
+/// Reads row by row from the first one on, and writes a line for each row that was repaired and for each missed EOL, what a
+/// strict reading found, and then how the reading ended. It fails only if the writer does.
+fn write_damage<W: Write>(
+    alloc: Global,
+    rows: &mut RowReader<'_>,
+    found: Option<StrictFault>,
+    writer: &mut Device<W>,
+) -> std::result::Result<Done, RunFault>
+    requires found { found ≡ strict_fault rows.old.settings rows.old.bits }
+    requires none_read { rows.old.taken ≡ 0 }
+    requires unfailed { (error : DecodeError) → rows.old.end ≢ Some (Err error) }
+    ensures written { IfOk result (λ done. (outcome : Outcome)
+        × EndsByRow rows.old.settings rows.old.bits rows.new.taken outcome
+        × (done ≡ done_of outcome)
+        × Appends (W.contents writer.old.0) (W.contents writer.new.0)
+        (damage_after rows.old.settings rows.old.bits rows.new.taken outcome)) }
+    ensures front { OnErr result ((text : List ℕ) × IsDamageText rows.old.settings rows.old.bits text
+        × AppendsFront (W.contents writer.old.0) (W.contents writer.new.0) text) }
+    ensures flag { OnOk result (writer.new.1 ≡ writer.old.1) }
+    ensures failed { OnErr result (writer.new.1 ≡ true) }
+    ensures only { IfErr result (λ fault. fault ≡ RunFault.Write) }
+{
+    let mut waiting = Vec::new(alloc);
+    let outcome = put_damage(rows, &mut waiting, writer)?;
+    put_ends(rows, found, &outcome, &mut waiting, writer)?;
+    flush(&mut waiting, writer)?;
+    Ok(done_of(&outcome))
+}
+
+/// Reads row by row from the first one on, puts a line for each row that was repaired and for each missed EOL, and returns how
+/// the reading ended.
+fn put_damage<W: Write>(
+    rows: &mut RowReader<'_>,
+    waiting: &mut Vec<u8>,
+    writer: &mut Device<W>,
+) -> std::result::Result<hayro_ccitt::Result<usize>, RunFault>
+    requires none_read { rows.old.taken ≡ 0 }
+    requires none_waits { waiting.old.items ≡ [] }
+    requires unfailed { (error : DecodeError) → rows.old.end ≢ Some (Err error) }
+    ensures settings { OnOk result (rows.new.settings ≡ rows.old.settings) }
+    ensures bits { OnOk result (rows.new.bits ≡ rows.old.bits) }
+    ensures ends { IfOk result (λ outcome. EndsByRow rows.old.settings rows.old.bits rows.new.taken outcome) }
+    ensures fails { IfOk result (λ outcome. OnErr outcome
+        (rows.new.line_start ≡ failed_at rows.new.settings rows.new.bits rows.new.taken)) }
+    ensures lines { OnOk result (PassesOn (W.contents writer.old.0) (W.contents writer.new.0)
+        [] (damage_lines rows.old.settings rows.old.bits rows.new.taken) waiting.new.items) }
+    ensures front { OnErr result (AppendsFront (W.contents writer.old.0) (W.contents writer.new.0)
+        (damage_lines rows.old.settings rows.old.bits (length (rows_of rows.old.settings rows.old.bits)))) }
+    ensures flag { OnOk result (writer.new.1 ≡ writer.old.1) }
+    ensures failed { OnErr result (writer.new.1 ≡ true) }
+    ensures only { IfErr result (λ fault. fault ≡ RunFault.Write) }
+{
+    loop {
+        let read = rows.rows_read();
+        let answer = rows.next_row();
+        put_missed(read, rows.missed_eol(), waiting, writer)?;
+        match answer {
+            Ok(true) => put_last_row(rows, waiting, writer)?,
+            Ok(false) => return Ok(Ok(rows.bytes_read())),
+            Err(error) => return Ok(Err(error)),
+        }
+    }
+}
+
+/// Puts the line of the last row that was read, if it was repaired.
+fn put_last_row<W: Write>(
+    rows: &RowReader<'_>,
+    waiting: &mut Vec<u8>,
+    writer: &mut Device<W>,
+) -> std::result::Result<(), RunFault>
+    requires some { 0 < rows.now.taken }
+    ensures ok { OnOk result (PassesOn (W.contents writer.old.0) (W.contents writer.new.0)
+        waiting.old.items (line_of_damage (rows.now.taken - 1) rows.now.line_start rows.now.damage) waiting.new.items) }
+    ensures front { OnErr result (AppendsFront (W.contents writer.old.0) (W.contents writer.new.0)
+        (waiting.old.items ++ line_of_damage (rows.now.taken - 1) rows.now.line_start rows.now.damage)) }
+    ensures flag { OnOk result (writer.new.1 ≡ writer.old.1) }
+    ensures failed { OnErr result (writer.new.1 ≡ true) }
+    ensures only { IfErr result (λ fault. fault ≡ RunFault.Write) }
+{
+    match rows.damage() {
+        Some(fault) => {
+            let row = rows.rows_read() - 1;
+            let start = rows.line_start() as u64;
+            put_fault(b"damaged ", row, start, fault, waiting, writer)
+        }
+        None => Ok(()),
+    }
+}
+
+/// Puts the line of what a strict reading found, and the last line.
+fn put_ends<W: Write>(
+    rows: &RowReader<'_>,
+    found: Option<StrictFault>,
+    outcome: &hayro_ccitt::Result<usize>,
+    waiting: &mut Vec<u8>,
+    writer: &mut Device<W>,
+) -> std::result::Result<(), RunFault>
+    requires fails { OnErr outcome.now (rows.now.line_start ≡ failed_at rows.now.settings rows.now.bits rows.now.taken) }
+    ensures ok { OnOk result (PassesOn (W.contents writer.old.0) (W.contents writer.new.0) waiting.old.items
+        (line_of_strict found ++ last_line_of_damage rows.now.settings rows.now.bits rows.now.taken outcome.now)
+        waiting.new.items) }
+    ensures front { OnErr result (AppendsFront (W.contents writer.old.0) (W.contents writer.new.0) (waiting.old.items
+        ++ (line_of_strict found ++ last_line_of_damage rows.now.settings rows.now.bits rows.now.taken outcome.now))) }
+    ensures flag { OnOk result (writer.new.1 ≡ writer.old.1) }
+    ensures failed { OnErr result (writer.new.1 ≡ true) }
+    ensures only { IfErr result (λ fault. fault ≡ RunFault.Write) }
+{
+    put_strict(found, waiting, writer)?;
+    put_end(rows, outcome, waiting, writer)
+}
+
+/// Puts the last line.
+fn put_end<W: Write>(
+    rows: &RowReader<'_>,
+    outcome: &hayro_ccitt::Result<usize>,
+    waiting: &mut Vec<u8>,
+    writer: &mut Device<W>,
+) -> std::result::Result<(), RunFault>
+    requires fails { OnErr outcome.now (rows.now.line_start ≡ failed_at rows.now.settings rows.now.bits rows.now.taken) }
+    ensures ok { OnOk result (PassesOn (W.contents writer.old.0) (W.contents writer.new.0)
+        waiting.old.items (last_line_of_damage rows.now.settings rows.now.bits rows.now.taken outcome.now) waiting.new.items) }
+    ensures front { OnErr result (AppendsFront (W.contents writer.old.0) (W.contents writer.new.0)
+        (waiting.old.items ++ last_line_of_damage rows.now.settings rows.now.bits rows.now.taken outcome.now)) }
+    ensures flag { OnOk result (writer.new.1 ≡ writer.old.1) }
+    ensures failed { OnErr result (writer.new.1 ≡ true) }
+    ensures only { IfErr result (λ fault. fault ≡ RunFault.Write) }
+{
+    match outcome {
+        Ok(count) => put_good_end(
+            rows.rows_read(),
+            rows.damaged_rows(),
+            *count as u64,
+            waiting,
+            writer,
+        ),
+        Err(error) => {
+            let start = rows.line_start() as u64;
+            put_fault(b"error ", rows.rows_read(), start, *error, waiting, writer)
+        }
+    }
+}
