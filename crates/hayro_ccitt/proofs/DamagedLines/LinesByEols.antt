@@ -13,7 +13,8 @@ use Rattle.hayro_ccitt.proofs.DamagedLines.SoughtTurns.{sought, rest_of, found_n
 use Rattle.hayro_ccitt.proofs.DrawingLines.LinesLeaveBits.{line_1d_leaves, LineLeaves}
 use Rattle.hayro_ccitt.proofs.Readings.Repeated.{after_turn, repeated_turn, repeated_same}
 use Rattle.hayro_ccitt.proofs.Readings.TurnsAddRows.{after_row_keeps, move_adds, repeated_adds}
-use Rattle.hayro_ccitt.proofs.Readings.TurnsMoveOn.{after_eol_shorter, eols_shorter, left_to_read, left_below, move_shrinks}
+use Rattle.hayro_ccitt.proofs.Readings.TurnsMoveOn.{after_eol_shorter, count_shorter, counts_plain, left_to_read, left_below}
+use Rattle.hayro_ccitt.proofs.Readings.TurnsMoveOn.{move_shrinks}
 
 -- what follows the next EOL is shorter
 pub past_shorter : (seen : ℕ) (here after : Bits) → past seen here ≡ Some after → length after < length here
@@ -135,7 +136,7 @@ module _ (settings : DecodeSettings) (encoding : settings.encoding ≡ Group3_1D
               let some : later_starts 0 here ≡ (b ∷ there) ∷ later_starts 0 (b ∷ there) =
               starts-next here after e ∙ ap from_here is in
               let smaller : length (b ∷ there) < n =
-              omega (arith, lt, past_shorter 0 here after e, eols_shorter (length after) after, ap length is) in
+              omega (arith, lt, past_shorter 0 here after e, count_shorter counts_plain (length after) after, ap length is) in
               let tail = All-same (StaysBefore settings.columns) ((b ∷ there) ∷ later_starts 0 (b ∷ there)) (later_starts 0 here)
               (sym some) (All-tail (StaysBefore settings.columns) here (later_starts 0 here) stay) in
               let further = on others (b ∷ there) smaller tail in
