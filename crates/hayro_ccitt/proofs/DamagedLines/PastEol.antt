@@ -1,7 +1,8 @@
 -- What follows the next EOL.
-use Rattle.hayro_ccitt.proofs.Names.{◌≡◌, ℕ, suc, ◌+◌, ◌≤◌, true, false, cond, leb, [], ◌∷◌, ◌++◌, length, Option, Some}
-use Rattle.hayro_ccitt.proofs.Names.{None, refl, ap, arith, cases_lt, lt-leb, le-leb, length-append, Bits, after_eol}
-use Rattle.hayro_ccitt.proofs.Names.{one_more, all_eols, next_eol, past_tag, eols_with_tags, common_steps}
+use Rattle.hayro_ccitt.proofs.Names.{◌≡◌, ℕ, suc, ◌+◌, ◌≤◌, true, false, cond, leb, [], ◌∷◌, ◌++◌, length, Option, Some, None}
+use Rattle.hayro_ccitt.proofs.Names.{refl, ap, arith, cases_lt, lt-leb, le-leb, length-append, Bits, after_eol, one_more}
+use Rattle.hayro_ccitt.proofs.Names.{all_eols, next_eol, past_tag, eols_with_tags, common_steps, Bool, DecodeSettings}
+use Rattle.hayro_ccitt.proofs.Names.{EncodingMode, Group4, Group3_1D, Group3_2D, pass_last_tag, eols_by, eols_here, ◌∙◌}
 use Rattle.hayro_ccitt.proofs.Readings.TurnsMoveOn.{eols-none, eols_with_tags-none, count_all-some, counts_plain, counts_tagged}
 
 -- what follows the next EOL that ends further on, given the number of zeros just before
@@ -56,6 +57,21 @@ all_tagged-some here rest e = count_all-some counts_tagged here rest e
 -- if there is none, none is counted
 pub all_tagged-none : (here : Bits) → after_eol 0 here ≡ None → all_tagged here ≡ (0, here)
 all_tagged-none here e = eols_with_tags-none (length here) here e
+
+-- no EOL is counted where there is none
+pub eols_here-none : (settings : DecodeSettings) (here : Bits) → after_eol 0 here ≡ None → eols_here settings here ≡ (0, here)
+eols_here-none settings here e = by_encoding settings.encoding settings.end_of_block
+  where
+    no_tag : (bits : Bits) → pass_last_tag (0, bits) ≡ (0, bits)
+    no_tag [] = refl
+    no_tag (true ∷ bits) = refl
+    no_tag (false ∷ bits) = refl
+
+    by_encoding : (encoding : EncodingMode) (block : Bool) → eols_by encoding block here ≡ (0, here)
+    by_encoding Group3_1D block = all_eols-none here e
+    by_encoding Group3_2D block = ap pass_last_tag (all_tagged-none here e) ∙ no_tag here
+    by_encoding Group4 true = eols-none 2 here e
+    by_encoding Group4 false = all_eols-none here e
 
 -- the next EOL is further on in the same bits
 pub next_eol_leaves : (here found : Bits) → next_eol here ≡ Some found → (before : Bits) × (here ≡ before ++ found)

@@ -1,13 +1,12 @@
 -- Each line of a run moves the offset on.
-use Rattle.hayro_ccitt.proofs.Names.{common_steps}
-use Rattle.hayro_ccitt.proofs.Names.{◌≡◌, ℕ, zero, suc, ◌+◌, ◌-◌, ◌%◌, ◌<◌, ◌≤◌, Bool, true, false, cond, not, ◌&&◌, ◌||◌, eqb}
-use Rattle.hayro_ccitt.proofs.Names.{leb, [], ◌∷◌, ◌++◌, length, replicate, Option, Some, None, Result, Ok, Err, refl, sym, ap}
-use Rattle.hayro_ccitt.proofs.Names.{subst, ◌∙◌, arith, ◌⊎◌, inl, inr, length-drop, cases_lt, not-false, and_parts, and_cases}
-use Rattle.hayro_ccitt.proofs.Names.{or_parts, false≢true, le-leb, lt-leb, eqb-false, DecodeError, DecodeSettings, Bits, Turn}
-use Rattle.hayro_ccitt.proofs.Names.{Row, EncodingMode, Group4, Group3_1D, Group3_2D, InvalidCode, Line, line_1d, line_2d}
-use Rattle.hayro_ccitt.proofs.Names.{after_eol, one_more, eols, all_eols, next_eol, past_tag, eols_with_tags, pass_last_tag}
-use Rattle.hayro_ccitt.proofs.Names.{tagged_eols, eols_of_end, Progress, Move, row_before, aligned, ends_with, limit_met}
-use Rattle.hayro_ccitt.proofs.Names.{at_end, line_by, eols_by, eols_here, line_here, after_line, move_on}
+use Rattle.hayro_ccitt.proofs.Names.{common_steps, ◌≡◌, ℕ, zero, suc, ◌+◌, ◌-◌, ◌%◌, ◌<◌, ◌≤◌, Bool, true, false, cond, not, ◌&&◌}
+use Rattle.hayro_ccitt.proofs.Names.{◌||◌, eqb, leb, [], ◌∷◌, ◌++◌, length, replicate, Option, Some, None, Result, Ok, Err, refl}
+use Rattle.hayro_ccitt.proofs.Names.{sym, ap, subst, ◌∙◌, arith, ◌⊎◌, inl, inr, length-drop, cases_lt, not-false, and_parts}
+use Rattle.hayro_ccitt.proofs.Names.{and_cases, or_parts, false≢true, le-leb, lt-leb, eqb-false, DecodeError, DecodeSettings}
+use Rattle.hayro_ccitt.proofs.Names.{Bits, Turn, Row, EncodingMode, Group4, Group3_1D, Group3_2D, InvalidCode, Line, line_1d}
+use Rattle.hayro_ccitt.proofs.Names.{line_2d, after_eol, one_more, eols, all_eols, next_eol, past_tag, eols_with_tags}
+use Rattle.hayro_ccitt.proofs.Names.{pass_last_tag, tagged_eols, eols_of_end, Progress, Move, row_before, aligned, ends_with}
+use Rattle.hayro_ccitt.proofs.Names.{limit_met, at_end, line_by, eols_by, eols_here, line_here, after_line, move_on}
 use Rattle.hayro_ccitt.proofs.{CodeWords.ReadRuns.chosen, Readings.Repeated.Shrinks}
 use Rattle.hayro_ccitt.proofs.DrawingLines.ReadLines.{TookBits, line_1d_took_bits, line_2d_took_bits}
 use Rattle.hayro_ccitt.proofs.Readings.RowsAndGaps.{unless_over, seek_from, seek_eol, after_row, after_whole-is, after_damage-is}
