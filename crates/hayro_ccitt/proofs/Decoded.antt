@@ -7,13 +7,9 @@ use Rattle.hayro_ccitt.proofs.Names.{lines_of, failed_at, Row, AreSettings, Coun
 use Rattle.hayro_ccitt.proofs.{DamagedLines.Damage.damage_stays_in_row, Readings.PlainAnswers.LeavesRows}
 use Rattle.hayro_ccitt.proofs.Readings.RowWidths.{plain_width}
 use Rattle.hayro_ccitt.proofs.DamagedLines.DamageByK.{damage_ends}
+use Rattle.hayro_ccitt.proofs.DrawingLines.CountedLines.{on_answer_weaker}
 use Rattle.hayro_ccitt.proofs.EncodedPictures.PicturesOfEachKind.{closed_pictures, limited_pictures}
 use Rattle.hayro_ccitt.proofs.Readings.Undamaged.{no_row_repaired, no_misses, closed_strict, limited_strict}
-
--- what follows is true of the same results
-on_answer : {P Q : Type 0} (answer : Result ℕ DecodeError) → (P → Q) → OnAnswer answer P → OnAnswer answer Q
-on_answer (Ok n) follows holds = follows holds
-on_answer (Err error) follows holds = λ fault. follows (holds fault)
 
 -- unless an allocation failure or the sink ended it, all rows were accepted, and the result is that of the reading
 to_the_end : {M : Type 0} (rows : List Row) (outcome : Result ℕ DecodeError) {sought : Bool} (step : M → List ℕ → M)
@@ -64,36 +60,37 @@ decodes settings bits step before after held place ticks answer are whole
       work = work;
       reading = taken_still (plain settings bits).rows (plain settings bits).outcome
           (plain settings bits).has_eols step before after held place answer takes;
-      whole = on_answer answer (λ e. means (plain settings bits).rows e.0) end;
+      whole = on_answer_weaker answer (λ e. means (plain settings bits).rows e.0) end;
       widths = plain_width settings bits;
       no_eols = no_eols;
       short = short_still (plain settings bits).rows (lines_of settings bits) before after held place answer short;
       fault_start = fails;
       no_fault = no_fault;
       closed =
-          λ rows count picture. on_answer answer (λ e. e.1 ∙ (closed_pictures settings rows count bits are whole picture).1) end;
+          λ rows count picture. on_answer_weaker answer (λ e. e.1
+          ∙ (closed_pictures settings rows count bits are whole picture).1) end;
       closed_rows = λ rows count picture. (closed_pictures settings rows count bits are whole picture).0;
-      picture = λ rows count picture. on_answer answer
+      picture = λ rows count picture. on_answer_weaker answer
           (λ e. means rows (e.0 ∙ (closed_pictures settings rows count bits are whole picture).0)) end;
       limited_rows = λ rows picture. (limited_pictures settings rows bits are whole picture).0;
-      limited = λ rows picture. on_answer answer
+      limited = λ rows picture. on_answer_weaker answer
           (λ e. subst IsOk (sym e.1) (limited_pictures settings rows bits are whole picture).1) end;
-      limited_picture = λ rows picture. on_answer answer
+      limited_picture = λ rows picture. on_answer_weaker answer
           (λ e. means rows (e.0 ∙ (limited_pictures settings rows bits are whole picture).0)) end;
       damaged_taken = repaired.of_taken;
-      damaged = on_answer answer
+      damaged = on_answer_weaker answer
           (λ e. e ∙ sym (length-flat_map (λ (row : List Damaged). row) (repairs_by_line settings bits))) repaired.all;
       closed_whole = λ rows count picture. unrepaired (closed_strict settings rows count bits are whole picture);
       limited_whole = λ rows picture. unrepaired (limited_strict settings rows bits are whole picture);
       missed_taken = missed.of_taken;
-      missed = on_answer answer
+      missed = on_answer_weaker answer
           (λ e. e ∙ sym (length-flat_map (λ (eol : List Damaged). eol) (misses_by_line settings bits))) missed.all;
       closed_eols = λ rows count picture. unmissed (closed_strict settings rows count bits are whole picture);
       limited_eols = λ rows picture. unmissed (limited_strict settings rows bits are whole picture);
       undamaged = λ ok. (unrepaired ok, unmissed ok);
-      damage = on_answer answer
+      damage = on_answer_weaker answer
           (λ e. damage_stays_in_row settings bits (take held.taken (plain settings bits).rows) answer are whole e.0 e.1) end;
-      damage_by_k = on_answer answer (λ e. damage_ends settings bits
+      damage_by_k = on_answer_weaker answer (λ e. damage_ends settings bits
           (take held.taken (plain settings bits).rows) answer are whole e.0 e.1) end;
     }
   where

@@ -20,38 +20,32 @@ low_bits-padded (suc n) x (b ∷ here) h =
     (λ k lt. let e : n - 1 - k ≡ suc n - 1 - suc k = omega arith in ap (bit_of x) e ∙ h (suc k) (omega arith)) in
     cc
 
--- the highest n bits of what is peeked
-pub peeked : (at : BitsAt) (word n : ℕ) → n ≤ 32 → ((k : ℕ) → k < 32 → bit_of word (31 - k) ≡ get_or at.bits (at.place + k) false)
-    → low_bits n (word / 2 ^ (32 - n)) ≡ padded n (here at)
-peeked at word n le h = low_bits-padded n (word / 2 ^ (32 - n)) (here at) each
+-- the highest n bits of a word that contains the next ones
+highest_bits : (wide : ℕ) (at : BitsAt) (word n : ℕ) → n ≤ wide → ((k : ℕ) → k < n
+    → bit_of word (wide - 1 - k) ≡ get_or at.bits (at.place + k) false) → low_bits n (word / 2 ^ (wide - n)) ≡ padded n (here at)
+highest_bits wide at word n le h = low_bits-padded n (word / 2 ^ (wide - n)) (here at) each
   where
-    each : (k : ℕ) → k < n → bit_of (word / 2 ^ (32 - n)) (n - 1 - k) ≡ get_or (here at) k false
-    each k lt = grind (arith, common_steps, get_or-drop at.place at.bits k false, shr-shr word (32 - n) (n - 1 - k))
+    each : (k : ℕ) → k < n → bit_of (word / 2 ^ (wide - n)) (n - 1 - k) ≡ get_or (here at) k false
+    each k lt = grind (arith, common_steps, get_or-drop at.place at.bits k false, shr-shr word (wide - n) (n - 1 - k))
 
+-- of what is peeked
 pub peeked_thirteen : (at : BitsAt) (word : ℕ) → ((k : ℕ) → k < 32 → bit_of word (31 - k) ≡ get_or at.bits (at.place + k) false)
     → thirteen_bits (word / 524288) ≡ padded 13 (here at)
 unfolding thirteen_bits
-peeked_thirteen at word h = peeked at word 13 (omega arith) h
+peeked_thirteen at word h = highest_bits 32 at word 13 (omega arith) (λ k lt. h k (omega arith))
 
 pub peeked_seven : (at : BitsAt) (word : ℕ) → ((k : ℕ) → k < 32 → bit_of word (31 - k) ≡ get_or at.bits (at.place + k) false)
     → seven_bits (word / 33554432) ≡ padded 7 (here at)
 unfolding seven_bits
-peeked_seven at word h = peeked at word 7 (omega arith) h
+peeked_seven at word h = highest_bits 32 at word 7 (omega arith) (λ k lt. h k (omega arith))
 
--- the highest n bits of a window that contains them
-pub first_bits : (at : BitsAt) (word n : ℕ) → n ≤ 64 → ((k : ℕ) → k < n
-    → bit_of word (63 - k) ≡ get_or at.bits (at.place + k) false) → low_bits n (word / 2 ^ (64 - n)) ≡ padded n (here at)
-first_bits at word n le h = low_bits-padded n (word / 2 ^ (64 - n)) (here at) each
-  where
-    each : (k : ℕ) → k < n → bit_of (word / 2 ^ (64 - n)) (n - 1 - k) ≡ get_or (here at) k false
-    each k lt = grind (arith, common_steps, get_or-drop at.place at.bits k false, shr-shr word (64 - n) (n - 1 - k))
-
+-- of a window that contains them
 pub first_thirteen : (at : BitsAt) (word : ℕ) → ((k : ℕ) → k < 13 → bit_of word (63 - k) ≡ get_or at.bits (at.place + k) false)
     → thirteen_bits (word / 2251799813685248) ≡ padded 13 (here at)
 unfolding thirteen_bits
-first_thirteen at word h = first_bits at word 13 (omega arith) h
+first_thirteen at word h = highest_bits 64 at word 13 (omega arith) h
 
 pub first_seven : (at : BitsAt) (word : ℕ) → ((k : ℕ) → k < 7 → bit_of word (63 - k) ≡ get_or at.bits (at.place + k) false)
     → seven_bits (word / 144115188075855872) ≡ padded 7 (here at)
 unfolding seven_bits
-first_seven at word h = first_bits at word 7 (omega arith) h
+first_seven at word h = highest_bits 64 at word 7 (omega arith) h

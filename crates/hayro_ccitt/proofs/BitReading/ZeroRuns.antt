@@ -1,5 +1,5 @@
 -- Zeros and EOLs that are counted a bit and an EOL at a time.
-use Rattle.hayro_ccitt.proofs.DamagedLines.PastEol.{eols_same}
+use Rattle.hayro_ccitt.proofs.Readings.TurnsMoveOn.{count_same, counts_plain}
 use Rattle.hayro_ccitt.proofs.Names.{◌≡◌, ℕ, zero, suc, ◌+◌, ◌-◌, ◌<◌, ◌≤◌, Bool, true, false, cond, leb, eqb, [], ◌∷◌, ◌++◌}
 use Rattle.hayro_ccitt.proofs.Names.{length, replicate, Option, Some, None, refl, ap, ◌∙◌, arith, slice_get, eqb-true, Bits}
 use Rattle.hayro_ccitt.proofs.Names.{BitsAt, here, leading_zeros, after_eol, eols, all_eols, looked, common_steps}
@@ -57,7 +57,7 @@ eols_fewer (suc most) here = by_after_eol (λ rest. eols_fewer most rest) (after
 
 -- if at least as many EOLs as bits are looked for, all are
 pub eols_enough : (most : ℕ) (here : Bits) → length here ≤ most → eols most here ≡ all_eols here
-eols_enough most here le = eols_same most (length here) here le (omega arith)
+eols_enough most here le = count_same counts_plain most (length here) here le (omega arith)
 
 -- if more EOLs than bits are looked for, the bits after the last are examined
 pub eols_look_on : (most : ℕ) (here rest : Bits) (count : ℕ) → length here < most → eols most here ≡ (count, rest)

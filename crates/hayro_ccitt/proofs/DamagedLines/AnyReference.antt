@@ -15,8 +15,9 @@ use Rattle.hayro_ccitt.proofs.BitReading.ZerosInWords.{modes_free}
 use Rattle.hayro_ccitt.proofs.CodeWords.ReadRuns.{run_passes, run_ends, run_goes_on}
 use Rattle.hayro_ccitt.proofs.DamagedLines.LineTails.{after_eol_is}
 use Rattle.hayro_ccitt.proofs.DrawingLines.Drawings.{try, run_then, mode_step, step_2d, step_2d_is, horizontal_is}
-use Rattle.hayro_ccitt.proofs.DrawingLines.ReadLines.{next_pen_is, try_next, unless_full_next, try_goes_on, draw_mode_goes_on}
+use Rattle.hayro_ccitt.proofs.DrawingLines.ReadLines.{try_next, unless_full_next, try_goes_on, draw_mode_goes_on}
 use Rattle.hayro_ccitt.proofs.DrawingLines.ReadLines.{full_by}
+use Rattle.hayro_ccitt.proofs.Readings.Repeated.{next_is}
 
 -- ---- Words contain no EOL
 
@@ -134,13 +135,13 @@ module _ (strict : Bool) (columns : ℕ) (other : Row) where
   mode_on front color here last Pass rest t read e reads =
       let a = try_next front _ (λ more. Turn.next (pen_with more color rest)) t e in
       ReadsModes.mode color rest (ap (behind_read color) read)
-      (subst (λ (p : Pen). reads_at p last) {y = pen_with a.0 color rest} (sym (next_pen_is _ t a.2)) reads)
+      (subst (λ (p : Pen). reads_at p last) {y = pen_with a.0 color rest} (sym (next_is _ t a.2)) reads)
   mode_on front color here last (Vertical k) rest t read e reads =
       let a = try_next front _ (λ place. try front (paint strict columns front color (place - length front))
       (λ more. Turn.next (pen_with more (opposite color) rest))) t e in
       let b = try_next front _ (λ more. Turn.next (pen_with more (opposite color) rest)) t a.2 in
       ReadsModes.mode (opposite color) rest (ap (behind_read color) read)
-      (subst (λ (p : Pen). reads_at p last) {y = pen_with b.0 (opposite color) rest} (sym (next_pen_is _ t b.2)) reads)
+      (subst (λ (p : Pen). reads_at p last) {y = pen_with b.0 (opposite color) rest} (sym (next_is _ t b.2)) reads)
   mode_on front color here last Horizontal rest t read e reads =
       let one = run_was_read strict columns (pen_with front color rest) (λ p. run_then strict columns p Turn.next) t
       (horizontal_is strict columns other (pen_with front color rest) ∙ e) in
@@ -148,7 +149,7 @@ module _ (strict : Bool) (columns : ℕ) (other : Row) where
       ReadsModes.mode color two.2
       (ap (behind_read color) read ∙ ap (behind_first_run color) one.3 ∙ ap (behind_second_run color) two.3)
       (subst (λ (c : Color). ReadsModes c two.2 last) (opposite_twice color)
-      (subst (λ (p : Pen). reads_at p last) {y = pen_with two.1 (opposite (opposite color)) two.2} (sym (next_pen_is _ t two.4))
+      (subst (λ (p : Pen). reads_at p last) {y = pen_with two.1 (opposite (opposite color)) two.2} (sym (next_is _ t two.4))
       reads))
 
   abbrev Keeps : Bits → Pen → Type 0

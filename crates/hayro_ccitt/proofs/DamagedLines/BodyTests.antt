@@ -6,7 +6,7 @@ use Rattle.hayro_ccitt.proofs.Names.{subst, ◌∙◌, arith, inl, inr, ◌↔�
 use Rattle.hayro_ccitt.proofs.Names.{leb-true, eqb-true, eq-eqb, none-some, length-append, length-replicate, length-drop}
 use Rattle.hayro_ccitt.proofs.Names.{take-append-drop, drop-drop, DecodeError, OutOfMemory, DecodeSettings, Group3_1D, DrawsLine}
 use Rattle.hayro_ccitt.proofs.Names.{line_from_1d, Bits, BitsAt, here, leading_zeros, Held, fresh, after_eol, next_eol, Line}
-use Rattle.hayro_ccitt.proofs.Names.{line_1d, EndsBefore, IsLocal, IsLocalByTests, Row, common_steps}
+use Rattle.hayro_ccitt.proofs.Names.{line_1d, EndsBefore, IsLocal, Row, common_steps}
 use Rattle.hayro_ccitt.proofs.{DamagedLines.LinesByEols.past_shorter, Readings.TurnsMoveOn.next_eol_found}
 use Rattle.hayro_ccitt.proofs.DamagedLines.LocalByTests.{local_by_tests}
 use Rattle.hayro_ccitt.proofs.DamagedLines.PastEol.{past, past_is, then_after}
@@ -195,8 +195,3 @@ local_by_end settings bits from to end before lenient order within starts one no
         → EndsBefore settings.columns after (drop from bits) → EndsBefore settings.columns (drop end bits) (drop from bits)
     same_end after e is = let same : after ≡ drop end bits = cc in
         subst (λ (x : Bits). EndsBefore settings.columns x (drop from bits)) same is
-
--- if a test fails, no body is local
-pub tests_of : (settings : DecodeSettings) (bits : Bits) (from to : ℕ) → IsLocal settings bits from to
-    → IsLocalByTests settings bits from to
-tests_of settings bits from to local = (local_by_tests settings bits from to).0 local

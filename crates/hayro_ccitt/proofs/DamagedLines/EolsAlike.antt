@@ -4,9 +4,9 @@ use Rattle.hayro_ccitt.proofs.Names.{Option, Some, None, refl, sym, ap, ◌∙�
 use Rattle.hayro_ccitt.proofs.Names.{length-append, Bits, after_eol, all_eols, past_tag, pass_last_tag, common_steps}
 use Rattle.hayro_ccitt.proofs.BitReading.ZerosInWords.{scan, scan_holds}
 use Rattle.hayro_ccitt.proofs.DamagedLines.LinesBeforeEol.{Inside}
-use Rattle.hayro_ccitt.proofs.DamagedLines.PastEol.{past, all_eols-some, all_eols-none, all_tagged, all_tagged-some}
-use Rattle.hayro_ccitt.proofs.DamagedLines.PastEol.{all_tagged-none}
+use Rattle.hayro_ccitt.proofs.DamagedLines.PastEol.{past, all_tagged}
 use Rattle.hayro_ccitt.proofs.DrawingLines.LinesLeaveBits.{LeavesBits, leaves_trans}
+use Rattle.hayro_ccitt.proofs.Readings.TurnsMoveOn.{CountsEols, count_all-some, counts_plain, counts_tagged}
 
 -- bits that end with the zeros of an EOL
 abbrev pub Closes : Bits → Type 0
@@ -110,62 +110,100 @@ module _ (x y : Bits) where
   abbrev pub CountAlike : Bits → ℕ × Bits → ℕ × Bits → Type 0
   CountAlike bits f g = (f.0 ≡ g.0) × RestAlike bits f.1 g.1
 
+  -- what is passed after an EOL is among the equal bits
+  abbrev pub PassAlike : Bits → Bits → Bits → Type 0
+  PassAlike bits here there = (rest : Bits) × LeavesBits bits rest × (Closes bits → Closes rest) × (here ≡ rest ++ true ∷ x)
+      × (there ≡ rest ++ true ∷ y)
+
   module _ (none_x : after_eol 0 x ≡ None) (none_y : after_eol 0 y ≡ None) where
-    count_for : (n : ℕ) (bits : Bits) → length bits < n
-        → CountAlike bits (all_eols (bits ++ true ∷ x)) (all_eols (bits ++ true ∷ y))
-    count_for zero bits lt = absurd (omega arith)
-    count_for (suc n) bits lt = by_after_eol (λ rest small. count_for n rest small) (after_eol 0 (bits ++ true ∷ x))
-        (after_eol 0 (bits ++ true ∷ y)) refl refl (after_eol_alike 0 bits)
-      where
-        by_after_eol : ((rest : Bits) → length rest < n → CountAlike rest (all_eols (rest ++ true ∷ x)) (all_eols
-            (rest ++ true ∷ y))) → (o p : Option Bits) → after_eol 0 (bits ++ true ∷ x) ≡ o → after_eol 0 (bits ++ true ∷ y) ≡ p
-            → EolAlike bits o p → CountAlike bits (all_eols (bits ++ true ∷ x)) (all_eols (bits ++ true ∷ y))
-        by_after_eol on o p e f (inl a) =
-            let shorter = after_shorter bits a.0 a.1 a.2 in
-            let more = on a.1 (omega (arith, shorter, lt)) in
-            rw (
-              all_eols-some (bits ++ true ∷ x) (a.1 ++ true ∷ x) (e ∙ a.3),
-              all_eols-some (bits ++ true ∷ y) (a.1 ++ true ∷ y) (f ∙ a.4),
-            ) (
-              ap suc more.0,
-              elim more.1 [
-                | inl b ↦ inl (
-                  b.0,
-                  leaves_trans bits a.1 b.0 (leaves_after bits a.0 a.1 a.2) b.1,
-                  λ closes. b.2 (closes_after a.0 a.1 closes.0 (sym a.2 ∙ closes.1)),
-                  b.3,
-                  b.4,
-                )
-                | inr b ↦ inr b
-              ],
-            )
-        by_after_eol on o p e f (inr (inl a)) =
-            let step = all_eols-some (bits ++ true ∷ x) x (e ∙ a.0) in
-            let step2 = all_eols-some (bits ++ true ∷ y) y (f ∙ a.1) in
-            grind (arith, common_steps, all_eols-none x none_x, all_eols-none y none_y, step, step2)
-        by_after_eol on o p e f (inr (inr a)) =
-            rw (all_eols-none (bits ++ true ∷ x) (e ∙ a.0), all_eols-none (bits ++ true ∷ y) (f ∙ a.1))
-            (refl, inl (bits, ([], refl), λ closes. closes, refl, refl))
+    module _ {pass : Bits → Bits} {count : ℕ → Bits → ℕ × Bits} (counts : CountsEols pass count) (pass_x : pass x ≡ x)
+        (pass_y : pass y ≡ y) (passed : (bits : Bits) → PassAlike bits (pass (bits ++ true ∷ x)) (pass (bits ++ true ∷ y))) where
+      abbrev all : Bits → ℕ × Bits
+      all here = count (length here) here
 
-    -- the consecutive EOLs are alike in both
+      none : (here : Bits) → after_eol 0 here ≡ None → all here ≡ (0, here)
+      none here e = counts.none (length here) here e
+
+      count_for : (n : ℕ) (bits : Bits) → length bits < n → CountAlike bits (all (bits ++ true ∷ x)) (all (bits ++ true ∷ y))
+      count_for zero bits lt = absurd (omega arith)
+      count_for (suc n) bits lt = by_after_eol (λ rest small. count_for n rest small) (after_eol 0 (bits ++ true ∷ x))
+          (after_eol 0 (bits ++ true ∷ y)) refl refl (after_eol_alike 0 bits)
+        where
+          by_after_eol : ((rest : Bits) → length rest < n → CountAlike rest (all (rest ++ true ∷ x)) (all (rest ++ true ∷ y)))
+              → (o p : Option Bits) → after_eol 0 (bits ++ true ∷ x) ≡ o → after_eol 0 (bits ++ true ∷ y) ≡ p
+              → EolAlike bits o p → CountAlike bits (all (bits ++ true ∷ x)) (all (bits ++ true ∷ y))
+          by_after_eol on o p e f (inl a) =
+              let shorter = after_shorter bits a.0 a.1 a.2 in
+              let past = passed a.1 in
+              let more = on past.0 (omega (arith, shorter, leaves_length a.1 past.0 past.1, lt)) in
+              let keeps : Closes bits → Closes past.0 = λ closes. past.2 (closes_after a.0 a.1 closes.0 (sym a.2 ∙ closes.1)) in
+              rw (
+                count_all-some counts (bits ++ true ∷ x) (a.1 ++ true ∷ x) (e ∙ a.3),
+                count_all-some counts (bits ++ true ∷ y) (a.1 ++ true ∷ y) (f ∙ a.4),
+                past.3,
+                past.4,
+              ) (
+                ap suc more.0,
+                elim more.1 [
+                  | inl b ↦ inl (
+                    b.0,
+                    leaves_trans bits a.1 b.0 (leaves_after bits a.0 a.1 a.2) (leaves_trans a.1 past.0 b.0 past.1 b.1),
+                    λ closes. b.2 (keeps closes),
+                    b.3,
+                    b.4,
+                  )
+                  | inr b ↦ inr b
+                ],
+              )
+          by_after_eol on o p e f (inr (inl a)) =
+              rw (
+                count_all-some counts (bits ++ true ∷ x) x (e ∙ a.0),
+                count_all-some counts (bits ++ true ∷ y) y (f ∙ a.1),
+                pass_x,
+                pass_y,
+                none x none_x,
+                none y none_y,
+              ) (refl, inr (refl, refl))
+          by_after_eol on o p e f (inr (inr a)) =
+              rw (none (bits ++ true ∷ x) (e ∙ a.0), none (bits ++ true ∷ y) (f ∙ a.1))
+              (refl, inl (bits, ([], refl), λ closes. closes, refl, refl))
+
+      -- the consecutive EOLs are alike in both
+      pub count_alike : (bits : Bits) → CountAlike bits (all (bits ++ true ∷ x)) (all (bits ++ true ∷ y))
+      count_alike bits = count_for (suc (length bits)) bits (omega arith)
+
+      -- so they are from an EOL on that ends among the equal bits
+      pub count_found : (bits found other : Bits) → after_eol 0 found ≡ Some (bits ++ true ∷ x)
+          → after_eol 0 other ≡ Some (bits ++ true ∷ y) → CountAlike bits (all found) (all other)
+      count_found bits found other e f =
+          let past = passed bits in
+          let more = count_alike past.0 in
+          rw (
+            count_all-some counts found (bits ++ true ∷ x) e,
+            count_all-some counts other (bits ++ true ∷ y) f,
+            past.3,
+            past.4,
+          ) (
+            ap suc more.0,
+            elim more.1 [
+              | inl b ↦ inl (b.0, leaves_trans bits past.0 b.0 past.1 b.1, λ closes. b.2 (past.2 closes), b.3, b.4)
+              | inr b ↦ inr b
+            ],
+          )
+
+    nothing_passed : (bits : Bits) → PassAlike bits (bits ++ true ∷ x) (bits ++ true ∷ y)
+    nothing_passed bits = (bits, ([], refl), λ closes. closes, refl, refl)
+
     pub all_eols_alike : (bits : Bits) → CountAlike bits (all_eols (bits ++ true ∷ x)) (all_eols (bits ++ true ∷ y))
-    all_eols_alike bits = count_for (suc (length bits)) bits (omega arith)
+    all_eols_alike bits = count_alike counts_plain refl refl nothing_passed bits
 
-    -- so they are from an EOL on that ends among the equal bits
     pub eols_found : (bits found other : Bits) → after_eol 0 found ≡ Some (bits ++ true ∷ x)
         → after_eol 0 other ≡ Some (bits ++ true ∷ y) → CountAlike bits (all_eols found) (all_eols other)
-    eols_found bits found other e f =
-        let more = all_eols_alike bits in
-        rw (all_eols-some found (bits ++ true ∷ x) e, all_eols-some other (bits ++ true ∷ y) f) (ap suc more.0, more.1)
+    eols_found bits found other e f = count_found counts_plain refl refl nothing_passed bits found other e f
 
-    -- ---- The same with tags, where the different bits begin with the tag of a line
+    -- ---- With tags, where the different bits begin with the tag of a line
     module _ (tag_x : past_tag x ≡ x) (tag_y : past_tag y ≡ y) where
-      -- what follows a tag among the equal bits, or no tag
-      abbrev TagAlike : Bits → Bits → Bits → Type 0
-      TagAlike bits here there = (rest : Bits) × LeavesBits bits rest × (Closes bits → Closes rest) × (here ≡ rest ++ true ∷ x)
-          × (there ≡ rest ++ true ∷ y)
-
-      past_tag_alike : (bits : Bits) → TagAlike bits (past_tag (bits ++ true ∷ x)) (past_tag (bits ++ true ∷ y))
+      past_tag_alike : (bits : Bits) → PassAlike bits (past_tag (bits ++ true ∷ x)) (past_tag (bits ++ true ∷ y))
       past_tag_alike [] = ([], ([], refl), λ closes. closes, rw (none_x, past_tag) refl, rw (none_y, past_tag) refl)
       past_tag_alike (false ∷ bits) = (false ∷ bits, ([], refl), λ closes. closes, refl, refl)
       past_tag_alike (true ∷ bits) = by_after_eol (after_eol 0 (bits ++ true ∷ x)) (after_eol 0 (bits ++ true ∷ y)) refl refl
@@ -175,7 +213,7 @@ module _ (x y : Bits) where
           behind closes = closes_after [] bits closes.0 closes.1
 
           by_after_eol : (o p : Option Bits) → after_eol 0 (bits ++ true ∷ x) ≡ o → after_eol 0 (bits ++ true ∷ y) ≡ p
-              → EolAlike bits o p → TagAlike (true ∷ bits) (past_tag (true ∷ bits ++ true ∷ x))
+              → EolAlike bits o p → PassAlike (true ∷ bits) (past_tag (true ∷ bits ++ true ∷ x))
               (past_tag (true ∷ bits ++ true ∷ y))
           by_after_eol o p e f (inl a) =
               (bits, (true ∷ [], refl), behind, rw (e ∙ a.3, past_tag) refl, rw (f ∙ a.4, past_tag) refl)
@@ -189,69 +227,12 @@ module _ (x y : Bits) where
             rw (f ∙ a.1, past_tag) refl,
           )
 
-      -- consecutive EOLs with their tags
-      tagged_for : (n : ℕ) (bits : Bits) → length bits < n
-          → CountAlike bits (all_tagged (bits ++ true ∷ x)) (all_tagged (bits ++ true ∷ y))
-      tagged_for zero bits lt = absurd (omega arith)
-      tagged_for (suc n) bits lt = by_after_eol (λ rest small. tagged_for n rest small) (after_eol 0 (bits ++ true ∷ x))
-          (after_eol 0 (bits ++ true ∷ y)) refl refl (after_eol_alike 0 bits)
-        where
-          by_after_eol : ((rest : Bits) → length rest < n → CountAlike rest (all_tagged (rest ++ true ∷ x)) (all_tagged
-              (rest ++ true ∷ y))) → (o p : Option Bits) → after_eol 0 (bits ++ true ∷ x) ≡ o → after_eol 0 (bits ++ true ∷ y) ≡ p
-              → EolAlike bits o p → CountAlike bits (all_tagged (bits ++ true ∷ x)) (all_tagged (bits ++ true ∷ y))
-          by_after_eol on o p e f (inl a) =
-              let shorter = after_shorter bits a.0 a.1 a.2 in
-              let tag = past_tag_alike a.1 in
-              let more = on tag.0 (omega (arith, shorter, leaves_length a.1 tag.0 tag.1, lt)) in
-              let keeps : Closes bits → Closes tag.0 = λ closes. tag.2 (closes_after a.0 a.1 closes.0 (sym a.2 ∙ closes.1)) in
-              rw (
-                all_tagged-some (bits ++ true ∷ x) (a.1 ++ true ∷ x) (e ∙ a.3),
-                all_tagged-some (bits ++ true ∷ y) (a.1 ++ true ∷ y) (f ∙ a.4),
-                tag.3,
-                tag.4,
-              ) (
-                ap suc more.0,
-                elim more.1 [
-                  | inl b ↦ inl (
-                    b.0,
-                    leaves_trans bits a.1 b.0 (leaves_after bits a.0 a.1 a.2) (leaves_trans a.1 tag.0 b.0 tag.1 b.1),
-                    λ closes. b.2 (keeps closes),
-                    b.3,
-                    b.4,
-                  )
-                  | inr b ↦ inr b
-                ],
-              )
-          by_after_eol on o p e f (inr (inl a)) =
-              rw (
-                all_tagged-some (bits ++ true ∷ x) x (e ∙ a.0),
-                all_tagged-some (bits ++ true ∷ y) y (f ∙ a.1),
-                tag_x,
-                tag_y,
-                all_tagged-none x none_x,
-                all_tagged-none y none_y,
-              ) (refl, inr (refl, refl))
-          by_after_eol on o p e f (inr (inr a)) =
-              rw (all_tagged-none (bits ++ true ∷ x) (e ∙ a.0), all_tagged-none (bits ++ true ∷ y) (f ∙ a.1))
-              (refl, inl (bits, ([], refl), λ closes. closes, refl, refl))
-
-      -- they are alike in both
       pub all_tagged_alike : (bits : Bits) → CountAlike bits (all_tagged (bits ++ true ∷ x)) (all_tagged (bits ++ true ∷ y))
-      all_tagged_alike bits = tagged_for (suc (length bits)) bits (omega arith)
+      all_tagged_alike bits = count_alike counts_tagged tag_x tag_y past_tag_alike bits
 
-      -- so they are from an EOL on that ends among the equal bits
       pub tagged_found : (bits found other : Bits) → after_eol 0 found ≡ Some (bits ++ true ∷ x)
           → after_eol 0 other ≡ Some (bits ++ true ∷ y) → CountAlike bits (all_tagged found) (all_tagged other)
-      tagged_found bits found other e f =
-          let tag = past_tag_alike bits in
-          let more = all_tagged_alike tag.0 in
-          rw (all_tagged-some found (bits ++ true ∷ x) e, all_tagged-some other (bits ++ true ∷ y) f, tag.3, tag.4) (
-            ap suc more.0,
-            elim more.1 [
-              | inl b ↦ inl (b.0, leaves_trans bits tag.0 b.0 tag.1 b.1, λ closes. b.2 (tag.2 closes), b.3, b.4)
-              | inr b ↦ inr b
-            ],
-          )
+      tagged_found bits found other e f = count_found counts_tagged tag_x tag_y past_tag_alike bits found other e f
 
       -- so they are after the tag of RTC, unless it is the one with which the different bits begin
       pub last_tag_alike : (bits : Bits) (f g : ℕ × Bits) → CountAlike bits f g → ((count : ℕ) → f ≡ (count, x) → count < 6)

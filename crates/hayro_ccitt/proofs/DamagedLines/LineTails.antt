@@ -156,18 +156,19 @@ module _ (bits : Bits) (from to : ℕ) (after : Bits) (local : IsBody bits from 
   next_line_is = ap (past 0) cut ∙ past_before 0 body eol_on after none_in_body local.eol
 
 -- the next EOL is the same behind a line that is broken or ends before its last twelve bits
+pub line_past_of : (line : Line) (here after : Bits) → LineLeaves here line → past 0 here ≡ Some after
+    → ((row : Row) (rest : Bits) → line ≡ Line.whole row rest → length after + 12 ≤ length rest)
+    → past 0 (rest_of line here) ≡ Some after
+line_past_of (Line.whole row rest) here after leaves next stays =
+    past_later 0 leaves.0 rest after (ap (past 0) (sym leaves.1) ∙ next) (stays row rest refl)
+line_past_of (Line.broken front fault) here after leaves next stays = next
+
 pub line_past_by : (settings : DecodeSettings) (reference : Row) (here after : Bits) → past 0 here ≡ Some after
     → ((row : Row) (rest : Bits) → line_here settings reference here ≡ Line.whole row rest → length after + 12 ≤ length rest)
     → past 0 (rest_of (line_here settings reference here) here) ≡ Some after
 line_past_by settings reference here after next stays =
-    by_line_here (line_here settings reference here) refl
-    (line_by_leaves settings.encoding settings.strict settings.columns reference here)
-  where
-    by_line_here : (line : Line) → line_here settings reference here ≡ line → LineLeaves here line
-        → past 0 (rest_of line here) ≡ Some after
-    by_line_here (Line.whole row rest) e leaves =
-        past_later 0 leaves.0 rest after (ap (past 0) (sym leaves.1) ∙ next) (stays row rest e)
-    by_line_here (Line.broken front fault) e leaves = next
+    line_past_of (line_here settings reference here) here after
+    (line_by_leaves settings.encoding settings.strict settings.columns reference here) next stays
 
 -- ---- One-dimensional data
 

@@ -1,19 +1,19 @@
 -- Lines by EOLs.
-use Rattle.hayro_ccitt.proofs.Readings.TurnsAddRows.{turn_extends}
+use Rattle.hayro_ccitt.proofs.Readings.TurnsAddRows.{turn_extends, after_row_keeps, move_adds, repeated_adds}
 use Rattle.hayro_ccitt.proofs.Names.{◌≡◌, ℕ, zero, suc, ◌<◌, Bool, true, false, cond, ◌||◌, eqb, ltb, List, [], ◌∷◌, ◌++◌, length}
 use Rattle.hayro_ccitt.proofs.Names.{map, Option, Some, None, Ok, Err, refl, sym, ap, subst, ◌∙◌, append_assoc, arith, ◌⊎◌, All}
 use Rattle.hayro_ccitt.proofs.Names.{All-head, All-tail, All-same, append-nil, cases_lt, lt-leb, le-leb, ne_eqb, and_right}
 use Rattle.hayro_ccitt.proofs.Names.{cond-false, UnexpectedEof, Group3_1D, DecodeSettings, Bits, IsPrefix, Turn, repeated, Row}
-use Rattle.hayro_ccitt.proofs.Names.{Line, line_1d, after_eol, all_eols, Progress, Ending, Move, limit_met, at_end, ends_with}
-use Rattle.hayro_ccitt.proofs.Names.{move_on, begins_line, later_starts, starts, row_at, StaysBefore, IsEolAt, LinesByEols}
-use Rattle.hayro_ccitt.proofs.Names.{common_steps}
+use Rattle.hayro_ccitt.proofs.Names.{line_1d, after_eol, all_eols, Progress, Ending, Move, limit_met, at_end, ends_with, move_on}
+use Rattle.hayro_ccitt.proofs.Names.{begins_line, later_starts, starts, row_at, StaysBefore, IsEolAt, LinesByEols, common_steps}
 use Rattle.hayro_ccitt.proofs.{Readings.GapsAndRows.ending_t4, Readings.RowsAndGaps.after_row, Readings.RowsAndGaps.unless_over}
-use Rattle.hayro_ccitt.proofs.DamagedLines.PastEol.{past, past-eol, past_later, all_eols-some}
+use Rattle.hayro_ccitt.proofs.DamagedLines.PastEol.{past, past-eol, all_eols-some}
+use Rattle.hayro_ccitt.proofs.DamagedLines.LineTails.{line_past_of}
 use Rattle.hayro_ccitt.proofs.DamagedLines.SoughtTurns.{sought, rest_of, found_next, after_row_past, move_line}
-use Rattle.hayro_ccitt.proofs.DrawingLines.LinesLeaveBits.{line_1d_leaves, LineLeaves}
+use Rattle.hayro_ccitt.proofs.DrawingLines.LinesLeaveBits.{line_1d_leaves}
 use Rattle.hayro_ccitt.proofs.Readings.Repeated.{after_turn, repeated_turn, repeated_same}
-use Rattle.hayro_ccitt.proofs.Readings.TurnsAddRows.{after_row_keeps, move_adds, repeated_adds}
-use Rattle.hayro_ccitt.proofs.Readings.TurnsMoveOn.{after_eol_shorter, eols_shorter, left_to_read, left_below, move_shrinks}
+use Rattle.hayro_ccitt.proofs.Readings.TurnsMoveOn.{after_eol_shorter, count_shorter, counts_plain, left_to_read, left_below}
+use Rattle.hayro_ccitt.proofs.Readings.TurnsMoveOn.{move_shrinks}
 
 -- what follows the next EOL is shorter
 pub past_shorter : (seen : ℕ) (here after : Bits) → past seen here ≡ Some after → length after < length here
@@ -60,15 +60,10 @@ starts-next here after e = starts-past 0 here after e ∙ starts_after (suc (len
 -- ---- The next EOL is the same after a line that stays before it
 pub line_past : (columns : ℕ) (here after : Bits) → StaysBefore columns here → past 0 here ≡ Some after
     → past 0 (rest_of (line_1d false columns here) here) ≡ Some after
-line_past columns here after stays e = by_line_1d (line_1d false columns here) refl (line_1d_leaves false columns here)
-  where
-    by_line_1d : (line : Line) → line_1d false columns here ≡ line → LineLeaves here line
-        → past 0 (rest_of line here) ≡ Some after
-    by_line_1d (Line.whole row rest) l leaves =
-        let next = found_next here after e in
-        let f : past 0 (leaves.0 ++ rest) ≡ Some after = ap (past 0) (sym leaves.1) ∙ e in
-        past_later 0 leaves.0 rest after f (stays next.0 after next.1 next.2 row rest l)
-    by_line_1d (Line.broken front fault) l leaves = e
+line_past columns here after stays e =
+    let next = found_next here after e in
+    line_past_of (line_1d false columns here) here after (line_1d_leaves false columns here) e
+    (λ row rest l. stays next.0 after next.1 next.2 row rest l)
 
 module _ (settings : DecodeSettings) (encoding : settings.encoding ≡ Group3_1D) (lenient : settings.strict ≡ false)
     (no_block : settings.end_of_block ≡ false) (unlimited : settings.rows ≡ 0) (wide : 0 < settings.columns) (late : Ending) where
@@ -135,7 +130,7 @@ module _ (settings : DecodeSettings) (encoding : settings.encoding ≡ Group3_1D
               let some : later_starts 0 here ≡ (b ∷ there) ∷ later_starts 0 (b ∷ there) =
               starts-next here after e ∙ ap from_here is in
               let smaller : length (b ∷ there) < n =
-              omega (arith, lt, past_shorter 0 here after e, eols_shorter (length after) after, ap length is) in
+              omega (arith, lt, past_shorter 0 here after e, count_shorter counts_plain (length after) after, ap length is) in
               let tail = All-same (StaysBefore settings.columns) ((b ∷ there) ∷ later_starts 0 (b ∷ there)) (later_starts 0 here)
               (sym some) (All-tail (StaysBefore settings.columns) here (later_starts 0 here) stay) in
               let further = on others (b ∷ there) smaller tail in

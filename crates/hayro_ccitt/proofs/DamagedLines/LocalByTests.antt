@@ -101,7 +101,8 @@ module _ (settings : DecodeSettings) (bits : Bits) (from to : ℕ) where
           let some = eol_of 0 is.0 (take (((to - from) - j) - (is.0 + 1)) (drop end bits)) is.2 in
           grind (arith, common_steps)
 
-  to_tests : IsLocal settings bits from to → IsLocalByTests settings bits from to
+  -- a local body passes the tests
+  pub to_tests : IsLocal settings bits from to → IsLocalByTests settings bits from to
   to_tests local = record {
     encoding = local.encoding;
     lenient = local.lenient;

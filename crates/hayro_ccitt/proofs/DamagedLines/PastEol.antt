@@ -1,9 +1,9 @@
 -- What follows the next EOL.
-use Rattle.hayro_ccitt.proofs.Names.{◌≡◌, ℕ, zero, suc, ◌+◌, ◌≤◌, true, false, cond, leb, [], ◌∷◌, ◌++◌, length, Option, Some}
-use Rattle.hayro_ccitt.proofs.Names.{None, refl, ap, ◌∙◌, arith, cases_lt, lt-leb, le-leb, length-append, Bits, after_eol}
-use Rattle.hayro_ccitt.proofs.Names.{one_more, eols, all_eols, next_eol, past_tag, eols_with_tags, common_steps}
-use Rattle.hayro_ccitt.proofs.Readings.TurnsMoveOn.{eols-some, eols-none, eols_with_tags-some, eols_with_tags-none}
-use Rattle.hayro_ccitt.proofs.Readings.TurnsMoveOn.{past_tag_shorter, after_eol_shorter}
+use Rattle.hayro_ccitt.proofs.Names.{◌≡◌, ℕ, suc, ◌+◌, ◌≤◌, true, false, cond, leb, [], ◌∷◌, ◌++◌, length, Option, Some, None}
+use Rattle.hayro_ccitt.proofs.Names.{refl, ap, arith, cases_lt, lt-leb, le-leb, length-append, Bits, after_eol, one_more}
+use Rattle.hayro_ccitt.proofs.Names.{all_eols, next_eol, past_tag, eols_with_tags, common_steps, Bool, DecodeSettings}
+use Rattle.hayro_ccitt.proofs.Names.{EncodingMode, Group4, Group3_1D, Group3_2D, pass_last_tag, eols_by, eols_here, ◌∙◌}
+use Rattle.hayro_ccitt.proofs.Readings.TurnsMoveOn.{eols-none, eols_with_tags-none, count_all-some, counts_plain, counts_tagged}
 
 -- what follows the next EOL that ends further on, given the number of zeros just before
 abbrev pub past : ℕ → Bits → Option Bits
@@ -38,22 +38,9 @@ past_is (false ∷ here) = by_after_eol (past_is here) (after_eol 0 (false ∷ h
         → past 0 (false ∷ here) ≡ then_after (next_eol (false ∷ here))
     by_after_eol same given e = grind (arith, common_steps, past-eol, past-none)
 
--- the number of EOLs asked for doesn't matter, if there are no more bits
-pub eols_same : (n m : ℕ) (here : Bits) → length here ≤ n → length here ≤ m → eols n here ≡ eols m here
-eols_same zero zero here h k = refl
-eols_same zero (suc m) [] h k = refl
-eols_same zero (suc m) (b ∷ here) h k = absurd (omega arith)
-eols_same (suc n) zero [] h k = refl
-eols_same (suc n) zero (b ∷ here) h k = absurd (omega arith)
-eols_same (suc n) (suc m) here h k = by_after_eol (λ rest. eols_same n m rest) (after_eol 0 here) refl
-  where
-    by_after_eol : ((rest : Bits) → length rest ≤ n → length rest ≤ m → eols n rest ≡ eols m rest) → (o : Option Bits)
-        → after_eol 0 here ≡ o → eols (suc n) here ≡ eols (suc m) here
-    by_after_eol on o e = grind (arith, common_steps, after_eol_shorter, eols-none, eols-some)
-
 -- if there is an EOL, it is counted, and those after it
 pub all_eols-some : (here rest : Bits) → after_eol 0 here ≡ Some rest → all_eols here ≡ one_more (all_eols rest)
-all_eols-some here rest e = grind (arith, common_steps, after_eol_shorter, common_steps, eols-some, eols_same)
+all_eols-some here rest e = count_all-some counts_plain here rest e
 
 -- if there is none, none is counted
 pub all_eols-none : (here : Bits) → after_eol 0 here ≡ None → all_eols here ≡ (0, here)
@@ -63,37 +50,28 @@ all_eols-none here e = eols-none (length here) here e
 abbrev pub all_tagged : Bits → ℕ × Bits
 all_tagged here = eols_with_tags (length here) here
 
--- the number of EOLs asked for doesn't matter, if there are no more bits
-pub eols_with_tags_same : (n m : ℕ) (here : Bits) → length here ≤ n → length here ≤ m
-    → eols_with_tags n here ≡ eols_with_tags m here
-eols_with_tags_same zero zero here h k = refl
-eols_with_tags_same zero (suc m) [] h k = refl
-eols_with_tags_same zero (suc m) (b ∷ here) h k = absurd (omega arith)
-eols_with_tags_same (suc n) zero [] h k = refl
-eols_with_tags_same (suc n) zero (b ∷ here) h k = absurd (omega arith)
-eols_with_tags_same (suc n) (suc m) here h k = by_after_eol (λ rest. eols_with_tags_same n m rest) (after_eol 0 here) refl
-  where
-    by_after_eol : ((rest : Bits) → length rest ≤ n → length rest ≤ m → eols_with_tags n rest ≡ eols_with_tags m rest)
-        → (o : Option Bits) → after_eol 0 here ≡ o → eols_with_tags (suc n) here ≡ eols_with_tags (suc m) here
-    by_after_eol on None e = rw (eols_with_tags-none (suc n) here e, eols_with_tags-none (suc m) here e) refl
-    by_after_eol on (Some rest) e =
-        let shorter = after_eol_shorter 0 here rest e in
-        rw (eols_with_tags-some n here rest e, eols_with_tags-some m here rest e)
-        (ap one_more (on (past_tag rest) (omega (arith, shorter, past_tag_shorter rest, h))
-        (omega (arith, shorter, past_tag_shorter rest, k))))
-
 -- if there is an EOL, it is counted, and those after its tag
 pub all_tagged-some : (here rest : Bits) → after_eol 0 here ≡ Some rest → all_tagged here ≡ one_more (all_tagged (past_tag rest))
-all_tagged-some [] rest e = absurd cc
-all_tagged-some (b ∷ here) rest e =
-    let shorter = after_eol_shorter 0 (b ∷ here) rest e in
-    eols_with_tags-some (length here) (b ∷ here) rest e
-    ∙ ap one_more (eols_with_tags_same (length here) (length (past_tag rest)) (past_tag rest)
-    (omega (arith, shorter, past_tag_shorter rest)) (omega arith))
+all_tagged-some here rest e = count_all-some counts_tagged here rest e
 
 -- if there is none, none is counted
 pub all_tagged-none : (here : Bits) → after_eol 0 here ≡ None → all_tagged here ≡ (0, here)
 all_tagged-none here e = eols_with_tags-none (length here) here e
+
+-- no EOL is counted where there is none
+pub eols_here-none : (settings : DecodeSettings) (here : Bits) → after_eol 0 here ≡ None → eols_here settings here ≡ (0, here)
+eols_here-none settings here e = by_encoding settings.encoding settings.end_of_block
+  where
+    no_tag : (bits : Bits) → pass_last_tag (0, bits) ≡ (0, bits)
+    no_tag [] = refl
+    no_tag (true ∷ bits) = refl
+    no_tag (false ∷ bits) = refl
+
+    by_encoding : (encoding : EncodingMode) (block : Bool) → eols_by encoding block here ≡ (0, here)
+    by_encoding Group3_1D block = all_eols-none here e
+    by_encoding Group3_2D block = ap pass_last_tag (all_tagged-none here e) ∙ no_tag here
+    by_encoding Group4 true = eols-none 2 here e
+    by_encoding Group4 false = all_eols-none here e
 
 -- the next EOL is further on in the same bits
 pub next_eol_leaves : (here found : Bits) → next_eol here ≡ Some found → (before : Bits) × (here ≡ before ++ found)

@@ -20,8 +20,8 @@ use Rattle.hayro_ccitt.proofs.DrawingLines.LinesLeaveBits.{LeavesBits, LineLeave
 use Rattle.hayro_ccitt.proofs.EncodedPictures.PictureLines.{row_before_push}
 use Rattle.hayro_ccitt.proofs.Readings.RowsAndGaps.{unless_over, seek_from, seek_eol, after_row, row_added, after_whole-is}
 use Rattle.hayro_ccitt.proofs.Readings.RowsAndGaps.{after_damage-is}
-use Rattle.hayro_ccitt.proofs.Readings.TurnsMoveOn.{cond_le, length-one_more, eols_shorter, past_tag_shorter}
-use Rattle.hayro_ccitt.proofs.Readings.TurnsMoveOn.{eols_with_tags_shorter, last_tag_shorter, next_eol_found, eols_here_counted}
+use Rattle.hayro_ccitt.proofs.Readings.TurnsMoveOn.{cond_le, length-one_more, count_shorter, counts_plain, counts_tagged}
+use Rattle.hayro_ccitt.proofs.Readings.TurnsMoveOn.{past_tag_shorter, last_tag_shorter, next_eol_found, eols_here_counted}
 
 -- ---- Rows of which some may differ
 
@@ -276,7 +276,7 @@ module _ (settings : DecodeSettings) (group3 : IsGroup3 settings.encoding) (leni
       by_encoding : (encoding : EncodingMode) (block : Bool) → IsGroup3 encoding
           → length (eols_by encoding block found).1 ≤ length z
       by_encoding Group3_1D block is = rw (all_eols-some found z e)
-          (omega (arith, length-one_more (all_eols z), eols_shorter (length z) z))
+          (omega (arith, length-one_more (all_eols z), count_shorter counts_plain (length z) z))
       by_encoding Group3_2D block is =
           let more : ℕ × Bits = all_tagged (past_tag z) in
           omega (
@@ -284,7 +284,7 @@ module _ (settings : DecodeSettings) (group3 : IsGroup3 settings.encoding) (leni
             last_tag_shorter (all_tagged found),
             ap (λ (f : ℕ × Bits). length f.1) (all_tagged-some found z e),
             length-one_more more,
-            eols_with_tags_shorter (length (past_tag z)) (past_tag z),
+            count_shorter counts_tagged (length (past_tag z)) (past_tag z),
             past_tag_shorter z,
           )
       by_encoding Group4 block (inl is) = absurd cc

@@ -5,11 +5,11 @@ use Rattle.hayro_ccitt.proofs.Names.{EncodingMode, Group4, Group3_1D, Group3_2D,
 use Rattle.hayro_ccitt.proofs.Names.{after_eol, one_more, all_eols, next_eol, pass_last_tag, Progress, row_before, line_by}
 use Rattle.hayro_ccitt.proofs.Names.{eols_by, line_here, limit_met, at_end, ends_with, eols_here, after_line, move_on}
 use Rattle.hayro_ccitt.proofs.Names.{line_of_turn, row_of, row_at, common_steps}
-use Rattle.hayro_ccitt.proofs.DamagedLines.PastEol.{past, past-eol, past_is, then_after, all_eols-some, all_eols-none}
-use Rattle.hayro_ccitt.proofs.DamagedLines.PastEol.{all_tagged-some, all_tagged-none, next_eol_leaves}
+use Rattle.hayro_ccitt.proofs.DamagedLines.PastEol.{past, past-eol, past_is, then_after, all_eols-some, eols_here-none}
+use Rattle.hayro_ccitt.proofs.DamagedLines.PastEol.{all_tagged-some, next_eol_leaves}
 use Rattle.hayro_ccitt.proofs.DrawingLines.LinesLeaveBits.{LeavesBits}
 use Rattle.hayro_ccitt.proofs.Readings.RowsAndGaps.{unless_over, seek_from, after_row}
-use Rattle.hayro_ccitt.proofs.Readings.TurnsMoveOn.{eols-some, eols-none, eols_here_some}
+use Rattle.hayro_ccitt.proofs.Readings.TurnsMoveOn.{eols-some, eols_here_some}
 
 -- a run that seeks EOLs
 abbrev pub sought : List Row → Bits → Progress
@@ -30,21 +30,6 @@ pub not_past_end : (here after : Bits) → past 0 here ≡ Some after → at_end
 not_past_end here after e = grind (arith, common_steps)
 
 module _ (settings : DecodeSettings) where
-  -- no EOL is counted where there is none
-  pub eols_here_none : (here : Bits) → after_eol 0 here ≡ None → eols_here settings here ≡ (0, here)
-  eols_here_none here e = by_encoding settings.encoding settings.end_of_block
-    where
-      no_tag : (bits : Bits) → pass_last_tag (0, bits) ≡ (0, bits)
-      no_tag [] = refl
-      no_tag (true ∷ bits) = refl
-      no_tag (false ∷ bits) = refl
-
-      by_encoding : (encoding : EncodingMode) (block : Bool) → eols_by encoding block here ≡ (0, here)
-      by_encoding Group3_1D block = all_eols-none here e
-      by_encoding Group3_2D block = ap pass_last_tag (all_tagged-none here e) ∙ no_tag here
-      by_encoding Group4 true = eols-none 2 here e
-      by_encoding Group4 false = all_eols-none here e
-
   -- the EOLs from one on are given by what follows it
   pub eols_here_same : (here there after : Bits) → after_eol 0 here ≡ Some after → after_eol 0 there ≡ Some after
       → eols_here settings here ≡ eols_here settings there
@@ -85,7 +70,8 @@ module _ (settings : DecodeSettings) where
             (here, ([], refl), f ∙ same, cond-false test _ _ no_test)
         by_after_eol None f =
             let next = found_next here after e in
-            let none : eqb (eols_here settings here).0 0 ≡ true = ap (λ (x : ℕ × Bits). eqb x.0 0) (eols_here_none here f) in
+            let none : eqb (eols_here settings here).0 0 ≡ true =
+            ap (λ (x : ℕ × Bits). eqb x.0 0) (eols_here-none settings here f) in
             let is_true : test ≡ true = grind (arith, common_steps, and_from, not_from_false, not_past_end) in (
               next.0,
               next_eol_leaves here next.0 next.1,

@@ -6,27 +6,21 @@ use Rattle.hayro_ccitt.proofs.Names.{right_of, paint, run_from, Line, Pen, start
 use Rattle.hayro_ccitt.proofs.CodeWords.ReadRuns.{chosen, read_code_shorter, has_no_empty_word, run_shorter}
 use Rattle.hayro_ccitt.proofs.DrawingLines.Drawings.{try, run_then, mode_step, step_unless_full, drawn_by, step_1d, step_2d}
 use Rattle.hayro_ccitt.proofs.DrawingLines.Drawings.{step_1d_is, step_2d_is, horizontal_is}
-use Rattle.hayro_ccitt.proofs.Readings.Repeated.{Shrinks, after_turn, repeated_turn, repeated_keeps}
+use Rattle.hayro_ccitt.proofs.Readings.Repeated.{Shrinks, after_turn, repeated_turn, repeated_keeps, next_is, not_next}
 
 pub modes_not_empty : has_no_empty_word mode_codes ≡ true
 modes_not_empty = refl
-
-pub next_pen_is : (s t : Pen) → ◌≡◌ {A = Step} (Turn.next s) (Turn.next t) → s ≡ t
-next_pen_is s t e = cc
-
-pub no_next_pen : (l : Line) (t : Pen) → ◌≡◌ {A = Step} (Turn.done l) (Turn.next t) → ⊥
-no_next_pen l t e = cc
 
 -- what continued had no fault
 pub try_next : {A : Type 0} (front : Row) (r : Result A DecodeError) (f : A → Step) (t : Pen) → try front r f ≡ Turn.next t
     → (x : A) × (r ≡ Ok x) × (f x ≡ Turn.next t)
 try_next front (Ok x) f t e = (x, refl, e)
-try_next front (Err fault) f t e = absurd (no_next_pen _ t e)
+try_next front (Err fault) f t e = absurd (not_next _ t e)
 
 pub unless_full_next : (columns : ℕ) (pen : Pen) (step : Step) (t : Pen) → step_unless_full columns pen step ≡ Turn.next t
     → step ≡ Turn.next t
 unless_full_next columns pen step t e = elim (chosen (leb columns (length pen.front)) _ _ _ e) [
-  | inl a ↦ absurd (no_next_pen _ t a.1)
+  | inl a ↦ absurd (not_next _ t a.1)
   | inr a ↦ a.1
 ]
 
@@ -47,7 +41,7 @@ pub drawn_run_shorter : (strict : Bool) (columns : ℕ) (s t : Pen) → run_then
     → pen_left t < pen_left s
 drawn_run_shorter strict columns s t e =
     let a = draw_run_next strict columns s Turn.next t e in
-    subst (λ (p : Pen). pen_left p < pen_left s) (next_pen_is a.0 t a.1) a.2
+    subst (λ (p : Pen). pen_left p < pen_left s) (next_is a.0 t a.1) a.2
 
 pub step_1d_shrinks : (strict : Bool) (columns : ℕ) → Shrinks (step_1d strict columns) pen_left
 step_1d_shrinks strict columns s t e =
@@ -57,18 +51,18 @@ pub draw_mode_next : (strict : Bool) (columns : ℕ) (reference : Row) (pen : Pe
     → mode_step strict columns reference pen mode ≡ Turn.next t → pen_left t ≤ pen_left pen
 draw_mode_next strict columns reference pen Pass t e =
     let a = try_next pen.front _ (λ front. Turn.next (record pen { front = front })) t e in
-    subst (λ (p : Pen). pen_left p ≤ pen_left pen) (next_pen_is _ t a.2) (omega arith)
+    subst (λ (p : Pen). pen_left p ≤ pen_left pen) (next_is _ t a.2) (omega arith)
 draw_mode_next strict columns reference pen Horizontal t e =
     let a = draw_run_next strict columns pen (λ pen. run_then strict columns pen Turn.next) t
     (horizontal_is strict columns reference pen ∙ e) in
     let b = draw_run_next strict columns a.0 Turn.next t a.1 in
-    subst (λ (p : Pen). pen_left p ≤ pen_left pen) (next_pen_is b.0 t b.1) (omega (arith, a.2, b.2))
+    subst (λ (p : Pen). pen_left p ≤ pen_left pen) (next_is b.0 t b.1) (omega (arith, a.2, b.2))
 draw_mode_next strict columns reference pen (Vertical k) t e =
     let a = try_next pen.front _ (λ place. try pen.front (paint strict columns pen.front pen.color (place - length pen.front))
     (λ front. Turn.next (record { front = front; color = opposite pen.color; rest = pen.rest }))) t e in
     let b =
     try_next pen.front _ (λ front. Turn.next (record { front = front; color = opposite pen.color; rest = pen.rest })) t a.2 in
-    subst (λ (p : Pen). pen_left p ≤ pen_left pen) (next_pen_is _ t b.2) (omega arith)
+    subst (λ (p : Pen). pen_left p ≤ pen_left pen) (next_is _ t b.2) (omega arith)
 
 pub step_2d_shrinks : (strict : Bool) (columns : ℕ) (reference : Row) → Shrinks (step_2d strict columns reference) pen_left
 step_2d_shrinks strict columns reference s t e =

@@ -10,8 +10,9 @@ use Rattle.hayro_ccitt.proofs.CodeWords.ReadCodes.{read_code_found, read_code_ag
 use Rattle.hayro_ccitt.proofs.CodeWords.ReadRuns.{chosen, read_code_shorter, words_not_empty, run_fails, run_passes, run_ends}
 use Rattle.hayro_ccitt.proofs.CodeWords.ReadRuns.{run_goes_on}
 use Rattle.hayro_ccitt.proofs.DrawingLines.Drawings.{try, run_then, mode_step, drawn_by, step_2d, step_2d_is, horizontal_is}
-use Rattle.hayro_ccitt.proofs.DrawingLines.ReadLines.{try_next, next_pen_is, no_next_pen, full_by, try_goes_on, draw_mode_goes_on}
+use Rattle.hayro_ccitt.proofs.DrawingLines.ReadLines.{try_next, full_by, try_goes_on, draw_mode_goes_on}
 use Rattle.hayro_ccitt.proofs.DrawingLines.ReadLines.{pen_left, drawn2, step_2d_shrinks}
+use Rattle.hayro_ccitt.proofs.Readings.Repeated.{next_is, not_next}
 
 -- ---- A run.
 abbrev pub RunFound : Color → ℕ → Bits → ℕ → Bits → Type 0
@@ -66,7 +67,7 @@ Carries f = (pen t : Pen) → f pen ≡ Turn.next t → (w : Bits) × (pen.rest 
 
 next_carries : Carries Turn.next
 next_carries pen t e =
-    let same = next_pen_is pen t e in
+    let same = next_is pen t e in
     ([], ap (λ (p : Pen). p.rest) same, λ more. ap (λ (p : Pen). Turn.next (record p { rest = more })) same)
 
 -- what keeps the bits is preserved
@@ -94,7 +95,7 @@ mode_carries : (strict : Bool) (columns : ℕ) (reference : Row) (mode : Mode)
 mode_carries strict columns reference Pass = keeps_carries (λ pen. mode_step strict columns reference pen Pass) (λ pen t e.
     let painted = paint strict columns pen.front pen.color (b2 reference (right_of pen.front) pen.color - length pen.front) in
     let a = try_next pen.front painted (λ front. Turn.next (record pen { front = front })) t e in
-    let same : record pen { front = a.0 } ≡ t = next_pen_is _ t a.2 in (
+    let same : record pen { front = a.0 } ≡ t = next_is _ t a.2 in (
       ap (λ (p : Pen). p.rest) same,
       λ more. ap (λ (r : Result Row DecodeError).
           try pen.front r (λ front. Turn.next (record { front = front; color = pen.color; rest = more }))) a.1
@@ -112,7 +113,7 @@ mode_carries strict columns reference (Vertical k) =
     let a = try_next pen.front place (paints pen.rest) t e in
     let b = try_next pen.front (paint strict columns pen.front pen.color (a.0 - length pen.front))
     (λ front. Turn.next (record { front = front; color = opposite pen.color; rest = pen.rest })) t a.2 in
-    let same : record { front = b.0; color = opposite pen.color; rest = pen.rest } ≡ t = next_pen_is _ t b.2 in (
+    let same : record { front = b.0; color = opposite pen.color; rest = pen.rest } ≡ t = next_is _ t b.2 in (
       ap (λ (p : Pen). p.rest) same,
       λ more. ap (λ (r : Result ℕ DecodeError). try pen.front r (paints more)) a.1 ∙ ap (λ (r : Result Row DecodeError).
           try pen.front r (λ front. Turn.next (record { front = front; color = opposite pen.color; rest = more }))) b.1
@@ -133,7 +134,7 @@ step_2d_found : (strict : Bool) (columns : ℕ) (reference : Row) (pen t : Pen) 
     → StepFound strict columns reference pen t
 step_2d_found strict columns reference pen t e =
     elim (chosen (leb columns (length pen.front)) _ _ _ (sym (step_2d_is strict columns reference pen) ∙ e)) [
-      | inl x ↦ absurd (no_next_pen _ t x.1)
+      | inl x ↦ absurd (not_next _ t x.1)
       | inr x ↦
           let a = try_next pen.front (read_code mode_codes pen.rest)
           (λ mode. mode_step strict columns reference (record pen { rest = mode.1 }) mode.0) t x.1 in

@@ -11,7 +11,8 @@ use Rattle.hayro_ccitt.proofs.{BitReading.ZerosInWords.prefix_of_prefix, CodeWor
 use Rattle.hayro_ccitt.proofs.{DrawingLines.WhatFollows.line_2d_found, EncodedPictures.Bodies.gap_at_eofb}
 use Rattle.hayro_ccitt.proofs.EncodedPictures.PictureLines.{IsLineStart, mode_starts, between, plain_ends}
 use Rattle.hayro_ccitt.proofs.Readings.GapsAndRows.{gap_and_row_unsought, row_behind_eols, t6_end}
-use Rattle.hayro_ccitt.proofs.Readings.TurnsMoveOn.{eols-none, next_is, not_next}
+use Rattle.hayro_ccitt.proofs.Readings.TurnsMoveOn.{eols-none}
+use Rattle.hayro_ccitt.proofs.Readings.Repeated.{next_is, not_next}
 
 -- ---- EOLs.
 after_eol_found : (seen : ℕ) (here rest : Bits) → after_eol seen here ≡ Some rest → (w : Bits) × (here ≡ w ++ rest)

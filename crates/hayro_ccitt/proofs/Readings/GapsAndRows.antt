@@ -4,9 +4,9 @@ use Rattle.hayro_ccitt.proofs.Names.{DecodeError, UnexpectedEof, DecodeSettings,
 use Rattle.hayro_ccitt.proofs.Names.{row_behind, gap_and_row, Progress, Ending, Move, eols_here, is_over, ends_with, row_of_line}
 use Rattle.hayro_ccitt.proofs.Names.{pass_gap, add_row, move_on, line_of_turn, at_front, first_line, first_gap, ending_from}
 use Rattle.hayro_ccitt.proofs.Names.{ending_behind, end_of, Turn, repeated, Reaches, Row, common_steps}
-use Rattle.hayro_ccitt.proofs.Readings.Repeated.{Follows, after_turn, repeated_follows, repeated_turn}
+use Rattle.hayro_ccitt.proofs.Readings.Repeated.{Follows, after_turn, repeated_follows, repeated_turn, not_next}
 use Rattle.hayro_ccitt.proofs.Readings.TurnsAddRows.{move_adds, repeated_adds}
-use Rattle.hayro_ccitt.proofs.Readings.TurnsMoveOn.{left_to_read, left_below, move_shrinks, not_next}
+use Rattle.hayro_ccitt.proofs.Readings.TurnsMoveOn.{left_to_read, left_below, move_shrinks}
 
 -- ---- The first gap
 

@@ -5,6 +5,14 @@ use Rattle.hayro_ccitt.proofs.Names.{◌≡◌, ℕ, zero, suc, ◌<◌, refl, s
 abbrev pub Shrinks : {S R : Type 0} → (S → Turn S R) → (S → ℕ) → Type 0
 Shrinks {S} {R} step size = (s t : S) → step s ≡ Turn.next t → size t < size s
 
+-- states of equal turns are equal
+pub next_is : {S R : Type 0} (s t : S) → ◌≡◌ {A = Turn S R} (Turn.next s) (Turn.next t) → s ≡ t
+next_is s t e = cc
+
+-- a turn that ends does not continue
+pub not_next : {S R : Type 0} (r : R) (t : S) → ◌≡◌ {A = Turn S R} (Turn.done r) (Turn.next t) → ⊥
+not_next r t e = cc
+
 -- what comes of a turn, if the rest of the repetition is known
 abbrev pub after_turn : {S R : Type 0} → (S → R) → Turn S R → R
 after_turn rest (Turn.next s) = rest s

@@ -6,7 +6,8 @@ use Rattle.hayro_ccitt.proofs.Names.{gap_behind_row, add_row, move_on, one_each,
 use Rattle.hayro_ccitt.proofs.Names.{start_of_turn, end_of_row, end_of_turn, failing_at, Turn, Reaches, Row}
 use Rattle.hayro_ccitt.proofs.{Readings.Gathered.gathered_after, Readings.RowsTaken.by_rows_left, Readings.RowsTaken.row_of_turn}
 use Rattle.hayro_ccitt.proofs.Readings.RunsOverRows.{lines, lines_on, drop-suc_cons, Comes, comes_first, comes_next, comes_line}
-use Rattle.hayro_ccitt.proofs.Readings.TurnsMoveOn.{left_to_read, next_is, not_next}
+use Rattle.hayro_ccitt.proofs.Readings.TurnsMoveOn.{left_to_read}
+use Rattle.hayro_ccitt.proofs.Readings.Repeated.{next_is, not_next}
 
 -- an element that is there is the one of its index
 pub get_or-there : {A : Type 0} (xs : List A) (k : ℕ) (x other : A) → slice_get xs k ≡ Some x → get_or xs k other ≡ x

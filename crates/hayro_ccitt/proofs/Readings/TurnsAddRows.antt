@@ -15,15 +15,16 @@ abbrev pub Keeps : List Row → Move → Type 0
 Keeps rows (Turn.next t) = t.rows ≡ rows
 Keeps rows (Turn.done e) = e.rows ≡ rows
 
-keeps_cond : (rows : List Row) (b : Bool) (x y : Move) → Keeps rows x → Keeps rows y → Keeps rows (cond b x y)
-keeps_cond rows true x y p q = p
-keeps_cond rows false x y p q = q
+-- either of two turns has what both have
+either_has : (P : Move → Type 0) (b : Bool) (x y : Move) → P x → P y → P (cond b x y)
+either_has P true x y p q = p
+either_has P false x y p q = q
 
 -- the rows so far don't change
 pub unless_over_keeps : (settings : DecodeSettings) (run : Progress) (found : ℕ × Bits)
     → Keeps run.rows (unless_over settings run found)
 unless_over_keeps settings run (count, rest) =
-    keeps_cond run.rows (((settings.end_of_block && leb (eols_of_end settings.encoding) count) || limit_met settings
+    either_has (Keeps run.rows) (((settings.end_of_block && leb (eols_of_end settings.encoding) count) || limit_met settings
     (length run.rows)) || at_end rest) (ends_with run (Ok rest)) (Turn.next (record run { rest = rest })) refl refl
 
 -- and where an EOL is looked for
@@ -34,10 +35,11 @@ seek_from_keeps settings run (Some found) = unless_over_keeps settings run (eols
 -- and after a row
 pub after_row_keeps : (settings : DecodeSettings) (run : Progress) → Keeps run.rows (after_row settings run)
 after_row_keeps settings run =
-    keeps_cond run.rows ((((eqb (eols_here settings run.rest).0 0) && run.has_eols) && not (limit_met settings (length run.rows)))
-    && not (at_end run.rest)) (seek_eol settings run) (unless_over settings run (eols_here settings run.rest))
-    (keeps_cond run.rows settings.strict (ends_with run (Err InvalidCode)) (seek_from settings run (next_eol run.rest)) refl
-    (seek_from_keeps settings run (next_eol run.rest))) (unless_over_keeps settings run (eols_here settings run.rest))
+    either_has (Keeps run.rows) ((((eqb (eols_here settings run.rest).0 0) && run.has_eols)
+    && not (limit_met settings (length run.rows))) && not (at_end run.rest)) (seek_eol settings run)
+    (unless_over settings run (eols_here settings run.rest))
+    (either_has (Keeps run.rows) settings.strict (ends_with run (Err InvalidCode)) (seek_from settings run (next_eol run.rest))
+    refl (seek_from_keeps settings run (next_eol run.rest))) (unless_over_keeps settings run (eols_here settings run.rest))
 
 -- the first gap leaves no rows
 pub first_gap_keeps : (settings : DecodeSettings) (encoding : EncodingMode) (bits : Bits)
@@ -52,10 +54,6 @@ abbrev pub Adds : List Row → Move → Type 0
 Adds rows (Turn.next t) = IsPrefix rows t.rows
 Adds rows (Turn.done e) = IsPrefix rows e.rows
 
-adds_cond : (rows : List Row) (b : Bool) (x y : Move) → Adds rows x → Adds rows y → Adds rows (cond b x y)
-adds_cond rows true x y p q = p
-adds_cond rows false x y p q = q
-
 pub keeps_adds : (rows more : List Row) (m : Move) → Keeps (rows ++ more) m → Adds rows m
 keeps_adds rows more (Turn.next t) k = (more, k)
 keeps_adds rows more (Turn.done e) k = (more, k)
@@ -68,8 +66,9 @@ after_line_adds settings run (Line.whole row rest) =
 after_line_adds settings run (Line.broken front fault) =
     let row : Row = front ++ replicate (settings.columns - length front) false in
     subst (Adds run.rows) (sym (after_damage-is settings run front fault))
-    (adds_cond run.rows (settings.strict || not run.has_eols) (ends_with run (Err fault)) (row_added settings run row run.rest)
-    ([], sym (append-nil run.rows)) (keeps_adds run.rows (row ∷ []) _ (after_row_keeps settings (record run {
+    (either_has (Adds run.rows) (settings.strict || not run.has_eols) (ends_with run (Err fault))
+    (row_added settings run row run.rest) ([], sym (append-nil run.rows))
+    (keeps_adds run.rows (row ∷ []) _ (after_row_keeps settings (record run {
       rows = run.rows ++ row ∷ [];
       rest = cond (settings.rows_are_byte_aligned && not run.has_eols) (aligned run.rest) run.rest;
     }))))

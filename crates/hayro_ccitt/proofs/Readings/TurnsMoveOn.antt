@@ -1,16 +1,16 @@
 -- Each line of a run moves the offset on.
-use Rattle.hayro_ccitt.proofs.Names.{common_steps}
-use Rattle.hayro_ccitt.proofs.Names.{◌≡◌, ℕ, zero, suc, ◌+◌, ◌-◌, ◌%◌, ◌<◌, ◌≤◌, Bool, true, false, cond, not, ◌&&◌, ◌||◌, eqb}
-use Rattle.hayro_ccitt.proofs.Names.{leb, [], ◌∷◌, ◌++◌, length, replicate, Option, Some, None, Result, Ok, Err, refl, sym, ap}
-use Rattle.hayro_ccitt.proofs.Names.{subst, ◌∙◌, arith, ◌⊎◌, inl, inr, length-drop, cases_lt, not-false, and_parts, and_cases}
-use Rattle.hayro_ccitt.proofs.Names.{or_parts, false≢true, le-leb, lt-leb, eqb-false, DecodeError, DecodeSettings, Bits, Turn}
-use Rattle.hayro_ccitt.proofs.Names.{Row, EncodingMode, Group4, Group3_1D, Group3_2D, InvalidCode, Line, line_1d, line_2d}
-use Rattle.hayro_ccitt.proofs.Names.{after_eol, one_more, eols, all_eols, next_eol, past_tag, eols_with_tags, pass_last_tag}
-use Rattle.hayro_ccitt.proofs.Names.{tagged_eols, eols_of_end, Progress, Ending, Move, row_before, aligned, ends_with, limit_met}
-use Rattle.hayro_ccitt.proofs.Names.{at_end, line_by, eols_by, eols_here, line_here, after_line, move_on}
+use Rattle.hayro_ccitt.proofs.Names.{common_steps, ◌≡◌, ℕ, zero, suc, ◌+◌, ◌-◌, ◌%◌, ◌<◌, ◌≤◌, Bool, true, false, cond, not, ◌&&◌}
+use Rattle.hayro_ccitt.proofs.Names.{◌||◌, eqb, leb, [], ◌∷◌, ◌++◌, length, replicate, Option, Some, None, Result, Ok, Err, refl}
+use Rattle.hayro_ccitt.proofs.Names.{sym, ap, subst, ◌∙◌, arith, ◌⊎◌, inl, inr, length-drop, cases_lt, not-false, and_parts}
+use Rattle.hayro_ccitt.proofs.Names.{and_cases, or_parts, false≢true, le-leb, lt-leb, eqb-false, DecodeError, DecodeSettings}
+use Rattle.hayro_ccitt.proofs.Names.{Bits, Turn, Row, EncodingMode, Group4, Group3_1D, Group3_2D, InvalidCode, Line, line_1d}
+use Rattle.hayro_ccitt.proofs.Names.{line_2d, after_eol, one_more, eols, all_eols, next_eol, past_tag, eols_with_tags}
+use Rattle.hayro_ccitt.proofs.Names.{pass_last_tag, tagged_eols, eols_of_end, Progress, Move, row_before, aligned, ends_with}
+use Rattle.hayro_ccitt.proofs.Names.{limit_met, at_end, line_by, eols_by, eols_here, line_here, after_line, move_on}
 use Rattle.hayro_ccitt.proofs.{CodeWords.ReadRuns.chosen, Readings.Repeated.Shrinks}
 use Rattle.hayro_ccitt.proofs.DrawingLines.ReadLines.{TookBits, line_1d_took_bits, line_2d_took_bits}
 use Rattle.hayro_ccitt.proofs.Readings.RowsAndGaps.{unless_over, seek_from, seek_eol, after_row, after_whole-is, after_damage-is}
+use Rattle.hayro_ccitt.proofs.Readings.Repeated.{next_is, not_next}
 
 -- enough zeros and a one are an EOL
 pub eol_of : (seen k : ℕ) (rest : Bits) → 11 ≤ seen + k → after_eol seen (replicate k false ++ true ∷ rest) ≡ Some rest
@@ -29,26 +29,6 @@ after_eol_shorter seen (true ∷ here) rest e = elim (chosen (leb 11 seen) _ _ _
 -- one more EOL, and the same bits
 pub length-one_more : (found : ℕ × Bits) → length (one_more found).1 ≡ length found.1
 length-one_more (count, here) = refl
-
--- what follows EOLs is not longer
-pub eols_shorter : (most : ℕ) (here : Bits) → length (eols most here).1 ≤ length here
-eols_shorter zero here = omega arith
-eols_shorter (suc most) here =
-    let by_after_eol : (o : Option Bits) → after_eol 0 here ≡ o → length (eols (suc most) here).1 ≤ length here
-    = λ o. elim o as (λ (o : Option Bits). after_eol 0 here ≡ o → length (eols (suc most) here).1 ≤ length here) [
-      | None ↦ λ e. rw (e, eols) (omega arith)
-      | Some rest ↦ λ e. rw (e, eols)
-          (omega (arith, length-one_more (eols most rest), eols_shorter most rest, after_eol_shorter 0 here rest e))
-    ] in
-    by_after_eol (after_eol 0 here) refl
-
--- states of equal turns are equal
-pub next_is : (s t : Progress) → ◌≡◌ {A = Move} (Turn.next s) (Turn.next t) → s ≡ t
-next_is s t e = cc
-
--- a turn that ends does not continue
-pub not_next : (l : Ending) (t : Progress) → ◌≡◌ {A = Move} (Turn.done l) (Turn.next t) → ⊥
-not_next l t e = cc
 
 unless_next : (b : Bool) (run : Progress) (outcome : Result Bits DecodeError) (on : Move) (t : Progress)
     → cond b (ends_with run outcome) on ≡ Turn.next t → on ≡ Turn.next t
@@ -73,16 +53,86 @@ pub eols-none : (most : ℕ) (here : Bits) → after_eol 0 here ≡ None → eol
 eols-none zero here e = refl
 eols-none (suc most) here e = rw (e, eols) refl
 
--- each EOL moves the offset on
-pub eols_moves : (most : ℕ) (here : Bits) → 0 < (eols most here).0 → length (eols most here).1 < length here
-eols_moves zero here some = absurd (omega arith)
-eols_moves (suc most) here some = by_after_eol (after_eol 0 here) refl
-  where
-    by_after_eol : (o : Option Bits) → after_eol 0 here ≡ o → length (eols (suc most) here).1 < length here
-    by_after_eol None e = absurd (let f : eols (suc most) here ≡ (0, here) = eols-none
-        (suc most) here e in omega (arith, ap (λ (x : ℕ × Bits). x.0) f, some))
-    by_after_eol (Some rest) e = rw (eols-some most here rest e)
-        (omega (arith, length-one_more (eols most rest), eols_shorter most rest, after_eol_shorter 0 here rest e))
+-- ---- Counting consecutive EOLs, where bits are passed after each.
+pub record CountsEols (pass : Bits → Bits) (count : ℕ → Bits → ℕ × Bits) : Type 0 where
+  pub passes : (here : Bits) → length (pass here) ≤ length here
+  pub start : (here : Bits) → count zero here ≡ (0, here)
+  pub none : (most : ℕ) (here : Bits) → after_eol 0 here ≡ None → count most here ≡ (0, here)
+  pub some : (most : ℕ) (here rest : Bits) → after_eol 0 here ≡ Some rest
+      → count (suc most) here ≡ one_more (count most (pass rest))
+
+module _ {pass : Bits → Bits} {count : ℕ → Bits → ℕ × Bits} (counts : CountsEols pass count) where
+  -- what follows them isn't longer
+  pub count_shorter : (most : ℕ) (here : Bits) → length (count most here).1 ≤ length here
+  count_shorter zero here = omega (arith, ap (λ (found : ℕ × Bits). length found.1) (counts.start here))
+  count_shorter (suc most) here = by_after_eol (λ rest. count_shorter most rest) (after_eol 0 here) refl
+    where
+      by_after_eol : ((rest : Bits) → length (count most rest).1 ≤ length rest) → (o : Option Bits) → after_eol 0 here ≡ o
+          → length (count (suc most) here).1 ≤ length here
+      by_after_eol on None e = rw (counts.none (suc most) here e) (omega arith)
+      by_after_eol on (Some rest) e = rw (counts.some most here rest e) (omega (
+        arith,
+        length-one_more (count most (pass rest)),
+        on (pass rest),
+        counts.passes rest,
+        after_eol_shorter 0 here rest e,
+      ))
+
+  -- each of them moves the offset on
+  pub count_moves : (most : ℕ) (here : Bits) → 0 < (count most here).0 → length (count most here).1 < length here
+  count_moves zero here some = absurd (omega (arith, some, ap (λ (found : ℕ × Bits). found.0) (counts.start here)))
+  count_moves (suc most) here some = by_after_eol (after_eol 0 here) refl
+    where
+      by_after_eol : (o : Option Bits) → after_eol 0 here ≡ o → length (count (suc most) here).1 < length here
+      by_after_eol None e =
+          absurd (omega (arith, some, ap (λ (found : ℕ × Bits). found.0) (counts.none (suc most) here e)))
+      by_after_eol (Some rest) e = rw (counts.some most here rest e) (omega (
+        arith,
+        length-one_more (count most (pass rest)),
+        count_shorter most (pass rest),
+        counts.passes rest,
+        after_eol_shorter 0 here rest e,
+      ))
+
+  -- an EOL that is there is counted
+  pub count_some : (here rest : Bits) → after_eol 0 here ≡ Some rest → 0 < (count (length here) here).0
+  count_some [] rest e = absurd cc
+  count_some (bit ∷ here) rest e =
+      rw (counts.some (length here) (bit ∷ here) rest e) (omega (arith, one_more-count (count (length here) (pass rest))))
+
+  -- and consumed
+  pub count_past : (here rest : Bits) → after_eol 0 here ≡ Some rest → length (count (length here) here).1 ≤ length rest
+  count_past [] rest e = absurd cc
+  count_past (bit ∷ here) rest e = rw (counts.some (length here) (bit ∷ here) rest e) (omega (
+    arith,
+    length-one_more (count (length here) (pass rest)),
+    count_shorter (length here) (pass rest),
+    counts.passes rest,
+  ))
+
+  -- the number of EOLs asked for doesn't matter, if there are no more bits
+  pub count_same : (n m : ℕ) (here : Bits) → length here ≤ n → length here ≤ m → count n here ≡ count m here
+  count_same n m [] h k = counts.none n [] refl ∙ sym (counts.none m [] refl)
+  count_same zero m (b ∷ here) h k = absurd (omega arith)
+  count_same (suc n) zero (b ∷ here) h k = absurd (omega arith)
+  count_same (suc n) (suc m) (b ∷ here) h k = by_after_eol (λ rest. count_same n m rest) (after_eol 0 (b ∷ here)) refl
+    where
+      by_after_eol : ((rest : Bits) → length rest ≤ n → length rest ≤ m → count n rest ≡ count m rest) → (o : Option Bits)
+          → after_eol 0 (b ∷ here) ≡ o → count (suc n) (b ∷ here) ≡ count (suc m) (b ∷ here)
+      by_after_eol on None e = counts.none (suc n) (b ∷ here) e ∙ sym (counts.none (suc m) (b ∷ here) e)
+      by_after_eol on (Some rest) e =
+          let shorter = after_eol_shorter 0 (b ∷ here) rest e in
+          counts.some n (b ∷ here) rest e ∙ ap one_more (on (pass rest) (omega (arith, shorter, counts.passes rest, h))
+          (omega (arith, shorter, counts.passes rest, k))) ∙ sym (counts.some m (b ∷ here) rest e)
+
+  -- if there is an EOL, it is counted, and those after it
+  pub count_all-some : (here rest : Bits) → after_eol 0 here ≡ Some rest
+      → count (length here) here ≡ one_more (count (length (pass rest)) (pass rest))
+  count_all-some [] rest e = absurd cc
+  count_all-some (b ∷ here) rest e =
+      let shorter = after_eol_shorter 0 (b ∷ here) rest e in
+      counts.some (length here) (b ∷ here) rest e ∙ ap one_more (count_same (length here) (length (pass rest)) (pass rest)
+      (omega (arith, shorter, counts.passes rest)) (omega arith))
 
 -- if the next EOL was found, there is one
 pub next_eol_found : (here found : Bits) → next_eol here ≡ Some found → (length found ≤ length here)
@@ -100,12 +150,6 @@ next_eol_found (bit ∷ here) found e = by_after_eol (next_eol_found here found)
         let same : (bit ∷ here) ≡ found = cc in
         subst (λ (x : Bits). (length x ≤ length (bit ∷ here)) × ((after : Bits) × (after_eol 0 x ≡ Some after))) same
         (omega arith, (rest, f))
-
--- an EOL that is there is counted
-pub eols_some_counts : (here rest : Bits) → after_eol 0 here ≡ Some rest → 0 < (all_eols here).0
-eols_some_counts [] rest e = absurd cc
-eols_some_counts (bit ∷ here) rest e =
-    rw (eols-some (length here) (bit ∷ here) rest e) (omega (arith, one_more-count (eols (length here) rest)))
 
 -- a tag is consumed, or nothing
 pub past_tag_shorter : (here : Bits) → length (past_tag here) ≤ length here
@@ -127,38 +171,14 @@ pub eols_with_tags-none : (most : ℕ) (here : Bits) → after_eol 0 here ≡ No
 eols_with_tags-none zero here e = refl
 eols_with_tags-none (suc most) here e = rw (e, eols_with_tags) refl
 
-pub eols_with_tags_shorter : (most : ℕ) (here : Bits) → length (eols_with_tags most here).1 ≤ length here
-eols_with_tags_shorter zero here = omega arith
-eols_with_tags_shorter (suc most) here = by_after_eol (λ rest. eols_with_tags_shorter most rest) (after_eol 0 here) refl
-  where
-    by_after_eol : ((rest : Bits) → length (eols_with_tags most rest).1 ≤ length rest) → (o : Option Bits) → after_eol 0 here ≡ o
-        → length (eols_with_tags (suc most) here).1 ≤ length here
-    by_after_eol on None e = rw (eols_with_tags-none (suc most) here e) (omega arith)
-    by_after_eol on (Some rest) e = rw (eols_with_tags-some most here rest e) (omega (
-      arith,
-      length-one_more (eols_with_tags most (past_tag rest)),
-      on (past_tag rest),
-      past_tag_shorter rest,
-      after_eol_shorter 0 here rest e,
-    ))
+-- both are counts of EOLs
+pub counts_plain : CountsEols (λ here. here) eols
+counts_plain =
+    record { passes = λ here. omega arith; start = λ here. refl; none = eols-none; some = eols-some }
 
--- each of them moves the offset on
-eols_with_tags_moves : (most : ℕ) (here : Bits) → 0 < (eols_with_tags most here).0
-    → length (eols_with_tags most here).1 < length here
-eols_with_tags_moves zero here some = absurd (omega arith)
-eols_with_tags_moves (suc most) here some = by_after_eol (after_eol 0 here) refl
-  where
-    by_after_eol : (o : Option Bits) → after_eol 0 here ≡ o → length (eols_with_tags (suc most) here).1 < length here
-    by_after_eol None e =
-        absurd (let f = eols_with_tags-none (suc most) here e in omega (arith, ap (λ (x : ℕ × Bits). x.0) f, some))
-    by_after_eol (Some rest) e =
-        rw (eols_with_tags-some most here rest e) (omega (
-          arith,
-          length-one_more (eols_with_tags most (past_tag rest)),
-          eols_with_tags_shorter most (past_tag rest),
-          past_tag_shorter rest,
-          after_eol_shorter 0 here rest e,
-        ))
+pub counts_tagged : CountsEols past_tag eols_with_tags
+counts_tagged =
+    record { passes = past_tag_shorter; start = λ here. refl; none = eols_with_tags-none; some = eols_with_tags-some }
 
 pub last_tag_count : (found : ℕ × Bits) → (pass_last_tag found).0 ≡ found.0
 last_tag_count (count, []) = refl
@@ -183,14 +203,14 @@ abbrev pub Counted : Bits → ℕ × Bits → Type 0
 Counted here found = (length found.1 ≤ length here) × (0 < found.0 → length found.1 < length here)
 
 all_counted : (here : Bits) → Counted here (all_eols here)
-all_counted here = (eols_shorter (length here) here, eols_moves (length here) here)
+all_counted here = (count_shorter counts_plain (length here) here, count_moves counts_plain (length here) here)
 
 pub tagged_eols_counted : (here : Bits) → Counted here (tagged_eols here)
 tagged_eols_counted here =
     let found : ℕ × Bits = eols_with_tags (length here) here in (
-      omega (arith, last_tag_shorter found, eols_with_tags_shorter (length here) here),
+      omega (arith, last_tag_shorter found, count_shorter counts_tagged (length here) here),
       λ some. let counts : 0 < found.0 = omega (arith, last_tag_count found, some) in
-          omega (arith, last_tag_shorter found, eols_with_tags_moves (length here) here counts),
+          omega (arith, last_tag_shorter found, count_moves counts_tagged (length here) here counts),
     )
 
 -- that many EOLs consumed bits
@@ -200,15 +220,8 @@ eols_here_counted settings here = by_encoding settings.encoding settings.end_of_
     by_encoding : (encoding : EncodingMode) (block : Bool) → Counted here (eols_by encoding block here)
     by_encoding Group3_1D block = all_counted here
     by_encoding Group3_2D block = tagged_eols_counted here
-    by_encoding Group4 true = (eols_shorter 2 here, eols_moves 2 here)
+    by_encoding Group4 true = (count_shorter counts_plain 2 here, count_moves counts_plain 2 here)
     by_encoding Group4 false = all_counted here
-
-tagged_eols_some_counts : (here rest : Bits) → after_eol 0 here ≡ Some rest → 0 < (tagged_eols here).0
-tagged_eols_some_counts [] rest e = absurd cc
-tagged_eols_some_counts (bit ∷ here) rest e =
-    let found : ℕ × Bits = eols_with_tags (length here) (past_tag rest) in
-    rw (eols_with_tags-some (length here) (bit ∷ here) rest e)
-    (omega (arith, last_tag_count (one_more found), one_more-count found))
 
 -- if there is an EOL, one is counted
 pub eols_here_some : (settings : DecodeSettings) (here rest : Bits) → after_eol 0 here ≡ Some rest
@@ -216,11 +229,12 @@ pub eols_here_some : (settings : DecodeSettings) (here rest : Bits) → after_eo
 eols_here_some settings here rest e = by_encoding settings.encoding settings.end_of_block
   where
     by_encoding : (encoding : EncodingMode) (block : Bool) → 0 < (eols_by encoding block here).0
-    by_encoding Group3_1D block = eols_some_counts here rest e
-    by_encoding Group3_2D block = tagged_eols_some_counts here rest e
+    by_encoding Group3_1D block = count_some counts_plain here rest e
+    by_encoding Group3_2D block =
+        omega (arith, last_tag_count (eols_with_tags (length here) here), count_some counts_tagged here rest e)
     by_encoding Group4 true =
         omega (arith, ap (λ (found : ℕ × Bits). found.0) (eols-some 1 here rest e), one_more-count (eols 1 rest))
-    by_encoding Group4 false = eols_some_counts here rest e
+    by_encoding Group4 false = count_some counts_plain here rest e
 
 -- what is left of a run: its bits, and one more while EOLs are sought
 abbrev pub left_to_read : Progress → ℕ

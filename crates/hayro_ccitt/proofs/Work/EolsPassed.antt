@@ -3,15 +3,15 @@ use Rattle.hayro_ccitt.proofs.Names.{◌<◌, ◌≡◌, ℕ, ◌+◌, ◌-◌, 
 use Rattle.hayro_ccitt.proofs.Names.{◌++◌, length, replicate, drop, Option, Some, None, Result, Ok, Err, refl, sym, ap, ◌∙◌}
 use Rattle.hayro_ccitt.proofs.Names.{subst, arith, ◌⊎◌, inl, inr, and_parts, or_parts, false≢true, length-append}
 use Rattle.hayro_ccitt.proofs.Names.{length-replicate, replicate-append-replicate, DecodeError, InvalidCode, EncodingMode, Group4}
-use Rattle.hayro_ccitt.proofs.Names.{Group3_1D, Group3_2D, DecodeSettings, Bits, after_eol, all_eols, next_eol, past_tag}
-use Rattle.hayro_ccitt.proofs.Names.{eols_with_tags, eols, pass_last_tag, tagged_eols, eols_of_end, Gap, at_end, limit_met}
+use Rattle.hayro_ccitt.proofs.Names.{Group3_1D, Group3_2D, DecodeSettings, Bits, after_eol, next_eol}
+use Rattle.hayro_ccitt.proofs.Names.{eols_with_tags, eols, eols_of_end, Gap, at_end, limit_met}
 use Rattle.hayro_ccitt.proofs.Names.{eols_by, eols_here, behind_eols, from_next_eol, gap_behind_row, looked, looked_ahead}
 use Rattle.hayro_ccitt.proofs.Names.{tag_tests}
-use Rattle.hayro_ccitt.proofs.{BitReading.ZeroRuns.looked_eol, CodeWords.ReadRuns.chosen, DamagedLines.PastEol.all_eols-none}
+use Rattle.hayro_ccitt.proofs.{BitReading.ZeroRuns.looked_eol, CodeWords.ReadRuns.chosen, DamagedLines.PastEol.eols_here-none}
 use Rattle.hayro_ccitt.proofs.DamagedLines.LineTails.{after_eol_is}
-use Rattle.hayro_ccitt.proofs.Readings.TurnsMoveOn.{eols-none, length-one_more, eols_shorter, eols-some, eols_with_tags-some}
-use Rattle.hayro_ccitt.proofs.Readings.TurnsMoveOn.{eols_with_tags-none, eols_with_tags_shorter, past_tag_shorter}
-use Rattle.hayro_ccitt.proofs.Readings.TurnsMoveOn.{last_tag_shorter, eols_here_counted, eols_here_some, next_eol_found}
+use Rattle.hayro_ccitt.proofs.Readings.TurnsMoveOn.{length-one_more, count_shorter, count_past, counts_plain}
+use Rattle.hayro_ccitt.proofs.Readings.TurnsMoveOn.{counts_tagged, eols-some, last_tag_shorter}
+use Rattle.hayro_ccitt.proofs.Readings.TurnsMoveOn.{eols_here_counted, eols_here_some, next_eol_found}
 
 -- ---- An EOL here or further on
 
@@ -68,59 +68,23 @@ length-within here after eol =
 pub eols_here_shorter : (settings : DecodeSettings) (here : Bits) → length (eols_here settings here).1 ≤ length here
 eols_here_shorter settings here = (eols_here_counted settings here).0
 
-all_eols_past : (here after : Bits) → after_eol 0 here ≡ Some after → length (all_eols here).1 ≤ length after
-all_eols_past [] after e = absurd cc
-all_eols_past (bit ∷ here) after e =
-    rw (eols-some (length here) (bit ∷ here) after e)
-    (omega (arith, length-one_more (eols (length here) after), eols_shorter (length here) after))
-
-tagged_eols_past : (here after : Bits) → after_eol 0 here ≡ Some after → length (tagged_eols here).1 ≤ length after
-tagged_eols_past [] after e = absurd cc
-tagged_eols_past (bit ∷ here) after e =
-    let found : ℕ × Bits = eols_with_tags (length here) (past_tag after) in
-    let passed : length (eols_with_tags (length (bit ∷ here)) (bit ∷ here)).1 ≤ length after
-    = rw (eols_with_tags-some (length here) (bit ∷ here) after e) (omega (
-      arith,
-      length-one_more found,
-      eols_with_tags_shorter (length here) (past_tag after),
-      past_tag_shorter after,
-    )) in
-    omega (arith, last_tag_shorter (eols_with_tags (length (bit ∷ here)) (bit ∷ here)), passed)
-
 -- if there is an EOL, counting consumes it
 pub eols_here_past : (settings : DecodeSettings) (here after : Bits) → after_eol 0 here ≡ Some after
     → length (eols_here settings here).1 ≤ length after
 eols_here_past settings here after e = by_encoding settings.encoding settings.end_of_block
   where
     by_encoding : (encoding : EncodingMode) (block : Bool) → length (eols_by encoding block here).1 ≤ length after
-    by_encoding Group3_1D block = all_eols_past here after e
-    by_encoding Group3_2D block = tagged_eols_past here after e
+    by_encoding Group3_1D block = count_past counts_plain here after e
+    by_encoding Group3_2D block =
+        omega (arith, last_tag_shorter (eols_with_tags (length here) here), count_past counts_tagged here after e)
     by_encoding Group4 true =
         omega (
           arith,
           ap (λ (found : ℕ × Bits). length found.1) (eols-some 1 here after e),
           length-one_more (eols 1 after),
-          eols_shorter 1 after,
+          count_shorter counts_plain 1 after,
         )
-    by_encoding Group4 false = all_eols_past here after e
-
-tagged_eols-none : (here : Bits) → after_eol 0 here ≡ None → tagged_eols here ≡ (0, here)
-tagged_eols-none here e = rw (eols_with_tags-none (length here) here e, tagged_eols) (by_here here)
-  where
-    by_here : (here : Bits) → pass_last_tag (0, here) ≡ (0, here)
-    by_here [] = refl
-    by_here (false ∷ here) = refl
-    by_here (true ∷ here) = refl
-
--- if there is no EOL, none is counted
-pub eols_here-none : (settings : DecodeSettings) (here : Bits) → after_eol 0 here ≡ None → eols_here settings here ≡ (0, here)
-eols_here-none settings here e = by_encoding settings.encoding settings.end_of_block
-  where
-    by_encoding : (encoding : EncodingMode) (block : Bool) → eols_by encoding block here ≡ (0, here)
-    by_encoding Group3_1D block = all_eols-none here e
-    by_encoding Group3_2D block = tagged_eols-none here e
-    by_encoding Group4 true = eols-none 2 here e
-    by_encoding Group4 false = all_eols-none here e
+    by_encoding Group4 false = count_past counts_plain here after e
 
 -- if none is counted, the offset doesn't change
 pub eols_here_stay : (settings : DecodeSettings) (here rest : Bits) → eols_here settings here ≡ (0, rest) → rest ≡ here

@@ -1,10 +1,10 @@
 use Rattle.hayro_ccitt.proofs.Names.{ℕ, length, ap, arith, Bits, here, Context}
-use Rattle.hayro_ccitt.proofs.Readings.TurnsMoveOn.{eols_shorter}
+use Rattle.hayro_ccitt.proofs.Readings.TurnsMoveOn.{count_shorter, counts_plain}
 use Rattle.hayro_ccitt.proofs.group3.read_leading_eols.Goals as goal
 
 pub returns-clause-counts : goal.returns-clause-counts
 returns-clause-counts c =
-    let left = eols_shorter (length (here c.args.reader.now)) (here c.args.reader.now) in
+    let left = count_shorter counts_plain (length (here c.args.reader.now)) (here c.args.reader.now) in
     omega (
       arith,
       left,

@@ -1,7 +1,8 @@
 use Rattle.hayro_ccitt.proofs.Names.{◌≡◌, ◌+◌, ◌-◌, ◌*◌, ◌≤◌, Bool, length, drop, IsTrue, sym, ap, ◌∙◌, arith, ◌↔◌, false≢true}
 use Rattle.hayro_ccitt.proofs.Names.{IfOk-weaker, DecodeSettings, bits_of, IsLocal, EndsBefore, looked, common_steps}
 use Rattle.hayro_ccitt.proofs.{BitReading.BitLists.length-bits_of, DamagedLines.BodyWork.tests_looked}
-use Rattle.hayro_ccitt.proofs.DamagedLines.BodyTests.{local_by_end, tests_of}
+use Rattle.hayro_ccitt.proofs.DamagedLines.BodyTests.{local_by_end}
+use Rattle.hayro_ccitt.proofs.DamagedLines.LocalByTests.{to_tests}
 use Rattle.hayro_ccitt.proofs.locality.body_is_local.Goals.{After-is_behind_eol, After-holds_one, After-end_of_eol}
 use Rattle.hayro_ccitt.proofs.locality.body_is_local.Goals.{After-holds_eol, then-not-is_lenient_1d-via-then-not-is_lenient_1d}
 use Rattle.hayro_ccitt.proofs.locality.body_is_local.Goals as goal
@@ -12,15 +13,15 @@ returns-then-not-is_lenient_1d-clause-local c =
 
 pub returns-then-not-is_behind_eol-clause-local : goal.returns-then-not-is_behind_eol-clause-local
 returns-then-not-is_behind_eol-clause-local c =
-    grind (arith, common_steps, false≢true, tests_of c.args.ctx.now.held.settings (bits_of c.args.data.now) c.args.from c.args.to)
+    grind (arith, common_steps, false≢true, to_tests c.args.ctx.now.held.settings (bits_of c.args.data.now) c.args.from c.args.to)
 
 pub returns-then-not-holds_one-clause-local : goal.returns-then-not-holds_one-clause-local
 returns-then-not-holds_one-clause-local c =
-    grind (arith, common_steps, false≢true, tests_of c.args.ctx.now.held.settings (bits_of c.args.data.now) c.args.from c.args.to)
+    grind (arith, common_steps, false≢true, to_tests c.args.ctx.now.held.settings (bits_of c.args.data.now) c.args.from c.args.to)
 
 pub returns-then-holds_eol-clause-local : goal.returns-then-holds_eol-clause-local
 returns-then-holds_eol-clause-local c =
-    grind (arith, common_steps, false≢true, tests_of c.args.ctx.now.held.settings (bits_of c.args.data.now) c.args.from c.args.to)
+    grind (arith, common_steps, false≢true, to_tests c.args.ctx.now.held.settings (bits_of c.args.data.now) c.args.from c.args.to)
 
 pub returns-clause-local : goal.returns-clause-local
 returns-clause-local c =

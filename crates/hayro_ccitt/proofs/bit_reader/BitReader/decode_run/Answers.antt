@@ -1,14 +1,10 @@
-use Rattle.hayro_ccitt.proofs.Names.{◌≡◌, ℕ, Option, Some, Err, refl, arith, err_from_is_err_and, DecodeError, here, codes_of}
+use Rattle.hayro_ccitt.proofs.Names.{◌≡◌, Err, refl, arith, err_from_is_err_and, DecodeError, here, codes_of}
 use Rattle.hayro_ccitt.proofs.Names.{common_steps}
 use Rattle.hayro_ccitt.proofs.CodeWords.ReadCodes.{read_code_missed}
 use Rattle.hayro_ccitt.proofs.CodeWords.ReadRuns.{read_code_shorter, words_not_empty, run_goes_on}
 use Rattle.hayro_ccitt.proofs.CodeWords.RunWords.{run_found_on, run_found_missed}
-use Rattle.std.specs.Option.{SomeIff}
+use Rattle.hayro_ccitt.proofs.DrawingLines.DrawnLines.{some_where}
 use Rattle.hayro_ccitt.proofs.bit_reader.BitReader.decode_run.Goals as goal
-
--- a sum that was added with a test
-added : (r : Option ℕ) (P : Type 0) (v x : ℕ) → SomeIff r P v → r ≡ Some x → P × (x ≡ v)
-added r P v x s e = rw e at s
 
 pub words-smaller : goal.words-smaller
 words-smaller c =
@@ -16,7 +12,7 @@ words-smaller c =
     (words_not_empty c.args.color) c.in_ok-run.ensures.word
 
 pub words-preserved : goal.words-preserved
-words-preserved c = grind (arith, common_steps, added, run_found_on, run_goes_on)
+words-preserved c = grind (arith, common_steps, some_where, run_found_on, run_goes_on)
 
 pub words-smaller-then-total-gt2560 : goal.words-smaller-then-total-gt2560
 words-smaller-then-total-gt2560 c =
@@ -27,7 +23,7 @@ words-smaller-then-total-gt2560 c =
 pub words-preserved-then-total-gt2560 : goal.words-preserved-then-total-gt2560
 words-preserved-then-total-gt2560 c =
     let on = c.pass_makeup_words-total.ensures.on in
-    grind (arith, common_steps, added, run_found_on, run_goes_on, on.run, on.counted)
+    grind (arith, common_steps, some_where, run_found_on, run_goes_on, on.run, on.counted)
 
 pub returns-in_err-run-clause-ticks : goal.returns-in_err-run-clause-ticks
 returns-in_err-run-clause-ticks c =
