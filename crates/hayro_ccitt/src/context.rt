@@ -704,9 +704,10 @@ impl DecoderContext {
         }
     }
 
-    /// Draws the first runs of a line as long as they are usual. If the row before has fewer than four changes, most often this
-    /// row has few too: then the reader's own window does, without a call. The first run of a line whose row before has fewer
-    /// than two is left to the plain calls if it isn't usual.
+    /// Draws the first runs of a line as long as they are usual, if the row before has two changes or more: most often this row
+    /// has as many, and plain calls draw fewer runs at less cost. A row of at most 64 columns below one of fewer than four
+    /// changes is drawn from the reader's own window, without a call; its first run is left to the plain calls if it isn't usual
+    /// and the row before has fewer than two.
     #[inline(always)]
     fn draw_first_runs(&mut self, reader: &mut BitReader<'_>)
         ensures drawn { GoesOn self.old.held.settings.strict self.old.held.settings.columns
@@ -714,7 +715,12 @@ impl DecoderContext {
         ensures held { self.new.held ≡ redrawn self.old.held self.new.held.front self.new.held.color }
         ensures same_bits { reader.new.bits ≡ reader.old.bits }
     {
-        if self.ref_changes.len() < 4 {
+        let wide = self.settings.columns > 64;
+        if wide {
+            if self.ref_changes.len() < 2 {
+                return;
+            }
+        } else if self.ref_changes.len() < 4 {
             self.draw_window_of(reader);
             if self.pixels_decoded == self.settings.columns {
                 return;

@@ -1,4 +1,5 @@
-use Rattle.hayro_ccitt.proofs.Names.{◌+◌, ℕ, List, [], ◌∷◌, ◌++◌, refl, arith, White, Black, GoesOn, IsRunHere, pen_at, moved, Pen}
+use Rattle.hayro_ccitt.proofs.Names.{◌+◌, ℕ, List, [], ◌∷◌, ◌++◌, refl, arith, White, Black, GoesOn, IsRunHere, pen_at}
+use Rattle.hayro_ccitt.proofs.Names.{moved, Pen}
 use Rattle.hayro_ccitt.proofs.CodeWords.UsualRuns.{run_of_word}
 use Rattle.hayro_ccitt.proofs.DrawingLines.UsualStrokes.{white_ends, two_runs, next_lawful, reached_white, reached_black}
 use Rattle.hayro_ccitt.proofs.DrawingLines.UsualStrokes.{reached_both, pixels-pending}
