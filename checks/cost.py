@@ -152,6 +152,17 @@ def without_eols(tag, before=""):
     return made
 
 
+def narrow_rows(columns, tag, rows):
+    """Rows of few columns again and again, each one-dimensional behind its tag, without EOLs."""
+    lines = [tag + strips.line_1d(columns, row) for row in rows]
+
+    def made(size):
+        known = lines_in(size, [], [(len(line), len(row)) for line, row in zip(lines, rows)])
+        return Made(columns, filled("".join(lines), size), *known)
+
+    return made
+
+
 def long_bodies(size):
     """Damaged lines: each has alternate pixels, and then a fault. The rest of the row is white."""
     pairs = size // 32
@@ -196,17 +207,20 @@ SHAPES = [
     ("EOLs", GROUP_4, 0, eols(0), 26.2, 102),
     ("EOLs 1d", ONE_DIMENSIONAL, WITH_EOLS, eols(1), 26.2, 101),
     ("EOLs 2d", TWO_DIMENSIONAL, WITH_EOLS, eols_2d, 24.3, 100),
-    ("EOLs and faults", ONE_DIMENSIONAL, WITH_EOLS, eols_and_faults, 168, 353),
-    ("rows without EOLs 1d", ONE_DIMENSIONAL, 0, without_eols(""), 245, 280),
-    ("rows without EOLs 2d", TWO_DIMENSIONAL, 0, without_eols("1"), 244, 266),
-    ("one EOL, then none 1d", ONE_DIMENSIONAL, 0, without_eols("", EOL), 260, 395),
-    ("one EOL, then none 2d", TWO_DIMENSIONAL, 0, without_eols("1", EOL), 259, 384),
+    ("EOLs and faults", ONE_DIMENSIONAL, WITH_EOLS, eols_and_faults, 180, 353),
+    ("rows without EOLs 1d", ONE_DIMENSIONAL, 0, without_eols(""), 213, 280),
+    ("rows without EOLs 2d", TWO_DIMENSIONAL, 0, without_eols("1"), 213, 266),
+    ("black rows with white ends 2d", TWO_DIMENSIONAL, 0, narrow_rows(12, "1", [[0, 11]]), 108, 132),
+    ("half black rows and white ones 1d", ONE_DIMENSIONAL, 0, narrow_rows(2, "", [[0, 1], []]), 156, 227),
+    ("narrow rows of few changes 2d", TWO_DIMENSIONAL, 0, narrow_rows(6, "1", [[], [4, 5], [4]]), 203, 276),
+    ("one EOL, then none 1d", ONE_DIMENSIONAL, 0, without_eols("", EOL), 228, 395),
+    ("one EOL, then none 2d", TWO_DIMENSIONAL, 0, without_eols("1", EOL), 228, 384),
     ("damaged lines with long bodies", ONE_DIMENSIONAL, WITH_EOLS, long_bodies, 63, 237),
     ("faults before long bodies", ONE_DIMENSIONAL, WITH_EOLS, faults_before_bodies, 16.7, 117),
     ("V0, lowest bit first", GROUP_4, LOW_FIRST, white_rows(1728), 550, 1274),
     ("a dense row and copies, lowest bit first", GROUP_4, LOW_FIRST, dense_and_copies, 233, 455),
     ("zeros 1d, lowest bit first", ONE_DIMENSIONAL, WITH_EOLS + LOW_FIRST, of_zeros(1), 29.3, 277),
-    ("rows without EOLs 1d, lowest bit first", ONE_DIMENSIONAL, LOW_FIRST, without_eols(""), 253, 280),
+    ("rows without EOLs 1d, lowest bit first", ONE_DIMENSIONAL, LOW_FIRST, without_eols(""), 221, 280),
 ]
 
 

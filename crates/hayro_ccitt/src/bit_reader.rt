@@ -427,6 +427,26 @@ impl<'a> BitReader<'a> {
     }
 }
 
+impl<'a> BitReader<'a> {
+    /// Returns the same bits at the same offset, with 32 of them in the window, or `None` if fewer are left.
+    #[inline(always)]
+    pub(crate) fn window_at_hand(&self) -> Option<BitsAtHand<'a>>
+        ensures same { IfSome result (λ hand. hand ≡ record { at = self.now; left = 32 }) }
+    {
+        let end = self.place + 32;
+        if end > self.data.len() * 8 {
+            return None;
+        }
+        Some(BitsAtHand {
+            data: self.data,
+            window: self.window,
+            left: 32,
+            limit: end,
+            order: self.order,
+        })
+    }
+}
+
 impl<'a> BitsAtHand<'a> {
     /// Fills the window if eight bytes are left; otherwise nothing changes.
     #[inline(always)]

@@ -22,7 +22,7 @@ use crate::modes::{
 };
 use crate::settings::DecodeSettings;
 use crate::tables::Tables;
-use crate::usual::{draw_runs, lay_down, take_up};
+use crate::usual::{draw_runs, draw_runs_in_window, lay_down, take_up};
 use crate::{DecodeError, Decoder, Result};
 use std::alloc::Global;
 use std::marker::Model;
@@ -624,8 +624,90 @@ impl DecoderContext {
         self.draw_runs_of(reader);
     }
 
-    /// Draws the first runs of a line as long as they are usual, if the row before has two changes or more: most often this
-    /// row has as many. Plain calls draw fewer runs at less cost.
+    /// Draws a white run and a black one in the window, or a white one up to the row's end, and returns whether they are usual;
+    /// otherwise it draws nothing.
+    #[inline(always)]
+    fn draw_window(&mut self, hand: &mut BitsAtHand<'_>) -> bool
+        requires within { 32 ≤ hand.old.left }
+        ensures drawn { GoesOn self.old.held.settings.strict self.old.held.settings.columns
+            (pen_of self.old.held (here hand.old.at)) (pen_of self.new.held (here hand.new.at)) self.old.ticks self.new.ticks }
+        ensures held { self.new.held ≡ redrawn self.old.held self.new.held.front self.new.held.color }
+        ensures same_bits { hand.new.at.bits ≡ hand.old.at.bits }
+        ensures onward { hand.old.at.place ≤ hand.new.at.place }
+        ensures left { result ≡ false → hand.new.at ≡ hand.old.at }
+    {
+        if !self.color.is_white() {
+            return false;
+        }
+        if self.pixels_decoded == self.settings.columns {
+            return false;
+        }
+        if !take_up(&mut self.coding_changes, self.pixels_decoded) {
+            return false;
+        }
+        let ticks = &mut self.ticks;
+        let reached = draw_runs_in_window(
+            hand,
+            &mut self.coding_changes,
+            self.pixels_decoded,
+            self.settings.columns,
+            self.settings.strict,
+            self.tables.lookup(Color::White),
+            self.tables.lookup(Color::Black),
+            ticks,
+        );
+        match reached {
+            None => {
+                lay_down(&mut self.coding_changes, self.pixels_decoded);
+                false
+            }
+            Some((place, color)) => {
+                lay_down(&mut self.coding_changes, place);
+                self.pixels_decoded = place;
+                self.color = color;
+                true
+            }
+        }
+    }
+
+    /// The same for a reader, with the bits that it has in its window.
+    #[inline(always)]
+    fn draw_window_of(&mut self, reader: &mut BitReader<'_>)
+        ensures drawn { GoesOn self.old.held.settings.strict self.old.held.settings.columns
+            (pen_of self.old.held (here reader.old)) (pen_of self.new.held (here reader.new)) self.old.ticks self.new.ticks }
+        ensures held { self.new.held ≡ redrawn self.old.held self.new.held.front self.new.held.color }
+        ensures same_bits { reader.new.bits ≡ reader.old.bits }
+        ensures onward { reader.old.place ≤ reader.new.place }
+    {
+        if let Some(mut hand) = reader.window_at_hand() {
+            if self.draw_window(&mut hand) {
+                reader.go_to(hand.bit_pos());
+            }
+        }
+    }
+
+    /// Draws such runs until the row is full, or one isn't usual.
+    #[inline(always)]
+    fn draw_windows_of(&mut self, reader: &mut BitReader<'_>)
+        ensures drawn { GoesOn self.old.held.settings.strict self.old.held.settings.columns
+            (pen_of self.old.held (here reader.old)) (pen_of self.new.held (here reader.new)) self.old.ticks self.new.ticks }
+        ensures held { self.new.held ≡ redrawn self.old.held self.new.held.front self.new.held.color }
+        ensures same_bits { reader.new.bits ≡ reader.old.bits }
+    {
+        let mut before = 0;
+        'windows: while before < self.pixels_decoded {
+            before = self.pixels_decoded;
+            self.draw_window_of(reader);
+            if self.pixels_decoded == self.settings.columns {
+                return;
+            }
+        }
+    }
+
+    /// Draws the first runs of a line as long as they are usual, if the row before has two changes or more: most often this row
+    /// has as many, and plain calls draw fewer runs at less cost. A row of at most 64 columns below one of fewer than four
+    /// changes is drawn from the reader's own window, without a call; its first run is left to the plain calls if it isn't usual
+    /// and the row before has fewer than two.
     #[inline(always)]
     fn draw_first_runs(&mut self, reader: &mut BitReader<'_>)
         ensures drawn { GoesOn self.old.held.settings.strict self.old.held.settings.columns
@@ -633,8 +715,20 @@ impl DecoderContext {
         ensures held { self.new.held ≡ redrawn self.old.held self.new.held.front self.new.held.color }
         ensures same_bits { reader.new.bits ≡ reader.old.bits }
     {
-        if self.ref_changes.len() < 2 {
-            return;
+        let wide = self.settings.columns > 64;
+        if wide {
+            if self.ref_changes.len() < 2 {
+                return;
+            }
+        } else if self.ref_changes.len() < 4 {
+            self.draw_window_of(reader);
+            if self.pixels_decoded == self.settings.columns {
+                return;
+            }
+            if self.pixels_decoded == 0 && self.ref_changes.len() < 2 {
+                return;
+            }
+            self.draw_windows_of(reader);
         }
         self.draw_usual_runs(reader);
     }

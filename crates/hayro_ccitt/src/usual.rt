@@ -312,6 +312,74 @@ fn draw_short_runs(
     Some(painted + run + run2)
 }
 
+/// Draws a white run and a black one of one code word, or a white one up to the row's end, without filling the window. Returns
+/// how far the row reaches then, and the colour in which it would continue; or `None`, drawing nothing, if they aren't of that
+/// kind.
+#[inline(always)]
+pub(crate) fn draw_runs_in_window(
+    hand: &mut BitsAtHand<'_>,
+    row: &mut Vec<u32>,
+    painted: u32,
+    columns: u32,
+    strict: bool,
+    white: &[u16],
+    black: &[u16],
+    ticks: &mut Ticks,
+) -> Option<(u32, Color)>
+    requires open { painted < columns }
+    requires within { 32 ≤ hand.old.left }
+    requires lawful { AreChanges (painted + 1) row.old.items }
+    requires even { length row.old.items % 2 ≡ 0 }
+    requires white { AreEntries (codes_of Color.White) white.now }
+    requires black { AreEntries (codes_of Color.Black) black.now }
+    ensures drawn { IfSome result (λ reached. GoesOn strict columns (pen_at painted row.old.items Color.White hand.old.at)
+        (pen_at reached.0 row.new.items reached.1 hand.new.at) ticks.old ticks.new) }
+    ensures taken { IfSome result (λ reached. IsReached columns reached.0 reached.1 row.new.items) }
+    ensures forward { IfSome result (λ reached. painted < reached.0) }
+    ensures same_bits { hand.new.at.bits ≡ hand.old.at.bits }
+    ensures onward { hand.old.at.place ≤ hand.new.at.place }
+    ensures left { IfNone result ((hand.new.at ≡ hand.old.at) × (row.new.items ≡ row.old.items) × (ticks.new ≡ ticks.old)) }
+{
+    let (run, width, words) = run_at_hand(hand, 0, Color::White, white)?;
+    let room = columns - painted;
+    if !fits(run, room, strict) {
+        return None;
+    }
+    if run >= room {
+        hand.pass(width);
+        ticks.tick_times(words);
+        return Some((columns, Color::Black));
+    }
+    if !is_next(row, run) {
+        return None;
+    }
+    if !has_room_for_pair(row) {
+        return None;
+    }
+    if width > 19 {
+        return None;
+    }
+    let (run2, width2) = word_at_hand(hand, width, Color::Black, black);
+    if !is_short(run2) {
+        return None;
+    }
+    let turn = painted + run;
+    let room2 = columns - turn;
+    if !fits(run2, room2, strict) {
+        return None;
+    }
+    hand.pass(width);
+    hand.pass(width2);
+    ticks.tick_times(words);
+    ticks.tick_times(1);
+    turn_at(row, turn);
+    if run2 >= room2 {
+        return Some((columns, Color::White));
+    }
+    turn_at(row, turn + run2);
+    Some((turn + run2, Color::White))
+}
+
 /// Draws a white run and a black one, trying the most frequent case first.
 #[inline(always)]
 fn draw_pair(

@@ -270,6 +270,23 @@ drawn_on before now new begun at next so_far goes held same =
       omega (arith, on.counted, so_far.1),
     )
 
+-- drawing continues twice, in a context
+pub drawn_twice : (before now new : Context) (begun at next : BitsAt) → GoesOn before.held.settings.strict
+    before.held.settings.columns (pen_of before.held (here begun)) (pen_of now.held (here at)) before.ticks now.ticks → now.held
+    ≡ redrawn before.held now.held.front now.held.color → GoesOn now.held.settings.strict now.held.settings.columns (pen_of
+    now.held (here at)) (pen_of new.held (here next)) now.ticks new.ticks → GoesOn before.held.settings.strict
+    before.held.settings.columns (pen_of before.held (here begun)) (pen_of new.held (here next)) before.ticks new.ticks
+drawn_twice before now new begun at next first held second =
+    let settings : now.held.settings ≡ before.held.settings = ap (λ (h : Held). h.settings) held in
+    goes_on_twice before.held.settings.strict before.held.settings.columns _ _ _ _ _ _ first
+    (subst (λ (s : DecodeSettings). GoesOn s.strict s.columns (pen_of now.held (here at)) (pen_of new.held (here next)) now.ticks
+    new.ticks) settings second)
+
+-- and the rest of it stays
+pub held_twice : (before now new : Held) → now ≡ redrawn before now.front now.color → new ≡ redrawn now new.front new.color
+    → new ≡ redrawn before new.front new.color
+held_twice before now new first second = second ∙ ap (λ (h : Held). redrawn h new.front new.color) first
+
 -- a reader that is further on has no more bits
 pub not_longer : (from to : BitsAt) (n : ℕ) → length (here from) < n → to.bits ≡ from.bits → from.place ≤ to.place
     → length (here to) < n
