@@ -1,6 +1,6 @@
 use Rattle.hayro_ccitt.proofs.Names.{◌+◌, ℕ, List, [], ◌∷◌, ◌++◌, refl, arith, White, Black, GoesOn, IsRunHere, pen_at}
 use Rattle.hayro_ccitt.proofs.Names.{moved, Pen}
-use Rattle.hayro_ccitt.proofs.CodeWords.UsualRuns.{run_of_word}
+use Rattle.hayro_ccitt.proofs.CodeWords.UsualRuns.{word_is_run}
 use Rattle.hayro_ccitt.proofs.DrawingLines.UsualStrokes.{white_ends, two_runs, next_lawful, reached_white, reached_black}
 use Rattle.hayro_ccitt.proofs.DrawingLines.UsualStrokes.{reached_both, pixels-pending}
 use Rattle.hayro_ccitt.proofs.usual.draw_runs_in_window.Goals as goal
@@ -19,7 +19,7 @@ returns-then-run2-room2-clause-drawn c =
     let width = c.in_ok-run.width in
     let second = c.word_at_hand-run2.result in
     let short = c.if-not-is_short.ensures refl in
-    let here_second : IsRunHere Black (moved width at) second.0 second.1 1 = run_of_word Black (moved width at) second.0 second.1
+    let here_second : IsRunHere Black (moved width at) second.0 second.1 1 = word_is_run Black (moved width at) second.0 second.1
     (c.word_at_hand-run2.ensures.word (omega (arith, short.1))) short.1 in
     rw c.turn_at.ensures.items (
     two_runs c.args.strict c.args.columns c.args.painted c.args.columns c.args.row.now.items at at c.pass-2.new.self.at
@@ -45,7 +45,7 @@ returns-clause-drawn c =
     let row : List ℕ = c.args.row.now.items ++ (c.args.painted + run) ∷ [] in
     let pen : Pen = pen_at c.args.painted c.args.row.now.items White at in
     let short = c.if-not-is_short.ensures refl in
-    let here_second : IsRunHere Black (moved width at) second.0 second.1 1 = run_of_word Black (moved width at) second.0 second.1
+    let here_second : IsRunHere Black (moved width at) second.0 second.1 1 = word_is_run Black (moved width at) second.0 second.1
     (c.word_at_hand-run2.ensures.word (omega (arith, short.1))) short.1 in
     let seen : GoesOn c.args.strict c.args.columns pen
     (pen_at place row White c.pass-3.new.self.at) c.args.ticks.now c.tick_times-3.new.self =
