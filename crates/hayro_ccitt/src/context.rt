@@ -704,10 +704,19 @@ impl DecoderContext {
         }
     }
 
+    /// Returns whether the first runs of this row are too long for the reader's own window, as far as its width and the row before
+    /// tell: below a white row a white one is likely, and that is one run of two words.
+    #[inline(always)]
+    fn is_wide(&self) -> bool
+        ensures { result ≡ true → 64 < self.now.held.settings.columns }
+    {
+        self.settings.columns > 64 && !self.ref_changes.is_empty()
+    }
+
     /// Draws the first runs of a line as long as they are usual, if the row before has two changes or more: most often this row
     /// has as many, and plain calls draw fewer runs at less cost. A row of at most 64 columns below one of fewer than four
-    /// changes is drawn from the reader's own window, without a call; its first run is left to the plain calls if it isn't usual
-    /// and the row before has fewer than two.
+    /// changes, or of any width below a white one, is drawn from the reader's own window, without a call; its first run is left to
+    /// the plain calls if it isn't usual and the row before has fewer than two.
     #[inline(always)]
     fn draw_first_runs(&mut self, reader: &mut BitReader<'_>)
         ensures drawn { GoesOn self.old.held.settings.strict self.old.held.settings.columns
@@ -715,7 +724,7 @@ impl DecoderContext {
         ensures held { self.new.held ≡ redrawn self.old.held self.new.held.front self.new.held.color }
         ensures same_bits { reader.new.bits ≡ reader.old.bits }
     {
-        let wide = self.settings.columns > 64;
+        let wide = self.is_wide();
         if wide {
             if self.ref_changes.len() < 2 {
                 return;
