@@ -22,7 +22,7 @@ use crate::modes::{
 };
 use crate::settings::DecodeSettings;
 use crate::tables::Tables;
-use crate::usual::{draw_runs, draw_runs_in_window, lay_down, take_up};
+use crate::usual::{draw_runs, draw_runs_in_window, lay_down, take_up, word_at_hand};
 use crate::{DecodeError, Decoder, Result};
 use std::alloc::Global;
 use std::marker::Model;
@@ -604,6 +604,18 @@ impl DecoderContext {
         }
     }
 
+    /// Returns whether this row is likely to have few runs more, some of two words: it is wide, and neither the row before nor
+    /// this one so far has many changes. Plain calls draw such runs at less cost.
+    #[inline(always)]
+    fn has_few_runs(&self) -> bool
+        ensures wide { result ≡ true → 64 < self.now.held.settings.columns }
+        ensures few { result ≡ true → length (changes self.now.held.reference) < 4 }
+    {
+        self.settings.columns > 64
+            && self.reference_row().len() < 4
+            && self.coding_changes.len() < 5
+    }
+
     /// The same, without a call where the row is full or black is next.
     #[inline(always)]
     fn draw_usual_runs(&mut self, reader: &mut BitReader<'_>)
@@ -619,6 +631,9 @@ impl DecoderContext {
         }
         // Most often a full row is a white one.
         if self.pixels_decoded == self.settings.columns {
+            return;
+        }
+        if self.has_few_runs() {
             return;
         }
         self.draw_runs_of(reader);
@@ -704,19 +719,36 @@ impl DecoderContext {
         }
     }
 
-    /// Returns whether the first runs of this row are too long for the reader's own window, as far as its width and the row before
-    /// tell: below a white row a white one is likely, and that is one run of two words.
+    /// Returns whether the next code word may be that of a white run as long as the row, or its make-up word. It returns false in
+    /// the last 32 bits of the data.
     #[inline(always)]
-    fn is_wide(&self) -> bool
-        ensures { result ≡ true → 64 < self.now.held.settings.columns }
+    fn is_white_run_next(&self, reader: &BitReader<'_>) -> bool
+        ensures most { result ≡ true → self.now.held.settings.columns ≤ 4158 }
     {
-        self.settings.columns > 64 && !self.ref_changes.is_empty()
+        let Some(hand) = reader.window_at_hand() else {
+            return false;
+        };
+        let white = self.tables.lookup(Color::White);
+        let (run, _) = word_at_hand(&hand, 0, Color::White, white);
+        run + 63 >= self.settings.columns
     }
 
-    /// Draws the first runs of a line as long as they are usual, if the row before has two changes or more: most often this row
-    /// has as many, and plain calls draw fewer runs at less cost. A row of at most 64 columns below one of fewer than four
-    /// changes, or of any width below a white one, is drawn from the reader's own window, without a call; its first run is left to
-    /// the plain calls if it isn't usual and the row before has fewer than two.
+    /// Returns whether the first runs of this row are likely to be in the reader's own window: those of a narrow row below one of
+    /// fewer than four changes, and the one of a white row below a white one.
+    #[inline(always)]
+    fn has_short_runs(&self, reader: &BitReader<'_>) -> bool
+        ensures few { result ≡ true → length (changes self.now.held.reference) < 4 }
+    {
+        let before = self.reference_row().len();
+        if self.settings.columns <= 64 {
+            before < 4
+        } else {
+            before == 0 && self.is_white_run_next(reader)
+        }
+    }
+
+    /// Draws the first runs of a line as long as they are usual: those that are likely to be in the reader's own window from there,
+    /// without a call. If the first isn't usual then, and the row before has fewer than two changes, it is left to the plain calls.
     #[inline(always)]
     fn draw_first_runs(&mut self, reader: &mut BitReader<'_>)
         ensures drawn { GoesOn self.old.held.settings.strict self.old.held.settings.columns
@@ -724,12 +756,7 @@ impl DecoderContext {
         ensures held { self.new.held ≡ redrawn self.old.held self.new.held.front self.new.held.color }
         ensures same_bits { reader.new.bits ≡ reader.old.bits }
     {
-        let wide = self.is_wide();
-        if wide {
-            if self.ref_changes.len() < 2 {
-                return;
-            }
-        } else if self.ref_changes.len() < 4 {
+        if self.has_short_runs(reader) {
             self.draw_window_of(reader);
             if self.pixels_decoded == self.settings.columns {
                 return;
