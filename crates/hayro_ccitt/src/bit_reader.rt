@@ -328,15 +328,6 @@ impl<'a> BitReader<'a> {
         self.data.len() * 8
     }
 
-    /// Moves to another offset and fills the window there.
-    #[inline(never)]
-    fn move_to(&mut self, place: usize)
-        requires { place ≤ length self.old.bits }
-        ensures { self.new ≡ record self.old { place = place } }
-    {
-        *self = BitReader::placed_at(self.data, self.order, place);
-    }
-
     /// Moves to another offset.
     #[inline(always)]
     pub(crate) fn go_to(&mut self, place: usize)
@@ -348,7 +339,7 @@ impl<'a> BitReader<'a> {
             let _ = self.consume(place - self.place);
             return;
         }
-        self.move_to(place);
+        *self = BitReader::at_place(self.data, self.order, place);
     }
 
     /// Returns a reader of the same bits at another offset.

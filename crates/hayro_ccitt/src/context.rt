@@ -22,7 +22,7 @@ use crate::modes::{
 };
 use crate::settings::DecodeSettings;
 use crate::tables::Tables;
-use crate::usual::{draw_runs, draw_runs_in_window, lay_down, take_up, word_at_hand};
+use crate::usual::{draw_runs, draw_runs_in_window, lay_down, pass_white_row, take_up};
 use crate::{DecodeError, Decoder, Result};
 use std::alloc::Global;
 use std::marker::Model;
@@ -719,44 +719,56 @@ impl DecoderContext {
         }
     }
 
-    /// Returns whether the next code word may be that of a white run as long as the row, or its make-up word. It returns false in
-    /// the last 32 bits of the data.
+    /// Draws a white row below a white one from the reader's own window, and returns whether there is one here; otherwise nothing
+    /// changes.
     #[inline(always)]
-    fn is_white_run_next(&self, reader: &BitReader<'_>) -> bool
-        ensures most { result ≡ true → self.now.held.settings.columns ≤ 4158 }
+    fn draw_white_row(&mut self, reader: &mut BitReader<'_>) -> bool
+        requires begins { self.old.held.front ≡ [] }
+        requires white { self.old.held.color ≡ Color.White }
+        ensures drawn { result ≡ true → GoesOn self.old.held.settings.strict self.old.held.settings.columns
+            (pen_of self.old.held (here reader.old)) (pen_of self.new.held (here reader.new)) self.old.ticks self.new.ticks }
+        ensures held { self.new.held ≡ redrawn self.old.held self.new.held.front self.new.held.color }
+        ensures same_bits { reader.new.bits ≡ reader.old.bits }
+        ensures unchanged { result ≡ false → (self.new ≡ self.old) × (reader.new ≡ reader.old) }
     {
-        let Some(hand) = reader.window_at_hand() else {
+        if !is_white_row(&self.ref_changes) {
+            return false;
+        }
+        let columns = self.settings.columns;
+        if columns == 0 {
+            return false;
+        }
+        let Some(mut hand) = reader.window_at_hand() else {
             return false;
         };
         let white = self.tables.lookup(Color::White);
-        let (run, _) = word_at_hand(&hand, 0, Color::White, white);
-        run + 63 >= self.settings.columns
-    }
-
-    /// Returns whether the first runs of this row are likely to be in the reader's own window: those of a narrow row below one of
-    /// fewer than four changes, and the one of a white row below a white one.
-    #[inline(always)]
-    fn has_short_runs(&self, reader: &BitReader<'_>) -> bool
-        ensures few { result ≡ true → length (changes self.now.held.reference) < 4 }
-    {
-        let before = self.reference_row().len();
-        if self.settings.columns <= 64 {
-            before < 4
-        } else {
-            before == 0 && self.is_white_run_next(reader)
+        let ticks = &mut self.ticks;
+        if !pass_white_row(&mut hand, columns, self.settings.strict, white, ticks) {
+            return false;
         }
+        self.pixels_decoded = columns;
+        self.color = Color::Black;
+        reader.go_to(hand.bit_pos());
+        true
     }
 
-    /// Draws the first runs of a line as long as they are usual: those that are likely to be in the reader's own window from there,
-    /// without a call. If the first isn't usual then, and the row before has fewer than two changes, it is left to the plain calls.
+    /// Draws the first runs of a line as long as they are usual. Those of a narrow row below one of fewer than four changes are
+    /// drawn from the reader's own window, without a call, and so is a white row below a white one. If the first run of such a
+    /// narrow row isn't usual, and the row before has fewer than two changes, it is left to the plain calls.
     #[inline(always)]
     fn draw_first_runs(&mut self, reader: &mut BitReader<'_>)
+        requires begins { self.old.held.front ≡ [] }
+        requires white { self.old.held.color ≡ Color.White }
         ensures drawn { GoesOn self.old.held.settings.strict self.old.held.settings.columns
             (pen_of self.old.held (here reader.old)) (pen_of self.new.held (here reader.new)) self.old.ticks self.new.ticks }
         ensures held { self.new.held ≡ redrawn self.old.held self.new.held.front self.new.held.color }
         ensures same_bits { reader.new.bits ≡ reader.old.bits }
     {
-        if self.has_short_runs(reader) {
+        if self.settings.columns > 64 {
+            if self.draw_white_row(reader) {
+                return;
+            }
+        } else if self.ref_changes.len() < 4 {
             self.draw_window_of(reader);
             if self.pixels_decoded == self.settings.columns {
                 return;

@@ -214,7 +214,6 @@ pub(crate) fn pass_gap(ctx: &mut DecoderContext, reader: &mut BitReader<'_>) -> 
 
 /// Decodes a line of the kind that its tag selects (T.4 section 4.2.2). A missing tag is `UnexpectedEof`, with nothing
 /// painted.
-#[inline(always)]
 fn decode_tagged_line(ctx: &mut DecoderContext, reader: &mut BitReader<'_>) -> Result<()>
     requires begun { ctx.old.held.front ≡ [] }
     ensures line { DrawsLine (line_by EncodingMode.Group3_2D ctx.old.held.settings.strict ctx.old.held.settings.columns

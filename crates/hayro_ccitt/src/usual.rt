@@ -380,6 +380,37 @@ pub(crate) fn draw_runs_in_window(
     Some((turn + run2, Color::White))
 }
 
+/// Passes a white row: one run as long as the row. Returns whether there is one in the window; otherwise nothing changes.
+#[inline(always)]
+pub(crate) fn pass_white_row(
+    hand: &mut BitsAtHand<'_>,
+    columns: u32,
+    strict: bool,
+    white: &[u16],
+    ticks: &mut Ticks,
+) -> bool
+    requires open { 0 < columns }
+    requires within { 32 ≤ hand.old.left }
+    requires white { AreEntries (codes_of Color.White) white.now }
+    ensures drawn { result ≡ true → GoesOn strict columns (pen_at 0 [] Color.White hand.old.at)
+        (pen_at columns [] Color.Black hand.new.at) ticks.old ticks.new }
+    ensures same_bits { hand.new.at.bits ≡ hand.old.at.bits }
+    ensures left { result ≡ false → (hand.new.at ≡ hand.old.at) × (ticks.new ≡ ticks.old) }
+{
+    let Some((run, width, words)) = run_at_hand(hand, 0, Color::White, white) else {
+        return false;
+    };
+    if run < columns {
+        return false;
+    }
+    if !fits(run, columns, strict) {
+        return false;
+    }
+    hand.pass(width);
+    ticks.tick_times(words);
+    true
+}
+
 /// Draws a white run and a black one, trying the most frequent case first.
 #[inline(always)]
 fn draw_pair(
