@@ -2,7 +2,7 @@
 
 ghost use Rattle.std.specs.Prelude.{false, ◌≡◌, ◌≢◌, ◌<◌, ◌≤◌, ◌+◌, ◌*◌, Err, OnOk, OnErr, IfOk, IfErr, IsOkUnless, true, ◌||◌};
 ghost use Rattle.std.specs.Prelude.{[], length, nat_le, ◌&&◌, ◌^◌};
-ghost use Rattle.hayro_ccitt.specs.Answers.{DrawsLine, OnAnswer, IsRepairable, RepairStoresChange};
+ghost use Rattle.hayro_ccitt.specs.Answers.{DrawsLine, OnAnswer, IsRepairable, RepairStoresChange, line_from_2d, words_from_2d};
 ghost use Rattle.hayro_ccitt.specs.Bits.{here};
 ghost use Rattle.hayro_ccitt.specs.Context.{fresh, redrawn, after_repair};
 ghost use Rattle.hayro_ccitt.specs.Decoding.{DecodesFrom, FailsFrom, TakesOneRow, leaving, gap_said, repairs_behind};
@@ -212,8 +212,24 @@ pub(crate) fn pass_gap(ctx: &mut DecoderContext, reader: &mut BitReader<'_>) -> 
     Ok(is_over(ctx, reader, count))
 }
 
+/// Decodes the line here as `decode_2d_line` does, as a call, so that tagged one-dimensional lines don't pay for its registers.
+#[inline(never)]
+fn decode_2d_line_apart(ctx: &mut DecoderContext, reader: &mut BitReader<'_>) -> Result<()>
+    ensures line { DrawsLine (line_from_2d ctx.old.held (here reader.old)) result ctx.new.held.front (here reader.new) }
+    ensures held { ctx.new.held ≡ redrawn ctx.old.held ctx.new.held.front ctx.new.held.color }
+    ensures same_bits { reader.new.bits ≡ reader.old.bits }
+    ensures counts { ctx.old.ticks ≤ ctx.new.ticks }
+    ensures at_least { OnAnswer result (ctx.old.ticks
+        + length (words_from_2d ctx.old.held (here reader.old)) ≤ ctx.new.ticks) }
+    ensures at_most { ctx.new.ticks ≤ ctx.old.ticks + 4 * length (words_from_2d ctx.old.held (here reader.old)) + 1
+        + length (changes ctx.old.held.reference) }
+{
+    decode_2d_line(ctx, reader)
+}
+
 /// Decodes a line of the kind that its tag selects (T.4 section 4.2.2). A missing tag is `UnexpectedEof`, with nothing
 /// painted.
+#[inline(always)]
 fn decode_tagged_line(ctx: &mut DecoderContext, reader: &mut BitReader<'_>) -> Result<()>
     requires begun { ctx.old.held.front ≡ [] }
     ensures line { DrawsLine (line_by EncodingMode.Group3_2D ctx.old.held.settings.strict ctx.old.held.settings.columns
@@ -234,7 +250,7 @@ fn decode_tagged_line(ctx: &mut DecoderContext, reader: &mut BitReader<'_>) -> R
     if tag == 1 {
         decode_1d_line(ctx, reader)
     } else {
-        decode_2d_line(ctx, reader)
+        decode_2d_line_apart(ctx, reader)
     }
 }
 
