@@ -45,7 +45,7 @@ pub use Rattle.hayro_ccitt.specs.Pictures.{Allows, IsClosedPicture, IsLimitedPic
 pub use Rattle.hayro_ccitt.specs.PlainReading.{Ending, Gap, Move, Progress, Reading, add_row, after_line, aligned, at_end}
 pub use Rattle.hayro_ccitt.specs.PlainReading.{at_front, at_gap, behind_eols, behind_row, bytes_before, end_of, end_of_row}
 pub use Rattle.hayro_ccitt.specs.PlainReading.{end_of_turn, ending_behind, ending_from, ends_with, eols_by, eols_here}
-pub use Rattle.hayro_ccitt.specs.PlainReading.{eols_of_end, failed_at, failing_at, first_gap, first_line, from_next_eol}
+pub use Rattle.hayro_ccitt.specs.PlainReading.{failed_at, is_end_of_block, failing_at, first_gap, first_line, from_next_eol}
 pub use Rattle.hayro_ccitt.specs.PlainReading.{gap_behind_row, gathered_behind, gathered_from, gathered_of, is_over, limit_met}
 pub use Rattle.hayro_ccitt.specs.PlainReading.{line_by, line_here, line_of_turn, line_starts, lines_of, misses_eol, missing_eol}
 pub use Rattle.hayro_ccitt.specs.PlainReading.{move_on, nothing_read, one_each, pass_gap, plain, row_before, row_ends}

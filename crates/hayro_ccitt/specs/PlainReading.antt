@@ -58,17 +58,21 @@ eols_by Group4 end_of_block here = if end_of_block then eols 2 here else all_eol
 abbrev pub eols_here : DecodeSettings → Bits → ℕ × Bits
 eols_here settings here = eols_by settings.encoding settings.end_of_block here
 
--- this number of EOLs ends the data: the two of EOFB (T.6, 2.4.1.1), the six of RTC (T.4, 4.1.4)
+-- as many EOLs are the end: the two of EOFB (T.6, 2.4.1.1), the six of RTC (T.4, 4.1.4)
 abbrev pub eols_of_end : EncodingMode → ℕ
 eols_of_end Group4 = 2
 eols_of_end Group3_1D = 6
 eols_of_end Group3_2D = 6
 
+-- this number of EOLs ends the data: EOFB (T.6, 2.4.1.1) or RTC (T.4, 4.1.4), with `end_of_block`
+abbrev pub is_end_of_block : DecodeSettings → ℕ → Bool
+is_end_of_block settings count = settings.end_of_block && nat_le (eols_of_end settings.encoding) count
+
 -- EOLs were counted after this number of rows: EOFB or RTC with `end_of_block`, the row limit and the end of the data end
 -- the reading (T.4, 4.1.4; T.6, 2.4.1.1)
 abbrev pub is_over : DecodeSettings → ℕ → ℕ × Bits → Bool
 is_over settings taken (count, rest) =
-    (settings.end_of_block && nat_le (eols_of_end settings.encoding) count) || limit_met settings taken || at_end rest
+    is_end_of_block settings count || limit_met settings taken || at_end rest
 
 -- a line follows these EOLs, unless the reading is over (T.4, 4.1.4; T.6, 2.4.1.1)
 abbrev pub behind_eols : DecodeSettings → ℕ → Bool → ℕ × Bits → Gap

@@ -1,13 +1,13 @@
 //! The loop over rows that all encodings share: a row, and the gap after it (T.4 section 4.1, T.6 section 2).
 
 ghost use Rattle.std.specs.Prelude.{false, ◌≡◌, ◌≢◌, ◌<◌, ◌≤◌, ◌+◌, ◌*◌, Err, OnOk, OnErr, IfOk, IfErr, IsOkUnless, true, ◌||◌};
-ghost use Rattle.std.specs.Prelude.{[], length, nat_le, ◌&&◌, ◌^◌};
+ghost use Rattle.std.specs.Prelude.{[], length, ◌^◌};
 ghost use Rattle.hayro_ccitt.specs.Answers.{DrawsLine, OnAnswer, IsRepairable, RepairStoresChange, line_from_2d, words_from_2d};
 ghost use Rattle.hayro_ccitt.specs.Bits.{here};
 ghost use Rattle.hayro_ccitt.specs.Context.{fresh, redrawn, after_repair};
 ghost use Rattle.hayro_ccitt.specs.Decoding.{DecodesFrom, FailsFrom, TakesOneRow, leaving, gap_said, repairs_behind};
 ghost use Rattle.hayro_ccitt.specs.Decoding.{with_row_taken};
-ghost use Rattle.hayro_ccitt.specs.PlainReading.{eols_by, eols_here, eols_of_end, is_over, gap_behind_row, row_of_line};
+ghost use Rattle.hayro_ccitt.specs.PlainReading.{eols_by, eols_here, is_end_of_block, is_over, gap_behind_row, row_of_line};
 ghost use Rattle.hayro_ccitt.specs.PlainReading.{line_by, line_here};
 ghost use Rattle.hayro_ccitt.specs.PlainReading.{behind_row, limit_met};
 ghost use Rattle.hayro_ccitt.specs.Lines.{line_found};
@@ -151,7 +151,7 @@ fn read_eols(ctx: &mut DecoderContext, reader: &mut BitReader<'_>) -> usize
 /// `end_of_block`.
 #[inline(always)]
 fn is_end_of_block(ctx: &DecoderContext, count: usize) -> bool
-    ensures { result ≡ (ctx.now.held.settings.end_of_block && nat_le (eols_of_end ctx.now.held.settings.encoding) count) }
+    ensures { result ≡ is_end_of_block ctx.now.held.settings count }
 {
     // Mostly there is at most one, which never ends it.
     if count < 2 {

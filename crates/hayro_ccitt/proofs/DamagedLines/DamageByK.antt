@@ -1,7 +1,7 @@
 -- Damage to a line of two-dimensional data ends at the next one-dimensional line.
 use Rattle.hayro_ccitt.proofs.Names.{◌≡◌, ℕ, zero, suc, ◌+◌, ◌-◌, ◌<◌, ◌≤◌, eqb, true, false, List, [], ◌∷◌, ◌++◌, length, take}
 use Rattle.hayro_ccitt.proofs.Names.{drop, replicate, Option, Some, None, Result, Ok, refl, sym, ap, subst, ◌∙◌, append_assoc}
-use Rattle.hayro_ccitt.proofs.Names.{arith, ◌⊎◌, inl, inr, cases_lt, cases_eq, cond-true, eq-eqb, le-leb, length-append}
+use Rattle.hayro_ccitt.proofs.Names.{arith, ◌⊎◌, inl, inr, cases_lt, cases_eq, cond-true, eq-eqb, length-append}
 use Rattle.hayro_ccitt.proofs.Names.{length-replicate, White, DecodeError, EncodingMode, Group3_2D, DecodeSettings, Bits}
 use Rattle.hayro_ccitt.proofs.Names.{AreWholeBytes, AreSettings, Reaches, Row, EncodesLine2D, after_eol, one_more, pass_last_tag}
 use Rattle.hayro_ccitt.proofs.Names.{tagged_eols, first_line, move_on, line_by, eols_by, line_here, eols_here, plain, Reading}
@@ -14,7 +14,7 @@ use Rattle.hayro_ccitt.proofs.DamagedLines.PastEol.{past, past_is, then_after, a
 use Rattle.hayro_ccitt.proofs.DamagedLines.RunsAlike.{RowsAlike, Settles, Unreferred, IsTail}
 use Rattle.hayro_ccitt.proofs.DamagedLines.SoughtTurns.{sought, rest_of, found_next, eols_here_same}
 use Rattle.hayro_ccitt.proofs.EncodedPictures.PicturesT4.{line_2d_after_tag}
-use Rattle.hayro_ccitt.proofs.Readings.TurnsMoveOn.{after_eol_shorter, next_eol_found}
+use Rattle.hayro_ccitt.proofs.Readings.TurnsMoveOn.{after_eol_shorter, eols_end, next_eol_found}
 
 -- ---- The lines that follow
 
@@ -48,7 +48,7 @@ module _ (settings : DecodeSettings) (encoding : settings.encoding ≡ Group3_2D
           ⊎ ((eols_by Group3_2D settings.end_of_block here).1 ≡ []))
           → Unreferred settings (eols_by Group3_2D settings.end_of_block here)
       in_each_case (inl (block, six)) =
-          inl (rw (block, encoding, le-leb 6 (eols_by Group3_2D settings.end_of_block here).0 six) refl)
+          inl ((eols_end settings (eols_by Group3_2D settings.end_of_block here).0).2 block six)
       in_each_case (inr (inl (line, e))) = inr (rw e (same (true ∷ line) (λ reference other. refl)))
       in_each_case (inr (inr e)) = inr (rw e (same [] (λ reference other. refl)))
 

@@ -12,8 +12,8 @@ use Rattle.hayro_ccitt.proofs.DamagedLines.LineTails.{line_past_of}
 use Rattle.hayro_ccitt.proofs.DamagedLines.SoughtTurns.{sought, rest_of, found_next, after_row_past, move_line}
 use Rattle.hayro_ccitt.proofs.DrawingLines.LinesLeaveBits.{line_1d_leaves}
 use Rattle.hayro_ccitt.proofs.Readings.Repeated.{after_turn, repeated_turn, repeated_same}
-use Rattle.hayro_ccitt.proofs.Readings.TurnsMoveOn.{after_eol_shorter, count_shorter, counts_plain, left_to_read, left_below}
-use Rattle.hayro_ccitt.proofs.Readings.TurnsMoveOn.{move_shrinks}
+use Rattle.hayro_ccitt.proofs.Readings.TurnsMoveOn.{eols_end, after_eol_shorter, count_shorter, counts_plain, left_to_read}
+use Rattle.hayro_ccitt.proofs.Readings.TurnsMoveOn.{left_below, move_shrinks}
 
 -- what follows the next EOL is shorter
 pub past_shorter : (seen : ℕ) (here after : Bits) → past seen here ≡ Some after → length after < length here
@@ -81,7 +81,7 @@ module _ (settings : DecodeSettings) (encoding : settings.encoding ≡ Group3_1D
   -- only the end ends the run
   over_is : (rows : List Row) (rest : Bits) (count : ℕ) (here : Bits) → unless_over settings (sought rows rest) (count, here)
       ≡ cond (at_end here) (ends_with (sought rows rest) (Ok here)) (Turn.next (sought rows here))
-  over_is rows rest count here = rw (no_block, unlimited) refl
+  over_is rows rest count here = rw ((eols_end settings count).1 no_block, unlimited) refl
 
   -- the rows so far, and those of the lines that begin from here on
   by_starts : (n : ℕ) (rows : List Row) (here : Bits) → length here < n → All (StaysBefore settings.columns) (here ∷ later_starts

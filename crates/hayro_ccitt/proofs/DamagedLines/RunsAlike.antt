@@ -1,10 +1,10 @@
 -- Two runs over data that differ in one line.
 use Rattle.hayro_ccitt.proofs.Names.{◌≡◌, ℕ, zero, suc, ◌+◌, ◌-◌, ◌%◌, ◌<◌, ◌≤◌, Bool, true, false, cond, not, ◌&&◌, ◌||◌, eqb}
-use Rattle.hayro_ccitt.proofs.Names.{leb, List, [], ◌∷◌, ◌++◌, length, replicate, Option, Some, None, Ok, Err, refl, sym, ap}
-use Rattle.hayro_ccitt.proofs.Names.{subst, ◌∙◌, append_assoc, arith, ◌⊎◌, inl, inr, cases_Bool, and_parts, eqb-true}
-use Rattle.hayro_ccitt.proofs.Names.{length-append, length-drop, append_cancel_right, DecodeError, InvalidCode, EncodingMode}
-use Rattle.hayro_ccitt.proofs.Names.{Group4, Group3_1D, Group3_2D, DecodeSettings, Bits, Turn, Row, Line, after_eol, all_eols}
-use Rattle.hayro_ccitt.proofs.Names.{next_eol, past_tag, eols_of_end, Progress, Ending, Move, row_before, aligned, limit_met}
+use Rattle.hayro_ccitt.proofs.Names.{List, [], ◌∷◌, ◌++◌, length, replicate, Option, Some, None, Ok, Err, refl, sym, ap, subst}
+use Rattle.hayro_ccitt.proofs.Names.{◌∙◌, append_assoc, arith, ◌⊎◌, inl, inr, cases_Bool, and_parts, eqb-true, length-append}
+use Rattle.hayro_ccitt.proofs.Names.{length-drop, append_cancel_right, DecodeError, InvalidCode, EncodingMode, Group4, Group3_1D}
+use Rattle.hayro_ccitt.proofs.Names.{Group3_2D, DecodeSettings, Bits, Turn, Row, Line, after_eol, all_eols, next_eol, past_tag}
+use Rattle.hayro_ccitt.proofs.Names.{is_end_of_block, is_over, misses_eol, Progress, Ending, Move, row_before, aligned, limit_met}
 use Rattle.hayro_ccitt.proofs.Names.{at_end, ends_with, line_by, eols_by, eols_here, line_here, line_of_turn, after_line, move_on}
 use Rattle.hayro_ccitt.proofs.Names.{row_of}
 use Rattle.hayro_ccitt.proofs.{BitReading.ZerosInWords.scan, Readings.Repeated.Follows}
@@ -76,7 +76,7 @@ pub data EndsAlike (settings : DecodeSettings) (Begins : List Row → Type 0) (d
 
 -- EOLs that end the data, or come before a line that is the same whatever its reference row is
 abbrev pub Unreferred : DecodeSettings → ℕ × Bits → Type 0
-Unreferred settings (count, rest) = ((settings.end_of_block && leb (eols_of_end settings.encoding) count) ≡ true)
+Unreferred settings (count, rest) = (is_end_of_block settings count ≡ true)
     ⊎ ((reference other : Row) → line_here settings reference rest ≡ line_here settings other rest)
 
 -- What follows an EOL: as many lines, each with the same next EOL behind it whatever its reference row is, and then such
@@ -146,19 +146,13 @@ module _ (settings : DecodeSettings) (group3 : IsGroup3 settings.encoding) (leni
 
   -- ---- Past the lines that may differ everything is alike except their rows
 
-  -- the test whether a reading is over
-  abbrev over : ℕ → ℕ → Bits → Bool
-  over taken count here = ((settings.end_of_block && leb (eols_of_end settings.encoding) count) || limit_met settings taken) ||
-      at_end here
-
   unless_beyond : (xs ys : List Row) (has_eols : Bool) (a b : Bits) (found : ℕ × Bits) → Alike xs ys → length found.1
-      ≤ length after → (((settings.end_of_block && leb (eols_of_end settings.encoding) found.0) ≡ true) ⊎ SameLine xs ys found.1)
+      ≤ length after → ((is_end_of_block settings found.0 ≡ true) ⊎ SameLine xs ys found.1)
       → Both (unless_over settings (run_at xs has_eols a) found) (unless_over settings (run_at ys has_eols b) found)
   unless_beyond xs ys has_eols a b (count, here) alike short same =
       subst (λ (n : ℕ). Both (unless_over settings (run_at xs has_eols a) (count, here))
-      (cond (over n count here) (ends_with (run_at ys has_eols b) (Ok here)) (Turn.next (run_at ys has_eols here))))
-      (rows_length differ Begins xs ys alike)
-      (by_line same)
+      (cond (is_over settings n (count, here)) (ends_with (run_at ys has_eols b) (Ok here))
+      (Turn.next (run_at ys has_eols here)))) (rows_length differ Begins xs ys alike) (by_line same)
     where
       either_way : (t : Bool) → (t ≡ false → SameLine xs ys here)
           → Both (cond t (ends_with (run_at xs has_eols a) (Ok here)) (Turn.next (run_at xs has_eols here)))
@@ -166,24 +160,20 @@ module _ (settings : DecodeSettings) (group3 : IsGroup3 settings.encoding) (leni
       either_way true line = EndsAlike.later here short refl refl alike
       either_way false line = RunsAlike.beyond xs ys has_eols here alike short (line refl) refl refl
 
-      by_line : (((settings.end_of_block && leb (eols_of_end settings.encoding) count) ≡ true) ⊎ SameLine xs ys here)
-          → Both (cond (over (length xs) count here) (ends_with (run_at xs has_eols a) (Ok here))
-          (Turn.next (run_at xs has_eols here)))
-          (cond (over (length xs) count here) (ends_with (run_at ys has_eols b) (Ok here)) (Turn.next (run_at ys has_eols here)))
+      by_line : ((is_end_of_block settings count ≡ true) ⊎ SameLine xs ys here)
+          → Both (unless_over settings (run_at xs has_eols a) (count, here)) (cond (is_over settings (length xs) (count, here))
+          (ends_with (run_at ys has_eols b) (Ok here)) (Turn.next (run_at ys has_eols here)))
       by_line (inl ends) = rw ends (EndsAlike.later here short refl refl alike)
-      by_line (inr line) = either_way (over (length xs) count here) (λ e. line)
+      by_line (inr line) = either_way (is_over settings (length xs) (count, here)) (λ e. line)
 
   row_beyond : (xs ys : List Row) (has_eols : Bool) (here : Bits) → Alike xs ys → length here ≤ length after
       → ((there : Bits) → SameLine xs ys there)
       → Both (after_row settings (run_at xs has_eols here)) (after_row settings (run_at ys has_eols here))
   row_beyond xs ys has_eols here alike short same =
-      subst (λ (n : ℕ). Both (after_row settings (run_at xs has_eols here)) (cond (test n)
+      subst (λ (n : ℕ). Both (after_row settings (run_at xs has_eols here)) (cond (misses_eol settings n has_eols here)
       (seek_eol settings (run_at ys has_eols here)) (unless_over settings (run_at ys has_eols here) (eols_here settings here))))
-      (rows_length differ Begins xs ys alike) (either_way (test (length xs)))
+      (rows_length differ Begins xs ys alike) (either_way (misses_eol settings (length xs) has_eols here))
     where
-      test : ℕ → Bool
-      test n = ((eqb (eols_here settings here).0 0 && has_eols) && not (limit_met settings n)) && not (at_end here)
-
       from_next : (o : Option Bits) → next_eol here ≡ o
           → Both (seek_from settings (run_at xs has_eols here) o) (seek_from settings (run_at ys has_eols here) o)
       from_next None e = RunsAlike.beyond xs ys false here alike short (same here) refl refl
@@ -323,7 +313,7 @@ module _ (settings : DecodeSettings) (group3 : IsGroup3 settings.encoding) (leni
   unless_there : (rows : List Row) (u v : Bits) (count : ℕ)
       → Both (unless_over settings (sought rows u) (count, x)) (unless_over settings (sought rows v) (count, y))
   unless_there rows u v count = rw (not_past_end x after tail_x.next, not_past_end y after tail_y.next) (either_way
-      (((settings.end_of_block && leb (eols_of_end settings.encoding) count) || limit_met settings (length rows)) || false))
+      ((is_end_of_block settings count || limit_met settings (length rows)) || false))
     where
       either_way : (t : Bool) → Both (cond t (ends_with (sought rows u) (Ok x)) (Turn.next (sought rows x)))
           (cond t (ends_with (sought rows v) (Ok y)) (Turn.next (sought rows y)))
@@ -336,7 +326,7 @@ module _ (settings : DecodeSettings) (group3 : IsGroup3 settings.encoding) (leni
       → Both (unless_over settings (sought rows u) found) (unless_over settings (sought rows v) other)
   unless_ahead rows u v bits (count, here) (count2, other) closes within (same, inl (a, leaves, keeps, e, f)) =
       rw (← same, e, f, not_end a x, not_end a y) (either_way
-      (((settings.end_of_block && leb (eols_of_end settings.encoding) count) || limit_met settings (length rows)) || false))
+      ((is_end_of_block settings count || limit_met settings (length rows)) || false))
     where
       still : Within a
       still = within_later bits a within leaves
@@ -475,8 +465,8 @@ module _ (settings : DecodeSettings) (group3 : IsGroup3 settings.encoding) (leni
           (elim (unreferred found g) [ inl ends ↦ inl ends | inr line ↦ inr (line _ _) ])
       settle (suc n) most (next, shorter, one, behind, further) found g = rw (one found g)
           (subst (λ (m : ℕ). Both (unless_over settings (sought (before ++ these) u) (1, z))
-          (cond (over m 1 z) (ends_with (sought (before ++ those) v) (Ok z)) (Turn.next (sought (before ++ those) z)))) as_many
-          (on (over (length (before ++ these)) 1 z)))
+          (cond (is_over settings m (1, z)) (ends_with (sought (before ++ those) v) (Ok z))
+          (Turn.next (sought (before ++ those) z)))) as_many (on (is_over settings (length (before ++ these)) (1, z))))
         where
           on : (t : Bool) → Both (cond t (ends_with (sought (before ++ these) u) (Ok z)) (Turn.next (sought (before ++ these) z)))
               (cond t (ends_with (sought (before ++ those) v) (Ok z)) (Turn.next (sought (before ++ those) z)))

@@ -1,14 +1,15 @@
 -- A turn of a lenient run that seeks EOLs.
-use Rattle.hayro_ccitt.proofs.Names.{◌≡◌, ℕ, Bool, true, false, not, ◌&&◌, eqb, List, [], ◌∷◌, ◌++◌, length, Option, Some, None}
+use Rattle.hayro_ccitt.proofs.Names.{◌≡◌, ℕ, Bool, true, false, not, eqb, List, [], ◌∷◌, ◌++◌, length, Option, Some, None}
 use Rattle.hayro_ccitt.proofs.Names.{Ok, refl, sym, ap, ◌∙◌, arith, and_from, not_from_false, cond-true, cond-false, ne_eqb}
 use Rattle.hayro_ccitt.proofs.Names.{EncodingMode, Group4, Group3_1D, Group3_2D, DecodeSettings, Bits, Row, Line, line_1d}
 use Rattle.hayro_ccitt.proofs.Names.{after_eol, one_more, all_eols, next_eol, pass_last_tag, Progress, row_before, line_by}
 use Rattle.hayro_ccitt.proofs.Names.{eols_by, line_here, limit_met, at_end, ends_with, eols_here, after_line, move_on}
-use Rattle.hayro_ccitt.proofs.Names.{line_of_turn, row_of, row_at, common_steps}
+use Rattle.hayro_ccitt.proofs.Names.{line_of_turn, row_of, row_at, misses_eol, repaired, ◌||◌, common_steps}
 use Rattle.hayro_ccitt.proofs.DamagedLines.PastEol.{past, past-eol, past_is, then_after, all_eols-some, eols_here-none}
 use Rattle.hayro_ccitt.proofs.DamagedLines.PastEol.{all_tagged-some, next_eol_leaves}
 use Rattle.hayro_ccitt.proofs.DrawingLines.LinesLeaveBits.{LeavesBits}
-use Rattle.hayro_ccitt.proofs.Readings.RowsAndGaps.{unless_over, seek_from, after_row}
+use Rattle.hayro_ccitt.proofs.Readings.RowsAndGaps.{unless_over, seek_from, after_row, row_added, after_whole-is, after_damage-is}
+use Rattle.hayro_ccitt.proofs.Readings.RowsAndGaps.{behind_with_eols}
 use Rattle.hayro_ccitt.proofs.Readings.TurnsMoveOn.{eols-some, eols_here_some}
 
 -- a run that seeks EOLs
@@ -56,27 +57,26 @@ module _ (settings : DecodeSettings) where
         run : Progress
         run = sought rows here
 
-        test : Bool
-        test = ((eqb (eols_here settings here).0 0 && true) && not (limit_met settings (length rows))) && not (at_end here)
-
         by_after_eol : (o : Option Bits) → after_eol 0 here ≡ o → (found : Bits) × LeavesBits here found
             × (after_eol 0 found ≡ Some after)
             × (after_row settings (sought rows here) ≡ unless_over settings (sought rows here) (eols_here settings found))
         by_after_eol (Some next) f =
             let same : ◌≡◌ {A = Option Bits} (Some next) (Some after) = sym (past-eol 0 here next f) ∙ e in
             let counts = eols_here_some settings here next f in
-            let no_test : test ≡ false = rw (ne_eqb (eols_here settings here).0 0 (λ z. absurd (omega (arith, z, counts)))) refl
-            in
-            (here, ([], refl), f ∙ same, cond-false test _ _ no_test)
+            let none : misses_eol settings (length rows) true here ≡ false =
+            rw (ne_eqb (eols_here settings here).0 0 (λ z. absurd (omega (arith, z, counts)))) refl in
+            (here, ([], refl), f ∙ same, cond-false (misses_eol settings (length rows) true here) _ _ none)
         by_after_eol None f =
             let next = found_next here after e in
             let none : eqb (eols_here settings here).0 0 ≡ true =
             ap (λ (x : ℕ × Bits). eqb x.0 0) (eols_here-none settings here f) in
-            let is_true : test ≡ true = grind (arith, common_steps, and_from, not_from_false, not_past_end) in (
+            let missed : misses_eol settings (length rows) true here ≡ true =
+            grind (arith, common_steps, and_from, not_from_false, not_past_end) in (
               next.0,
               next_eol_leaves here next.0 next.1,
               next.2,
-              cond-true test _ _ is_true ∙ cond-false settings.strict _ _ lenient ∙ ap (seek_from settings run) next.1,
+              cond-true (misses_eol settings (length rows) true here) _ _ missed
+                  ∙ cond-false settings.strict _ _ lenient ∙ ap (seek_from settings run) next.1,
             )
 
     -- a line's row is added, and what follows it is counted
@@ -86,10 +86,16 @@ module _ (settings : DecodeSettings) where
         (rest_of (line_of_turn settings (sought rows here)) here))
     move_sought rows here = by_line (line_of_turn settings (sought rows here))
       where
+        unaligned : (row : Row) (rest : Bits) → row_added settings (sought rows here) row rest
+            ≡ after_row settings (sought (rows ++ row ∷ []) rest)
+        unaligned row rest = ap (λ (x : Bits). after_row settings (sought (rows ++ row ∷ []) x))
+            (behind_with_eols settings.rows_are_byte_aligned rest)
+
         by_line : (line : Line) → after_line settings (sought rows here) line ≡ after_row settings
             (sought (rows ++ row_of settings.columns line ∷ []) (rest_of line here))
-        by_line (Line.whole row rest) = grind (arith, common_steps)
-        by_line (Line.broken front fault) = grind (arith, common_steps)
+        by_line (Line.whole row rest) = after_whole-is settings (sought rows here) row rest ∙ unaligned row rest
+        by_line (Line.broken front fault) = after_damage-is settings (sought rows here) front fault
+            ∙ cond-false (settings.strict || not true) _ _ (rw lenient refl) ∙ unaligned (repaired settings.columns front) here
 
 -- ---- One-dimensional data
 

@@ -10,7 +10,8 @@ use Rattle.hayro_ccitt.proofs.Names.{for_t6, common_steps}
 use Rattle.hayro_ccitt.proofs.{BitReading.ZerosInWords.prefix_of_prefix, CodeWords.ReadRuns.chosen}
 use Rattle.hayro_ccitt.proofs.{DrawingLines.WhatFollows.line_2d_found, EncodedPictures.Bodies.gap_at_eofb}
 use Rattle.hayro_ccitt.proofs.EncodedPictures.PictureLines.{IsLineStart, mode_starts, between, plain_ends}
-use Rattle.hayro_ccitt.proofs.Readings.GapsAndRows.{gap_and_row_unsought, row_behind_eols, t6_end}
+use Rattle.hayro_ccitt.proofs.Readings.GapsAndRows.{gap_unsought, t6_end}
+use Rattle.hayro_ccitt.proofs.Readings.RowsAndGaps.{unless_over}
 use Rattle.hayro_ccitt.proofs.Readings.TurnsMoveOn.{eols-none}
 use Rattle.hayro_ccitt.proofs.Readings.Repeated.{next_is, not_next}
 
@@ -133,25 +134,29 @@ module _ (settings : DecodeSettings) (four : settings.encoding ≡ Group4) (bloc
             counts_two run2.rest ∙ ap (eols 2) here ∙ eol.2 t2 (inr begins.no_eol) in
             let over2 : is_over settings (length run.rows) (count, t2) ≡ false =
             or_from _ _ (or_parts _ _ over).0 begins.open_end in
-            gap_and_row_unsought settings run2 unsought ∙ ap (row_behind_eols settings run2) counted2 ∙ cond-false
-            (is_over settings (length run.rows) (count, t2)) (ends_with run2 (Ok t2)) (row_behind settings (Turn.next at))
-            over2 ∙ ap (λ (l : Line). add_row_alone at (row_of_line settings run.has_eols t2 l)) (line_is run t2
+            ap (row_behind settings) (gap_unsought settings run2 unsought ∙ ap (unless_over settings run2) counted2
+            ∙ cond-false (is_over settings (length run.rows) (count, t2)) (ends_with run2 (Ok t2)) (Turn.next at) over2)
+            ∙ ap (λ (l : Line). add_row_alone at (row_of_line settings run.has_eols t2 l)) (line_is run t2
             ∙ line.again (pad ++ more)) ∙ ap (λ (x : Bits). Turn.next (record then { rest = x })) (split.2 more same);
       } in
       subst (MoveFound settings run) (next_is then after e) moved
 
   by_eols : (run after : Progress) (found : ℕ × Bits) → run.has_eols ≡ false → eols 2 run.rest ≡ found
-      → row_behind_eols settings run found ≡ Turn.next after → MoveFound settings run after
-  by_eols run after (count, t) unsought counted e = elim (chosen (is_over settings (length run.rows) (count, t)) _ _ _ e) [
-    | inl a ↦ absurd (not_next _ after a.1)
-    | inr a ↦ by_line run after count t (reader settings run t) unsought counted a.0 refl (ap (λ (l : Line). add_row_alone
-        (record run { rest = t }) (row_of_line settings run.has_eols t l)) (sym (line_is run t)) ∙ a.1)
-  ]
+      → row_behind settings (unless_over settings run found) ≡ Turn.next after → MoveFound settings run after
+  by_eols run after (count, t) unsought counted e = by_over (is_over settings (length run.rows) (count, t)) refl e
+    where
+      by_over : (over : Bool) → is_over settings (length run.rows) (count, t) ≡ over
+          → row_behind settings (cond over (ends_with run (Ok t)) (Turn.next (record run { rest = t }))) ≡ Turn.next after
+          → MoveFound settings run after
+      by_over true is e = absurd (not_next _ after e)
+      by_over false is e = by_line run after count t (reader settings run t) unsought counted is refl (ap (λ (l : Line).
+          add_row_alone (record run { rest = t }) (row_of_line settings run.has_eols t l)) (sym (line_is run t)) ∙ e)
 
   move_found : (run after : Progress) → run.has_eols ≡ false → gap_and_row settings run ≡ Turn.next after
       → MoveFound settings run after
   move_found run after unsought e = by_eols run after (eols 2 run.rest) unsought refl
-      (sym (gap_and_row_unsought settings run unsought ∙ ap (row_behind_eols settings run) (counts_two run.rest)) ∙ e)
+      (sym (ap (row_behind settings) (gap_unsought settings run unsought
+      ∙ ap (unless_over settings run) (counts_two run.rest))) ∙ e)
 
   -- ---- A run that reaches two EOLs.
   abbrev ended_at : Progress → Bits → Ending

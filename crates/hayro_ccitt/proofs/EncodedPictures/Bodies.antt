@@ -1,16 +1,17 @@
 -- Lines without EOLs are read as their rows, in every encoding: bodies of T.6 data, and of T.4 data that the limit ends.
 use Rattle.hayro_ccitt.proofs.Names.{◌≡◌, ◌≢◌, ◌+◌, ◌%◌, ◌<◌, ◌≤◌, Bool, true, false, ◌&&◌, List, [], ◌∷◌, ◌++◌, length}
-use Rattle.hayro_ccitt.proofs.Names.{replicate, Ok, sym, ap, subst, ◌∙◌, append_assoc, arith, inr, All, and_from, not_from_false}
-use Rattle.hayro_ccitt.proofs.Names.{eq-eqb, ne_eqb, length-append, length-replicate, append-nil, All-head, All-tail, White}
-use Rattle.hayro_ccitt.proofs.Names.{DecodeSettings, EncodingMode, Group4, Group3_1D, Group3_2D, Bits, Turn, Reaches, Row, Line}
-use Rattle.hayro_ccitt.proofs.Names.{eols, eols_here, Progress, row_before, limit_met, ends_with, line_here, pass_gap}
-use Rattle.hayro_ccitt.proofs.Names.{ending_behind, end_of, EncodesLine, IsPicture, EncodesRows, Allows, gap_and_row}
-use Rattle.hayro_ccitt.proofs.Names.{ReadsLimitedRowsT4, common_steps}
+use Rattle.hayro_ccitt.proofs.Names.{replicate, Ok, refl, sym, ap, subst, ◌∙◌, append_assoc, arith, inr, All, and_from}
+use Rattle.hayro_ccitt.proofs.Names.{not_from_false, eq-eqb, ne_eqb, length-append, length-replicate, append-nil, All-head}
+use Rattle.hayro_ccitt.proofs.Names.{All-tail, White, DecodeSettings, EncodingMode, Group4, Group3_1D, Group3_2D, Bits, Turn}
+use Rattle.hayro_ccitt.proofs.Names.{Reaches, Row, Line, cond-true, is_over, eols, eols_here, Progress, row_before, limit_met}
+use Rattle.hayro_ccitt.proofs.Names.{ends_with, line_here, pass_gap, ending_behind, end_of, EncodesLine, IsPicture, EncodesRows}
+use Rattle.hayro_ccitt.proofs.Names.{Allows, gap_and_row, row_behind, ReadsLimitedRowsT4, common_steps}
 use Rattle.hayro_ccitt.proofs.{EncodedPictures.EncodedLines.line_2d_again, Readings.TurnsMoveOn.eols-none}
 use Rattle.hayro_ccitt.proofs.EncodedPictures.PictureLines.{IsLineStart, line_2d_starts, allows_sum, not_met, row_before_push}
 use Rattle.hayro_ccitt.proofs.EncodedPictures.PictureLines.{plain_ends, fill, aligned_again, aligned_on, between, ended_with}
 use Rattle.hayro_ccitt.proofs.EncodedPictures.PicturesT4.{line_t4_again, line_t4_starts}
-use Rattle.hayro_ccitt.proofs.Readings.GapsAndRows.{first_gap_t4, reaches_end}
+use Rattle.hayro_ccitt.proofs.{Readings.RowsAndGaps.unless_over, Readings.TurnsMoveOn.eols_end}
+use Rattle.hayro_ccitt.proofs.Readings.GapsAndRows.{gap_unsought, first_gap_t4, reaches_end}
 
 -- ---- No EOL is counted where there is none.
 
@@ -33,7 +34,9 @@ module _ (settings : DecodeSettings) where
   -- so does EOFB
   pub gap_at_eofb : (run : Progress) (rest : Bits) → run.has_eols ≡ false → settings.encoding ≡ Group4
       → settings.end_of_block ≡ true → eols 2 run.rest ≡ (2, rest) → pass_gap settings run ≡ ends_with run (Ok rest)
-  gap_at_eofb run rest unsought four block two = grind (arith, common_steps)
+  gap_at_eofb run rest unsought four block two =
+      gap_unsought settings run unsought ∙ ap (unless_over settings run) (rw (four, block) two)
+      ∙ cond-true (is_over settings (length run.rows) (2, rest)) _ _ (rw ((eols_end settings 2).3 block four (omega arith)) refl)
 
 -- ---- Lines
 
@@ -65,7 +68,8 @@ module _ (settings : DecodeSettings) (wide : 0 < settings.columns) (small : sett
       → line_here settings (row_before settings.columns rows) here ≡ Line.whole row (fill b line ++ tail)
       → gap_and_row settings (between rows here) ≡ Turn.next (between (rows ++ row ∷ []) tail)
   row_read rows here row line tail start open_limit whole read =
-      grind (arith, common_steps, aligned_again, between, fill, gap_at_line, with_true)
+      ap (row_behind settings) (gap_at_line settings rows here start open_limit)
+      ∙ grind (arith, common_steps, aligned_again, between, fill, with_true)
 
   module _ (encoding : EncodingMode) (same : settings.encoding ≡ encoding) where
     -- from a line's start, at a whole byte if lines are aligned, the lines are read and what follows is left

@@ -1,14 +1,14 @@
 -- A T.4 picture is read again.
 use Rattle.hayro_ccitt.proofs.BitReading.PlainEols.{few_keep_the_tag}
-use Rattle.hayro_ccitt.proofs.Names.{◌≡◌, ◌≢◌, ℕ, zero, suc, ◌+◌, ◌<◌, ◌≤◌, Bool, true, false, cond, ◌&&◌, ◌||◌, ltb, leb, List}
-use Rattle.hayro_ccitt.proofs.Names.{[], ◌∷◌, ◌++◌, length, replicate, Some, None, Ok, Err, refl, sym, ap, subst, ◌∙◌}
-use Rattle.hayro_ccitt.proofs.Names.{append_assoc, arith, inl, inr, All, and_right, and_from, not_from_false, or_from, cond-false}
-use Rattle.hayro_ccitt.proofs.Names.{eq-eqb, ne_eqb, length-append, length-replicate, append-nil, All-head, All-tail, Color}
-use Rattle.hayro_ccitt.proofs.Names.{White, UnexpectedEof, EncodingMode, Group3_1D, Group3_2D, Group4, DecodeSettings, Bits, Turn}
+use Rattle.hayro_ccitt.proofs.Names.{◌≡◌, ◌≢◌, ℕ, zero, suc, ◌+◌, ◌<◌, ◌≤◌, Bool, true, false, cond, ◌&&◌, ◌||◌, ltb, List, []}
+use Rattle.hayro_ccitt.proofs.Names.{◌∷◌, ◌++◌, length, replicate, Some, None, Ok, Err, refl, sym, ap, subst, ◌∙◌, append_assoc}
+use Rattle.hayro_ccitt.proofs.Names.{arith, inl, inr, All, and_right, and_from, not_from_false, or_from, cond-false, eq-eqb}
+use Rattle.hayro_ccitt.proofs.Names.{ne_eqb, length-append, length-replicate, append-nil, All-head, All-tail, Color, White}
+use Rattle.hayro_ccitt.proofs.Names.{UnexpectedEof, EncodingMode, Group3_1D, Group3_2D, Group4, DecodeSettings, Bits, Turn}
 use Rattle.hayro_ccitt.proofs.Names.{repeated, Row, codes_of, Line, line_1d, line_2d, after_eol, one_more, eols, all_eols}
-use Rattle.hayro_ccitt.proofs.Names.{past_tag, eols_with_tags, tagged_eols, eols_of_end, ending_behind, Progress, Ending}
-use Rattle.hayro_ccitt.proofs.Names.{row_before, aligned, at_end, limit_met, line_here, eols_here, after_line, move_on}
-use Rattle.hayro_ccitt.proofs.Names.{ending_from, end_of, Spells, EncodesLine1D, EncodesLine2D, EncodesLine, eol, tag_of}
+use Rattle.hayro_ccitt.proofs.Names.{past_tag, eols_with_tags, tagged_eols, is_over, misses_eol, cond-true, ending_behind}
+use Rattle.hayro_ccitt.proofs.Names.{Progress, Ending, row_before, aligned, at_end, limit_met, line_here, eols_here, after_line}
+use Rattle.hayro_ccitt.proofs.Names.{move_on, ending_from, end_of, Spells, EncodesLine1D, EncodesLine2D, EncodesLine, eol, tag_of}
 use Rattle.hayro_ccitt.proofs.Names.{IsPicture, EncodesRowsWithEols, ClosesWithEols, PictureT4, each_word, ReadsPictureT4}
 use Rattle.hayro_ccitt.proofs.Names.{ReadsLimitedPictureT4, OnePictureT4, Allows, common_steps}
 use Rattle.hayro_ccitt.proofs.{BitReading.ZerosInWords.each_word_at, EncodedPictures.EncodedLines.line_2d_again}
@@ -17,7 +17,7 @@ use Rattle.hayro_ccitt.proofs.EncodedPictures.PictureLines.{closed_settings, beg
 use Rattle.hayro_ccitt.proofs.EncodedPictures.PictureLines.{IsLineStart, not_met, row_before_push, plain_ends}
 use Rattle.hayro_ccitt.proofs.Readings.GapsAndRows.{first_gap_t4, ending_t4}
 use Rattle.hayro_ccitt.proofs.Readings.RowsAndGaps.{unless_over, after_row, after_whole-is}
-use Rattle.hayro_ccitt.proofs.Readings.TurnsMoveOn.{few_eols, eols-none, one_more-count, eol_of, eols_with_tags-some}
+use Rattle.hayro_ccitt.proofs.Readings.TurnsMoveOn.{eols_end, eols-none, one_more-count, eol_of, eols_with_tags-some}
 use Rattle.hayro_ccitt.proofs.Readings.TurnsMoveOn.{eols_with_tags-none, last_tag_count}
 
 -- ---- What a line begins with.
@@ -232,9 +232,8 @@ module _ (settings : DecodeSettings) (wide : 0 < settings.columns) (small : sett
         let count : length rows1 < length whole = omega (arith, ap length all2, length-append rows1 (row2 ∷ rows)) in
         let open_end : at_end rest ≡ false =
         (line_t4_starts encoding row row2 line_2d (next2 ++ tail) matches is2 row2_len).open_end in
-        let over : ((settings.end_of_block && (leb (eols_of_end settings.encoding) 1)) || limit_met settings (length rows1) ||
-        at_end rest) ≡ false = or_from _ _ (or_from _ _ (and_right settings.end_of_block (leb (eols_of_end settings.encoding) 1)
-        (few_eols settings.encoding 1 (omega arith))) (not_met settings (length whole) (length rows1) allows count)) open_end in
+        let over : is_over settings (length rows1) (1, rest) ≡ false = or_from _ _ (or_from _ _
+        ((eols_end settings 1).0 (omega arith)) (not_met settings (length whole) (length rows1) allows count)) open_end in
         let moved : move_on settings (with_eols before (line ++ (next ++ tail))) ≡ Turn.next (with_eols rows1 rest)
         = grind (arith, common_steps, cond-false, counted_row, row_added) in
         let pushed : row_before settings.columns rows1 ≡ row = row_before_push settings.columns before row in
@@ -246,7 +245,11 @@ module _ (settings : DecodeSettings) (wide : 0 < settings.columns) (small : sett
   -- six EOLs end it
   six_stop : (rows : List Row) (here : Bits) → settings.end_of_block ≡ true → 6 ≤ (eols_here settings here).0
       → after_row settings (with_eols rows here) ≡ Turn.done (ended_with_eols rows (eols_here settings here).1)
-  six_stop rows here block six = grind (arith, common_steps)
+  six_stop rows here block six =
+      cond-false (misses_eol settings (length rows) true here) _ _
+      (rw (ne_eqb (eols_here settings here).0 0 (λ none. absurd (omega (arith, none, six)))) refl)
+      ∙ cond-true (is_over settings (length rows) (eols_here settings here)) _ _
+      (rw ((eols_end settings (eols_here settings here).0).2 block six) refl)
 
   -- and so does the limit
   limit_stops : (rows : List Row) (here : Bits) → limit_met settings (length rows) ≡ true

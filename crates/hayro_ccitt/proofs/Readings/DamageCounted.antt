@@ -5,9 +5,10 @@ use Rattle.hayro_ccitt.proofs.Names.{cond-true, cond-false, eq-eqb, ne_eqb, lt-l
 use Rattle.hayro_ccitt.proofs.Names.{InvalidCode, DecodeSettings, IsFault, OnAnswer, Bits, Held, Repairs, fresh, no_repairs}
 use Rattle.hayro_ccitt.proofs.Names.{with_missed, Damaged, repaired_in, repaired_by_turn, missed_behind, missed_by_turn}
 use Rattle.hayro_ccitt.proofs.Names.{CountsDamage, repairs_with, repairs_behind, with_row_taken, Line, Progress, Ending, Move}
-use Rattle.hayro_ccitt.proofs.Names.{row_of_line, behind_row, with_row, eols_here, limit_met, at_end, misses_eol, move_on}
+use Rattle.hayro_ccitt.proofs.Names.{row_of_line, behind_row, with_row, misses_eol, move_on}
 use Rattle.hayro_ccitt.proofs.Names.{one_each, gathered_from, Turn, Row, missed_since, start_in, None, Some}
 use Rattle.hayro_ccitt.proofs.{Readings.Gathered.gathered_after, Readings.TurnsMoveOn.left_to_read, Work.RunsCount.sum_more}
+use Rattle.hayro_ccitt.proofs.Readings.RowsAndGaps.{unmissed}
 use Rattle.hayro_ccitt.proofs.Readings.RunsOverRows.{RowByRow, Comes, comes_first, comes_next, held_between, lines, lines_on}
 
 -- ---- Rows that are repaired
@@ -70,12 +71,8 @@ repaired_behind held here =
 unsought_behind : (held : Held) (here : Bits) → held.has_eols ≡ false → repairs_behind held here ≡ held.repairs
 unsought_behind held here unsought =
     ap (λ (b : Bool). cond (misses_eol held.settings held.taken b here && not held.settings.strict)
-    (with_missed held.taken held.repairs) held.repairs) unsought ∙ either_way (eqb (eols_here held.settings here).0 0)
-  where
-    either_way : (b : Bool) → cond ((((b && false) && not (limit_met held.settings held.taken)) && not (at_end here))
-        && not held.settings.strict) (with_missed held.taken held.repairs) held.repairs ≡ held.repairs
-    either_way true = refl
-    either_way false = refl
+    (with_missed held.taken held.repairs) held.repairs) unsought ∙ ap (λ (b : Bool). cond (b && not held.settings.strict)
+    (with_missed held.taken held.repairs) held.repairs) (unmissed held.settings held.taken here)
 
 -- so the first gap of Group 4 changes nothing but whether EOLs are sought
 pub first_gap_left : (held last : Held) (here : Bits) → held ≡ fresh held.settings

@@ -1,10 +1,11 @@
 -- The first gap, and what gaps and rows lead to.
-use Rattle.hayro_ccitt.proofs.Names.{◌≡◌, ◌≢◌, ◌<◌, suc, false, cond, [], length, arith, Result, Ok, Err, refl, ap, subst, ◌∙◌, ℕ}
+use Rattle.hayro_ccitt.proofs.Names.{◌≡◌, ◌≢◌, ◌<◌, suc, false, [], length, arith, Result, Err, refl, ap, subst, ◌∙◌, ℕ}
 use Rattle.hayro_ccitt.proofs.Names.{DecodeError, UnexpectedEof, DecodeSettings, Group4, Bits, IsPrefix, add_row_alone}
-use Rattle.hayro_ccitt.proofs.Names.{row_behind, gap_and_row, Progress, Ending, Move, eols_here, is_over, ends_with, row_of_line}
-use Rattle.hayro_ccitt.proofs.Names.{pass_gap, add_row, move_on, line_of_turn, at_front, first_line, first_gap, ending_from}
-use Rattle.hayro_ccitt.proofs.Names.{ending_behind, end_of, Turn, repeated, Reaches, Row, common_steps}
+use Rattle.hayro_ccitt.proofs.Names.{row_behind, gap_and_row, Progress, Ending, Move, eols_here, row_of_line, pass_gap, add_row}
+use Rattle.hayro_ccitt.proofs.Names.{move_on, line_of_turn, at_front, first_line, first_gap, ending_from, ending_behind, end_of}
+use Rattle.hayro_ccitt.proofs.Names.{misses_eol, cond-false, Bool, Turn, repeated, Reaches, Row, common_steps}
 use Rattle.hayro_ccitt.proofs.Readings.Repeated.{Follows, after_turn, repeated_follows, repeated_turn, not_next}
+use Rattle.hayro_ccitt.proofs.Readings.RowsAndGaps.{pass_gap-is, unless_over, unmissed}
 use Rattle.hayro_ccitt.proofs.Readings.TurnsAddRows.{move_adds, repeated_adds}
 use Rattle.hayro_ccitt.proofs.Readings.TurnsMoveOn.{left_to_read, left_below, move_shrinks}
 
@@ -19,17 +20,12 @@ first_gap_t4 settings bits other = grind (arith, common_steps)
 abbrev pub ending_t4 : DecodeSettings → Bits → Ending
 ending_t4 settings bits = ending_from (move_on settings) (first_line settings bits)
 
--- ---- A gap where no EOLs are sought
-
--- EOLs were counted, and the row of the line after them is read
-abbrev pub row_behind_eols : DecodeSettings → Progress → ℕ × Bits → Move
-row_behind_eols settings run (count, rest) =
-    cond (is_over settings (length run.rows) (count, rest)) (ends_with run (Ok rest))
-    (row_behind settings (Turn.next (record run { rest = rest })))
-
-pub gap_and_row_unsought : (settings : DecodeSettings) (run : Progress) → run.has_eols ≡ false
-    → gap_and_row settings run ≡ row_behind_eols settings run (eols_here settings run.rest)
-gap_and_row_unsought settings run unsought = grind (arith, common_steps)
+-- a gap where no EOLs are sought
+pub gap_unsought : (settings : DecodeSettings) (run : Progress) → run.has_eols ≡ false
+    → pass_gap settings run ≡ unless_over settings run (eols_here settings run.rest)
+gap_unsought settings run unsought =
+    pass_gap-is settings run ∙ cond-false (misses_eol settings (length run.rows) run.has_eols run.rest) _ _
+    (ap (λ (h : Bool). misses_eol settings (length run.rows) h run.rest) unsought ∙ unmissed settings (length run.rows) run.rest)
 
 -- ---- Gaps and rows lead on as turns do
 

@@ -1,7 +1,7 @@
 -- Rows one at a time: a reader of rows is where the run of a driver is whose sink keeps nothing.
 use Rattle.hayro_ccitt.proofs.Names.{◌≡◌, ◌+◌, ◌-◌, ◌<◌, ◌≤◌, ℕ, suc, Bool, true, false, eqb, List, [], ◌∷◌, ◌++◌, length, drop}
 use Rattle.hayro_ccitt.proofs.Names.{get_or, Some, Result, Ok, Err, refl, sym, ap, ◌∙◌, subst, arith, cond-true, cond-false}
-use Rattle.hayro_ccitt.proofs.Names.{eq-eqb, ne_eqb, false≢true, length-append, length-drop, cond, take, not, ◌&&◌, ◌||◌, None}
+use Rattle.hayro_ccitt.proofs.Names.{eq-eqb, ne_eqb, false≢true, length-append, length-drop, cond, take, not, ◌||◌, None}
 use Rattle.hayro_ccitt.proofs.Names.{Option, OnErr, IfOk, IfErr, sum_by, slice_get, IsOkUnless, ◌≢◌, DecodeError, InvalidCode}
 use Rattle.hayro_ccitt.proofs.Names.{OutOfMemory, Refused, DecodeSettings, PaintsBlack, Bits, BitsAt, IsPrefix, here, Held}
 use Rattle.hayro_ccitt.proofs.Names.{Repairs, fresh, no_repairs, Damaged, fault_in, repaired_in, repaired_by_turn}
@@ -10,7 +10,7 @@ use Rattle.hayro_ccitt.proofs.Names.{repairs_behind, gap_said, Line, Progress, E
 use Rattle.hayro_ccitt.proofs.Names.{at_gap, gap_behind_row, row_of_line, line_here, line_of_turn, move_on, first_gap, first_line}
 use Rattle.hayro_ccitt.proofs.Names.{at_front, ending_from, ending_behind, one_each, gathered_from, gathered_behind, gathered_of}
 use Rattle.hayro_ccitt.proofs.Names.{bytes_before, whole_reading, plain, lines_of, line_starts, start_of_turn, Gap, misses_eol}
-use Rattle.hayro_ccitt.proofs.Names.{eols_here, is_over, limit_met, at_end, row_ends, end_of_row, end_of_turn, failed_at, Turn}
+use Rattle.hayro_ccitt.proofs.Names.{eols_here, is_over, row_ends, end_of_row, end_of_turn, failed_at, Turn}
 use Rattle.hayro_ccitt.proofs.Names.{Reaches, Row, found_here, words_of, words_of_turn, Stand, AtLine, BehindRow, AtEnd, AtFault}
 use Rattle.hayro_ccitt.proofs.Names.{EncodingMode, Group4, RowsRead, ReadsNext, damage_since, start_after}
 use Rattle.hayro_ccitt.proofs.Names.{ReachesNextLine, read_so_far, line_after, DamageIsCounted, MissesAreCounted, MissesBehindRow}
@@ -19,6 +19,7 @@ use Rattle.hayro_ccitt.proofs.Names.{HasEnded, HasFailed, MissIsTold, context_at
 use Rattle.hayro_ccitt.proofs.{Readings.GapsAndRows.first_gap_t4, Readings.Repeated.reaches_on, Work.RunsCount.sum_more}
 use Rattle.hayro_ccitt.proofs.Readings.DamageCounted.{repaired_counts, missed_counts, missed_starts, few_behind, last_behind}
 use Rattle.hayro_ccitt.proofs.Readings.PlainAnswers.{some_columns, bytes_before-place}
+use Rattle.hayro_ccitt.proofs.Readings.RowsAndGaps.{unmissed}
 use Rattle.hayro_ccitt.proofs.Readings.RowsTaken.{by_rows_left, row_of_turn, reads_row, turn_is}
 use Rattle.hayro_ccitt.proofs.Readings.RunsOverRows.{lines_on, Comes, Between, Leaves, held_between-more, comes_done, comes_more}
 use Rattle.hayro_ccitt.proofs.Readings.RunsOverRows.{comes_line, get_or-behind, row_fails}
@@ -510,15 +511,8 @@ no_fault settings taken here (Ok true) has_eols rest said error is = cc
 no_fault settings taken here (Ok false) has_eols rest said error is = cc
 no_fault settings taken here (Err e) has_eols rest said error is =
     by_over (is_over settings taken (eols_here settings here))
-    (sym (cond-false (misses_eol settings taken false here) _ _ unmissed) ∙ said)
+    (sym (cond-false (misses_eol settings taken false here) _ _ (unmissed settings taken here)) ∙ said)
   where
-    unmissed : misses_eol settings taken false here ≡ false
-    unmissed = by_count (eqb (eols_here settings here).0 0)
-      where
-        by_count : (b : Bool) → (((b && false) && not (limit_met settings taken)) && not (at_end here)) ≡ false
-        by_count true = refl
-        by_count false = refl
-
     by_over : (over : Bool) → cond {A = Gap} over (Gap.over (Ok (eols_here settings here).1))
         (Gap.line_at false (eols_here settings here).1) ≡ Gap.over (Err e) → ⊥
     by_over true never = cc

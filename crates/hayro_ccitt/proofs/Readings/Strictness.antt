@@ -4,14 +4,15 @@ use Rattle.hayro_ccitt.proofs.Names.{◌≡◌, ℕ, suc, ◌<◌, true, false, 
 use Rattle.hayro_ccitt.proofs.Names.{refl, sym, ap, subst, arith, inl, inr, IsOk, cases_lt, cases_eq, eq-eqb, ne_eqb, false≢true}
 use Rattle.hayro_ccitt.proofs.Names.{Color, Mode, Pass, Horizontal, Vertical, DecodeError, UnexpectedEof, DecodeSettings}
 use Rattle.hayro_ccitt.proofs.Names.{EncodingMode, Bits, IsPrefix, Turn, Row, paint, Line, Pen, start, line_1d, line_2d, Step}
-use Rattle.hayro_ccitt.proofs.Names.{Progress, Ending, Move, row_before, aligned, whole_reading, bytes_before, line_by}
-use Rattle.hayro_ccitt.proofs.Names.{after_line, move_on, first_gap, ending_from, end_of, StrictThenLenient, common_steps}
+use Rattle.hayro_ccitt.proofs.Names.{Progress, Ending, Move, row_before, aligned, misses_eol, eols_here, next_eol, Bool}
+use Rattle.hayro_ccitt.proofs.Names.{whole_reading, bytes_before, line_by, after_line, move_on, first_gap, ending_from, end_of}
+use Rattle.hayro_ccitt.proofs.Names.{StrictThenLenient, common_steps}
 use Rattle.hayro_ccitt.proofs.DrawingLines.Drawings.{try, run_then, mode_step, step_unless_full, step_1d, step_2d, step_1d_is}
 use Rattle.hayro_ccitt.proofs.DrawingLines.Drawings.{step_2d_is, horizontal_is}
 use Rattle.hayro_ccitt.proofs.DrawingLines.ReadLines.{step_1d_shrinks, step_2d_shrinks, pen_left}
 use Rattle.hayro_ccitt.proofs.Readings.GapsAndRows.{readings_follow}
 use Rattle.hayro_ccitt.proofs.Readings.Repeated.{Follows, after_turn, repeated_follows}
-use Rattle.hayro_ccitt.proofs.Readings.RowsAndGaps.{unless_over, seek_from, after_row, after_whole-is}
+use Rattle.hayro_ccitt.proofs.Readings.RowsAndGaps.{unless_over, seek_eol, after_row, after_whole-is}
 
 -- ---- Lines
 
@@ -115,7 +116,16 @@ module _ (settings : DecodeSettings) (wide : 0 < settings.columns) where
 
     after_row_follows : (run : Progress) → Follows SameRun Precedes rest (after_row strictly run) (after_row leniently run)
     after_row_follows run =
-        grind (arith, common_steps, false≢true, turn_extends rest extends, same_turn, seek_from, seek_from_keeps, unless_over)
+        by_missed (misses_eol settings (length run.rows) run.has_eols run.rest) (eols_here settings run.rest)
+      where
+        by_missed : (b : Bool) (found : ℕ × Bits) → Follows SameRun Precedes rest
+            (cond b (seek_eol strictly run) (unless_over strictly run found))
+            (cond b (seek_eol leniently run) (unless_over leniently run found))
+        by_missed true found = (
+          turn_extends rest extends run.rows _ (seek_from_keeps leniently run (next_eol run.rest)),
+          λ ok. absurd (false≢true ok),
+        )
+        by_missed false (count, here) = same_turn (unless_over settings run (count, here))
 
     after_line_follows : (run : Progress) (line other : Line) → Agrees line other → Adds run.rows (after_line leniently run other)
         → Follows SameRun Precedes rest (after_line strictly run line) (after_line leniently run other)

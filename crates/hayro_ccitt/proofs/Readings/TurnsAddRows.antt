@@ -1,11 +1,10 @@
 -- A run only adds rows.
 use Rattle.hayro_ccitt.proofs.Readings.Repeated.{after_turn}
-use Rattle.hayro_ccitt.proofs.Names.{◌≡◌, ℕ, ◌-◌, ◌<◌, Bool, true, false, cond, not, ◌&&◌, ◌||◌, eqb, leb, List, [], ◌∷◌, ◌++◌}
-use Rattle.hayro_ccitt.proofs.Names.{length, replicate, Option, Some, None, Ok, Err, refl, sym, ap, subst, ◌∙◌, append_assoc}
-use Rattle.hayro_ccitt.proofs.Names.{append-nil, InvalidCode, DecodeSettings, Bits, IsPrefix, Turn, repeated, Row, Line, next_eol}
-use Rattle.hayro_ccitt.proofs.Names.{eols_of_end, Progress, Ending, Move, row_before, aligned, ends_with, limit_met, at_end}
-use Rattle.hayro_ccitt.proofs.Names.{eols_here, line_here, after_line, move_on, at_front, first_gap, EncodingMode, Group4}
-use Rattle.hayro_ccitt.proofs.Names.{Group3_1D, Group3_2D}
+use Rattle.hayro_ccitt.proofs.Names.{◌≡◌, ℕ, ◌-◌, ◌<◌, Bool, true, false, cond, not, ◌&&◌, ◌||◌, List, [], ◌∷◌, ◌++◌, length}
+use Rattle.hayro_ccitt.proofs.Names.{replicate, Option, Some, None, Ok, Err, refl, sym, ap, subst, ◌∙◌, append_assoc, append-nil}
+use Rattle.hayro_ccitt.proofs.Names.{InvalidCode, DecodeSettings, Bits, IsPrefix, Turn, repeated, Row, Line, next_eol, is_over}
+use Rattle.hayro_ccitt.proofs.Names.{misses_eol, Progress, Ending, Move, row_before, aligned, ends_with, eols_here, line_here}
+use Rattle.hayro_ccitt.proofs.Names.{after_line, move_on, at_front, first_gap, EncodingMode, Group4, Group3_1D, Group3_2D}
 use Rattle.hayro_ccitt.proofs.Readings.Repeated.{Shrinks, repeated_induct}
 use Rattle.hayro_ccitt.proofs.Readings.RowsAndGaps.{unless_over, seek_from, seek_eol, after_row, row_added, pass_gap-is}
 use Rattle.hayro_ccitt.proofs.Readings.RowsAndGaps.{after_whole-is, after_damage-is}
@@ -24,8 +23,8 @@ either_has P false x y p q = q
 pub unless_over_keeps : (settings : DecodeSettings) (run : Progress) (found : ℕ × Bits)
     → Keeps run.rows (unless_over settings run found)
 unless_over_keeps settings run (count, rest) =
-    either_has (Keeps run.rows) (((settings.end_of_block && leb (eols_of_end settings.encoding) count) || limit_met settings
-    (length run.rows)) || at_end rest) (ends_with run (Ok rest)) (Turn.next (record run { rest = rest })) refl refl
+    either_has (Keeps run.rows) (is_over settings (length run.rows) (count, rest)) (ends_with run (Ok rest))
+    (Turn.next (record run { rest = rest })) refl refl
 
 -- and where an EOL is looked for
 pub seek_from_keeps : (settings : DecodeSettings) (run : Progress) (o : Option Bits) → Keeps run.rows (seek_from settings run o)
@@ -35,8 +34,7 @@ seek_from_keeps settings run (Some found) = unless_over_keeps settings run (eols
 -- and after a row
 pub after_row_keeps : (settings : DecodeSettings) (run : Progress) → Keeps run.rows (after_row settings run)
 after_row_keeps settings run =
-    either_has (Keeps run.rows) ((((eqb (eols_here settings run.rest).0 0) && run.has_eols)
-    && not (limit_met settings (length run.rows))) && not (at_end run.rest)) (seek_eol settings run)
+    either_has (Keeps run.rows) (misses_eol settings (length run.rows) run.has_eols run.rest) (seek_eol settings run)
     (unless_over settings run (eols_here settings run.rest))
     (either_has (Keeps run.rows) settings.strict (ends_with run (Err InvalidCode)) (seek_from settings run (next_eol run.rest))
     refl (seek_from_keeps settings run (next_eol run.rest))) (unless_over_keeps settings run (eols_here settings run.rest))

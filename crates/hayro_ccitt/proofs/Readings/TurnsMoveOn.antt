@@ -1,15 +1,16 @@
 -- Each line of a run moves the offset on.
 use Rattle.hayro_ccitt.proofs.Names.{common_steps, ◌≡◌, ℕ, zero, suc, ◌+◌, ◌-◌, ◌%◌, ◌<◌, ◌≤◌, Bool, true, false, cond, not, ◌&&◌}
 use Rattle.hayro_ccitt.proofs.Names.{◌||◌, eqb, leb, [], ◌∷◌, ◌++◌, length, replicate, Option, Some, None, Result, Ok, Err, refl}
-use Rattle.hayro_ccitt.proofs.Names.{sym, ap, subst, ◌∙◌, arith, ◌⊎◌, inl, inr, length-drop, cases_lt, not-false, and_parts}
-use Rattle.hayro_ccitt.proofs.Names.{and_cases, or_parts, false≢true, le-leb, lt-leb, eqb-false, DecodeError, DecodeSettings}
-use Rattle.hayro_ccitt.proofs.Names.{Bits, Turn, Row, EncodingMode, Group4, Group3_1D, Group3_2D, InvalidCode, Line, line_1d}
-use Rattle.hayro_ccitt.proofs.Names.{line_2d, after_eol, one_more, eols, all_eols, next_eol, past_tag, eols_with_tags}
-use Rattle.hayro_ccitt.proofs.Names.{pass_last_tag, tagged_eols, eols_of_end, Progress, Move, row_before, aligned, ends_with}
-use Rattle.hayro_ccitt.proofs.Names.{limit_met, at_end, line_by, eols_by, eols_here, line_here, after_line, move_on}
+use Rattle.hayro_ccitt.proofs.Names.{sym, ap, subst, ◌∙◌, arith, ◌⊎◌, inl, inr, length-drop, not-false, or_parts, false≢true}
+use Rattle.hayro_ccitt.proofs.Names.{le-leb, lt-leb, eqb-false, DecodeError, DecodeSettings, Bits, Turn, Row, EncodingMode}
+use Rattle.hayro_ccitt.proofs.Names.{Group4, Group3_1D, Group3_2D, InvalidCode, Line, line_1d, line_2d, after_eol, one_more, eols}
+use Rattle.hayro_ccitt.proofs.Names.{all_eols, next_eol, past_tag, eols_with_tags, pass_last_tag, tagged_eols, is_end_of_block}
+use Rattle.hayro_ccitt.proofs.Names.{is_over, misses_eol, Progress, Move, row_before, aligned, ends_with, limit_met, at_end}
+use Rattle.hayro_ccitt.proofs.Names.{line_by, eols_by, eols_here, line_here, after_line, move_on}
 use Rattle.hayro_ccitt.proofs.{CodeWords.ReadRuns.chosen, Readings.Repeated.Shrinks}
 use Rattle.hayro_ccitt.proofs.DrawingLines.ReadLines.{TookBits, line_1d_took_bits, line_2d_took_bits}
-use Rattle.hayro_ccitt.proofs.Readings.RowsAndGaps.{unless_over, seek_from, seek_eol, after_row, after_whole-is, after_damage-is}
+use Rattle.hayro_ccitt.proofs.Readings.RowsAndGaps.{missed_sought, unless_over, seek_from, seek_eol, after_row, after_whole-is}
+use Rattle.hayro_ccitt.proofs.Readings.RowsAndGaps.{after_damage-is}
 use Rattle.hayro_ccitt.proofs.Readings.Repeated.{next_is, not_next}
 
 -- enough zeros and a one are an EOL
@@ -244,22 +245,22 @@ left_to_read run = cond run.has_eols (suc (length run.rest)) (length run.rest)
 pub unless_over_next : (settings : DecodeSettings) (run t : Progress) (found : ℕ × Bits)
     → unless_over settings run found ≡ Turn.next t → ◌≡◌ {A = Progress} (record run { rest = found.1 }) t
 unless_over_next settings run t (count, rest) e =
-    next_is _ t (unless_next (((settings.end_of_block && leb (eols_of_end settings.encoding) count) || limit_met settings
-    (length run.rows)) || at_end rest) run (Ok rest) (Turn.next (record run { rest = rest })) t e)
+    next_is _ t (unless_next (is_over settings (length run.rows) (count, rest)) run (Ok rest)
+    (Turn.next (record run { rest = rest })) t e)
+
+-- if a reading isn't over, its limit isn't met, and bits are left
+pub none_met : (settings : DecodeSettings) (taken : ℕ) (found : ℕ × Bits) → is_over settings taken found ≡ false
+    → (limit_met settings taken ≡ false) × (at_end found.1 ≡ false)
+none_met settings taken (count, rest) e =
+    grind (arith, common_steps, or_parts)
 
 -- a run continues neither at its limit nor at the end
 pub unless_over_open : (settings : DecodeSettings) (run t : Progress) (found : ℕ × Bits)
     → unless_over settings run found ≡ Turn.next t → (limit_met settings (length run.rows) ≡ false) × (at_end found.1 ≡ false)
 unless_over_open settings run t (count, rest) e =
-    elim (chosen (((settings.end_of_block && leb (eols_of_end settings.encoding) count) || limit_met settings (length run.rows))
-    || at_end rest) _ _ _ e) [
+    elim (chosen (is_over settings (length run.rows) (count, rest)) _ _ _ e) [
       | inl a ↦ absurd (not_next _ t a.1)
-      | inr a ↦
-          let b = or_parts ((settings.end_of_block && leb (eols_of_end settings.encoding) count) || limit_met settings
-          (length run.rows)) (at_end rest) a.0 in
-          let c = or_parts (settings.end_of_block && leb (eols_of_end settings.encoding) count)
-          (limit_met settings (length run.rows)) b.0 in
-          (c.1, b.1)
+      | inr a ↦ none_met settings (length run.rows) (count, rest) a.0
     ]
 
 not_at_end : (rest : Bits) → at_end rest ≡ true → length rest ≡ 0
@@ -302,31 +303,16 @@ went_on : (settings : DecodeSettings) (run : Progress) (found : ℕ × Bits) →
     → limit_met settings (length run.rows) ≡ false → at_end found.1 ≡ false → (((eqb found.0 0 && run.has_eols)
     && not (limit_met settings (length run.rows))) && not (at_end run.rest)) ≡ false → (0 < found.0) ⊎ (run.has_eols ≡ false)
 went_on settings run found counted open_limit open_end e =
-    elim (and_cases ((eqb found.0 0 && run.has_eols) && not (limit_met settings (length run.rows))) (not (at_end run.rest)) e) [
-      | inl a ↦ elim (and_cases (eqb found.0 0 && run.has_eols) (not (limit_met settings (length run.rows))) a) [
-        | inl b ↦ elim (and_cases (eqb found.0 0) run.has_eols b) [
-          | inl c ↦ let d = eqb-false found.0 0 c in
-              elim (cases_lt 0 found.0) [ inl lt ↦ inl lt | inr ge ↦ absurd (d (omega arith)) ]
-          | inr c ↦ inr c
-        ]
-        | inr b ↦ absurd (false≢true (sym b ∙ rw open_limit refl))
-      ]
-      | inr a ↦ absurd (let b = not_at_end run.rest
-          (not-false (at_end run.rest) a) in omega (arith, b, counted.0, at_end_length found.1 open_end))
-    ]
+    grind (arith, common_steps, at_end_length, eqb-false, not_at_end)
 
 -- the EOLs after a row leave less than there was before its line: it consumed bits, or EOLs are sought
 pub after_row_next : (settings : DecodeSettings) (run t : Progress) (n : ℕ) → after_row settings run ≡ Turn.next t
     → length run.rest < n → left_to_read t < n
-after_row_next settings run t n e small = elim (chosen ((((eqb (eols_here settings run.rest).0 0) && run.has_eols) && not
-    (limit_met settings (length run.rows))) && not (at_end run.rest)) _ _ _ e) [
+after_row_next settings run t n e small =
+    elim (chosen (misses_eol settings (length run.rows) run.has_eols run.rest) _ _ _ e) [
       | inl a ↦
-          let b = (and_parts ((eqb (eols_here settings run.rest).0 0 && run.has_eols) && not
-          (limit_met settings (length run.rows))) (not (at_end run.rest)) a.0).0 in
-          let c = (and_parts (eqb (eols_here settings run.rest).0 0 && run.has_eols)
-          (not (limit_met settings (length run.rows))) b).0 in
-          let d = (and_parts (eqb (eols_here settings run.rest).0 0) run.has_eols c).1 in
-          omega (arith, seek_left settings run t (next_eol run.rest) d refl (seek_eol_next settings run t a.1), small)
+          let sought = missed_sought settings (length run.rows) run.has_eols run.rest a.0 in
+          omega (arith, seek_left settings run t (next_eol run.rest) sought refl (seek_eol_next settings run t a.1), small)
       | inr a ↦
           let open_run = unless_over_open settings run t (eols_here settings run.rest) a.1 in
           let counted = eols_here_counted settings run.rest in
@@ -392,8 +378,9 @@ left_below run = either_way run.has_eols
     either_way true = omega arith
     either_way false = omega arith
 
--- one EOL or none ends no data
-pub few_eols : (encoding : EncodingMode) (count : ℕ) → count < 2 → leb (eols_of_end encoding) count ≡ false
-few_eols Group4 count few = lt-leb 2 count few
-few_eols Group3_1D count few = lt-leb 6 count (omega (arith, few))
-few_eols Group3_2D count few = lt-leb 6 count (omega (arith, few))
+-- one EOL ends no data, nor do any without `end_of_block`; with it six end them, and two in T.6
+pub eols_end : (settings : DecodeSettings) (count : ℕ) → (count < 2 → is_end_of_block settings count ≡ false)
+    × (settings.end_of_block ≡ false → is_end_of_block settings count ≡ false)
+    × (settings.end_of_block ≡ true → 6 ≤ count → is_end_of_block settings count ≡ true)
+    × (settings.end_of_block ≡ true → settings.encoding ≡ Group4 → 2 ≤ count → is_end_of_block settings count ≡ true)
+eols_end settings count = grind (arith, common_steps, le-leb, lt-leb)

@@ -1,14 +1,13 @@
 -- The EOLs that are consumed before a line, and the bits that are examined ahead of it.
-use Rattle.hayro_ccitt.proofs.Names.{◌<◌, ◌≡◌, ℕ, ◌+◌, ◌-◌, ◌*◌, ◌≤◌, Bool, true, false, not, ◌&&◌, ◌||◌, eqb, leb, [], ◌∷◌}
-use Rattle.hayro_ccitt.proofs.Names.{◌++◌, length, replicate, drop, Option, Some, None, Result, Ok, Err, refl, sym, ap, ◌∙◌}
-use Rattle.hayro_ccitt.proofs.Names.{subst, arith, ◌⊎◌, inl, inr, and_parts, or_parts, false≢true, length-append}
-use Rattle.hayro_ccitt.proofs.Names.{length-replicate, replicate-append-replicate, DecodeError, InvalidCode, EncodingMode, Group4}
-use Rattle.hayro_ccitt.proofs.Names.{Group3_1D, Group3_2D, DecodeSettings, Bits, after_eol, next_eol}
-use Rattle.hayro_ccitt.proofs.Names.{eols_with_tags, eols, eols_of_end, Gap, at_end, limit_met}
-use Rattle.hayro_ccitt.proofs.Names.{eols_by, eols_here, behind_eols, from_next_eol, gap_behind_row, looked, looked_ahead}
-use Rattle.hayro_ccitt.proofs.Names.{tag_tests}
+use Rattle.hayro_ccitt.proofs.Names.{◌<◌, ◌≡◌, ℕ, ◌+◌, ◌-◌, ◌*◌, ◌≤◌, Bool, true, false, [], ◌∷◌, ◌++◌, length, replicate, drop}
+use Rattle.hayro_ccitt.proofs.Names.{Option, Some, None, Result, Ok, Err, refl, sym, ap, ◌∙◌, subst, arith, ◌⊎◌, inl, inr}
+use Rattle.hayro_ccitt.proofs.Names.{false≢true, length-append, length-replicate, replicate-append-replicate, DecodeError}
+use Rattle.hayro_ccitt.proofs.Names.{InvalidCode, EncodingMode, Group4, Group3_1D, Group3_2D, DecodeSettings, Bits, after_eol}
+use Rattle.hayro_ccitt.proofs.Names.{next_eol, eols_with_tags, eols, is_over, misses_eol, Gap, at_end, limit_met, eols_by}
+use Rattle.hayro_ccitt.proofs.Names.{eols_here, behind_eols, from_next_eol, gap_behind_row, looked, looked_ahead, tag_tests}
 use Rattle.hayro_ccitt.proofs.{BitReading.ZeroRuns.looked_eol, CodeWords.ReadRuns.chosen, DamagedLines.PastEol.eols_here-none}
 use Rattle.hayro_ccitt.proofs.DamagedLines.LineTails.{after_eol_is}
+use Rattle.hayro_ccitt.proofs.{Readings.RowsAndGaps.missed_sought, Readings.TurnsMoveOn.none_met}
 use Rattle.hayro_ccitt.proofs.Readings.TurnsMoveOn.{length-one_more, count_shorter, count_past, counts_plain}
 use Rattle.hayro_ccitt.proofs.Readings.TurnsMoveOn.{counts_tagged, eols-some, last_tag_shorter}
 use Rattle.hayro_ccitt.proofs.Readings.TurnsMoveOn.{eols_here_counted, eols_here_some, next_eol_found}
@@ -109,21 +108,17 @@ behind_line : (settings : DecodeSettings) (taken : ℕ) (h k : Bool) (found : �
     → behind_eols settings taken h found ≡ Gap.line_at k rest
     → (h ≡ k) × (found.1 ≡ rest) × (limit_met settings taken ≡ false) × (at_end found.1 ≡ false)
 behind_line settings taken h k (count, here) rest e =
-    elim (chosen
-    (((settings.end_of_block && leb (eols_of_end settings.encoding) count) || limit_met settings taken) || at_end here) _ _ _ e) [
+    elim (chosen (is_over settings taken (count, here)) _ _ _ e) [
       | inl a ↦ absurd (over_no_line (Ok here) k rest a.1)
       | inr a ↦
-          let open_end = or_parts ((settings.end_of_block && leb (eols_of_end settings.encoding) count)
-          || limit_met settings taken) (at_end here) a.0 in
-          let open_limit = or_parts (settings.end_of_block && leb (eols_of_end settings.encoding) count)
-          (limit_met settings taken) open_end.0 in
           let same = lines_same h k here rest a.1 in
-          (same.0, same.1, open_limit.1, open_end.1)
+          let left = none_met settings taken (count, here) a.0 in
+          (same.0, same.1, left.0, left.1)
     ]
 
 -- The line follows the EOLs here.
 record AfterEols (settings : DecodeSettings) (taken : ℕ) (h k : Bool) (here rest : Bits) : Type 0 where
-  unsought : (((eqb (eols_here settings here).0 0 && h) && not (limit_met settings taken)) && not (at_end here)) ≡ false
+  unsought : misses_eol settings taken h here ≡ false
   flag : h ≡ k
   place : (eols_here settings here).1 ≡ rest
   open_limit : limit_met settings taken ≡ false
@@ -147,12 +142,9 @@ record GivenUp (h k : Bool) (here rest : Bits) : Type 0 where
 line_behind : (settings : DecodeSettings) (taken : ℕ) (h k : Bool) (here rest : Bits) → gap_behind_row settings taken h here
     ≡ Gap.line_at k rest → AfterEols settings taken h k here rest ⊎ (AfterNextEol settings h k here rest ⊎ GivenUp h k here rest)
 line_behind settings taken h k here rest e =
-    elim (chosen (((eqb (eols_here settings here).0 0 && h) && not (limit_met settings taken)) && not (at_end here)) _ _ _ e) [
+    elim (chosen (misses_eol settings taken h here) _ _ _ e) [
       | inl a ↦
-          let b = (and_parts ((eqb (eols_here settings here).0 0 && h) && not (limit_met settings taken))
-          (not (at_end here)) a.0).0 in
-          let c = (and_parts (eqb (eols_here settings here).0 0 && h) (not (limit_met settings taken)) b).0 in
-          let sought = (and_parts (eqb (eols_here settings here).0 0) h c).1 in
+          let sought = missed_sought settings taken h here a.0 in
           elim (chosen settings.strict _ _ _ a.1) [
             | inl b ↦ absurd (over_no_line (Err InvalidCode) k rest b.1)
             | inr b ↦ inr (by_next_eol sought (next_eol here) refl b.1)
@@ -192,8 +184,7 @@ line_past_eol settings taken here rest e = elim (line_behind settings taken true
     by_after_eol is None f =
         let none = eols_here-none settings here f in
         let open_end : at_end here ≡ false = let g = is.open_end in rw none at g in
-        let seeks : (((eqb (eols_here settings here).0 0 && true) && not (limit_met settings taken)) && not (at_end here)) ≡ true
-        = rw (none, is.open_limit, open_end) refl in
+        let seeks : misses_eol settings taken true here ≡ true = rw (none, is.open_limit, open_end) refl in
         absurd (false≢true (sym is.unsought ∙ seeks))
 
 -- if EOLs are no longer sought, the line is here

@@ -1,9 +1,10 @@
 -- What a turn counts is paid by the bits that it consumes, or by ceasing to seek EOLs, which happens once.
 use Rattle.hayro_ccitt.proofs.Names.{◌≡◌, ◌≢◌, ℕ, ◌+◌, ◌*◌, ◌<◌, ◌≤◌, Bool, true, false, not, ◌&&◌, ◌||◌, cond, [], ◌∷◌, length}
 use Rattle.hayro_ccitt.proofs.Names.{Result, Ok, Err, refl, sym, ap, ◌∙◌, subst, arith, false≢true, DecodeError, DecodeSettings}
-use Rattle.hayro_ccitt.proofs.Names.{EncodingMode, Group4, Group3_1D, Group3_2D, Bits, Line, line_found, Gap, aligned, behind_row}
+use Rattle.hayro_ccitt.proofs.Names.{EncodingMode, Group4, Group3_1D, Group3_2D, Bits, Line, line_found, Gap, behind_row}
 use Rattle.hayro_ccitt.proofs.Names.{gap_behind_row, line_by, line_here, row_of_line, Row, repaired, looked_ahead, IsPaidUpTo}
 use Rattle.hayro_ccitt.proofs.Names.{found_here}
+use Rattle.hayro_ccitt.proofs.Readings.RowsAndGaps.{behind_with_eols}
 use Rattle.hayro_ccitt.proofs.Work.EolsPassed.{length-within, line_past_eol, line_given_up, line_behind_shorter}
 use Rattle.hayro_ccitt.proofs.Work.EolsPassed.{line_without_eols, looked_ahead_most, looked_ahead_to_eol}
 use Rattle.hayro_ccitt.proofs.Work.WordsPay.{line_1d_paid, line_2d_paid, either_shorter, found_within, found_before_eol}
@@ -46,11 +47,6 @@ rest_of_row (Err fault) = []
 
 behind_shorter : (settings : DecodeSettings) (h : Bool) (rest : Bits) → length (behind_row settings h rest) ≤ length rest
 behind_shorter settings h rest = either_shorter (settings.rows_are_byte_aligned && not h) rest
-
--- data with EOLs are not aligned
-behind_with_eols : (aligns : Bool) (rest : Bits) → cond (aligns && not true) (aligned rest) rest ≡ rest
-behind_with_eols true rest = refl
-behind_with_eols false rest = refl
 
 -- a broken line is repaired only in lenient data with EOLs, and the reader is then at its start
 broken_row : (settings : DecodeSettings) (h : Bool) (here rest : Bits) (front row : Row) (fault : DecodeError)
