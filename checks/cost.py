@@ -152,8 +152,8 @@ def without_eols(tag, before=""):
     return made
 
 
-def narrow_rows(columns, tag, rows):
-    """Rows of few columns again and again, each one-dimensional behind its tag, without EOLs."""
+def repeated_rows(columns, tag, rows):
+    """Rows again and again, each one-dimensional behind its tag, without EOLs."""
     lines = [tag + strips.line_1d(columns, row) for row in rows]
 
     def made(size):
@@ -210,9 +210,12 @@ SHAPES = [
     ("EOLs and faults", ONE_DIMENSIONAL, WITH_EOLS, eols_and_faults, 180, 353),
     ("rows without EOLs 1d", ONE_DIMENSIONAL, 0, without_eols(""), 213, 280),
     ("rows without EOLs 2d", TWO_DIMENSIONAL, 0, without_eols("1"), 213, 266),
-    ("black rows with white ends 2d", TWO_DIMENSIONAL, 0, narrow_rows(12, "1", [[0, 11]]), 108, 132),
-    ("half black rows and white ones 1d", ONE_DIMENSIONAL, 0, narrow_rows(2, "", [[0, 1], []]), 156, 227),
-    ("narrow rows of few changes 2d", TWO_DIMENSIONAL, 0, narrow_rows(6, "1", [[], [4, 5], [4]]), 203, 276),
+    ("black rows with white ends 2d", TWO_DIMENSIONAL, 0, repeated_rows(12, "1", [[0, 11]]), 108, 132),
+    ("half black rows and white ones 1d", ONE_DIMENSIONAL, 0, repeated_rows(2, "", [[0, 1], []]), 156, 227),
+    ("narrow rows of few changes 2d", TWO_DIMENSIONAL, 0, repeated_rows(6, "1", [[], [4, 5], [4]]), 203, 276),
+    ("wide rows of one black run 1d", ONE_DIMENSIONAL, 0, repeated_rows(1728, "", [[100, 1600]]), 61, 69),
+    ("wide rows of one black run 2d", TWO_DIMENSIONAL, 0, repeated_rows(1728, "1", [[0, 1727]]), 68, 78),
+    ("wide white rows and others 2d", TWO_DIMENSIONAL, 0, repeated_rows(1728, "1", [[], [100, 1600]]), 73, 82),
     ("one EOL, then none 1d", ONE_DIMENSIONAL, 0, without_eols("", EOL), 228, 395),
     ("one EOL, then none 2d", TWO_DIMENSIONAL, 0, without_eols("1", EOL), 228, 384),
     ("damaged lines with long bodies", ONE_DIMENSIONAL, WITH_EOLS, long_bodies, 63, 237),
