@@ -9,3 +9,4 @@ pub mod UnreadRows
 pub mod UsualModes
 pub mod UsualStrokes
 pub mod WhatFollows
+pub mod WhiteRows

@@ -328,12 +328,13 @@ impl<'a> BitReader<'a> {
         self.data.len() * 8
     }
 
-    /// Moves to another offset.
+    /// Moves to where the same bits at hand are.
     #[inline(always)]
-    pub(crate) fn go_to(&mut self, place: usize)
-        requires { place ≤ length self.old.bits }
-        ensures { self.new ≡ record self.old { place = place } }
+    pub(crate) fn go_to(&mut self, hand: &BitsAtHand<'_>)
+        requires { hand.now.at.bits ≡ self.old.bits }
+        ensures { self.new ≡ hand.now.at }
     {
+        let place = hand.bit_pos();
         if place >= self.place && place - self.place <= 32 {
             // The offset is within the data.
             let _ = self.consume(place - self.place);

@@ -208,7 +208,7 @@ impl<'a> BitReader<'a> {
     {
         let mut hand = self.none_at_hand();
         let sum = pass_makeup_words(&mut hand, color, tables.lookup(color), start, ticks);
-        self.go_to(hand.bit_pos());
+        self.go_to(&hand);
         sum
     }
 

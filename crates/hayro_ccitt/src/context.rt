@@ -595,12 +595,12 @@ impl DecoderContext {
         }
         if let Some(mut hand) = reader.at_hand(BitOrder::HighestFirst) {
             self.draw_by_twos(&mut hand);
-            reader.go_to(hand.bit_pos());
+            reader.go_to(&hand);
             return;
         }
         if let Some(mut hand) = reader.at_hand(BitOrder::LowestFirst) {
             self.draw_by_twos(&mut hand);
-            reader.go_to(hand.bit_pos());
+            reader.go_to(&hand);
         }
     }
 
@@ -696,7 +696,7 @@ impl DecoderContext {
     {
         if let Some(mut hand) = reader.window_at_hand() {
             if self.draw_window(&mut hand) {
-                reader.go_to(hand.bit_pos());
+                reader.go_to(&hand);
             }
         }
     }
@@ -748,7 +748,7 @@ impl DecoderContext {
         }
         self.pixels_decoded = columns;
         self.color = Color::Black;
-        reader.go_to(hand.bit_pos());
+        reader.go_to(&hand);
         true
     }
 
@@ -838,7 +838,7 @@ impl DecoderContext {
     {
         let mut hand = reader.none_at_hand();
         self.draw_modes_at_hand(&mut hand);
-        reader.go_to(hand.bit_pos());
+        reader.go_to(&hand);
     }
 
     /// Draws a white line under a white row, which is V0 alone, and returns whether there is one here; otherwise nothing

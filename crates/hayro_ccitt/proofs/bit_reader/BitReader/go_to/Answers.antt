@@ -1,4 +1,4 @@
-use Rattle.hayro_ccitt.proofs.Names.{◌≤◌, length, arith, bits_in}
+use Rattle.hayro_ccitt.proofs.Names.{◌≡◌, ◌≤◌, length, arith, subst, Bits, bits_in}
 use Rattle.hayro_ccitt.proofs.BitReading.BitLists.{length-bits_in}
 use Rattle.hayro_ccitt.proofs.bit_reader.BitReader.go_to.Goals as goal
 
@@ -6,5 +6,7 @@ pub at_place-requires-clause-within : goal.at_place-requires-clause-within
 at_place-requires-clause-within c =
     let order = c.self.inside.order in
     let bytes = c.self.inside.«data».now in
-    let within : c.args.place ≤ length (bits_in order bytes) = rw (← c.self.view_is) at c.requires in
+    let same : c.args.hand.now.at.bits ≡ bits_in order bytes = rw (← c.self.view_is) at c.requires in
+    let within : c.bit_pos-place.result ≤ length (bits_in order bytes) =
+    subst (λ (b : Bits). c.bit_pos-place.result ≤ length b) same c.bit_pos-place.ensures.within in
     omega (arith, length-bits_in order bytes, within)
