@@ -2,15 +2,19 @@
 //! out from T.4 and T.6, apart from the decoder.
 
 ghost use Rattle.std.specs.Prelude.{◌≡◌};
+ghost use Rattle.hayro_ccitt.specs.Bits.{BitsFit};
+ghost use Rattle.hayro_ccitt.specs.Context.{fresh};
 
 mod bit_reads;
 mod calls_of_group3;
+mod cases;
 mod group3;
 mod local_bodies;
 mod look_ups;
 mod most_work;
 mod refused_memory;
 
+use cases::{decodes_as, decodes_data, decodes_each, has_text};
 use hayro_ccitt::DecodeError::{InvalidCode, OutOfMemory, Overflow, Refused, UnexpectedEof};
 use hayro_ccitt::bit_reader::{BitOrder, BitReader};
 use hayro_ccitt::codes::{Color, Mode, Ticks};
@@ -118,51 +122,22 @@ fn same<T: PartialEq + Debug + Drop>(rt: &impl Abort, found: T, expected: T) {
     assert_eq!(rt; found, expected);
 }
 
-/// Compares the rows of a sink, which are named by data.
-fn has_rows(rt: &impl Abort, sink: &Limited, rows: &[&[u32]], data: &[u8]) {
-    same(rt, (data, sink.rows.len()), (data, rows.len()));
-    for (row, changes) in sink.rows.iter().zip(rows) {
-        same(rt, (data, row.as_slice()), (data, *changes));
-    }
+/// Compares the rows of a sink with the text of them.
+fn has_rows(rt: &(impl Abort + AllocGlobal), sink: &Limited, expected: &str) {
+    let found = format!(in rt.alloc(); "{:?}", sink.rows).expect(rt, "memory");
+    same(rt, found.as_str(), expected);
 }
 
 /// Returns the bytes with their bits in the other order.
-fn mirrored(rt: &(impl Abort + AllocGlobal), data: &[u8]) -> Vec<u8> {
+fn mirrored(rt: &(impl Abort + AllocGlobal), data: &[u8]) -> Vec<u8>
+    ensures { BitsFit result.items }
+{
     let mut bytes = Vec::new(rt.alloc());
     for byte in data {
         assert!(rt; bytes.push(byte.reverse_bits()).is_ok());
     }
+    assert!(rt; bits_fit(&bytes));
     bytes
-}
-
-/// Decodes in a context, with the highest bit first and then mirrored with the lowest, and compares the rows and the
-/// results.
-fn decodes_in(
-    rt: &(impl Abort + AllocGlobal),
-    ctx: &mut DecoderContext,
-    data: &[u8],
-    rows: &[&[u32]],
-    answer: Result<usize>,
-)
-    ensures { ctx.new.held.settings ≡ ctx.old.held.settings }
-{
-    let front = data.get(..16).unwrap_or(data);
-    assert!(rt; bits_fit(data));
-    let mut sink = sink_of(rt.alloc(), ctx.settings().columns, usize::MAX);
-    let read = decode(data, &mut sink, ctx);
-    let count = rows.len() as u64;
-    same(
-        rt,
-        (front, read, ctx.decoded_rows()),
-        (front, answer, count),
-    );
-    has_rows(rt, &sink, rows, front);
-    let low_first = mirrored(rt, data);
-    assert!(rt; bits_fit(&low_first));
-    let mut sink = sink_of(rt.alloc(), ctx.settings().columns, usize::MAX);
-    let read = decode_low_first(&low_first, &mut sink, ctx);
-    same(rt, (front, read), (front, answer));
-    has_rows(rt, &sink, rows, front);
 }
 
 /// Decodes in a context of its own, and compares the rows and the result.
@@ -172,250 +147,245 @@ fn decodes(
     data: &[u8],
     rows: &[&[u32]],
     answer: Result<usize>,
-) {
-    let Ok(mut ctx) = DecoderContext::new(rt.alloc(), settings) else {
-        panic!(rt; "no memory");
-    };
-    decodes_in(rt, &mut ctx, data, rows, answer);
+)
+    requires { BitsFit «data».now }
+{
+    let expected = format!(in rt.alloc(); "{rows:?} {answer:?}").expect(rt, "memory");
+    decodes_data(rt, &mut context_of(rt, settings), data, &expected);
 }
 
-/// Returns `times` copies of a piece, and what follows them.
-fn repeated(
-    alloc: Global,
-    piece: &[u8],
-    times: usize,
-    after: &[u8],
-) -> std::result::Result<Vec<u8>, AllocError> {
-    let mut data = Vec::new(alloc);
+/// Returns `times` copies of the bytes of digits, and what follows them.
+fn repeated(rt: &(impl Abort + AllocGlobal), digits: &str, times: usize, after: &[u8]) -> Vec<u8>
+    ensures { BitsFit result.items }
+{
+    let piece = bytes_of(rt, digits);
+    let mut data = Vec::new(rt.alloc());
     for _ in 0..times {
-        data.extend_from_slice(piece)?;
+        assert!(rt; data.extend_from_slice(&piece).is_ok());
     }
-    data.extend_from_slice(after)?;
-    Ok(data)
+    assert!(rt; data.extend_from_slice(after).is_ok() && bits_fit(&data));
+    data
 }
 
-/// Returns the bytes of hexadecimal digits, two a byte.
-fn bytes_of(alloc: Global, digits: &str) -> std::result::Result<Vec<u8>, AllocError> {
-    let mut data = Vec::new(alloc);
+/// Returns the bytes of hexadecimal digits, two a byte, which it checks.
+fn bytes_of(rt: &(impl Abort + AllocGlobal), digits: &str) -> Vec<u8>
+    ensures { BitsFit result.items }
+{
+    let mut data = Vec::new(rt.alloc());
     let mut high = None;
     for digit in digits.bytes() {
         let value = match digit {
             b'0'..=b'9' => digit - b'0',
             b'A'..=b'F' => digit - b'A' + 10,
-            _ => 0,
+            _ => panic!(rt; "not a digit: {digits}"),
         };
         match high {
             None => high = Some(value),
             Some(half) => {
-                data.push(half << 4 | value)?;
+                assert!(rt; data.push(half << 4 | value).is_ok());
                 high = None;
             }
         }
     }
-    Ok(data)
+    assert!(rt; high.is_none() && bits_fit(&data));
+    data
 }
 
-/// Decodes hexadecimal digits in a context of its own, and compares the rows and the result.
-fn reads(
-    rt: &(impl Abort + AllocGlobal),
-    settings: DecodeSettings,
-    digits: &str,
-    rows: &[&[u32]],
-    answer: Result<usize>,
-) {
-    let Ok(data) = bytes_of(rt.alloc(), digits) else {
-        panic!(rt; "no memory");
-    };
-    decodes(rt, settings, &data, rows, answer);
+/// Makes a context.
+fn context_of(rt: &(impl Abort + AllocGlobal), settings: DecodeSettings) -> DecoderContext
+    ensures { result ≡ record { held = fresh settings; passed = 0; ticks = 0 } }
+{
+    DecoderContext::new(rt.alloc(), settings).expect(rt, "memory")
+}
+
+/// Decodes in a context up to a number of rows, and returns the result, and the sink.
+fn decoded(
+    rt: &impl AllocGlobal,
+    ctx: &mut DecoderContext,
+    data: &[u8],
+    limit: usize,
+) -> (Result<usize>, Limited)
+    requires { BitsFit «data».now }
+    ensures { ctx.new.held.settings ≡ ctx.old.held.settings }
+{
+    let mut sink = sink_of(rt.alloc(), ctx.settings().columns, limit);
+    let read = decode(data, &mut sink, ctx);
+    (read, sink)
 }
 
 /// Refuses each row in turn; the same context then decodes all the rows with the expected result.
 fn refuses_each(
     rt: &(impl Abort + AllocGlobal),
     settings: DecodeSettings,
-    data: &[u8],
-    rows: &[&[u32]],
-    answer: Result<usize>,
+    digits: &str,
+    expected: &str,
 ) {
-    assert!(rt; bits_fit(data));
-    for limit in 0..rows.len() {
-        let Ok(mut ctx) = DecoderContext::new(rt.alloc(), settings) else {
-            panic!(rt; "no memory");
-        };
-        let mut sink = sink_of(rt.alloc(), settings.columns, limit);
-        let refused = decode(data, &mut sink, &mut ctx);
-        same(rt, (limit, refused), (limit, Err(Refused)));
-        assert!(rt; sink.has_refused);
-        has_rows(rt, &sink, &rows[..limit], data);
-        same(rt, ctx.decoded_rows(), limit as u64);
-        decodes_in(rt, &mut ctx, data, rows, answer);
+    let data = bytes_of(rt, digits);
+    let (read, all) = decoded(rt, &mut context_of(rt, settings), &data, usize::MAX);
+    has_text(rt, &data, &all.rows, read, expected);
+    for limit in 0..all.rows.len() {
+        let mut ctx = context_of(rt, settings);
+        let (refused, sink) = decoded(rt, &mut ctx, &data, limit);
+        same(
+            rt,
+            (limit, refused, sink.has_refused, ctx.decoded_rows()),
+            (limit, Err(Refused), true, limit as u64),
+        );
+        same(rt, sink.rows.as_slice(), &all.rows[..limit]);
+        decodes_as(rt, &mut ctx, digits, expected);
     }
 }
 
 #[test]
 fn rows_of_each_mode(rt: HostRuntime) {
-    let one_row = group_4(8, 1, "");
-    decodes(&rt, one_row, &[0x80], &[&[]], Ok(1));
-    decodes(&rt, one_row, &[0x31, 0xC0], &[&[3, 5]], Ok(2));
-    let two_rows = group_4(8, 2, "");
-    decodes(&rt, two_rows, &[0x31, 0xF8], &[&[3, 5], &[3, 5]], Ok(2));
-    decodes(&rt, two_rows, &[0x31, 0xC6], &[&[3, 5], &[]], Ok(2));
-    decodes(
+    decodes_each(
         &rt,
-        two_rows,
-        &[0x31, 0xDB, 0x80],
-        &[&[3, 5], &[4, 6]],
-        Ok(3),
-    );
-    decodes(
-        &rt,
-        two_rows,
-        &[0x38, 0xA0, 0x81, 0x70],
-        &[&[5, 6], &[2, 3, 5, 6]],
-        Ok(4),
+        "Group4 8 columns 1 rows | 80 | [[]] Ok(1)
+        Group4 8 columns 1 rows | 31C0 | [[3, 5]] Ok(2)
+        Group4 8 columns 2 rows | 31F8 | [[3, 5], [3, 5]] Ok(2)
+        Group4 8 columns 2 rows | 31C6 | [[3, 5], []] Ok(2)
+        Group4 8 columns 2 rows | 31DB80 | [[3, 5], [4, 6]] Ok(3)
+        Group4 8 columns 2 rows | 38A08170 | [[5, 6], [2, 3, 5, 6]] Ok(4)",
     );
 }
 
 #[test]
 fn faults_of_the_data(rt: HostRuntime) {
-    let one_row = group_4(8, 1, "");
-    decodes(&rt, one_row, &[0x00], &[], Err(InvalidCode));
-    decodes(&rt, one_row, &[0x31], &[], Err(UnexpectedEof));
-    decodes(&rt, group_4(8, 0, ""), &[0x80], &[&[]], Err(InvalidCode));
-    decodes(
+    decodes_each(
         &rt,
-        group_4(8, 2, ""),
-        &[0x26, 0xA2, 0xA0],
-        &[&[0]],
-        Err(Overflow),
+        "Group4 8 columns 1 rows | 00 | [] Err(InvalidCode)
+        Group4 8 columns 1 rows | 31 | [] Err(UnexpectedEof)
+        Group4 8 columns 0 rows | 80 | [[]] Err(InvalidCode)
+        Group4 8 columns 2 rows | 26A2A0 | [[0]] Err(Overflow)",
     );
 }
 
 #[test]
 fn strict_and_lenient(rt: HostRuntime) {
-    decodes(&rt, group_4(8, 1, ""), &[0x60], &[&[]], Ok(1));
-    decodes(&rt, group_4(8, 1, "s"), &[0x60], &[], Err(InvalidCode));
-    decodes(&rt, group_4(8, 1, ""), &[0x00, 0x18], &[&[]], Ok(2));
-    decodes(&rt, group_4(8, 1, "s"), &[0x00, 0x18], &[&[]], Ok(2));
+    decodes_each(
+        &rt,
+        "Group4 8 columns 1 rows | 60 | [[]] Ok(1)
+        Group4 8 columns 1 rows s | 60 | [] Err(InvalidCode)
+        Group4 8 columns 1 rows | 0018 | [[]] Ok(2)
+        Group4 8 columns 1 rows s | 0018 | [[]] Ok(2)",
+    );
 }
 
 #[test]
 fn aligned_rows(rt: HostRuntime) {
-    decodes(&rt, group_4(8, 0, "a"), &[0x80], &[&[]], Ok(1));
-    let rows: &[&[u32]] = &[&[3, 5], &[3, 5]];
-    decodes(&rt, group_4(8, 2, "a"), &[0x31, 0xC0, 0xE0], rows, Ok(3));
-    let closed = [0x31, 0xC0, 0xE0, 0x00, 0x10, 0x01];
-    decodes(&rt, group_4(8, 0, "ba"), &closed, rows, Ok(6));
+    decodes_each(
+        &rt,
+        "Group4 8 columns 0 rows a | 80 | [[]] Ok(1)
+        Group4 8 columns 2 rows a | 31C0E0 | [[3, 5], [3, 5]] Ok(3)
+        Group4 8 columns 0 rows ba | 31C0E0001001 | [[3, 5], [3, 5]] Ok(6)",
+    );
 }
 
 #[test]
 fn ends_of_an_image(rt: HostRuntime) {
-    decodes(&rt, group_4(8, 1, ""), &[], &[], Ok(0));
-    decodes(&rt, group_4(0, 0, ""), &[0x31, 0xC0], &[], Ok(0));
-    let closed = [0x80, 0x08, 0x00, 0x80];
-    decodes(&rt, group_4(8, 0, "b"), &closed, &[&[]], Ok(4));
-    decodes(&rt, group_4(8, 1, "b"), &closed, &[&[]], Ok(4));
-    decodes(&rt, group_4(8, 0, "b"), &[0x00, 0x10, 0x01], &[], Ok(3));
-    let more = [0x80, 0x08, 0x00, 0x80, 0x00, 0x10, 0x01];
-    decodes(&rt, group_4(8, 0, "b"), &more, &[&[]], Ok(4));
-    decodes(&rt, group_4(8, 1, ""), &more, &[&[]], Ok(7));
+    decodes_each(
+        &rt,
+        "Group4 8 columns 1 rows | | [] Ok(0)
+        Group4 0 columns 0 rows | 31C0 | [] Ok(0)
+        Group4 8 columns 0 rows b | 80080080 | [[]] Ok(4)
+        Group4 8 columns 1 rows b | 80080080 | [[]] Ok(4)
+        Group4 8 columns 0 rows b | 001001 | [] Ok(3)
+        Group4 8 columns 0 rows b | 80080080001001 | [[]] Ok(4)
+        Group4 8 columns 1 rows | 80080080001001 | [[]] Ok(7)",
+    );
 }
 
 #[test]
 fn widest_rows(rt: HostRuntime) {
-    let one_row = group_4(u32::MAX, 1, "");
-    decodes(&rt, one_row, &[0x80], &[&[]], Ok(1));
-    decodes(&rt, one_row, &[0x50], &[&[4294967294]], Ok(1));
-    decodes(&rt, one_row, &[0x60], &[], Err(Overflow));
-    let strict = group_4(u32::MAX, 1, "s");
-    decodes(&rt, strict, &[0x60], &[], Err(Overflow));
-    let rows: &[&[u32]] = &[&[4294967294], &[4294967294]];
-    decodes(&rt, group_4(u32::MAX, 2, ""), &[0x5C], rows, Ok(1));
+    decodes_each(
+        &rt,
+        "Group4 4294967295 columns 1 rows | 80 | [[]] Ok(1)
+        Group4 4294967295 columns 1 rows | 50 | [[4294967294]] Ok(1)
+        Group4 4294967295 columns 1 rows | 60 | [] Err(Overflow)
+        Group4 4294967295 columns 1 rows s | 60 | [] Err(Overflow)
+        Group4 4294967295 columns 2 rows | 5C | [[4294967294], [4294967294]] Ok(1)",
+    );
 }
 
 #[test]
-fn rows_of_many_changes(rt: HostRuntime) -> std::result::Result<(), Fail> {
+fn rows_of_many_changes(rt: HostRuntime) {
     let mut changes = Vec::new(rt.alloc());
     for place in 1..4096u32 {
-        changes.push(place)?;
+        assert!(rt; changes.push(place).is_ok());
     }
     let settings = group_4(4096, 2, "");
-    let runs = [0x23, 0xA2, 0x3A];
-    let then_white = [0x20, 0x3E, 0x99, 0x35, 0x0D, 0xC0];
-    let data = repeated(rt.alloc(), &runs, 1024, &then_white)?;
+    let runs = "23A23A";
+    let then_white = bytes_of(&rt, "203E99350DC0");
+    let data = repeated(&rt, runs, 1024, &then_white);
     decodes(&rt, settings, &data, &[&changes, &[]], Ok(3078));
-    let verticals = repeated(rt.alloc(), &[0xFF], 512, &[])?;
-    let data = repeated(rt.alloc(), &runs, 1024, &verticals)?;
+    let verticals = repeated(&rt, "FF", 512, &[]);
+    let data = repeated(&rt, runs, 1024, &verticals);
     decodes(&rt, settings, &data, &[&changes, &changes], Ok(3584));
-    Ok(())
 }
 
 #[test]
 fn refusals_of_rows(rt: HostRuntime) {
-    let rows: &[&[u32]] = &[&[3, 5], &[3, 5]];
-    refuses_each(&rt, group_4(8, 2, ""), &[0x31, 0xF8], rows, Ok(2));
-    let white: &[&[u32]] = &[&[], &[], &[]];
-    refuses_each(&rt, group_4(8, 0, "a"), &[0x80; 3], white, Ok(3));
-    let closed = [0x31, 0xC0, 0xE0, 0x00, 0x10, 0x01];
-    refuses_each(&rt, group_4(8, 0, "ba"), &closed, rows, Ok(6));
+    refuses_each(&rt, group_4(8, 2, ""), "31F8", "[[3, 5], [3, 5]] Ok(2)");
+    refuses_each(&rt, group_4(8, 0, "a"), "808080", "[[], [], []] Ok(3)");
+    refuses_each(
+        &rt,
+        group_4(8, 0, "ba"),
+        "31C0E0001001",
+        "[[3, 5], [3, 5]] Ok(6)",
+    );
 }
 
 #[test]
-fn one_context_decodes_again(rt: HostRuntime) -> std::result::Result<(), Fail> {
-    let mut ctx = DecoderContext::new(rt.alloc(), group_4(8, 2, ""))?;
-    let left_of_the_row = [0x26, 0xA2, 0xA0];
-    decodes_in(&rt, &mut ctx, &left_of_the_row, &[&[0]], Err(Overflow));
-    decodes_in(&rt, &mut ctx, &[0xC0], &[&[], &[]], Ok(1));
-    Ok(())
+fn one_context_decodes_again(rt: HostRuntime) {
+    let mut ctx = context_of(&rt, group_4(8, 2, ""));
+    // left of the row
+    decodes_as(&rt, &mut ctx, "26A2A0", "[[0]] Err(Overflow)");
+    decodes_as(&rt, &mut ctx, "C0", "[[], []] Ok(1)");
 }
 
 #[test]
 fn cut_before_and_in_eofb(rt: HostRuntime) {
-    let settings = group_4(8, 0, "b");
-    let data = [0x80, 0x08, 0x00, 0x80];
-    for (length, answer) in [
-        (1, Err(InvalidCode)),
-        (2, Err(UnexpectedEof)),
-        (3, Err(InvalidCode)),
-        (4, Ok(4)),
-    ] {
-        decodes(&rt, settings, &data[..length], &[&[]], answer);
-    }
-    decodes(&rt, settings, &[], &[], Ok(0));
-    decodes(&rt, settings, &[0x00], &[], Err(InvalidCode));
-    decodes(&rt, settings, &[0x00, 0x10], &[], Err(UnexpectedEof));
+    decodes_each(
+        &rt,
+        "Group4 8 columns 0 rows b | 80 | [[]] Err(InvalidCode)
+        Group4 8 columns 0 rows b | 8008 | [[]] Err(UnexpectedEof)
+        Group4 8 columns 0 rows b | 800800 | [[]] Err(InvalidCode)
+        Group4 8 columns 0 rows b | 80080080 | [[]] Ok(4)
+        Group4 8 columns 0 rows b | | [] Ok(0)
+        Group4 8 columns 0 rows b | 00 | [] Err(InvalidCode)
+        Group4 8 columns 0 rows b | 0010 | [] Err(UnexpectedEof)",
+    );
 }
 
 #[test]
 fn cut_after_the_row_limit(rt: HostRuntime) {
-    let settings = group_4(8, 1, "");
-    let data = [0x80, 0x08, 0x00, 0x80, 0x00, 0x10, 0x01];
-    decodes(&rt, settings, &[], &[], Ok(0));
-    for (length, read) in [(1, 1), (2, 2), (3, 2), (4, 4), (5, 4), (6, 6), (7, 7)] {
-        decodes(&rt, settings, &data[..length], &[&[]], Ok(read));
-    }
+    decodes_each(
+        &rt,
+        "Group4 8 columns 1 rows | | [] Ok(0)
+        Group4 8 columns 1 rows | 80 | [[]] Ok(1)
+        Group4 8 columns 1 rows | 8008 | [[]] Ok(2)
+        Group4 8 columns 1 rows | 800800 | [[]] Ok(2)
+        Group4 8 columns 1 rows | 80080080 | [[]] Ok(4)
+        Group4 8 columns 1 rows | 8008008000 | [[]] Ok(4)
+        Group4 8 columns 1 rows | 800800800010 | [[]] Ok(6)
+        Group4 8 columns 1 rows | 80080080001001 | [[]] Ok(7)",
+    );
 }
 
 #[test]
 fn cut_between_and_in_rows(rt: HostRuntime) {
-    let unexpected_end = Err(UnexpectedEof);
-    let aligned = group_4(8, 0, "ba");
-    let rows: &[&[u32]] = &[&[3, 5], &[3, 5]];
-    let data = [0x31, 0xC0, 0xE0, 0x00, 0x10];
-    for (length, count, answer) in [
-        (0, 0, Ok(0)),
-        (1, 0, unexpected_end),
-        (2, 1, Ok(2)),
-        (3, 2, Ok(3)),
-        (4, 2, Err(InvalidCode)),
-        (5, 2, unexpected_end),
-    ] {
-        decodes(&rt, aligned, &data[..length], &rows[..count], answer);
-    }
-    let packed = group_4(8, 2, "");
-    decodes(&rt, packed, &[0x31], &[], unexpected_end);
-    decodes(&rt, packed, &[0x31, 0xDB], &[&[3, 5]], unexpected_end);
-    decodes(&rt, packed, &[0x38, 0xA0, 0x81], &[&[5, 6]], unexpected_end);
+    decodes_each(
+        &rt,
+        "Group4 8 columns 0 rows ba | | [] Ok(0)
+        Group4 8 columns 0 rows ba | 31 | [] Err(UnexpectedEof)
+        Group4 8 columns 0 rows ba | 31C0 | [[3, 5]] Ok(2)
+        Group4 8 columns 0 rows ba | 31C0E0 | [[3, 5], [3, 5]] Ok(3)
+        Group4 8 columns 0 rows ba | 31C0E000 | [[3, 5], [3, 5]] Err(InvalidCode)
+        Group4 8 columns 0 rows ba | 31C0E00010 | [[3, 5], [3, 5]] Err(UnexpectedEof)
+        Group4 8 columns 2 rows | 31 | [] Err(UnexpectedEof)
+        Group4 8 columns 2 rows | 31DB | [[3, 5]] Err(UnexpectedEof)
+        Group4 8 columns 2 rows | 38A081 | [[5, 6]] Err(UnexpectedEof)",
+    );
 }
 
 #[test]
@@ -482,8 +452,7 @@ fn runs_that_are_none(rt: HostRuntime) -> std::result::Result<(), Fail> {
 
 #[test]
 fn reads_modes(rt: HostRuntime) {
-    let data = [0x13, 0x61, 0x83, 0x41, 0x02];
-    assert!(rt; bits_fit(&data));
+    let data = bytes_of(&rt, "1361834102");
     let mut reader = BitReader::new(&data);
     let mut ticks = Ticks::new();
     for mode in [
@@ -506,8 +475,7 @@ fn reads_modes(rt: HostRuntime) {
 #[test]
 fn reads_line_ends(rt: HostRuntime) {
     let mut ticks = Ticks::new();
-    let two_and_a_one = [0x00, 0x10, 0x01, 0x80];
-    assert!(rt; bits_fit(&two_and_a_one));
+    let two_and_a_one = bytes_of(&rt, "00100180");
     let mut reader = BitReader::new(&two_and_a_one);
     let (zeros, after) = reader.zero_run(&mut ticks);
     same(
@@ -556,8 +524,8 @@ fn colors_and_ticks(rt: HostRuntime) {
 }
 
 #[test]
-fn makes_and_resets_a_context(rt: HostRuntime) -> std::result::Result<(), Fail> {
-    let mut ctx = DecoderContext::new(rt.alloc(), group_4(8, 2, "s"))?;
+fn makes_and_resets_a_context(rt: HostRuntime) {
+    let mut ctx = context_of(&rt, group_4(8, 2, "s"));
     let settings = ctx.settings();
     same(
         &rt,
@@ -566,188 +534,186 @@ fn makes_and_resets_a_context(rt: HostRuntime) -> std::result::Result<(), Fail> 
     );
     same(&rt, (ctx.decoded_rows(), ctx.has_eols()), (0, false));
     ctx.ticks().tick();
-    decodes_in(&rt, &mut ctx, &[0xC0], &[&[], &[]], Ok(1));
+    decodes_as(&rt, &mut ctx, "C0", "[[], []] Ok(1)");
     ctx.set_has_eols(true);
     same(&rt, (ctx.decoded_rows(), ctx.has_eols()), (2, true));
     ctx.reset();
     same(&rt, (ctx.decoded_rows(), ctx.has_eols()), (0, false));
-    Ok(())
 }
 
 #[test]
-fn draws_lines(rt: HostRuntime) -> std::result::Result<(), Fail> {
-    let mut ctx = DecoderContext::new(rt.alloc(), group_4(8, 0, ""))?;
+fn draws_lines(rt: HostRuntime) {
+    let mut ctx = context_of(&rt, group_4(8, 0, ""));
     let mut sink = sink_of(rt.alloc(), 8, 2);
-    let data = [0x31, 0xC0];
-    assert!(rt; bits_fit(&data));
+    let data = bytes_of(&rt, "31C0");
     let mut reader = BitReader::new(&data);
-    same(&rt, (ctx.b1(), ctx.b2()), (8, 8));
-    same(&rt, decode_2d_line(&mut ctx, &mut reader), Ok(()));
-    same(&rt, reader.bit_pos(), 10);
-    same(&rt, ctx.next_line(&mut sink), Ok(()));
-    same(&rt, (ctx.b1(), ctx.b2()), (3, 5));
-    same(&rt, ctx.push_pixels(4), Ok(()));
-    same(&rt, (ctx.b1(), ctx.b2()), (8, 8));
-    same(&rt, ctx.next_line(&mut sink), Ok(()));
-    has_rows(&rt, &sink, &[&[3, 5], &[]], &data);
-    same(&rt, ctx.decoded_rows(), 2);
+    let before = (ctx.b1(), ctx.b2());
+    let drawn = decode_2d_line(&mut ctx, &mut reader);
+    let moved = ctx.next_line(&mut sink);
+    same(
+        &rt,
+        (before, drawn, moved, reader.bit_pos()),
+        ((8, 8), Ok(()), Ok(()), 10),
+    );
+    let below = (ctx.b1(), ctx.b2());
+    let painted = ctx.push_pixels(4);
+    let behind = (ctx.b1(), ctx.b2());
+    let moved = ctx.next_line(&mut sink);
+    same(
+        &rt,
+        (below, painted, behind, moved, ctx.decoded_rows()),
+        ((3, 5), Ok(()), (8, 8), Ok(()), 2),
+    );
+    has_rows(&rt, &sink, "[[3, 5], []]");
     same(&rt, ctx.next_line(&mut sink), Err(Refused));
-    Ok(())
 }
 
 /// White 3, black 2, white 3; and white 8.
 #[test]
-fn draws_lines_of_runs(rt: HostRuntime) -> std::result::Result<(), Fail> {
-    let mut ctx = DecoderContext::new(rt.alloc(), group_4(8, 0, ""))?;
+fn draws_lines_of_runs(rt: HostRuntime) {
+    let mut ctx = context_of(&rt, group_4(8, 0, ""));
     let mut sink = sink_of(rt.alloc(), 8, 2);
-    let data = [0x8E, 0x26];
-    assert!(rt; bits_fit(&data));
+    let data = bytes_of(&rt, "8E26");
     let mut reader = BitReader::new(&data);
-    same(&rt, decode_1d_line(&mut ctx, &mut reader), Ok(()));
-    same(&rt, reader.bit_pos(), 10);
-    same(&rt, ctx.next_line(&mut sink), Ok(()));
-    same(&rt, decode_1d_line(&mut ctx, &mut reader), Ok(()));
-    same(&rt, reader.bit_pos(), 15);
-    same(&rt, ctx.next_line(&mut sink), Ok(()));
-    has_rows(&rt, &sink, &[&[3, 5], &[]], &data);
+    let drawn = decode_1d_line(&mut ctx, &mut reader);
+    let moved = ctx.next_line(&mut sink);
+    same(&rt, (drawn, moved, reader.bit_pos()), (Ok(()), Ok(()), 10));
+    let drawn = decode_1d_line(&mut ctx, &mut reader);
+    let moved = ctx.next_line(&mut sink);
+    same(&rt, (drawn, moved, reader.bit_pos()), (Ok(()), Ok(()), 15));
+    has_rows(&rt, &sink, "[[3, 5], []]");
     same(
         &rt,
         decode_1d_line(&mut ctx, &mut reader),
         Err(UnexpectedEof),
     );
-    Ok(())
 }
 
 #[test]
-fn decodes_from_a_reader(rt: HostRuntime) -> std::result::Result<(), Fail> {
-    let mut ctx = DecoderContext::new(rt.alloc(), group_4(8, 0, "b"))?;
+fn decodes_from_a_reader(rt: HostRuntime) {
+    let mut ctx = context_of(&rt, group_4(8, 0, "b"));
     let mut sink = sink_of(rt.alloc(), 8, 9);
-    let data = [0x80, 0x08, 0x00, 0x80];
-    assert!(rt; bits_fit(&data));
+    let data = bytes_of(&rt, "80080080");
     let mut reader = BitReader::new(&data);
-    same(
-        &rt,
-        group4::decode(&mut ctx, &mut reader, &mut sink),
-        Ok(()),
-    );
-    same(&rt, reader.bit_pos(), 25);
-    has_rows(&rt, &sink, &[&[]], &data);
-    Ok(())
+    let decoded = group4::decode(&mut ctx, &mut reader, &mut sink);
+    same(&rt, (decoded, reader.bit_pos()), (Ok(()), 25));
+    has_rows(&rt, &sink, "[[]]");
+}
+
+/// Makes a reader of rows.
+fn reader_of<'a>(
+    rt: &(impl Abort + AllocGlobal),
+    data: &'a [u8],
+    settings: DecodeSettings,
+) -> RowReader<'a>
+    requires { BitsFit «data».now }
+{
+    RowReader::new(rt.alloc(), data, BitOrder::HighestFirst, settings).expect(rt, "memory")
+}
+
+/// Makes a cursor over rows.
+fn cursor_of(rt: &(impl Abort + AllocGlobal), data: &[u8], settings: DecodeSettings) -> RowCursor
+    requires { BitsFit «data».now }
+{
+    RowCursor::new(rt.alloc(), data, BitOrder::HighestFirst, settings).expect(rt, "memory")
 }
 
 /// What a reader of rows says of each row, and at the end.
 fn reads_rows(
     rt: &(impl Abort + AllocGlobal),
-    data: &[u8],
+    digits: &str,
     settings: DecodeSettings,
     rows: &[(&[u32], usize)],
     end: Result<bool>,
     bytes: usize,
 ) {
-    assert!(rt; bits_fit(data));
-    let mut reader = RowReader::new(rt.alloc(), data, BitOrder::HighestFirst, settings).expect(
-        rt, "memory",
-    );
-    let mut cursor = RowCursor::new(rt.alloc(), data, BitOrder::HighestFirst, settings).expect(
-        rt, "memory",
-    );
+    let data = &bytes_of(rt, digits);
+    let mut reader = reader_of(rt, data, settings);
+    let mut cursor = cursor_of(rt, data, settings);
     for (row, start) in rows {
+        let found = (reader.next_row(), cursor.next_row(data));
+        same(rt, found, (Ok(true), Ok(true)));
         same(
             rt,
-            (reader.next_row(), cursor.next_row(data)),
-            (Ok(true), Ok(true)),
+            (
+                (reader.row(), reader.line_start()),
+                (cursor.row(), cursor.line_start()),
+                cursor.damage(),
+            ),
+            ((*row, *start), (*row, *start), reader.damage()),
         );
-        same(rt, (reader.row(), reader.line_start()), (*row, *start));
-        same(rt, (cursor.row(), cursor.line_start()), (*row, *start));
-        same(rt, cursor.damage(), reader.damage());
     }
-    same(rt, (reader.next_row(), cursor.next_row(data)), (end, end));
+    // It stays at the end.
+    for _ in 0..2 {
+        same(rt, (reader.next_row(), cursor.next_row(data)), (end, end));
+    }
+    let count = rows.len() as u64;
     same(
         rt,
         (
-            "it stays at the end",
-            (reader.next_row(), cursor.next_row(data)),
-        ),
-        ("it stays at the end", (end, end)),
-    );
-    same(
-        rt,
-        (reader.rows_read(), reader.bytes_read()),
-        (rows.len() as u64, bytes),
-    );
-    same(
-        rt,
-        (
-            cursor.rows_read(),
-            cursor.bytes_read(),
+            (reader.rows_read(), reader.bytes_read()),
+            (cursor.rows_read(), cursor.bytes_read()),
             cursor.damaged_rows(),
+            cursor.settings().columns,
         ),
-        (rows.len() as u64, bytes, reader.damaged_rows()),
+        (
+            (count, bytes),
+            (count, bytes),
+            reader.damaged_rows(),
+            settings.columns,
+        ),
     );
-    same(rt, cursor.settings().columns, settings.columns);
 }
 
 #[test]
 fn rows_one_at_a_time(rt: HostRuntime) {
     // An EOL and a white line, an EOL and 3 white pixels, 2 black ones and 3 white ones, an EOL and a white line.
-    let lines = [0x00, 0x19, 0x80, 0x0C, 0x70, 0x00, 0x33];
+    let lines = "0019800C700033";
     let rows: [(&[u32], usize); 3] = [(&[], 12), (&[3, 5], 29), (&[], 51)];
-    reads_rows(&rt, &lines, group_3_1d(8, 0, "l"), &rows, Ok(false), 7);
-    reads_rows(&rt, &lines, group_3_1d(8, 2, "l"), &rows[..2], Ok(false), 7);
+    reads_rows(&rt, lines, group_3_1d(8, 0, "l"), &rows, Ok(false), 7);
+    reads_rows(&rt, lines, group_3_1d(8, 2, "l"), &rows[..2], Ok(false), 7);
     // Horizontal mode, 3 white pixels, 2 black ones, V0; then EOFB.
-    let page = [0x31, 0xC0, 0x04, 0x00, 0x40];
-    reads_rows(
-        &rt,
-        &page,
-        group_4(8, 0, "b"),
-        &[(&[3, 5], 0)],
-        Ok(false),
-        5,
-    );
+    let page = "31C0040040";
+    reads_rows(&rt, page, group_4(8, 0, "b"), &[(&[3, 5], 0)], Ok(false), 5);
     // The same row, and then padding that is no mode.
-    let padded = [0x31, 0xC0];
+    let padded = "31C0";
     reads_rows(
         &rt,
-        &padded,
+        padded,
         group_4(8, 0, ""),
         &[(&[3, 5], 0)],
         Err(InvalidCode),
         2,
     );
-    reads_rows(&rt, &padded, group_4(0, 0, ""), &[], Ok(false), 0);
+    reads_rows(&rt, padded, group_4(0, 0, ""), &[], Ok(false), 0);
 }
 
 /// What a reader of rows says of the damage of each row, and a context of their number.
 fn tells_damage(
     rt: &(impl Abort + AllocGlobal),
-    data: &[u8],
+    digits: &str,
     settings: DecodeSettings,
     faults: &[Option<DecodeError>],
 ) {
-    assert!(rt; bits_fit(data));
-    let mut reader = RowReader::new(rt.alloc(), data, BitOrder::HighestFirst, settings).expect(
-        rt, "memory",
-    );
+    let data = &bytes_of(rt, digits);
+    let mut reader = reader_of(rt, data, settings);
     same(rt, (reader.damage(), reader.damaged_rows()), (None, 0));
     let mut damaged_rows = 0u64;
     for fault in faults {
         if fault.is_some() {
             damaged_rows = damaged_rows.saturating_add(1);
         }
-        same(rt, reader.next_row(), Ok(true));
+        let found = reader.next_row();
         same(
             rt,
-            (reader.damage(), reader.damaged_rows()),
-            (*fault, damaged_rows),
+            (found, reader.damage(), reader.damaged_rows()),
+            (Ok(true), *fault, damaged_rows),
         );
     }
     assert!(rt; reader.next_row() != Ok(true), "no row more");
-    let Ok(mut ctx) = DecoderContext::new(rt.alloc(), settings) else {
-        panic!(rt; "no memory");
-    };
+    let mut ctx = context_of(rt, settings);
     for _ in 0..2 {
-        let mut sink = sink_of(rt.alloc(), ctx.settings().columns, usize::MAX);
-        let _ = decode(data, &mut sink, &mut ctx);
+        let _ = decoded(rt, &mut ctx, data, usize::MAX);
         same(
             rt,
             ("of each image alone", ctx.damaged_rows()),
@@ -761,38 +727,30 @@ fn tells_damage(
 #[test]
 fn damage_is_told(rt: HostRuntime) {
     // The black run of the middle line has no word.
-    let damaged = [0x00, 0x19, 0x80, 0x0C, 0x40, 0x00, 0x33];
+    let damaged = "0019800C400033";
     let middle = [None, Some(InvalidCode), None];
-    tells_damage(&rt, &damaged, group_3_1d(8, 0, "l"), &middle);
-    tells_damage(&rt, &damaged, group_3_1d(8, 2, "l"), &middle[..2]);
+    tells_damage(&rt, damaged, group_3_1d(8, 0, "l"), &middle);
+    tells_damage(&rt, damaged, group_3_1d(8, 2, "l"), &middle[..2]);
     // A line's end is damaged: the row is whole, and a strict reading fails at the bits behind it.
-    let whole = [0x00, 0x19, 0xF8, 0x00, 0xCC];
-    tells_damage(&rt, &whole, group_3_1d(8, 2, "l"), &[None, None]);
-    tells_damage(&rt, &[], group_3_1d(8, 0, "l"), &[Some(UnexpectedEof)]);
-    tells_damage(
-        &rt,
-        &[0x18, 0xC0],
-        group_3_2d(8, 0, "l"),
-        &[Some(InvalidCode)],
-    );
-    tells_damage(&rt, &[0x31, 0xC0], group_4(8, 0, ""), &[None]);
+    let whole = "0019F800CC";
+    tells_damage(&rt, whole, group_3_1d(8, 2, "l"), &[None, None]);
+    tells_damage(&rt, "", group_3_1d(8, 0, "l"), &[Some(UnexpectedEof)]);
+    tells_damage(&rt, "18C0", group_3_2d(8, 0, "l"), &[Some(InvalidCode)]);
+    tells_damage(&rt, "31C0", group_4(8, 0, ""), &[None]);
 }
 
 /// How many EOLs a context says were missed, where the sink accepts this number of rows.
 fn tells_missed(
     rt: &(impl Abort + AllocGlobal),
-    data: &[u8],
+    digits: &str,
     settings: DecodeSettings,
     room: usize,
     missed: u64,
 ) {
-    assert!(rt; bits_fit(data));
-    let Ok(mut ctx) = DecoderContext::new(rt.alloc(), settings) else {
-        panic!(rt; "no memory");
-    };
+    let data = &bytes_of(rt, digits);
+    let mut ctx = context_of(rt, settings);
     for _ in 0..2 {
-        let mut sink = sink_of(rt.alloc(), ctx.settings().columns, room);
-        let _ = decode(data, &mut sink, &mut ctx);
+        let _ = decoded(rt, &mut ctx, data, room);
         same(
             rt,
             ("of each image alone", ctx.missed_eols()),
@@ -806,78 +764,76 @@ fn tells_missed(
 /// How many EOLs a reader and a cursor say were missed, after each row and at the end, and where the last call missed one.
 fn tells_missed_of_rows(
     rt: &(impl Abort + AllocGlobal),
-    data: &[u8],
+    digits: &str,
     settings: DecodeSettings,
     missed: &[(u64, Option<usize>)],
 ) {
-    assert!(rt; bits_fit(data));
-    let mut reader = RowReader::new(rt.alloc(), data, BitOrder::HighestFirst, settings).expect(
-        rt, "memory",
-    );
-    let mut cursor = RowCursor::new(rt.alloc(), data, BitOrder::HighestFirst, settings).expect(
-        rt, "memory",
-    );
-    assert_eq!(rt; reader.missed_eol(), None);
+    let data = &bytes_of(rt, digits);
+    let mut reader = reader_of(rt, data, settings);
+    let mut cursor = cursor_of(rt, data, settings);
+    same(rt, reader.missed_eol(), None);
     for (count, place) in missed {
         let _ = reader.next_row();
         let _ = cursor.next_row(data);
         same(
             rt,
-            (reader.missed_eols(), cursor.missed_eols()),
-            (*count, *count),
+            (
+                reader.missed_eols(),
+                cursor.missed_eols(),
+                reader.missed_eol(),
+            ),
+            (*count, *count, *place),
         );
-        assert_eq!(rt; reader.missed_eol(), *place);
     }
 }
 
 #[test]
 fn missed_eols_are_told(rt: HostRuntime) {
     // Bits behind a whole line, and then an EOL: missed once the second line is read.
-    let whole = [0x00, 0x19, 0xF8, 0x00, 0xCC];
-    tells_missed(&rt, &whole, group_3_1d(8, 2, "l"), usize::MAX, 1);
-    tells_missed(&rt, &whole, group_3_1d(8, 1, "l"), usize::MAX, 0);
-    tells_missed(&rt, &whole, group_3_1d(8, 2, "ls"), usize::MAX, 0);
-    tells_missed(&rt, &whole, group_3_1d(8, 2, "l"), 1, 1);
-    tells_missed(&rt, &whole, group_3_1d(8, 2, "l"), 0, 0);
+    let whole = "0019F800CC";
+    tells_missed(&rt, whole, group_3_1d(8, 2, "l"), usize::MAX, 1);
+    tells_missed(&rt, whole, group_3_1d(8, 1, "l"), usize::MAX, 0);
+    tells_missed(&rt, whole, group_3_1d(8, 2, "ls"), usize::MAX, 0);
+    tells_missed(&rt, whole, group_3_1d(8, 2, "l"), 1, 1);
+    tells_missed(&rt, whole, group_3_1d(8, 2, "l"), 0, 0);
     let behind_first = [(0, None), (1, Some(17)), (1, None)];
-    tells_missed_of_rows(&rt, &whole, group_3_1d(8, 2, "l"), &behind_first);
+    tells_missed_of_rows(&rt, whole, group_3_1d(8, 2, "l"), &behind_first);
     let none_left = [(0, None), (1, Some(4)), (1, None), (1, None)];
-    tells_missed_of_rows(&rt, &[0x77, 0x70], group_3_1d(2, 0, "l"), &none_left);
+    tells_missed_of_rows(&rt, "7770", group_3_1d(2, 0, "l"), &none_left);
     // No EOL is left.
-    tells_missed(&rt, &[0x77, 0x70], group_3_1d(2, 0, "l"), usize::MAX, 1);
+    tells_missed(&rt, "7770", group_3_1d(2, 0, "l"), usize::MAX, 1);
     // The search for an EOL is the repair of the damaged line.
-    let damaged = [0x00, 0x19, 0x80, 0x0C, 0x40, 0x00, 0x33];
-    tells_missed(&rt, &damaged, group_3_1d(8, 0, "l"), usize::MAX, 0);
-    tells_missed(&rt, &[0x31, 0xC0], group_4(8, 0, ""), usize::MAX, 0);
+    let damaged = "0019800C400033";
+    tells_missed(&rt, damaged, group_3_1d(8, 0, "l"), usize::MAX, 0);
+    tells_missed(&rt, "31C0", group_4(8, 0, ""), usize::MAX, 0);
 }
 
 /// Where a reader of rows stands after an error.
 fn fails_at(
     rt: &(impl Abort + AllocGlobal),
-    data: &[u8],
+    digits: &str,
     settings: DecodeSettings,
     rows: u64,
     place: usize,
 ) {
-    assert!(rt; bits_fit(data));
-    let mut reader = RowReader::new(rt.alloc(), data, BitOrder::HighestFirst, settings).expect(
-        rt, "memory",
-    );
+    let data = &bytes_of(rt, digits);
+    let mut reader = reader_of(rt, data, settings);
     for _ in 0..rows {
         same(rt, reader.next_row(), Ok(true));
     }
-    same(rt, reader.next_row(), Err(InvalidCode));
-    same(rt, (reader.rows_read(), reader.line_start()), (rows, place));
-    let Ok(mut ctx) = DecoderContext::new(rt.alloc(), settings) else {
-        panic!(rt; "no memory");
-    };
+    let failed = reader.next_row();
+    same(
+        rt,
+        (failed, reader.rows_read(), reader.line_start()),
+        (Err(InvalidCode), rows, place),
+    );
+    let mut ctx = context_of(rt, settings);
     for _ in 0..2 {
-        let mut sink = sink_of(rt.alloc(), ctx.settings().columns, usize::MAX);
-        same(rt, decode(data, &mut sink, &mut ctx), Err(InvalidCode));
+        let (failed, _) = decoded(rt, &mut ctx, data, usize::MAX);
         same(
             rt,
-            (ctx.decoded_rows(), ctx.fault_start()),
-            (rows, Some(place)),
+            (failed, ctx.decoded_rows(), ctx.fault_start()),
+            (Err(InvalidCode), rows, Some(place)),
         );
     }
     ctx.reset();
@@ -887,40 +843,36 @@ fn fails_at(
 /// Where decoding stands after a sink refused the row with this index.
 fn refused_at(
     rt: &(impl Abort + AllocGlobal),
-    data: &[u8],
+    digits: &str,
     settings: DecodeSettings,
     index: usize,
     place: usize,
 ) {
-    assert!(rt; bits_fit(data));
-    let Ok(mut ctx) = DecoderContext::new(rt.alloc(), settings) else {
-        panic!(rt; "no memory");
-    };
-    let mut sink = sink_of(rt.alloc(), ctx.settings().columns, index);
-    same(rt, decode(data, &mut sink, &mut ctx), Err(Refused));
+    let data = &bytes_of(rt, digits);
+    let mut ctx = context_of(rt, settings);
+    let (refused, _) = decoded(rt, &mut ctx, data, index);
     same(
         rt,
-        (ctx.decoded_rows(), ctx.fault_start()),
-        (index as u64, Some(place)),
+        (refused, ctx.decoded_rows(), ctx.fault_start()),
+        (Err(Refused), index as u64, Some(place)),
     );
-    let mut all = sink_of(rt.alloc(), ctx.settings().columns, usize::MAX);
-    let _ = decode(data, &mut all, &mut ctx);
+    let _ = decoded(rt, &mut ctx, data, usize::MAX);
     same(rt, ctx.fault_start(), None);
 }
 
 #[test]
 fn faults_have_a_place(rt: HostRuntime) {
     // The second line's black run has no word.
-    let damaged = [0x00, 0x19, 0x80, 0x0C, 0x40, 0x00, 0x33];
-    fails_at(&rt, &damaged, group_3_1d(8, 0, "ls"), 1, 29);
+    let damaged = "0019800C400033";
+    fails_at(&rt, damaged, group_3_1d(8, 0, "ls"), 1, 29);
     // Bits stand before the second EOL, from the end of the first line on.
-    let whole = [0x00, 0x19, 0xF8, 0x00, 0xCC];
-    fails_at(&rt, &whole, group_3_1d(8, 2, "ls"), 1, 17);
+    let whole = "0019F800CC";
+    fails_at(&rt, whole, group_3_1d(8, 2, "ls"), 1, 17);
     // One row, and then padding that is no mode.
-    fails_at(&rt, &[0x31, 0xC0], group_4(8, 0, ""), 1, 10);
+    fails_at(&rt, "31C0", group_4(8, 0, ""), 1, 10);
     // A whole row is refused, and one that was repaired.
-    refused_at(&rt, &[0x31, 0xF8], group_4(8, 2, ""), 1, 10);
-    refused_at(&rt, &damaged, group_3_1d(8, 3, "l"), 1, 29);
+    refused_at(&rt, "31F8", group_4(8, 2, ""), 1, 10);
+    refused_at(&rt, damaged, group_3_1d(8, 3, "l"), 1, 29);
 }
 
 #[test]

@@ -1,11 +1,14 @@
 //! The reader's calls on data of each length from 0 to 40 bytes, in either order of bits, beside a plain list of its bits.
 
+ghost use Rattle.hayro_ccitt.specs.Bits.{BitsFit};
+ghost use Rattle.std.specs.Prelude.{◌≤◌};
+
 use super::same;
 use hayro_ccitt::DecodeError::UnexpectedEof;
 use hayro_ccitt::bit_reader::BitReader;
 use hayro_ccitt::bits_fit;
 use hayro_ccitt::codes::Ticks;
-use std::test::Fail;
+use std::process::Abort;
 
 const DATA: [u8; 40] = [
     0xC9, 0x0F, 0xDA, 0xA2, 0x21, 0x68, 0xC2, 0x34, 0xC4, 0xC6, 0x62, 0x8B, 0x80, 0xDC, 0x1C, 0xD1,
@@ -37,95 +40,103 @@ fn first_32(bits: &[u8]) -> u32 {
     number
 }
 
-/// By each number of bits to the end, and twice past it.
+/// Makes a reader in an order of bits.
+fn ordered_reader<'a>(data: &'a [u8], is_low_first: bool) -> BitReader<'a>
+    requires { BitsFit «data».now }
+{
+    if is_low_first {
+        BitReader::new_low_first(data)
+    } else {
+        BitReader::new(data)
+    }
+}
+
+/// Consumes a number of bits to the end, and twice past it.
+fn consumes_by(rt: &impl Abort, reader: &mut BitReader, bits: &[u8], n: usize)
+    requires { n ≤ 32 }
+{
+    let mut rest = bits;
+    for _ in 0..(bits.len() / n.max(1)).saturating_add(2) {
+        let first = first_32(rest);
+        let answer = if n <= rest.len() {
+            Ok(())
+        } else {
+            Err(UnexpectedEof)
+        };
+        rest = rest.get(n..).unwrap_or(&[]);
+        let peeked = reader.peek_u32();
+        let consumed = reader.consume(n);
+        let place = bits.len().checked_sub(rest.len());
+        same(
+            rt,
+            (n, bits.len(), peeked, consumed, Some(reader.bit_pos())),
+            (n, bits.len(), first, answer, place),
+        );
+    }
+}
+
+/// By each number of bits.
 #[test]
 fn consumes_as_a_list_of_bits(rt: HostRuntime) {
-    for is_low_first in [false, true] {
-        let digits = if is_low_first { LOW_FIRST } else { HIGH_FIRST };
+    for (digits, is_low_first) in [(HIGH_FIRST, false), (LOW_FIRST, true)] {
         for length in 0..=40usize {
             let data = &DATA[..length];
             let bits = digits.as_bytes().get(..8 * length).unwrap_or(&[]);
             assert!(rt; bits_fit(data));
             for n in 0..=32usize {
-                let mut reader = if is_low_first {
-                    BitReader::new_low_first(data)
-                } else {
-                    BitReader::new(data)
-                };
-                let mut rest = bits;
-                for _ in 0..8 * length / n.max(1) + 2 {
-                    same(
-                        &rt,
-                        (n, length, reader.peek_u32()),
-                        (n, length, first_32(rest)),
-                    );
-                    let answer = if n <= rest.len() {
-                        Ok(())
-                    } else {
-                        Err(UnexpectedEof)
-                    };
-                    rest = rest.get(n..).unwrap_or(&[]);
-                    let consumed = reader.consume(n);
-                    let place = bits.len().checked_sub(rest.len());
-                    same(
-                        &rt,
-                        (n, consumed, Some(reader.bit_pos())),
-                        (n, answer, place),
-                    );
-                }
+                consumes_by(&rt, &mut ordered_reader(data, is_low_first), bits, n);
             }
         }
     }
 }
 
-/// From each offset a clone reads a bit, one moves to a whole byte, and the zeros are counted.
+/// At an offset a clone reads a bit, one moves to a whole byte, and the zeros are counted; then a bit is consumed.
+fn reads_on_from(rt: &impl Abort, reader: &mut BitReader, bits: &[u8], place: usize)
+    requires { place ≤ 320 }
+{
+    let rest = bits.get(place..).unwrap_or(&[]);
+    let bit = rest.first().map(|digit| u32::from(*digit == b'1'));
+    let behind = rest.get(1..).unwrap_or(&[]);
+    let edge = place.div_ceil(8) * 8;
+    let aligned = bits.get(edge..).unwrap_or(&[]);
+    let zeros = rest.iter().take_while(|digit| **digit == b'0').count();
+    let mut next = reader.clone().expect(rt, "memory");
+    let mut whole = reader.clone().expect(rt, "memory");
+    whole.align();
+    same(
+        rt,
+        (
+            place,
+            (next.read_bit(), next.peek_u32()),
+            (whole.bit_pos(), whole.peek_u32()),
+            (
+                reader.zero_run(&mut Ticks::new()).0,
+                reader.consume(1).is_ok(),
+            ),
+        ),
+        (
+            place,
+            (bit.ok_or(UnexpectedEof), first_32(behind)),
+            (edge, first_32(aligned)),
+            (zeros, bit.is_some()),
+        ),
+    );
+}
+
+/// From each offset.
 #[test]
-fn reads_on_as_a_list_of_bits(rt: HostRuntime) -> std::result::Result<(), Fail> {
-    let mut ticks = Ticks::new();
-    for is_low_first in [false, true] {
-        let digits = if is_low_first { LOW_FIRST } else { HIGH_FIRST };
+fn reads_on_as_a_list_of_bits(rt: HostRuntime) {
+    for (digits, is_low_first) in [(HIGH_FIRST, false), (LOW_FIRST, true)] {
         for length in 0..=40usize {
             let data = &DATA[..length];
             let bits = digits.as_bytes().get(..8 * length).unwrap_or(&[]);
             assert!(rt; bits_fit(data));
-            let mut reader = if is_low_first {
-                BitReader::new_low_first(data)
-            } else {
-                BitReader::new(data)
-            };
+            let mut reader = ordered_reader(data, is_low_first);
             for place in 0..=8 * length {
-                let rest = bits.get(place..).unwrap_or(&[]);
-                let bit = rest.first().map(|digit| u32::from(*digit == b'1'));
-                let mut next = reader.clone()?;
-                let behind = rest.get(1..).unwrap_or(&[]);
-                same(
-                    &rt,
-                    (place, next.read_bit(), next.peek_u32()),
-                    (place, bit.ok_or(UnexpectedEof), first_32(behind)),
-                );
-                let mut whole = reader.clone()?;
-                whole.align();
-                let edge = place.div_ceil(8) * 8;
-                let aligned = bits.get(edge..).unwrap_or(&[]);
-                same(
-                    &rt,
-                    (place, whole.bit_pos(), whole.peek_u32()),
-                    (place, edge, first_32(aligned)),
-                );
-                let zeros = rest.iter().take_while(|digit| **digit == b'0').count();
-                same(
-                    &rt,
-                    (
-                        place,
-                        reader.zero_run(&mut ticks).0,
-                        reader.consume(1).is_ok(),
-                    ),
-                    (place, zeros, bit.is_some()),
-                );
+                reads_on_from(&rt, &mut reader, bits, place);
             }
         }
     }
-    Ok(())
 }
 
 /// Zeros of each number in 17 bytes, with a one after them, and without.

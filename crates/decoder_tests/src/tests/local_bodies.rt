@@ -2,13 +2,11 @@
 
 ghost use Rattle.std.specs.Prelude.{◌≡◌};
 
-use super::{bytes_of, decodes_in, same, settings_of};
-use hayro_ccitt::{
-    DecodeSettings, DecoderContext, EncodingMode, bits_fit, body_is_local, rows_reached,
-};
+use super::cases::{cases_of, decodes_as, decodes_each};
+use super::{bytes_of, context_of, same, settings_of};
+use hayro_ccitt::{DecodeSettings, DecoderContext, EncodingMode, body_is_local, rows_reached};
 use std::alloc::AllocGlobal;
 use std::process::Abort;
-use std::test::Fail;
 
 /// Settings without a row limit; 1d and 2d name the encodings.
 fn settings_by(encoding: &str, columns: u32, flags: &str) -> DecodeSettings {
@@ -31,144 +29,83 @@ fn is_local(
 )
     ensures { ctx.new.held.settings ≡ ctx.old.held.settings }
 {
-    let Ok(data) = bytes_of(rt.alloc(), digits) else {
-        panic!(rt; "no memory");
-    };
-    assert!(rt; bits_fit(&data));
+    let data = bytes_of(rt, digits);
     let found = body_is_local(&data, ctx, from, to);
     same(rt, (digits, from, to, found), (digits, from, to, Ok(local)));
 }
 
+/// A white line, one with two black pixels, and a white one.
+const THREE_ROWS: &str = "0019800C700033";
+
+/// Data, the offsets at which a body begins and ends, and whether it is local.
+const BODIES: [(&str, usize, usize, bool); 12] = [
+    (THREE_ROWS, 29, 39, true),
+    ("0019800C400033", 29, 39, true),
+    ("0019800C000033", 29, 39, true),
+    (THREE_ROWS, 29, 38, true),
+    (THREE_ROWS, 29, 40, false),
+    (THREE_ROWS, 28, 39, false),
+    (THREE_ROWS, 29, 29, false),
+    (THREE_ROWS, 0, 12, false),
+    (THREE_ROWS, 29, 57, false),
+    (THREE_ROWS, 39, 29, false),
+    ("00198008EE0033", 29, 39, false),
+    ("0019800C06F80033", 29, 47, true),
+];
+
 #[test]
-fn bodies_that_are_local(rt: HostRuntime) -> std::result::Result<(), Fail> {
-    let three_rows = "0019800C700033";
-    let mut ctx = DecoderContext::new(rt.alloc(), settings_by("1d", 8, "l"))?;
-    for (digits, from, to, local) in [
-        (three_rows, 29, 39, true),
-        ("0019800C400033", 29, 39, true),
-        ("0019800C000033", 29, 39, true),
-        (three_rows, 29, 38, true),
-        (three_rows, 29, 40, false),
-        (three_rows, 28, 39, false),
-        (three_rows, 29, 29, false),
-        (three_rows, 0, 12, false),
-        (three_rows, 29, 57, false),
-        (three_rows, 39, 29, false),
-        ("00198008EE0033", 29, 39, false),
-        ("0019800C06F80033", 29, 47, true),
-    ] {
-        is_local(&rt, &mut ctx, digits, from, to, local);
+fn bodies_that_are_local(rt: HostRuntime) {
+    let mut ctx = context_of(&rt, settings_by("1d", 8, "l"));
+    for (digits, from, to, local) in &BODIES {
+        is_local(&rt, &mut ctx, digits, *from, *to, *local);
     }
-    let mut strict = DecoderContext::new(rt.alloc(), settings_by("1d", 8, "ls"))?;
-    is_local(&rt, &mut strict, three_rows, 29, 39, false);
-    Ok(())
+    let mut strict = context_of(&rt, settings_by("1d", 8, "ls"));
+    is_local(&rt, &mut strict, THREE_ROWS, 29, 39, false);
 }
 
 /// Bodies that replace each other, of one length and of two: only the row that is read there differs, and the data is
 /// read to its end. If the limit is met there, the counts may differ.
+const REPLACED: [(u32, &str, usize, &str); 6] = [
+    (0, "0019800C700033", 39, "[[], [3, 5], []] Ok(7)"),
+    (0, "0019800C400033", 39, "[[], [3, 6], []] Ok(7)"),
+    (0, "0019800C000033", 39, "[[], [], []] Ok(7)"),
+    (0, "0019800C06F80033", 47, "[[], [], []] Ok(8)"),
+    (2, "0019800C700033", 39, "[[], [3, 5]] Ok(7)"),
+    (2, "0019800C400033", 39, "[[], [3, 6]] Ok(4)"),
+];
+
 #[test]
-fn local_bodies_change_one_row(rt: HostRuntime) -> std::result::Result<(), Fail> {
-    for (limit, digits, to, row, count) in [
-        (0, "0019800C700033", 39, &[3, 5][..], 7),
-        (0, "0019800C400033", 39, &[3, 6], 7),
-        (0, "0019800C000033", 39, &[], 7),
-        (0, "0019800C06F80033", 47, &[], 8),
-        (2, "0019800C700033", 39, &[3, 5], 7),
-        (2, "0019800C400033", 39, &[3, 6], 4),
-    ] {
-        let settings = settings_of(EncodingMode::Group3_1D, 8, limit, "l");
-        let mut ctx = DecoderContext::new(rt.alloc(), settings)?;
-        is_local(&rt, &mut ctx, digits, 29, to, true);
-        let data = bytes_of(rt.alloc(), digits)?;
-        let rows: &[&[u32]] = &[&[], row, &[]];
-        let taken = if limit == 0 { rows } else { &rows[..2] };
-        decodes_in(&rt, &mut ctx, &data, taken, Ok(count));
+fn local_bodies_change_one_row(rt: HostRuntime) {
+    for (limit, digits, to, expected) in &REPLACED {
+        let settings = settings_of(EncodingMode::Group3_1D, 8, *limit, "l");
+        let mut ctx = context_of(&rt, settings);
+        is_local(&rt, &mut ctx, digits, 29, *to, true);
+        decodes_as(&rt, &mut ctx, digits, expected);
     }
-    Ok(())
 }
 
 /// Two-dimensional data, each followed by the same with one line changed: the rows differ from that line up to the next
 /// one-dimensional one.
 #[test]
-fn damage_ends_at_a_one_dimensional_line(rt: HostRuntime) -> std::result::Result<(), Fail> {
-    for (columns, flags, digits, rows, count) in [
-        (
-            8,
-            "l",
-            "001CC00463800B800073",
-            &[&[][..], &[3, 5], &[3, 5], &[]][..],
-            10,
-        ),
-        (
-            8,
-            "l",
-            "001CC0046F800B800073",
-            &[&[], &[4, 6], &[4, 6], &[]],
-            10,
-        ),
-        (8, "l", "001CC00407800B800073", &[&[], &[], &[], &[]], 10),
-        (
-            3,
-            "bl",
-            "0002301B80000DD0000082800CD6",
-            &[&[], &[2], &[0], &[0]],
-            14,
-        ),
-        (
-            3,
-            "bl",
-            "0002301B80000CD0000082800CD6",
-            &[&[], &[], &[1], &[0]],
-            14,
-        ),
-        (
-            5,
-            "l",
-            "0000500044746037000914E50E001BC000DE",
-            &[&[], &[1, 2], &[0, 1, 3, 4], &[2], &[2]],
-            18,
-        ),
-        (
-            5,
-            "l",
-            "0000500045746027000914E50E001BC000DE",
-            &[&[], &[], &[4], &[2], &[2]],
-            18,
-        ),
-        (
-            2,
-            "l",
-            "00001135C00019AA1C000002B00041800037",
-            &[&[0], &[0, 1], &[0], &[], &[]],
-            18,
-        ),
-        (
-            2,
-            "l",
-            "00001135C00019BA1C000002B00041800037",
-            &[&[0], &[], &[], &[], &[]],
-            18,
-        ),
-        (
-            2,
-            "l",
-            "00066B8002A80002C8E1B80037",
-            &[&[0], &[0, 1], &[0, 1], &[]],
-            13,
-        ),
-        (
-            2,
-            "l",
-            "0006638002A80002C8E1B80037",
-            &[&[], &[], &[], &[]],
-            13,
-        ),
-    ] {
-        let mut ctx = DecoderContext::new(rt.alloc(), settings_by("2d", columns, flags))?;
-        let data = bytes_of(rt.alloc(), digits)?;
-        decodes_in(&rt, &mut ctx, &data, rows, Ok(count));
-    }
-    Ok(())
+fn damage_ends_at_a_one_dimensional_line(rt: HostRuntime) {
+    decodes_each(
+        &rt,
+        "Group3_2D 8 columns 0 rows l | 001CC00463800B800073 | [[], [3, 5], [3, 5], []] Ok(10)
+        Group3_2D 8 columns 0 rows l | 001CC0046F800B800073 | [[], [4, 6], [4, 6], []] Ok(10)
+        Group3_2D 8 columns 0 rows l | 001CC00407800B800073 | [[], [], [], []] Ok(10)
+        
+        Group3_2D 3 columns 0 rows bl | 0002301B80000DD0000082800CD6 | [[], [2], [0], [0]] Ok(14)
+        Group3_2D 3 columns 0 rows bl | 0002301B80000CD0000082800CD6 | [[], [], [1], [0]] Ok(14)
+        
+        Group3_2D 5 columns 0 rows l | 0000500044746037000914E50E001BC000DE | [[], [1, 2], [0, 1, 3, 4], [2], [2]] Ok(18)
+        Group3_2D 5 columns 0 rows l | 0000500045746027000914E50E001BC000DE | [[], [], [4], [2], [2]] Ok(18)
+        
+        Group3_2D 2 columns 0 rows l | 00001135C00019AA1C000002B00041800037 | [[0], [0, 1], [0], [], []] Ok(18)
+        Group3_2D 2 columns 0 rows l | 00001135C00019BA1C000002B00041800037 | [[0], [], [], [], []] Ok(18)
+        
+        Group3_2D 2 columns 0 rows l | 00066B8002A80002C8E1B80037 | [[0], [0, 1], [0, 1], []] Ok(13)
+        Group3_2D 2 columns 0 rows l | 0006638002A80002C8E1B80037 | [[], [], [], []] Ok(13)",
+    );
 }
 
 /// Random lines with EOLs between them, and random offsets: the encoding, the columns, the flags, the data, the offsets at which
@@ -244,58 +181,66 @@ const LINES: [(&str, u32, &str, &str, usize, usize, bool); 67] = [
 ];
 
 #[test]
-fn bodies_of_random_lines(rt: HostRuntime) -> std::result::Result<(), Fail> {
+fn bodies_of_random_lines(rt: HostRuntime) {
     for (encoding, columns, flags, digits, from, to, local) in &LINES {
         let settings = settings_by(encoding, *columns, flags);
-        let mut ctx = DecoderContext::new(rt.alloc(), settings)?;
+        let mut ctx = context_of(&rt, settings);
         is_local(&rt, &mut ctx, digits, *from, *to, *local);
     }
-    Ok(())
+}
+
+/// Compares the result of `rows_reached` with the second of two words; the first is the offset of the EOL.
+fn reaches(
+    rt: &(impl Abort + AllocGlobal),
+    settings: DecodeSettings,
+    digits: &str,
+    expected: &str,
+) {
+    let (to, _) = expected.split_once(' ').expect(rt, "an offset");
+    let to = to.parse::<usize>().expect(rt, "a number");
+    let found = rows_reached(&bytes_of(rt, digits), &mut context_of(rt, settings), to);
+    let found = format!(in rt.alloc(); "{to} {found:?}").expect(rt, "memory");
+    same(rt, (digits, found.as_str()), (digits, expected));
 }
 
 /// The EOL behind a line, and how many rows damage to that line may change: its own, and those of the two-dimensional lines
 /// up to the next one-dimensional one.
 #[test]
-fn rows_that_damage_reaches(rt: HostRuntime) -> std::result::Result<(), Fail> {
-    let four_rows = "001CC00463800B800073";
-    let ends_in_its_eol = "001CC005400730";
-    for (encoding, flags, digits, to, rows) in [
-        ("2d", "l", four_rows, 0, Some(1)),
-        ("2d", "l", four_rows, 18, Some(3)),
-        ("2d", "l", four_rows, 41, Some(2)),
-        ("2d", "l", four_rows, 57, Some(1)),
-        ("2d", "l", four_rows, 40, None),
-        ("2d", "l", four_rows, 42, None),
-        ("2d", "l", four_rows, 80, None),
-        ("2d", "l", four_rows, 81, None),
-        ("2d", "ls", four_rows, 41, None),
-        ("1d", "l", four_rows, 41, None),
+fn rows_that_damage_reaches(rt: HostRuntime) {
+    let cases = cases_of(
+        &rt,
+        "Group3_2D 8 columns 0 rows l | 001CC00463800B800073 | 0 Some(1)
+        Group3_2D 8 columns 0 rows l | 001CC00463800B800073 | 18 Some(3)
+        Group3_2D 8 columns 0 rows l | 001CC00463800B800073 | 41 Some(2)
+        Group3_2D 8 columns 0 rows l | 001CC00463800B800073 | 57 Some(1)
+        Group3_2D 8 columns 0 rows l | 001CC00463800B800073 | 40 None
+        Group3_2D 8 columns 0 rows l | 001CC00463800B800073 | 42 None
+        Group3_2D 8 columns 0 rows l | 001CC00463800B800073 | 80 None
+        Group3_2D 8 columns 0 rows l | 001CC00463800B800073 | 81 None
+        Group3_2D 8 columns 0 rows ls | 001CC00463800B800073 | 41 None
+        Group3_1D 8 columns 0 rows l | 001CC00463800B800073 | 41 None
         // The last word, 010, takes a zero of the EOL, unless there is fill.
-        ("2d", "l", ends_in_its_eol, 18, None),
-        ("2d", "l", "001CC005400398", 18, Some(2)),
+        Group3_2D 8 columns 0 rows l | 001CC005400730 | 18 None
+        Group3_2D 8 columns 0 rows l | 001CC005400398 | 18 Some(2)
         // RTC, with `end_of_block` and without it.
-        ("2d", "b", "0014006003001800C0060030", 0, Some(2)),
-        ("2d", "", "0014006003001800C0060030", 0, None),
+        Group3_2D 8 columns 0 rows b | 0014006003001800C0060030 | 0 Some(2)
+        Group3_2D 8 columns 0 rows | 0014006003001800C0060030 | 0 None
         // Lines at random, some with a bit changed, left out or added: a reading of T.4 apart from this program found the
         // numbers.
-        ("2d", "", "000A003C0002381B800180", 32, Some(2)),
-        ("2d", "b", "0000140000000500000001", 22, Some(2)),
-        ("2d", "", "00004661B8200002800060", 0, Some(3)),
-        ("2d", "b", "0001050002500132870001", 24, Some(3)),
-        ("2d", "", "00140000463000014E6A0001", 0, Some(4)),
-        ("2d", "b", "000A00050004A0031C0000C0", 0, Some(4)),
-        ("2d", "", "00025001600000002C004C0060", 0, Some(5)),
-        ("2d", "", "00063800A00080089AA001", 21, None),
-        ("2d", "b", "0000C740000227540008", 63, None),
-        ("2d", "", "00102088E800088E91D000C0", 38, None),
-        ("2d", "b", "0002451A84089AA001800C", 0, None),
-        ("2d", "", "000226A80001600300180080", 0, None),
-    ] {
-        let mut ctx = DecoderContext::new(rt.alloc(), settings_by(encoding, 8, flags))?;
-        let data = bytes_of(rt.alloc(), digits)?;
-        assert!(rt; bits_fit(&data));
-        let found = rows_reached(&data, &mut ctx, to);
-        same(&rt, (digits, to, found), (digits, to, rows));
+        Group3_2D 8 columns 0 rows | 000A003C0002381B800180 | 32 Some(2)
+        Group3_2D 8 columns 0 rows b | 0000140000000500000001 | 22 Some(2)
+        Group3_2D 8 columns 0 rows | 00004661B8200002800060 | 0 Some(3)
+        Group3_2D 8 columns 0 rows b | 0001050002500132870001 | 24 Some(3)
+        Group3_2D 8 columns 0 rows | 00140000463000014E6A0001 | 0 Some(4)
+        Group3_2D 8 columns 0 rows b | 000A00050004A0031C0000C0 | 0 Some(4)
+        Group3_2D 8 columns 0 rows | 00025001600000002C004C0060 | 0 Some(5)
+        Group3_2D 8 columns 0 rows | 00063800A00080089AA001 | 21 None
+        Group3_2D 8 columns 0 rows b | 0000C740000227540008 | 63 None
+        Group3_2D 8 columns 0 rows | 00102088E800088E91D000C0 | 38 None
+        Group3_2D 8 columns 0 rows b | 0002451A84089AA001800C | 0 None
+        Group3_2D 8 columns 0 rows | 000226A80001600300180080 | 0 None",
+    );
+    for (settings, digits, expected) in &cases {
+        reaches(&rt, *settings, digits, expected);
     }
-    Ok(())
 }

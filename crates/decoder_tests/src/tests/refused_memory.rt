@@ -3,7 +3,8 @@
 
 ghost use Rattle.std.specs.Prelude.{◌≡◌};
 
-use super::{bytes_of, group_3_1d, group_3_2d, group_4, repeated, same};
+use super::cases::cases_of;
+use super::{bytes_of, context_of, group_3_1d, group_3_2d, group_4, repeated, same};
 use hayro_ccitt::DecodeError::{OutOfMemory, Refused};
 use hayro_ccitt::bit_reader::BitReader;
 use hayro_ccitt::context::decode_2d_line;
@@ -78,9 +79,12 @@ fn decodes_known(
 {
     assert!(rt; bits_fit(data));
     let mut sink = sink_for(ctx.settings().columns, &*rows);
-    same(rt, decode(data, &mut sink, ctx), answer);
-    same(rt, sink.taken, rows.len());
-    same(rt, ctx.decoded_rows(), rows.len() as u64);
+    let read = decode(data, &mut sink, ctx);
+    same(
+        rt,
+        (read, sink.taken, ctx.decoded_rows()),
+        (answer, rows.len(), rows.len() as u64),
+    );
 }
 
 /// Refuses each allocation of a decoding in turn: it returns `OutOfMemory` after the first of the rows, or can do without, and
@@ -94,17 +98,17 @@ fn refuses_each_request(
 ) {
     assert!(rt; bits_fit(data));
     for number in 1..MANY {
-        let Ok(mut ctx) = DecoderContext::new(rt.alloc(), settings) else {
-            panic!(rt; "no memory");
-        };
+        let mut ctx = context_of(rt, settings);
         let mut sink = sink_for(settings.columns, &*rows);
         refuse_request(rt.alloc(), number);
         let found = decode(data, &mut sink, &mut ctx);
         let is_refused = was_refused(rt.alloc());
         if matches!(found, Err(OutOfMemory)) {
-            assert!(rt; is_refused);
-            assert!(rt; sink.taken < rows.len());
-            same(rt, ctx.decoded_rows(), sink.taken as u64);
+            same(
+                rt,
+                (is_refused, sink.taken < rows.len(), ctx.decoded_rows()),
+                (true, true, sink.taken as u64),
+            );
         } else {
             // A decoder can do without the room for a window's changes.
             same(rt, (found, sink.taken), (answer, rows.len()));
@@ -129,12 +133,14 @@ fn refuses_each_row(
 ) {
     assert!(rt; bits_fit(data));
     for count in 0..rows.len() {
-        let Ok(mut ctx) = DecoderContext::new(rt.alloc(), settings) else {
-            panic!(rt; "no memory");
-        };
+        let mut ctx = context_of(rt, settings);
         let mut sink = sink_for(settings.columns, &rows[..count]);
-        same(rt, decode(data, &mut sink, &mut ctx), Err(Refused));
-        same(rt, (sink.taken, ctx.decoded_rows()), (count, count as u64));
+        let refused = decode(data, &mut sink, &mut ctx);
+        same(
+            rt,
+            (refused, sink.taken, ctx.decoded_rows()),
+            (Err(Refused), count, count as u64),
+        );
         decodes_known(rt, &mut ctx, next, next_rows, next_answer);
     }
 }
@@ -149,7 +155,7 @@ fn contexts_without_memory(rt: HostRuntime) {
 
 /// Two rows, the second a copy; three tagged lines and RTC; three lines, the second damaged.
 #[test]
-fn refused_rows(rt: HostRuntime) -> std::result::Result<(), Fail> {
+fn refused_rows(rt: HostRuntime) {
     let copied = [0x31, 0xF8];
     let two: &[&[u32]] = &[&[3, 5], &[3, 5]];
     let settings = group_4(8, 2, "");
@@ -165,22 +171,21 @@ fn refused_rows(rt: HostRuntime) -> std::result::Result<(), Fail> {
         Ok(2),
     );
 
-    let tagged = bytes_of(rt.alloc(), "001C70002E00231C006003001800C0060030")?;
+    let tagged = bytes_of(&rt, "001C70002E00231C006003001800C0060030");
     let three: &[&[u32]] = &[&[3, 5], &[3, 5], &[3, 5]];
     let settings = group_3_2d(8, 0, "b");
     refuses_each_request(&rt, settings, &tagged, three, Ok(18));
-    let white = bytes_of(rt.alloc(), "001CC005001800C006003001800C")?;
+    let white = bytes_of(&rt, "001CC005001800C006003001800C");
     let two_white: &[&[u32]] = &[&[], &[]];
     refuses_each_row(&rt, settings, &tagged, three, &white, two_white, Ok(14));
 
-    let damaged = bytes_of(rt.alloc(), "0019800C400033")?;
+    let damaged = bytes_of(&rt, "0019800C400033");
     let repaired: &[&[u32]] = &[&[], &[3, 6], &[]];
     let settings = group_3_1d(8, 0, "l");
     refuses_each_request(&rt, settings, &damaged, repaired, Ok(7));
-    let sound = bytes_of(rt.alloc(), "0019800C700033")?;
+    let sound = bytes_of(&rt, "0019800C700033");
     let read: &[&[u32]] = &[&[], &[3, 5], &[]];
     refuses_each_row(&rt, settings, &damaged, repaired, &sound, read, Ok(7));
-    Ok(())
 }
 
 /// A row of 4095 changes, for which memory is allocated again and again.
@@ -190,7 +195,7 @@ fn refused_growths_of_a_row(rt: HostRuntime) -> std::result::Result<(), Fail> {
     for place in 1..4096u32 {
         changes.push(place)?;
     }
-    let data = repeated(rt.alloc(), &[0x23, 0xA2, 0x3A], 1024, &[])?;
+    let data = repeated(&rt, "23A23A", 1024, &[]);
     let settings = group_4(4096, 1, "");
     refuses_each_request(&rt, settings, &data, &[&changes], Ok(3072));
     refuses_each_row(&rt, settings, &data, &[&changes], &[0x80], &[&[]], Ok(1));
@@ -199,18 +204,17 @@ fn refused_growths_of_a_row(rt: HostRuntime) -> std::result::Result<(), Fail> {
 
 /// The body of a line with black pixels, and of a white line.
 #[test]
-fn refused_bodies(rt: HostRuntime) -> std::result::Result<(), Fail> {
-    let data = bytes_of(rt.alloc(), "0019800C700033")?;
+fn refused_bodies(rt: HostRuntime) {
+    let data = bytes_of(&rt, "0019800C700033");
     let rows: &[&[u32]] = &[&[], &[3, 5], &[]];
-    assert!(rt; bits_fit(&data));
     for number in 1..MANY {
-        let mut ctx = DecoderContext::new(rt.alloc(), group_3_1d(8, 0, "l"))?;
+        let mut ctx = context_of(&rt, group_3_1d(8, 0, "l"));
         refuse_request(rt.alloc(), number);
         same(&rt, body_is_local(&data, &mut ctx, 12, 17), Ok(true));
         let found = body_is_local(&data, &mut ctx, 29, 39);
         if !was_refused(rt.alloc()) {
             same(&rt, found, Ok(true));
-            return Ok(());
+            return;
         }
         same(&rt, (number, found), (number, Err(OutOfMemory)));
         same(&rt, body_is_local(&data, &mut ctx, 29, 39), Ok(true));
@@ -221,59 +225,71 @@ fn refused_bodies(rt: HostRuntime) -> std::result::Result<(), Fail> {
 
 /// The first allocation is to be refused, and none is made.
 #[test]
-fn calls_without_memory(rt: HostRuntime) -> std::result::Result<(), Fail> {
-    let mut ctx = DecoderContext::new(rt.alloc(), group_4(8, 0, ""))?;
-    let data = [0x31, 0xC0];
-    assert!(rt; bits_fit(&data));
+fn calls_without_memory(rt: HostRuntime) {
+    let mut ctx = context_of(&rt, group_4(8, 0, ""));
+    let data = bytes_of(&rt, "31C0");
+    let lines = bytes_of(&rt, "001CC005400398");
+    let mut sink = sink_for(8, &[&[3, 5], &[]]);
+    let drawn = decode_2d_line(&mut ctx, &mut BitReader::new(&data));
+    refuse_request(rt.alloc(), 1);
+    let moved = ctx.next_line(&mut sink);
     same(
         &rt,
-        decode_2d_line(&mut ctx, &mut BitReader::new(&data)),
-        Ok(()),
+        (drawn, moved, ctx.b1(), ctx.b2()),
+        (Ok(()), Ok(()), 3, 5),
     );
-    let mut sink = sink_for(8, &[&[3, 5], &[]]);
-    refuse_request(rt.alloc(), 1);
-    same(&rt, ctx.next_line(&mut sink), Ok(()));
-    same(&rt, (ctx.b1(), ctx.b2()), (3, 5));
-    same(&rt, ctx.fill_white(), Ok(()));
-    same(&rt, ctx.next_line(&mut sink), Ok(()));
-    same(&rt, (ctx.b1(), ctx.b2()), (8, 8));
-    same(&rt, ctx.next_line(&mut sink), Err(Refused));
+    let filled = ctx.fill_white();
+    let moved = ctx.next_line(&mut sink);
+    let places = (ctx.b1(), ctx.b2());
+    let refused = ctx.next_line(&mut sink);
+    same(
+        &rt,
+        (filled, moved, places, refused),
+        (Ok(()), Ok(()), (8, 8), Err(Refused)),
+    );
     ctx.reset();
     same(&rt, (ctx.decoded_rows(), ctx.has_eols()), (0, false));
-    let mut two_dimensional = DecoderContext::new(rt.alloc(), group_3_2d(8, 0, "l"))?;
-    let lines = [0x00, 0x1C, 0xC0, 0x05, 0x40, 0x03, 0x98];
-    assert!(rt; bits_fit(&lines));
-    same(&rt, rows_reached(&lines, &mut two_dimensional, 18), Some(2));
-    assert!(rt; !was_refused(rt.alloc()));
-    Ok(())
+    let mut two_dimensional = context_of(&rt, group_3_2d(8, 0, "l"));
+    let reached = rows_reached(&lines, &mut two_dimensional, 18);
+    same(&rt, (reached, was_refused(rt.alloc())), (Some(2), false));
+}
+
+/// Decodes data of up to three white rows while the first allocation is to be refused, and compares how many rows there are, and
+/// the result.
+fn decodes_white(
+    rt: &(impl Abort + AllocGlobal),
+    settings: DecodeSettings,
+    digits: &str,
+    expected: &str,
+) {
+    let data = bytes_of(rt, digits);
+    let mut ctx = context_of(rt, settings);
+    let mut sink = sink_for(settings.columns, &[&[], &[], &[]]);
+    refuse_request(rt.alloc(), 1);
+    let read = decode(&data, &mut sink, &mut ctx);
+    let is_refused = was_refused(rt.alloc());
+    let count = sink.taken;
+    same(
+        rt,
+        (digits, ctx.decoded_rows(), is_refused),
+        (digits, count as u64, false),
+    );
+    let found = format!(in rt.alloc(); "{count} {read:?}").expect(rt, "memory");
+    same(rt, (digits, found.as_str()), (digits, expected));
 }
 
 /// Data that paints no black pixel.
 #[test]
-fn white_rows_without_memory(rt: HostRuntime) -> std::result::Result<(), Fail> {
-    let white: [&[u32]; 3] = [&[]; 3];
-    for (settings, digits, rows, answer) in [
-        (group_4(8, 3, ""), "E0", &white[..], Ok(1)),
-        (group_4(u32::MAX, 0, "b"), "80080080", &white[..1], Ok(4)),
-        (
-            group_3_1d(8, 0, "b"),
-            "001980080080080080080080",
-            &white[..1],
-            Ok(12),
-        ),
-        (group_3_1d(8, 0, "l"), "0019800C000033", &white[..], Ok(7)),
-        (
-            group_3_2d(8, 0, "b"),
-            "001CC005001800C006003001800C",
-            &white[..2],
-            Ok(14),
-        ),
-    ] {
-        let data = bytes_of(rt.alloc(), digits)?;
-        let mut ctx = DecoderContext::new(rt.alloc(), settings)?;
-        refuse_request(rt.alloc(), 1);
-        decodes_known(&rt, &mut ctx, &data, rows, answer);
-        same(&rt, (digits, was_refused(rt.alloc())), (digits, false));
+fn white_rows_without_memory(rt: HostRuntime) {
+    let cases = cases_of(
+        &rt,
+        "Group4 8 columns 3 rows | E0 | 3 Ok(1)
+        Group4 4294967295 columns 0 rows b | 80080080 | 1 Ok(4)
+        Group3_1D 8 columns 0 rows b | 001980080080080080080080 | 1 Ok(12)
+        Group3_1D 8 columns 0 rows l | 0019800C000033 | 3 Ok(7)
+        Group3_2D 8 columns 0 rows b | 001CC005001800C006003001800C | 2 Ok(14)",
+    );
+    for (settings, digits, expected) in &cases {
+        decodes_white(&rt, *settings, digits, expected);
     }
-    Ok(())
 }
