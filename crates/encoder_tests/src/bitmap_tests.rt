@@ -1,5 +1,6 @@
 //! Bitmaps: the changes of a row are found, and encoding a bitmap is encoding its changes.
 
+use crate::cases::check;
 use crate::same;
 use fax_encode::{
     EncodeError, bitmap_by_group3, encode_1d, encode_bitmap_1d, encode_bitmap_g4, encode_g4,
@@ -9,51 +10,36 @@ use std::alloc::AllocGlobal;
 use std::process::Abort;
 use std::test::Fail;
 
-/// Finds the rows of a bitmap, and compares them.
-fn shows(
-    rt: &(impl Abort + AllocGlobal),
-    columns: u32,
-    bitmap: &[u8],
-    rows: &[&[u32]],
-) -> Result<(), Fail> {
-    let found = rows_of_bitmap(rt.alloc(), columns, bitmap)?;
-    same(rt, (columns, found.len()), (columns, rows.len()));
-    for (row, expected) in found.iter().zip(rows) {
-        same(rt, (columns, row.as_slice()), (columns, *expected));
-    }
-    Ok(())
-}
-
 #[test]
-fn rows(rt: HostRuntime) -> Result<(), Fail> {
-    shows(&rt, 8, &[0x18, 0x00, 0xFF], &[&[3, 5], &[], &[0]])?;
-    shows(
+fn rows(rt: HostRuntime) {
+    check(
         &rt,
-        20,
-        &[0x7F, 0xFF, 0xC0, 0x00, 0x40, 0x10],
-        &[&[1, 18], &[9, 10, 19]],
-    )?;
-    // The bits after a row are ignored, and so is a part of a row.
-    shows(&rt, 3, &[0x5F, 0xBF], &[&[1, 2], &[0, 1, 2]])?;
-    shows(&rt, 9, &[0x00, 0x80, 0xFF], &[&[8]])?;
-    shows(&rt, 9, &[0xFF], &[])?;
-    shows(&rt, 0, &[0xFF], &[])?;
-    Ok(())
+        "rows_of_bitmap",
+        "
+        8 1800FF: Ok([[3, 5], [], [0]])
+        20 7FFFC0004010: Ok([[1, 18], [9, 10, 19]])
+        // The bits after a row are ignored, and so is a part of a row.
+        3 5FBF: Ok([[1, 2], [0, 1, 2]])
+        9 0080FF: Ok([[8]])
+        9 FF: Ok([])
+        0 FF: Ok([])
+        ",
+    );
 }
 
 #[test]
-fn rows_over_words(rt: HostRuntime) -> Result<(), Fail> {
-    let mut row = [0u8; 25];
-    row[7] = 0x01;
-    row[8] = 0x80;
-    row[16] = 0xFF;
-    row[24] = 0x01;
-    shows(&rt, 200, &row, &[&[63, 65, 128, 136, 199]])?;
-    shows(&rt, 199, &row, &[&[63, 65, 128, 136]])?;
-    shows(&rt, 64, &row[..8], &[&[63]])?;
-    shows(&rt, 192, &[0xFF; 24], &[&[0]])?;
-    shows(&rt, 65, &[0xFF; 18], &[&[0], &[0]])?;
-    Ok(())
+fn rows_over_words(rt: HostRuntime) {
+    check(
+        &rt,
+        "rows_of_bitmap",
+        "
+        200 00000000000000018000000000000000FF0000000000000001: Ok([[63, 65, 128, 136, 199]])
+        199 00000000000000018000000000000000FF0000000000000001: Ok([[63, 65, 128, 136]])
+        64 0000000000000001: Ok([[63]])
+        192 FFFFFFFFFFFFFFFFFFFFFFFFFFFFFFFFFFFFFFFFFFFFFFFF: Ok([[0]])
+        65 FFFFFFFFFFFFFFFFFFFFFFFFFFFFFFFFFFFF: Ok([[0], [0]])
+        ",
+    );
 }
 
 /// Compares the bytes of two encodings.
@@ -111,20 +97,13 @@ fn as_lists_are_encoded(rt: HostRuntime) -> Result<(), Fail> {
 
 #[test]
 fn bitmaps_that_are_refused(rt: HostRuntime) {
-    let alloc = rt.alloc();
-    same(
+    check(
         &rt,
-        encode_bitmap_g4(alloc, 0, &[0xFF], false).err(),
-        Some(EncodeError::NoColumns),
-    );
-    same(
-        &rt,
-        encode_bitmap_1d(alloc, 0, &[]).err(),
-        Some(EncodeError::NoColumns),
-    );
-    same(
-        &rt,
-        encode_bitmap_1d(alloc, 9, &[0xFF]).err(),
-        Some(EncodeError::NoRows),
+        "",
+        "
+        encode_bitmap_g4 0 FF: NoColumns
+        encode_bitmap_1d 0 -: NoColumns
+        encode_bitmap_1d 9 FF: NoRows
+        ",
     );
 }
