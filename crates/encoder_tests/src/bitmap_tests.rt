@@ -3,12 +3,10 @@
 use crate::cases::check;
 use crate::same;
 use fax_encode::{
-    EncodeError, bitmap_by_group3, encode_1d, encode_bitmap_1d, encode_bitmap_g4, encode_g4,
-    rows_of_bitmap,
+    bitmap_by_group3, encode_1d, encode_bitmap_1d, encode_bitmap_g4, encode_g4, rows_of_bitmap,
 };
 use std::alloc::AllocGlobal;
 use std::process::Abort;
-use std::test::Fail;
 
 #[test]
 fn rows(rt: HostRuntime) {
@@ -42,44 +40,38 @@ fn rows_over_words(rt: HostRuntime) {
     );
 }
 
-/// Compares the bytes of two encodings.
+/// Encodes a bitmap and the rows that it shows as Group 4, and compares the bytes.
 fn are_alike(
-    rt: &impl Abort,
+    rt: &(impl Abort + AllocGlobal),
     columns: u32,
-    ours: Result<Vec<u8>, EncodeError>,
-    theirs: Result<Vec<u8>, EncodeError>,
+    bitmap: &[u8],
+    rows: &[Vec<u32>],
+    aligned: bool,
 ) {
-    let (Ok(ours), Ok(theirs)) = (ours, theirs) else {
-        panic!(rt; "a picture is refused");
-    };
+    let ours = encode_bitmap_g4(rt.alloc(), columns, bitmap, aligned).expect(rt, "a bitmap");
+    let theirs = encode_g4(rt.alloc(), columns, rows, aligned).expect(rt, "rows");
+    same(rt, (columns, ours.as_slice()), (columns, theirs.as_slice()));
+}
+
+/// Encodes a bitmap and the rows that it shows as one-dimensional Group 3, and compares the bytes.
+fn are_alike_1d(rt: &(impl Abort + AllocGlobal), columns: u32, bitmap: &[u8], rows: &[Vec<u32>]) {
+    let ours = encode_bitmap_1d(rt.alloc(), columns, bitmap).expect(rt, "a bitmap");
+    let theirs = encode_1d(rt.alloc(), columns, rows).expect(rt, "rows");
     same(rt, (columns, ours.as_slice()), (columns, theirs.as_slice()));
 }
 
 /// Encodes a bitmap and the rows that it shows, and compares the bytes; and the bitmap that the rows are decoded into.
-fn are_encoded_alike(
-    rt: &(impl Abort + AllocGlobal),
-    columns: u32,
-    bitmap: &[u8],
-) -> Result<(), Fail> {
-    let alloc = rt.alloc();
-    let rows = rows_of_bitmap(alloc, columns, bitmap)?;
-    for aligned in [false, true] {
-        let ours = encode_bitmap_g4(alloc, columns, bitmap, aligned);
-        let theirs = encode_g4(alloc, columns, rows.as_slice(), aligned);
-        are_alike(rt, columns, ours, theirs);
-    }
-    let ours = encode_bitmap_1d(alloc, columns, bitmap);
-    let theirs = encode_1d(alloc, columns, rows.as_slice());
-    are_alike(rt, columns, ours, theirs);
-    let Ok(sink) = bitmap_by_group3(alloc, columns, rows.as_slice()) else {
-        panic!(rt; "no bitmap");
-    };
+fn are_encoded_alike(rt: &(impl Abort + AllocGlobal), columns: u32, bitmap: &[u8]) {
+    let rows = rows_of_bitmap(rt.alloc(), columns, bitmap).expect(rt, "memory");
+    are_alike(rt, columns, bitmap, &rows, false);
+    are_alike(rt, columns, bitmap, &rows, true);
+    are_alike_1d(rt, columns, bitmap, &rows);
+    let sink = bitmap_by_group3(rt.alloc(), columns, &rows).expect(rt, "a bitmap");
     same(rt, (columns, sink.bytes()), (columns, bitmap));
-    Ok(())
 }
 
 #[test]
-fn as_lists_are_encoded(rt: HostRuntime) -> Result<(), Fail> {
+fn as_lists_are_encoded(rt: HostRuntime) {
     for columns in 1..5u32 {
         for picture in 0..1u16 << (3 * columns) {
             let mut bitmap = [0u8; 3];
@@ -88,11 +80,10 @@ fn as_lists_are_encoded(rt: HostRuntime) -> Result<(), Fail> {
                 bitmap[row] = pixels << 4 << (4 - columns);
             }
             for length in 1..4usize {
-                are_encoded_alike(&rt, columns, &bitmap[..length])?;
+                are_encoded_alike(&rt, columns, &bitmap[..length]);
             }
         }
     }
-    Ok(())
 }
 
 #[test]

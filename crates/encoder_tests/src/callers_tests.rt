@@ -15,9 +15,8 @@ use hayro_ccitt::DecodeError::{OutOfMemory, Refused, UnexpectedEof};
 use hayro_ccitt::bit_reader::BitOrder::HighestFirst;
 use hayro_ccitt::{DecodeError, Decoder, DecoderContext, EncodingMode, Result, bits_fit};
 use named_requests::made_at_last;
-use std::alloc::{AllocError, AllocGlobal, Global};
+use std::alloc::AllocGlobal;
 use std::process::Abort;
-use std::test::Fail;
 
 /// One row with the changes 3 and 5, and EOFB: 31C0040040.
 const ONE_ROW: [u8; 5] = [0x31, 0xC0, 0x04, 0x00, 0x40];
@@ -82,14 +81,25 @@ fn black_pixels(rt: HostRuntime) {
         &TWO_PAGES,
         &mut sink,
     );
-    let page = (read, sink.black());
-    let white_row = (sink.push_row(&[]), sink.black());
-    let black_row = (sink.push_row(&[0]), sink.black());
-    let first_and_last_pixel = (sink.push_row(&[0, 1, 7]), sink.black());
+    same(&rt, (read, sink.black()), (Ok(5), 2));
+    let taken: Result<()> = sink.push_row(&[]);
     same(
         &rt,
-        (page, white_row, black_row, first_and_last_pixel),
-        ((Ok(5), 2), (Ok(()), 2), (Ok(()), 10), (Ok(()), 12)),
+        ("a white row", taken, sink.black()),
+        ("a white row", Ok(()), 2),
+    );
+    let taken: Result<()> = sink.push_row(&[0]);
+    same(
+        &rt,
+        ("a black row", taken, sink.black()),
+        ("a black row", Ok(()), 10),
+    );
+    let taken: Result<()> = sink.push_row(&[0, 1, 7]);
+    let first_and_last = "its first and last pixel";
+    same(
+        &rt,
+        (first_and_last, taken, sink.black()),
+        (first_and_last, Ok(()), 12),
     );
 }
 
@@ -168,62 +178,67 @@ fn pages(rt: HostRuntime) {
 
 /// Returns `times` copies of a piece between a start and an end.
 fn repeated(
-    alloc: Global,
+    rt: &(impl Abort + AllocGlobal),
     front: &[u8],
     piece: &[u8],
     times: usize,
     end: &[u8],
-) -> std::result::Result<Vec<u8>, AllocError> {
-    let mut data = front.to_vec(alloc)?;
+) -> Vec<u8> {
+    let mut data = front.to_vec(rt.alloc()).expect(rt, "memory");
     for _ in 0..times {
-        data.extend_from_slice(piece)?;
+        data.extend_from_slice(piece).expect(rt, "memory");
     }
-    data.extend_from_slice(end)?;
-    Ok(data)
+    data.extend_from_slice(end).expect(rt, "memory");
+    data
 }
 
 #[test]
-fn many_pages(rt: HostRuntime) -> std::result::Result<(), Fail> {
-    let data = repeated(rt.alloc(), &[], &ONE_ROW, 10000, &[])?;
+fn many_pages(rt: HostRuntime) {
+    let data = repeated(&rt, &[], &ONE_ROW, 10000, &[]);
     assert!(&rt; bits_fit(&data));
-    let ends = page_ends(rt.alloc(), 8, HighestFirst, &data)?;
+    let ends = page_ends(rt.alloc(), 8, HighestFirst, &data).expect(&rt, "pages");
     same(&rt, ends.len(), 10000);
     let mut end = 0usize;
     for found in ends.iter() {
         end = end.wrapping_add(ONE_ROW.len());
         same(&rt, *found, end);
     }
-    Ok(())
+}
+
+/// Decodes a strip in each way, and compares its bitmap, its black pixels, two in a row, and its end.
+fn decodes_strip(rt: &(impl Abort + AllocGlobal), data: &[u8], expected: &[u8]) {
+    let alloc = rt.alloc();
+    assert!(rt; bits_fit(data));
+    let bitmap = strip_to_bitmap(alloc, group4_pages(8), HighestFirst, data).expect(rt, "a strip");
+    same(rt, bitmap.len(), expected.len());
+    assert!(rt; bitmap.as_slice() == expected);
+    let black = count_black(alloc, group4_pages(8), HighestFirst, data);
+    same(rt, black, Ok((expected.len() as u64).wrapping_mul(2)));
+    same(rt, page_end(alloc, 8, HighestFirst, data), Ok(data.len()));
+}
+
+/// Decodes all rows of a strip as its first ones, and compares them.
+fn takes_all(rt: &(impl Abort + AllocGlobal), data: &[u8], expected: &[u8]) {
+    assert!(rt; bits_fit(data));
+    let mut first = FirstRows::new(BitmapSink::new(rt.alloc(), 8), u64::MAX);
+    let mut ctx = DecoderContext::new(rt.alloc(), group4_pages(8)).expect(rt, "memory");
+    let stopped = decode_first_rows(HighestFirst, data, &mut first, &mut ctx);
+    same(
+        rt,
+        (stopped, first.rows),
+        (Ok(false), expected.len() as u64),
+    );
+    assert!(rt; first.sink.bytes() == expected);
 }
 
 /// A row with the changes 3 and 5 and two copies of it occupy two bytes, eight more copies three, each three times V0.
 #[test]
-fn long_strips(rt: HostRuntime) -> std::result::Result<(), Fail> {
-    let alloc = rt.alloc();
+fn long_strips(rt: HostRuntime) {
     let times = 1 << 19;
-    let eofb = [0x00, 0x10, 0x01];
-    let data = repeated(alloc, &[0x31, 0xFF], &[0xFF; 3], times, &eofb)?;
-    assert!(&rt; bits_fit(&data));
-    let expected = repeated(alloc, &[0x18; 3], &[0x18; 8], times, &[])?;
-    let bitmap = strip_to_bitmap(alloc, group4_pages(8), HighestFirst, &data)?;
-    same(&rt, bitmap.len(), expected.len());
-    assert!(&rt; bitmap.as_slice() == expected.as_slice());
-    same(
-        &rt,
-        count_black(alloc, group4_pages(8), HighestFirst, &data),
-        Ok(2 * expected.len() as u64),
-    );
-    same(&rt, page_end(alloc, 8, HighestFirst, &data), Ok(data.len()));
-    let mut first = FirstRows::new(BitmapSink::new(alloc, 8), u64::MAX);
-    let mut ctx = DecoderContext::new(alloc, group4_pages(8))?;
-    same(
-        &rt,
-        decode_first_rows(HighestFirst, &data, &mut first, &mut ctx),
-        Ok(false),
-    );
-    same(&rt, first.rows, expected.len() as u64);
-    assert!(&rt; first.sink.bytes() == expected.as_slice());
-    Ok(())
+    let data = repeated(&rt, &[0x31, 0xFF], &[0xFF; 3], times, &[0x00, 0x10, 0x01]);
+    let expected = repeated(&rt, &[0x18; 3], &[0x18; 8], times, &[]);
+    decodes_strip(&rt, &data, &expected);
+    takes_all(&rt, &data, &expected);
 }
 
 /// Returns whether an error is want of memory.

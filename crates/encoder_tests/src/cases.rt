@@ -88,15 +88,27 @@ fn encoded_by(
     let alloc = rt.alloc();
     let settings = settings_by(call);
     if has(call, "refused") {
-        let made = made_at_last(
-            alloc,
-            &|| by_name(alloc, name, columns, rows, bitmap, settings),
-            &is_want,
-        );
+        let made = made_in_want(alloc, name, columns, rows, bitmap, settings);
         digits_of(rt, &made.expect(rt, call))
     } else {
         bytes_or_error(rt, by_name(alloc, name, columns, rows, bitmap, settings))
     }
+}
+
+/// Makes a call with each of its allocations refused in turn, and returns what `made_at_last` does.
+fn made_in_want(
+    alloc: Global,
+    name: &str,
+    columns: u32,
+    rows: &[Vec<u32>],
+    bitmap: &[u8],
+    settings: EncodeSettings,
+) -> Result<Vec<u8>, (usize, Option<EncodeError>)> {
+    made_at_last(
+        alloc,
+        &|| by_name(alloc, name, columns, rows, bitmap, settings),
+        &is_want,
+    )
 }
 
 /// Returns whether an error is want of memory.
@@ -199,7 +211,7 @@ fn bytes_or_error<E: Debug + Drop>(
 }
 
 /// Writes bytes as hexadecimal digits.
-pub fn digits_of(rt: &(impl Abort + AllocGlobal), bytes: &[u8]) -> String {
+fn digits_of(rt: &(impl Abort + AllocGlobal), bytes: &[u8]) -> String {
     let mut text = String::new(rt.alloc());
     for byte in bytes {
         let digits = format!(in rt.alloc(); "{byte:02X}").expect(rt, "memory");
@@ -245,7 +257,7 @@ fn value_of(rt: &impl Abort, digit: u8) -> u8 {
 }
 
 /// Returns the rows that are parted by slashes; `-` is an image without rows.
-pub fn rows_of(rt: &(impl Abort + AllocGlobal), image: &str) -> Vec<Vec<u32>> {
+fn rows_of(rt: &(impl Abort + AllocGlobal), image: &str) -> Vec<Vec<u32>> {
     let mut rows = Vec::new(rt.alloc());
     if image != "-" {
         for row in image.split('/') {
@@ -256,7 +268,7 @@ pub fn rows_of(rt: &(impl Abort + AllocGlobal), image: &str) -> Vec<Vec<u32>> {
 }
 
 /// Returns the changes of a row.
-fn row_of(rt: &(impl Abort + AllocGlobal), row: &str) -> Vec<u32> {
+pub fn row_of(rt: &(impl Abort + AllocGlobal), row: &str) -> Vec<u32> {
     let mut changes = Vec::new(rt.alloc());
     if row != "white" {
         for change in row.split(',') {

@@ -1,7 +1,7 @@
 //! Encoding by settings. The bytes of the picture are those of libtiff 4.5.0 where it writes such data; the others were worked
 //! out from T.4 and T.6, apart from the encoder.
 
-use crate::cases::{bytes_of, check, says, settings_by};
+use crate::cases::{bytes_of, check, row_of, says, settings_by};
 use crate::same;
 use fax_encode::{BitmapSink, EncodeError, EncodeSettings, Encoder, encode_bitmap};
 use hayro_ccitt::bit_reader::BitOrder;
@@ -17,9 +17,7 @@ const BITMAP: [u8; 15] = [
 
 /// Compares the bytes of an encoded picture.
 fn has_bytes(rt: &impl Abort, encoded: Result<Vec<u8>, EncodeError>, bytes: &[u8]) {
-    let Ok(encoded) = encoded else {
-        panic!(rt; "the picture is refused");
-    };
+    let encoded = encoded.expect(rt, "the picture is refused");
     same(rt, encoded.as_slice(), bytes);
 }
 
@@ -78,9 +76,7 @@ fn damage_ends_after_k_rows(rt: HostRuntime) {
         strict: false,
     };
     let damaged = bytes_of(&rt, "001C63000540077560021800CD44D4006003001800C0060030");
-    let Ok(mut ctx) = DecoderContext::new(rt.alloc(), lenient) else {
-        panic!(&rt; "no memory");
-    };
+    let mut ctx = DecoderContext::new(rt.alloc(), lenient).expect(&rt, "no memory");
     assert!(&rt; bits_fit(&damaged));
     let mut sink = BitmapSink::new(rt.alloc(), 24);
     let read = decode_in(BitOrder::HighestFirst, &damaged, &mut sink, &mut ctx);
@@ -146,6 +142,19 @@ fn refused_memory(rt: HostRuntime) {
     );
 }
 
+/// Adds a row by its changes, and compares what is returned and how many rows there are.
+fn pushes(
+    rt: &(impl Abort + AllocGlobal),
+    encoder: &mut Encoder,
+    row: &str,
+    answer: Result<(), EncodeError>,
+    rows: usize,
+) {
+    let added = encoder.push_changes(&row_of(rt, row));
+    same(rt, (row, added), (row, answer));
+    same(rt, (row, encoder.rows()), (row, rows));
+}
+
 #[test]
 fn refusals_row_by_row(rt: HostRuntime) {
     check(
@@ -157,30 +166,14 @@ fn refusals_row_by_row(rt: HostRuntime) {
         24 - 1d: NoRows
         ",
     );
-    let Ok(mut encoder) = Encoder::new(rt.alloc(), 24, settings_by("1d")) else {
-        panic!(&rt; "the settings are refused");
-    };
-    same(
-        &rt,
-        (
-            encoder.needs_row(),
-            encoder.push_changes(&[24]),
-            encoder.push_changes(&[3, 5]),
-            encoder.push_changes(&[5, 3]),
-            encoder.push_packed_row(&[0, 0]),
-            encoder.needs_row(),
-            encoder.rows(),
-        ),
-        (
-            true,
-            Err(EncodeError::NotARow(0)),
-            Ok(()),
-            Err(EncodeError::NotARow(1)),
-            Err(EncodeError::NotARow(1)),
-            false,
-            1,
-        ),
-    );
+    let mut encoder = Encoder::new(rt.alloc(), 24, settings_by("1d")).expect(&rt, "settings");
+    assert!(&rt; encoder.needs_row());
+    pushes(&rt, &mut encoder, "24", Err(EncodeError::NotARow(0)), 0);
+    pushes(&rt, &mut encoder, "3,5", Ok(()), 1);
+    pushes(&rt, &mut encoder, "5,3", Err(EncodeError::NotARow(1)), 1);
+    let packed = encoder.push_packed_row(&[0, 0]);
+    same(&rt, packed, Err(EncodeError::NotARow(1)));
+    same(&rt, (encoder.needs_row(), encoder.rows()), (false, 1));
     // 1000 11 00001 0111, filled up
     has_bytes(&rt, encoder.finish(), &[0x8C, 0x60]);
 }
@@ -200,15 +193,21 @@ fn refused_memory_row_by_row(rt: HostRuntime) {
 #[test]
 fn wanting_memory_stays(rt: HostRuntime) {
     let alloc = rt.alloc();
-    let Ok(mut encoder) = Encoder::new(alloc, 24, settings_by("1d")) else {
-        panic!(&rt; "the settings are refused");
-    };
+    let mut encoder = Encoder::new(alloc, 24, settings_by("1d")).expect(&rt, "settings");
     refuse_request(alloc, 1);
     let first = encoder.push_changes(&[3, 5]);
     if was_refused(alloc) {
-        let want = Err(EncodeError::OutOfMemory);
-        let later = (encoder.push_changes(&[24]), encoder.push_packed_row(&[]));
-        same(&rt, (first, later), (want, (want, want)));
+        same(&rt, first, Err(EncodeError::OutOfMemory));
+        same(
+            &rt,
+            encoder.push_changes(&[24]),
+            Err(EncodeError::OutOfMemory),
+        );
+        same(
+            &rt,
+            encoder.push_packed_row(&[]),
+            Err(EncodeError::OutOfMemory),
+        );
         same(&rt, encoder.finish().err(), Some(EncodeError::OutOfMemory));
     }
 }
@@ -230,12 +229,8 @@ fn to_read(settings: EncodeSettings) -> DecodeSettings {
 /// Encodes the picture, decodes it to its last byte, and encodes the bitmap again.
 fn comes_back(rt: &(impl Abort + AllocGlobal), settings: EncodeSettings) {
     let alloc = rt.alloc();
-    let Ok(bytes) = encode_bitmap(alloc, 24, &BITMAP, settings) else {
-        panic!(rt; "the picture is refused");
-    };
-    let Ok(mut ctx) = DecoderContext::new(alloc, to_read(settings)) else {
-        panic!(rt; "no memory");
-    };
+    let bytes = encode_bitmap(alloc, 24, &BITMAP, settings).expect(rt, "the picture is refused");
+    let mut ctx = DecoderContext::new(alloc, to_read(settings)).expect(rt, "no memory");
     assert!(rt; bits_fit(&bytes));
     let columns = ctx.settings().columns;
     let mut sink = BitmapSink::new(alloc, columns);

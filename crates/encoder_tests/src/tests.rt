@@ -8,9 +8,8 @@ use hayro_ccitt::{
     DecodeError, DecodeSettings, Decoder, DecoderContext, EncodingMode, bits_fit, decode,
 };
 use named_requests::{refuse_request, was_refused};
-use std::alloc::{AllocError, AllocGlobal, Global};
+use std::alloc::AllocGlobal;
 use std::process::Abort;
-use std::test::Fail;
 
 /// Encodes rows as Group 4, decodes them, and compares the bitmap.
 fn packs(
@@ -20,9 +19,7 @@ fn packs(
     aligned: bool,
     bytes: &[u8],
 ) {
-    let Ok(sink) = bitmap_by_group4(rt.alloc(), columns, lists, aligned) else {
-        panic!(rt; "no bitmap");
-    };
+    let sink = bitmap_by_group4(rt.alloc(), columns, lists, aligned).expect(rt, "a bitmap");
     same(
         rt,
         (columns, aligned, sink.bytes()),
@@ -38,9 +35,7 @@ fn packs_1d(
     bytes: &[u8],
 ) {
     let columns = ctx.settings().columns;
-    let Ok(encoded) = encode_1d(rt.alloc(), columns, lists) else {
-        panic!(rt; "rows are refused");
-    };
+    let encoded = encode_1d(rt.alloc(), columns, lists).expect(rt, "rows");
     assert!(rt; bits_fit(&encoded));
     let mut sink = BitmapSink::new(rt.alloc(), columns);
     let read = decode(&encoded, &mut sink, ctx);
@@ -119,7 +114,7 @@ fn bitmaps(rt: HostRuntime) {
 }
 
 #[test]
-fn paints_over_words(rt: HostRuntime) -> Result<(), Fail> {
+fn paints_over_words(rt: HostRuntime) {
     let mut row = [0x55u8; 18];
     paint_row(&mut row, 140, &[3, 64, 65, 128]);
     let mut painted = [0xFFu8; 18];
@@ -135,28 +130,44 @@ fn paints_over_words(rt: HostRuntime) -> Result<(), Fail> {
     let mut eight = [0x55u8; 8];
     paint_row(&mut eight, 64, &[0]);
     same(&rt, eight, [0xFFu8; 8]);
-    Ok(())
 }
 
 /// Returns the changes of a row of at most four pixels, given by the bits of a number, the last pixel the lowest.
-fn changes_of(alloc: Global, pixels: u8, columns: u32) -> Result<Vec<u32>, AllocError> {
-    let mut changes = Vec::new(alloc);
+fn changes_of(rt: &(impl Abort + AllocGlobal), pixels: u8, columns: u32) -> Vec<u32> {
+    let mut changes = Vec::new(rt.alloc());
     let mut before = 0;
-    for (place, ahead) in [3, 2, 1, 0].into_iter().enumerate() {
-        let pixel = pixels >> ahead & 1;
-        if (place as u32) < columns && pixel != before {
-            changes.push(place as u32)?;
+    for place in 0..columns.min(4) {
+        let pixel = pixels >> (3 - place) & 1;
+        if pixel != before {
+            changes.push(place).expect(rt, "memory");
         }
         before = pixel;
     }
-    Ok(changes)
+    changes
+}
+
+/// Packs the first rows of a picture, given by its bits, three rows one after another, the first the lowest.
+fn small_picture(rt: &(impl Abort + AllocGlobal), ctx: &mut DecoderContext, picture: u16) {
+    let columns = ctx.settings().columns;
+    assert!(rt; 1 <= columns && columns <= 4);
+    let mut lists = Vec::new(rt.alloc());
+    let mut bytes = Vec::new(rt.alloc());
+    for row in 0..3u32 {
+        let pixels = ((picture >> (columns * row)) % (1 << columns)) as u8;
+        let left = pixels << (4 - columns);
+        bytes.push(left << 4).expect(rt, "memory");
+        lists
+            .push(changes_of(rt, left, columns))
+            .expect(rt, "memory");
+        packs(rt, columns, &lists, false, &bytes);
+        packs(rt, columns, &lists, true, &bytes);
+        packs_1d(rt, ctx, &lists, &bytes);
+    }
 }
 
 #[test]
-fn every_small_picture(rt: HostRuntime) -> Result<(), Fail> {
-    let alloc = rt.alloc();
+fn every_small_picture(rt: HostRuntime) {
     for columns in 1..5u32 {
-        let last = 4 - columns;
         let settings = DecodeSettings {
             columns,
             rows: 0,
@@ -166,30 +177,11 @@ fn every_small_picture(rt: HostRuntime) -> Result<(), Fail> {
             encoding: EncodingMode::Group3_1D,
             strict: true,
         };
-        let Ok(mut ctx) = DecoderContext::new(alloc, settings) else {
-            panic!(&rt; "no memory");
-        };
+        let mut ctx = DecoderContext::new(rt.alloc(), settings).expect(&rt, "memory");
         for picture in 0..1u16 << (3 * columns) {
-            let mut lists = Vec::new(alloc);
-            let mut bytes = [0u8; 3];
-            for row in 0..3usize {
-                let pixels = ((picture >> (columns * row as u32)) % (1 << columns)) as u8;
-                let left = pixels << last;
-                bytes[row] = left << 4;
-                lists.push(changes_of(alloc, left, columns)?)?;
-            }
-            for rows in 1..4usize {
-                let (Some(front), Some(packed)) = (lists.as_slice().get(..rows), bytes.get(..rows))
-                else {
-                    panic!(&rt; "fewer rows");
-                };
-                packs(&rt, columns, front, false, packed);
-                packs(&rt, columns, front, true, packed);
-                packs_1d(&rt, &mut ctx, front, packed);
-            }
+            small_picture(&rt, &mut ctx, picture);
         }
     }
-    Ok(())
 }
 
 /// Sixteen rows with the changes 3 and 5, as lists and as a bitmap. One-dimensional, four of them are 0018E0006380018E000638.
