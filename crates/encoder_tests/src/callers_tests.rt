@@ -4,30 +4,30 @@
 //! With 8 columns a row whose pixels 3 and 4 are black is, below a white one, horizontal mode, a white run of 3, a black run of 2
 //! and V0: 001 1000 11 1. Below a row like itself it is three times V0: 111. EOFB is 000000000001 twice.
 
+use crate::cases::check;
 use crate::same;
 use fax_callers::{
-    BlackPixels, FirstRows, count_black, decode_first_rows, decode_once, group4_pages, is_blank,
-    page_end, page_ends, strip_to_bitmap,
+    BlackPixels, FirstRows, count_black, decode_first_rows, decode_once, group4_pages, page_end,
+    page_ends, strip_to_bitmap,
 };
 use fax_encode::BitmapSink;
-use hayro_ccitt::DecodeError::{InvalidCode, OutOfMemory, Refused, UnexpectedEof};
-use hayro_ccitt::bit_reader::BitOrder::{HighestFirst, LowestFirst};
+use hayro_ccitt::DecodeError::{OutOfMemory, Refused, UnexpectedEof};
+use hayro_ccitt::bit_reader::BitOrder::HighestFirst;
 use hayro_ccitt::{DecodeError, Decoder, DecoderContext, EncodingMode, Result, bits_fit};
 use named_requests::made_at_last;
-use std::alloc::{AllocError, AllocGlobal, Global};
+use std::alloc::AllocGlobal;
 use std::process::Abort;
-use std::test::Fail;
 
-/// One row with the changes 3 and 5, and EOFB.
+/// One row with the changes 3 and 5, and EOFB: 31C0040040.
 const ONE_ROW: [u8; 5] = [0x31, 0xC0, 0x04, 0x00, 0x40];
 
-/// Two rows with the changes 3 and 5, and EOFB.
+/// Two rows with the changes 3 and 5, and EOFB: 31F8008008.
 const TWO_ROWS: [u8; 5] = [0x31, 0xF8, 0x00, 0x80, 0x08];
 
 /// The page of one row, and after it that of two.
 const TWO_PAGES: [u8; 10] = [0x31, 0xC0, 0x04, 0x00, 0x40, 0x31, 0xF8, 0x00, 0x80, 0x08];
 
-/// One row with the changes 3 and 5, and after it the start of another: 001 100.
+/// One row with the changes 3 and 5, and after it the start of another, 001 100: 31CC.
 const CUT_ROW: [u8; 2] = [0x31, 0xCC];
 
 /// Decodes the first rows of 8 columns into a bitmap, and compares the result, their number and the bitmap.
@@ -39,28 +39,13 @@ fn takes_first(
     bitmap: &[u8],
 ) {
     assert!(rt; bits_fit(data));
-    let Ok(mut ctx) = DecoderContext::new(rt.alloc(), group4_pages(8)) else {
-        panic!(rt; "no memory");
-    };
+    let mut ctx = DecoderContext::new(rt.alloc(), group4_pages(8)).expect(rt, "memory");
     let mut first = FirstRows::new(BitmapSink::new(rt.alloc(), 8), most);
+    let found = decode_first_rows(HighestFirst, data, &mut first, &mut ctx);
     same(
         rt,
-        (
-            "rows at most",
-            most,
-            decode_first_rows(HighestFirst, data, &mut first, &mut ctx),
-        ),
-        ("rows at most", most, answer),
-    );
-    same(
-        rt,
-        ("rows at most", most, first.rows),
-        ("rows at most", most, bitmap.len() as u64),
-    );
-    same(
-        rt,
-        ("rows at most", most, first.sink.bytes()),
-        ("rows at most", most, bitmap),
+        ("rows at most", most, found, first.rows, first.sink.bytes()),
+        ("rows at most", most, answer, bitmap.len() as u64, bitmap),
     );
 }
 
@@ -79,76 +64,74 @@ fn settings_of_pages(rt: HostRuntime) {
 
 #[test]
 fn black_pixels(rt: HostRuntime) {
-    let alloc = rt.alloc();
-    same(
+    check(
         &rt,
-        count_black(alloc, group4_pages(8), HighestFirst, &ONE_ROW),
-        Ok(2),
-    );
-    same(
-        &rt,
-        count_black(alloc, group4_pages(8), HighestFirst, &TWO_ROWS),
-        Ok(4),
-    );
-    same(
-        &rt,
-        count_black(alloc, group4_pages(8), HighestFirst, &CUT_ROW),
-        Err(UnexpectedEof),
+        "count_black 8",
+        "
+        31C0040040: Ok(2)
+        31F8008008: Ok(4)
+        31CC: Err(UnexpectedEof)
+        ",
     );
     let mut sink = BlackPixels::new(8);
-    same(
-        &rt,
-        decode_once(alloc, group4_pages(8), HighestFirst, &TWO_PAGES, &mut sink),
-        Ok(5),
+    let read = decode_once(
+        rt.alloc(),
+        group4_pages(8),
+        HighestFirst,
+        &TWO_PAGES,
+        &mut sink,
     );
-    same(&rt, sink.black(), 2);
+    same(&rt, (read, sink.black()), (Ok(5), 2));
     let taken: Result<()> = sink.push_row(&[]);
     same(
         &rt,
-        ("a white row", (taken, sink.black())),
-        ("a white row", (Ok(()), 2)),
+        ("a white row", taken, sink.black()),
+        ("a white row", Ok(()), 2),
     );
     let taken: Result<()> = sink.push_row(&[0]);
     same(
         &rt,
-        ("a black row", (taken, sink.black())),
-        ("a black row", (Ok(()), 10)),
+        ("a black row", taken, sink.black()),
+        ("a black row", Ok(()), 10),
     );
     let taken: Result<()> = sink.push_row(&[0, 1, 7]);
+    let first_and_last = "its first and last pixel";
     same(
         &rt,
-        ("its first and last pixel", (taken, sink.black())),
-        ("its first and last pixel", (Ok(()), 12)),
+        (first_and_last, taken, sink.black()),
+        (first_and_last, Ok(()), 12),
     );
 }
 
 #[test]
-fn bitmaps_of_strips(rt: HostRuntime) -> std::result::Result<(), Fail> {
-    let one = strip_to_bitmap(rt.alloc(), group4_pages(8), HighestFirst, &ONE_ROW)?;
-    same(&rt, one.as_slice(), [0x18u8].as_slice());
-    let two = strip_to_bitmap(rt.alloc(), group4_pages(8), HighestFirst, &TWO_ROWS)?;
-    same(&rt, two.as_slice(), [0x18u8, 0x18].as_slice());
-    let of_cut_row = strip_to_bitmap(rt.alloc(), group4_pages(8), HighestFirst, &CUT_ROW);
-    same(&rt, of_cut_row.err(), Some(UnexpectedEof));
-    Ok(())
+fn bitmaps_of_strips(rt: HostRuntime) {
+    check(
+        &rt,
+        "strip_to_bitmap 8",
+        "
+        31C0040040: 18
+        31F8008008: 1818
+        31CC: UnexpectedEof
+        ",
+    );
 }
 
 #[test]
 fn blank_images(rt: HostRuntime) {
-    let alloc = rt.alloc();
-    let blank = |data: &[u8], order| is_blank(alloc, group4_pages(8), order, data);
-    // V0 twice, and EOFB: 11 000000000001 000000000001.
-    same(
+    check(
         &rt,
-        blank(&[0xC0, 0x04, 0x00, 0x40], HighestFirst),
-        Ok(true),
+        "is_blank 8",
+        "
+        // V0 twice, and EOFB: 11 000000000001 000000000001.
+        C0040040: Ok(true)
+        03200002 low: Ok(true)
+        31C0040040: Ok(false)
+        // A white row, and one whose pixels 3 and 4 are black: what follows it doesn't matter.
+        98E0: Ok(false)
+        // A white row, and no code word.
+        8000: Err(InvalidCode)
+        ",
     );
-    same(&rt, blank(&[0x03, 0x20, 0x00, 0x02], LowestFirst), Ok(true));
-    same(&rt, blank(&ONE_ROW, HighestFirst), Ok(false));
-    // A white row, and one whose pixels 3 and 4 are black: what follows it doesn't matter.
-    same(&rt, blank(&[0x98, 0xE0], HighestFirst), Ok(false));
-    // A white row, and no code word.
-    same(&rt, blank(&[0x80, 0x00], HighestFirst), Err(InvalidCode));
 }
 
 #[test]
@@ -162,140 +145,116 @@ fn first_rows(rt: HostRuntime) {
 }
 
 #[test]
-fn rows_that_are_refused(rt: HostRuntime) -> std::result::Result<(), Fail> {
-    let mut ctx = DecoderContext::new(rt.alloc(), group4_pages(8))?;
-    let one = FirstRows::new(BitmapSink::new(rt.alloc(), 8), 1);
-    let mut first = FirstRows::new(one, 3);
+fn rows_that_are_refused(rt: HostRuntime) {
+    let alloc = rt.alloc();
+    let mut ctx = DecoderContext::new(alloc, group4_pages(8)).expect(&rt, "memory");
+    let mut first = FirstRows::new(FirstRows::new(BitmapSink::new(alloc, 8), 1), 3);
+    let of_three = decode_first_rows(HighestFirst, &TWO_ROWS, &mut first, &mut ctx);
+    let mut one = FirstRows::new(BitmapSink::new(alloc, 8), 1);
+    let of_one = decode_once(alloc, group4_pages(8), HighestFirst, &TWO_ROWS, &mut one);
     same(
         &rt,
-        decode_first_rows(HighestFirst, &TWO_ROWS, &mut first, &mut ctx),
-        Err(Refused),
+        (of_three, first.sink.sink.bytes(), of_one),
+        (Err(Refused), [0x18u8].as_slice(), Err(Refused)),
     );
-    same(&rt, first.sink.sink.bytes(), [0x18u8].as_slice());
-    let mut one = FirstRows::new(BitmapSink::new(rt.alloc(), 8), 1);
-    let answer = decode_once(
-        rt.alloc(),
-        group4_pages(8),
-        HighestFirst,
-        &TWO_ROWS,
-        &mut one,
-    );
-    same(&rt, answer, Err(Refused));
-    Ok(())
 }
 
 #[test]
-fn pages(rt: HostRuntime) -> std::result::Result<(), Fail> {
-    let alloc = rt.alloc();
-    same(&rt, page_end(alloc, 8, HighestFirst, &ONE_ROW), Ok(5));
-    same(&rt, page_end(alloc, 8, HighestFirst, &TWO_PAGES), Ok(5));
-    same(
+fn pages(rt: HostRuntime) {
+    check(
         &rt,
-        page_end(alloc, 8, HighestFirst, &CUT_ROW),
-        Err(UnexpectedEof),
+        "",
+        "
+        page_end 8 31C0040040: Ok(5)
+        page_end 8 31C004004031F8008008: Ok(5)
+        page_end 8 31CC: Err(UnexpectedEof)
+        page_ends 8 31C004004031F8008008: Ok([5, 10])
+        page_ends 8 -: Ok([])
+        page_ends 0 31C0040040: Ok([])
+        page_ends 8 31C004004031: Err(UnexpectedEof)
+        ",
     );
-    same(
-        &rt,
-        page_ends(alloc, 8, HighestFirst, &TWO_PAGES)?.as_slice(),
-        [5usize, 10].as_slice(),
-    );
-    same(
-        &rt,
-        (
-            "nothing",
-            page_ends(alloc, 8, HighestFirst, &[])?.as_slice(),
-        ),
-        ("nothing", [].as_slice()),
-    );
-    same(
-        &rt,
-        (
-            "no columns",
-            page_ends(alloc, 0, HighestFirst, &ONE_ROW)?.as_slice(),
-        ),
-        ("no columns", [].as_slice()),
-    );
-    let ends_of_cut_page = page_ends(
-        alloc,
-        8,
-        HighestFirst,
-        &[0x31, 0xC0, 0x04, 0x00, 0x40, 0x31],
-    );
-    same(&rt, ends_of_cut_page.err(), Some(UnexpectedEof));
-    Ok(())
 }
 
 /// Returns `times` copies of a piece between a start and an end.
 fn repeated(
-    alloc: Global,
+    rt: &(impl Abort + AllocGlobal),
     front: &[u8],
     piece: &[u8],
     times: usize,
     end: &[u8],
-) -> std::result::Result<Vec<u8>, AllocError> {
-    let mut data = front.to_vec(alloc)?;
+) -> Vec<u8> {
+    let mut data = front.to_vec(rt.alloc()).expect(rt, "memory");
     for _ in 0..times {
-        data.extend_from_slice(piece)?;
+        data.extend_from_slice(piece).expect(rt, "memory");
     }
-    data.extend_from_slice(end)?;
-    Ok(data)
+    data.extend_from_slice(end).expect(rt, "memory");
+    data
 }
 
 #[test]
-fn many_pages(rt: HostRuntime) -> std::result::Result<(), Fail> {
-    let data = repeated(rt.alloc(), &[], &ONE_ROW, 10000, &[])?;
+fn many_pages(rt: HostRuntime) {
+    let data = repeated(&rt, &[], &ONE_ROW, 10000, &[]);
     assert!(&rt; bits_fit(&data));
-    let ends = page_ends(rt.alloc(), 8, HighestFirst, &data)?;
+    let ends = page_ends(rt.alloc(), 8, HighestFirst, &data).expect(&rt, "pages");
     same(&rt, ends.len(), 10000);
     let mut end = 0usize;
     for found in ends.iter() {
         end = end.wrapping_add(ONE_ROW.len());
         same(&rt, *found, end);
     }
-    Ok(())
+}
+
+/// Decodes a strip in each way, and compares its bitmap, its black pixels, two in a row, and its end.
+fn decodes_strip(rt: &(impl Abort + AllocGlobal), data: &[u8], expected: &[u8]) {
+    let alloc = rt.alloc();
+    assert!(rt; bits_fit(data));
+    let bitmap = strip_to_bitmap(alloc, group4_pages(8), HighestFirst, data).expect(rt, "a strip");
+    same(rt, bitmap.len(), expected.len());
+    assert!(rt; bitmap.as_slice() == expected);
+    let black = count_black(alloc, group4_pages(8), HighestFirst, data);
+    same(rt, black, Ok((expected.len() as u64).wrapping_mul(2)));
+    same(rt, page_end(alloc, 8, HighestFirst, data), Ok(data.len()));
+}
+
+/// Decodes all rows of a strip as its first ones, and compares them.
+fn takes_all(rt: &(impl Abort + AllocGlobal), data: &[u8], expected: &[u8]) {
+    assert!(rt; bits_fit(data));
+    let mut first = FirstRows::new(BitmapSink::new(rt.alloc(), 8), u64::MAX);
+    let mut ctx = DecoderContext::new(rt.alloc(), group4_pages(8)).expect(rt, "memory");
+    let stopped = decode_first_rows(HighestFirst, data, &mut first, &mut ctx);
+    same(
+        rt,
+        (stopped, first.rows),
+        (Ok(false), expected.len() as u64),
+    );
+    assert!(rt; first.sink.bytes() == expected);
 }
 
 /// A row with the changes 3 and 5 and two copies of it occupy two bytes, eight more copies three, each three times V0.
 #[test]
-fn long_strips(rt: HostRuntime) -> std::result::Result<(), Fail> {
-    let alloc = rt.alloc();
+fn long_strips(rt: HostRuntime) {
     let times = 1 << 19;
-    let eofb = [0x00, 0x10, 0x01];
-    let data = repeated(alloc, &[0x31, 0xFF], &[0xFF; 3], times, &eofb)?;
-    assert!(&rt; bits_fit(&data));
-    let expected = repeated(alloc, &[0x18; 3], &[0x18; 8], times, &[])?;
-    let bitmap = strip_to_bitmap(alloc, group4_pages(8), HighestFirst, &data)?;
-    same(&rt, bitmap.len(), expected.len());
-    assert!(&rt; bitmap.as_slice() == expected.as_slice());
-    same(
-        &rt,
-        count_black(alloc, group4_pages(8), HighestFirst, &data),
-        Ok(2 * expected.len() as u64),
-    );
-    same(&rt, page_end(alloc, 8, HighestFirst, &data), Ok(data.len()));
-    let mut first = FirstRows::new(BitmapSink::new(alloc, 8), u64::MAX);
-    let mut ctx = DecoderContext::new(alloc, group4_pages(8))?;
-    same(
-        &rt,
-        decode_first_rows(HighestFirst, &data, &mut first, &mut ctx),
-        Ok(false),
-    );
-    same(&rt, first.rows, expected.len() as u64);
-    assert!(&rt; first.sink.bytes() == expected.as_slice());
-    Ok(())
+    let data = repeated(&rt, &[0x31, 0xFF], &[0xFF; 3], times, &[0x00, 0x10, 0x01]);
+    let expected = repeated(&rt, &[0x18; 3], &[0x18; 8], times, &[]);
+    decodes_strip(&rt, &data, &expected);
+    takes_all(&rt, &data, &expected);
+}
+
+/// Returns whether an error is want of memory.
+fn is_want(error: &DecodeError) -> bool {
+    matches!(error, OutOfMemory | Refused)
 }
 
 #[test]
 fn refused_memory(rt: HostRuntime) {
     let alloc = rt.alloc();
-    let is_want = |error: &DecodeError| matches!(error, OutOfMemory | Refused);
     let black = made_at_last(
         alloc,
         &|| count_black(alloc, group4_pages(8), HighestFirst, &TWO_ROWS),
         &is_want,
-    )
-    .expect(&rt, "requests");
-    same(&rt, black, 4);
+    );
+    same(&rt, black, Ok(4));
     let bitmap = made_at_last(
         alloc,
         &|| strip_to_bitmap(alloc, group4_pages(8), HighestFirst, &TWO_ROWS),

@@ -7,9 +7,8 @@ use crate::same;
 use fax_encode::{
     BitmapSink, bitmap_by_group3, bitmap_by_group4, encode_1d, encode_g4, rows_of_bitmap,
 };
-use std::alloc::{AllocError, AllocGlobal, Global};
+use std::alloc::AllocGlobal;
 use std::process::Abort;
-use std::test::Fail;
 
 /// The width of the rows, and how many there are: a bitmap of 32 MB.
 const COLUMNS: u32 = 2048;
@@ -33,33 +32,33 @@ const FIRST_LINE: [u8; 12] = [
 const RTC: [u8; 9] = [0x00, 0x10, 0x01, 0x00, 0x10, 0x01, 0x00, 0x10, 0x01];
 
 /// Appends `times` copies of a piece to bytes.
-fn extend(bytes: &mut Vec<u8>, piece: &[u8], times: usize) -> Result<(), AllocError> {
+fn extend(rt: &impl Abort, bytes: &mut Vec<u8>, piece: &[u8], times: usize) {
     for _ in 0..times {
-        bytes.extend_from_slice(piece)?;
+        bytes.extend_from_slice(piece).expect(rt, "memory");
     }
-    Ok(())
 }
 
 /// Returns the lists of changes of all rows.
-fn lists(alloc: Global) -> Result<Vec<Vec<u32>>, AllocError> {
-    let mut rows = Vec::new(alloc);
+fn lists(rt: &(impl Abort + AllocGlobal)) -> Vec<Vec<u32>> {
+    let mut rows = Vec::new(rt.alloc());
     for _ in 0..ROWS {
-        rows.push(CHANGES.to_vec(alloc)?)?;
+        let row = CHANGES.to_vec(rt.alloc()).expect(rt, "memory");
+        rows.push(row).expect(rt, "memory");
     }
-    Ok(rows)
+    rows
 }
 
 /// Returns the bitmap of all rows.
-fn bitmap(alloc: Global) -> Result<Vec<u8>, AllocError> {
-    let mut row = Vec::new(alloc);
-    extend(&mut row, &[0x18, 0xFF, 0x7F], 1)?;
-    extend(&mut row, &[0xFF], 13)?;
-    extend(&mut row, &[0x80], 1)?;
-    extend(&mut row, &[0x00], 111)?;
-    extend(&mut row, &[0xFF], 128)?;
-    let mut bytes = Vec::new(alloc);
-    extend(&mut bytes, &row, ROWS)?;
-    Ok(bytes)
+fn bitmap(rt: &(impl Abort + AllocGlobal)) -> Vec<u8> {
+    let mut row = Vec::new(rt.alloc());
+    extend(rt, &mut row, &[0x18, 0xFF, 0x7F], 1);
+    extend(rt, &mut row, &[0xFF], 13);
+    extend(rt, &mut row, &[0x80], 1);
+    extend(rt, &mut row, &[0x00], 111);
+    extend(rt, &mut row, &[0xFF], 128);
+    let mut bytes = Vec::new(rt.alloc());
+    extend(rt, &mut bytes, &row, ROWS);
+    bytes
 }
 
 /// Compares bytes, which are too many to be printed.
@@ -70,68 +69,61 @@ fn are_same(rt: &impl Abort, found: &[u8], expected: &[u8], what: &str) {
 
 /// Compares the bytes of a sink.
 fn holds(rt: &(impl Abort + AllocGlobal), sink: &BitmapSink, what: &str) {
-    let Ok(expected) = bitmap(rt.alloc()) else {
-        panic!(rt; "no memory");
-    };
-    are_same(rt, sink.bytes(), &expected, what);
+    are_same(rt, sink.bytes(), &bitmap(rt), what);
 }
 
 #[test]
-fn many_rows_of_group_3(rt: HostRuntime) -> Result<(), Fail> {
-    let rows = lists(rt.alloc())?;
+fn many_rows_of_group_3(rt: HostRuntime) {
+    let rows = lists(&rt);
     let mut expected = Vec::new(rt.alloc());
-    extend(&mut expected, &LINE, ROWS)?;
-    extend(&mut expected, &RTC, 1)?;
-    let Ok(encoded) = encode_1d(rt.alloc(), COLUMNS, rows.as_slice()) else {
-        panic!(&rt; "the rows are refused");
-    };
+    extend(&rt, &mut expected, &LINE, ROWS);
+    extend(&rt, &mut expected, &RTC, 1);
+    let encoded = encode_1d(rt.alloc(), COLUMNS, rows.as_slice()).expect(
+        &rt,
+        "the rows are refused",
+    );
     are_same(&rt, &encoded, &expected, "Group 3");
-    Ok(())
 }
 
 #[test]
-fn many_rows_of_group_4(rt: HostRuntime) -> Result<(), Fail> {
-    let rows = lists(rt.alloc())?;
+fn many_rows_of_group_4(rt: HostRuntime) {
+    let rows = lists(&rt);
     let mut expected = Vec::new(rt.alloc());
-    extend(&mut expected, &FIRST_LINE, 1)?;
-    extend(&mut expected, &[0xFF], ROWS - 1)?;
-    extend(&mut expected, &[0x00, 0x10, 0x01], 1)?;
+    extend(&rt, &mut expected, &FIRST_LINE, 1);
+    extend(&rt, &mut expected, &[0xFF], ROWS - 1);
+    extend(&rt, &mut expected, &[0x00, 0x10, 0x01], 1);
     for aligned in [false, true] {
-        let Ok(encoded) = encode_g4(rt.alloc(), COLUMNS, rows.as_slice(), aligned) else {
-            panic!(&rt; "the rows are refused");
-        };
+        let encoded = encode_g4(rt.alloc(), COLUMNS, rows.as_slice(), aligned).expect(
+            &rt,
+            "the rows are refused",
+        );
         are_same(&rt, &encoded, &expected, "Group 4");
     }
-    Ok(())
 }
 
 #[test]
-fn large_bitmap_by_group_3(rt: HostRuntime) -> Result<(), Fail> {
-    let rows = lists(rt.alloc())?;
-    let Ok(sink) = bitmap_by_group3(rt.alloc(), COLUMNS, rows.as_slice()) else {
-        panic!(&rt; "no bitmap");
-    };
+fn large_bitmap_by_group_3(rt: HostRuntime) {
+    let rows = lists(&rt);
+    let sink = bitmap_by_group3(rt.alloc(), COLUMNS, rows.as_slice()).expect(&rt, "no bitmap");
     holds(&rt, &sink, "by way of Group 3");
-    Ok(())
 }
 
 #[test]
-fn large_bitmap_by_group_4(rt: HostRuntime) -> Result<(), Fail> {
-    let rows = lists(rt.alloc())?;
-    let Ok(sink) = bitmap_by_group4(rt.alloc(), COLUMNS, rows.as_slice(), false) else {
-        panic!(&rt; "no bitmap");
-    };
+fn large_bitmap_by_group_4(rt: HostRuntime) {
+    let rows = lists(&rt);
+    let sink = bitmap_by_group4(rt.alloc(), COLUMNS, rows.as_slice(), false).expect(
+        &rt,
+        "no bitmap",
+    );
     holds(&rt, &sink, "by way of Group 4");
-    Ok(())
 }
 
 #[test]
-fn rows_of_a_large_bitmap(rt: HostRuntime) -> Result<(), Fail> {
-    let bytes = bitmap(rt.alloc())?;
-    let rows = rows_of_bitmap(rt.alloc(), COLUMNS, &bytes)?;
+fn rows_of_a_large_bitmap(rt: HostRuntime) {
+    let bytes = bitmap(&rt);
+    let rows = rows_of_bitmap(rt.alloc(), COLUMNS, &bytes).expect(&rt, "memory");
     same(&rt, rows.len(), ROWS);
     for row in rows.iter() {
         same(&rt, row.as_slice(), CHANGES.as_slice());
     }
-    Ok(())
 }

@@ -7,6 +7,8 @@ mod bitmap_tests;
 #[cfg(test)]
 mod callers_tests;
 #[cfg(test)]
+mod cases;
+#[cfg(test)]
 mod large_tests;
 #[cfg(test)]
 mod settings_tests;

@@ -1,55 +1,15 @@
 //! What no clause says: that allocations succeed, and that the bytes are those of the standards. They were worked out
 //! from T.4 and T.6, apart from the encoder.
 
+use crate::cases::{check, says};
 use crate::same;
-use fax_encode::{
-    BitmapSink, EncodeError, bitmap_by_group3, bitmap_by_group4, encode_1d, encode_bitmap_1d,
-    encode_bitmap_g4, encode_g4, paint_row,
-};
+use fax_encode::{BitmapSink, EncodeError, bitmap_by_group4, encode_1d, paint_row};
 use hayro_ccitt::{
     DecodeError, DecodeSettings, Decoder, DecoderContext, EncodingMode, bits_fit, decode,
 };
-use named_requests::{made_at_last, refuse_request, was_refused};
-use std::alloc::{AllocError, AllocGlobal, Global};
+use named_requests::{refuse_request, was_refused};
+use std::alloc::AllocGlobal;
 use std::process::Abort;
-use std::test::Fail;
-
-/// Allocates lists of changes.
-fn lists_of(alloc: Global, rows: &[&[u32]]) -> Result<Vec<Vec<u32>>, AllocError> {
-    let mut lists = Vec::new(alloc);
-    for row in rows {
-        lists.push(row.to_vec(alloc)?)?;
-    }
-    Ok(lists)
-}
-
-/// Encodes rows as Group 4, and compares the bytes.
-fn encodes_g4(
-    rt: &(impl Abort + AllocGlobal),
-    columns: u32,
-    rows: &[&[u32]],
-    aligned: bool,
-    bytes: &[u8],
-) {
-    let Ok(lists) = lists_of(rt.alloc(), rows) else {
-        panic!(rt; "no memory");
-    };
-    let Ok(encoded) = encode_g4(rt.alloc(), columns, lists.as_slice(), aligned) else {
-        panic!(rt; "rows are refused");
-    };
-    same(rt, encoded.as_slice(), bytes);
-}
-
-/// Encodes rows as one-dimensional Group 3, and compares the bytes.
-fn encodes_1d(rt: &(impl Abort + AllocGlobal), columns: u32, rows: &[&[u32]], bytes: &[u8]) {
-    let Ok(lists) = lists_of(rt.alloc(), rows) else {
-        panic!(rt; "no memory");
-    };
-    let Ok(encoded) = encode_1d(rt.alloc(), columns, lists.as_slice()) else {
-        panic!(rt; "rows are refused");
-    };
-    same(rt, encoded.as_slice(), bytes);
-}
 
 /// Encodes rows as Group 4, decodes them, and compares the bitmap.
 fn packs(
@@ -59,9 +19,7 @@ fn packs(
     aligned: bool,
     bytes: &[u8],
 ) {
-    let Ok(sink) = bitmap_by_group4(rt.alloc(), columns, lists, aligned) else {
-        panic!(rt; "no bitmap");
-    };
+    let sink = bitmap_by_group4(rt.alloc(), columns, lists, aligned).expect(rt, "a bitmap");
     same(
         rt,
         (columns, aligned, sink.bytes()),
@@ -77,9 +35,7 @@ fn packs_1d(
     bytes: &[u8],
 ) {
     let columns = ctx.settings().columns;
-    let Ok(encoded) = encode_1d(rt.alloc(), columns, lists) else {
-        panic!(rt; "rows are refused");
-    };
+    let encoded = encode_1d(rt.alloc(), columns, lists).expect(rt, "rows");
     assert!(rt; bits_fit(&encoded));
     let mut sink = BitmapSink::new(rt.alloc(), columns);
     let read = decode(&encoded, &mut sink, ctx);
@@ -92,124 +48,73 @@ fn packs_1d(
 
 #[test]
 fn group_4_bytes(rt: HostRuntime) {
-    encodes_g4(&rt, 8, &[], false, &[0x00, 0x10, 0x01]);
-    encodes_g4(&rt, 8, &[&[3, 5]], false, &[0x31, 0xC0, 0x04, 0x00, 0x40]);
-    encodes_g4(
+    check(
         &rt,
-        8,
-        &[&[3, 5], &[3, 5]],
-        false,
-        &[0x31, 0xF8, 0x00, 0x80, 0x08],
-    );
-    encodes_g4(
-        &rt,
-        8,
-        &[&[3, 5], &[3, 5]],
-        true,
-        &[0x31, 0xC0, 0xE0, 0x00, 0x10, 0x01],
-    );
-    encodes_g4(
-        &rt,
-        8,
-        &[&[3, 5], &[]],
-        false,
-        &[0x31, 0xC6, 0x00, 0x20, 0x02],
-    );
-    encodes_g4(
-        &rt,
-        8,
-        &[&[0]],
-        false,
-        &[0x26, 0xA2, 0x80, 0x08, 0x00, 0x80],
+        "encode_g4 8",
+        "
+        -: 001001
+        3,5: 31C0040040
+        3,5/3,5: 31F8008008
+        3,5/3,5 aligned: 31C0E0001001
+        3,5/white: 31C6002002
+        0: 26A280080080
+        ",
     );
 }
 
 #[test]
 fn one_dimensional_bytes(rt: HostRuntime) {
-    encodes_1d(
+    check(
         &rt,
-        8,
-        &[&[]],
-        &[
-            0x00, 0x19, 0x80, 0x08, 0x00, 0x80, 0x08, 0x00, 0x80, 0x08, 0x00, 0x80,
-        ],
-    );
-    encodes_1d(
-        &rt,
-        8,
-        &[&[3, 5]],
-        &[
-            0x00, 0x18, 0xE0, 0x00, 0x40, 0x04, 0x00, 0x40, 0x04, 0x00, 0x40, 0x04,
-        ],
-    );
-    encodes_1d(
-        &rt,
-        2560,
-        &[&[]],
-        &[
-            0x00, 0x10, 0x1F, 0x35, 0x00, 0x10, 0x01, 0x00, 0x10, 0x01, 0x00, 0x10, 0x01,
-        ],
+        "encode_1d",
+        "
+        8 white: 001980080080080080080080
+        8 3,5: 0018E0004004004004004004
+        2560 white: 00101F35001001001001001001
+        ",
     );
 }
 
 #[test]
-fn refusals(rt: HostRuntime) -> Result<(), Fail> {
-    let alloc = rt.alloc();
-    let twice = lists_of(alloc, &[&[3, 3]])?;
-    let none = lists_of(alloc, &[])?;
-    let second_is_wide = lists_of(alloc, &[&[7], &[8]])?;
-    let g4 = |columns, rows: &Vec<Vec<u32>>| encode_g4(
-        alloc,
-        columns,
-        rows.as_slice(),
-        false,
-    ).err();
-    let one = |columns, rows: &Vec<Vec<u32>>| encode_1d(alloc, columns, rows.as_slice()).err();
-    same(&rt, g4(0, &twice), Some(EncodeError::NoColumns));
-    same(&rt, g4(8, &twice), Some(EncodeError::NotARow(0)));
-    same(&rt, g4(8, &second_is_wide), Some(EncodeError::NotARow(1)));
-    same(&rt, one(0, &none), Some(EncodeError::NoColumns));
-    same(&rt, one(8, &none), Some(EncodeError::NoRows));
-    same(&rt, one(8, &twice), Some(EncodeError::NotARow(0)));
-    let text = format!(in alloc; "{}", EncodeError::NotARow(12))?;
-    same(&rt, text.as_str(), "row 12 is not a list of changes");
-    Ok(())
+fn refusals(rt: HostRuntime) {
+    check(
+        &rt,
+        "",
+        "
+        encode_g4 0 3,3: NoColumns
+        encode_g4 8 3,3: NotARow(0)
+        encode_g4 8 7/8: NotARow(1)
+        encode_1d 0 -: NoColumns
+        encode_1d 8 -: NoRows
+        encode_1d 8 3,3: NotARow(0)
+        ",
+    );
+    says(
+        &rt,
+        EncodeError::NotARow(12),
+        "row 12 is not a list of changes",
+    );
 }
 
 #[test]
-fn bitmaps(rt: HostRuntime) -> Result<(), Fail> {
-    let alloc = rt.alloc();
-    packs(
+fn bitmaps(rt: HostRuntime) {
+    check(
         &rt,
-        8,
-        lists_of(alloc, &[&[3, 5]])?.as_slice(),
-        false,
-        &[0x18],
+        "bitmap_by_group4",
+        "
+        8 3,5: 18
+        8 3,5/white aligned: 1800
+        8 0: FF
+        20 1,18/9,10,19 aligned: 7FFFC0004010
+        ",
     );
-    packs(
-        &rt,
-        8,
-        lists_of(alloc, &[&[3, 5], &[]])?.as_slice(),
-        true,
-        &[0x18, 0x00],
-    );
-    packs(&rt, 8, lists_of(alloc, &[&[0]])?.as_slice(), false, &[0xFF]);
-    packs(
-        &rt,
-        20,
-        lists_of(alloc, &[&[1, 18], &[9, 10, 19]])?.as_slice(),
-        true,
-        &[0x7F, 0xFF, 0xC0, 0x00, 0x40, 0x10],
-    );
-    let mut sink = BitmapSink::new(alloc, 8);
+    let mut sink = BitmapSink::new(rt.alloc(), 8);
     let taken: Result<(), DecodeError> = sink.push_row(&[7]);
-    same(&rt, taken, Ok(()));
-    same(&rt, sink.bytes(), [0x01u8].as_slice());
-    Ok(())
+    same(&rt, (taken, sink.bytes()), (Ok(()), [0x01u8].as_slice()));
 }
 
 #[test]
-fn paints_over_words(rt: HostRuntime) -> Result<(), Fail> {
+fn paints_over_words(rt: HostRuntime) {
     let mut row = [0x55u8; 18];
     paint_row(&mut row, 140, &[3, 64, 65, 128]);
     let mut painted = [0xFFu8; 18];
@@ -225,28 +130,44 @@ fn paints_over_words(rt: HostRuntime) -> Result<(), Fail> {
     let mut eight = [0x55u8; 8];
     paint_row(&mut eight, 64, &[0]);
     same(&rt, eight, [0xFFu8; 8]);
-    Ok(())
 }
 
 /// Returns the changes of a row of at most four pixels, given by the bits of a number, the last pixel the lowest.
-fn changes_of(alloc: Global, pixels: u8, columns: u32) -> Result<Vec<u32>, AllocError> {
-    let mut changes = Vec::new(alloc);
+fn changes_of(rt: &(impl Abort + AllocGlobal), pixels: u8, columns: u32) -> Vec<u32> {
+    let mut changes = Vec::new(rt.alloc());
     let mut before = 0;
-    for (place, ahead) in [3, 2, 1, 0].into_iter().enumerate() {
-        let pixel = pixels >> ahead & 1;
-        if (place as u32) < columns && pixel != before {
-            changes.push(place as u32)?;
+    for place in 0..columns.min(4) {
+        let pixel = pixels >> (3 - place) & 1;
+        if pixel != before {
+            changes.push(place).expect(rt, "memory");
         }
         before = pixel;
     }
-    Ok(changes)
+    changes
+}
+
+/// Packs the first rows of a picture, given by its bits, three rows one after another, the first the lowest.
+fn small_picture(rt: &(impl Abort + AllocGlobal), ctx: &mut DecoderContext, picture: u16) {
+    let columns = ctx.settings().columns;
+    assert!(rt; 1 <= columns && columns <= 4);
+    let mut lists = Vec::new(rt.alloc());
+    let mut bytes = Vec::new(rt.alloc());
+    for row in 0..3u32 {
+        let pixels = ((picture >> (columns * row)) % (1 << columns)) as u8;
+        let left = pixels << (4 - columns);
+        bytes.push(left << 4).expect(rt, "memory");
+        lists
+            .push(changes_of(rt, left, columns))
+            .expect(rt, "memory");
+        packs(rt, columns, &lists, false, &bytes);
+        packs(rt, columns, &lists, true, &bytes);
+        packs_1d(rt, ctx, &lists, &bytes);
+    }
 }
 
 #[test]
-fn every_small_picture(rt: HostRuntime) -> Result<(), Fail> {
-    let alloc = rt.alloc();
+fn every_small_picture(rt: HostRuntime) {
     for columns in 1..5u32 {
-        let last = 4 - columns;
         let settings = DecodeSettings {
             columns,
             rows: 0,
@@ -256,82 +177,40 @@ fn every_small_picture(rt: HostRuntime) -> Result<(), Fail> {
             encoding: EncodingMode::Group3_1D,
             strict: true,
         };
-        let Ok(mut ctx) = DecoderContext::new(alloc, settings) else {
-            panic!(&rt; "no memory");
-        };
+        let mut ctx = DecoderContext::new(rt.alloc(), settings).expect(&rt, "memory");
         for picture in 0..1u16 << (3 * columns) {
-            let mut lists = Vec::new(alloc);
-            let mut bytes = [0u8; 3];
-            for row in 0..3usize {
-                let pixels = ((picture >> (columns * row as u32)) % (1 << columns)) as u8;
-                let left = pixels << last;
-                bytes[row] = left << 4;
-                lists.push(changes_of(alloc, left, columns)?)?;
-            }
-            for rows in 1..4usize {
-                let (Some(front), Some(packed)) = (lists.as_slice().get(..rows), bytes.get(..rows))
-                else {
-                    panic!(&rt; "fewer rows");
-                };
-                packs(&rt, columns, front, false, packed);
-                packs(&rt, columns, front, true, packed);
-                packs_1d(&rt, &mut ctx, front, packed);
-            }
+            small_picture(&rt, &mut ctx, picture);
         }
     }
-    Ok(())
 }
 
+/// Sixteen rows with the changes 3 and 5, as lists and as a bitmap. One-dimensional, four of them are 0018E0006380018E000638.
 #[test]
-fn refused_memory(rt: HostRuntime) -> Result<(), Fail> {
-    let alloc = rt.alloc();
-    let row: &[u32] = &[3, 5];
-    let lists = lists_of(alloc, &[row; 16])?;
-    let rows = lists.as_slice();
-    let is_want = |error: &EncodeError| matches!(error, EncodeError::OutOfMemory);
-
-    let g4 = made_at_last(alloc, &|| encode_g4(alloc, 8, rows, false), &is_want).expect(
-        &rt, "requests",
+fn refused_memory(rt: HostRuntime) {
+    check(
+        &rt,
+        "",
+        "
+        encode_g4 8 3,5/3,5/3,5/3,5/3,5/3,5/3,5/3,5/3,5/3,5/3,5/3,5/3,5/3,5/3,5/3,5 refused: 31FFFFFFFFFFFE002002
+        encode_1d 8 3,5/3,5/3,5/3,5/3,5/3,5/3,5/3,5/3,5/3,5/3,5/3,5/3,5/3,5/3,5/3,5 refused: \
+            0018E0006380018E000638\
+            0018E0006380018E000638\
+            0018E0006380018E000638\
+            0018E0006380018E000638\
+            001001001001001001
+        // In data this short a decoder asks for no room that it can do without.
+        bitmap_by_group4 8 3,5/3,5/3,5/3,5 aligned refused: 18181818
+        bitmap_by_group3 8 3,5/3,5/3,5/3,5/3,5/3,5/3,5/3,5/3,5/3,5/3,5/3,5/3,5/3,5/3,5/3,5 refused: \
+            18181818181818181818181818181818
+        encode_bitmap_g4 8 18181818181818181818181818181818 refused: 31FFFFFFFFFFFE002002
+        encode_bitmap_1d 8 18181818181818181818181818181818 refused: \
+            0018E0006380018E000638\
+            0018E0006380018E000638\
+            0018E0006380018E000638\
+            0018E0006380018E000638\
+            001001001001001001
+        ",
     );
-    let t6 = [0x31, 0xFF, 0xFF, 0xFF, 0xFF, 0xFF, 0xFE, 0x00, 0x20, 0x02];
-    same(&rt, g4.as_slice(), t6.as_slice());
-
-    let one = made_at_last(alloc, &|| encode_1d(alloc, 8, rows), &is_want).expect(&rt, "requests");
-    let four_lines = [
-        0x00, 0x18, 0xE0, 0x00, 0x63, 0x80, 0x01, 0x8E, 0x00, 0x06, 0x38,
-    ];
-    let mut t4 = Vec::new(alloc);
-    for _ in 0..4u32 {
-        t4.extend_from_slice(&four_lines)?;
-    }
-    t4.extend_from_slice(&[0x00, 0x10, 0x01, 0x00, 0x10, 0x01, 0x00, 0x10, 0x01])?;
-    same(&rt, &one, &t4);
-
-    // In data this short a decoder asks for no room that it can do without.
-    let lists = lists_of(alloc, &[row; 4])?;
-    let four = lists.as_slice();
-    let sink = made_at_last(alloc, &|| bitmap_by_group4(alloc, 8, four, true), &is_want).expect(
-        &rt, "requests",
-    );
-    same(&rt, sink.bytes(), [0x18u8; 4].as_slice());
-    let sink = made_at_last(alloc, &|| bitmap_by_group3(alloc, 8, rows), &is_want).expect(
-        &rt, "requests",
-    );
-    same(&rt, sink.bytes(), [0x18u8; 16].as_slice());
-
-    let bitmap = sink.into_bytes();
-    let again = made_at_last(
-        alloc,
-        &|| encode_bitmap_g4(alloc, 8, &bitmap, false),
-        &is_want,
-    )
-    .expect(&rt, "requests");
-    same(&rt, again.as_slice(), t6.as_slice());
-    let again = made_at_last(alloc, &|| encode_bitmap_1d(alloc, 8, &bitmap), &is_want).expect(
-        &rt, "requests",
-    );
-    same(&rt, again, t4);
-    Ok(())
 }
 
 #[test]

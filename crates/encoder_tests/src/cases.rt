@@ -1,0 +1,354 @@
+//! Cases as texts, which are far quicker to prove than tables: one case a line, a call with its arguments, a colon, and what is
+//! found.
+//!
+//! ```text
+//! encode_g4 8 3,5/3,5 aligned: 31C0E0001001
+//! ```
+//!
+//! The arguments are the number of columns, the image and words for settings; `refused` is a call with each allocation refused in
+//! turn (`made_at_last`). An image is rows, as changes between commas, or bytes
+//! as hexadecimal digits. What is found is written as bytes are, or as `Debug` writes it; errors are written by their names.
+
+use crate::same;
+use fax_callers::{count_black, group4_pages, is_blank, page_end, page_ends, strip_to_bitmap};
+use fax_encode::{
+    EncodeError, EncodeSettings, Encoder, bitmap_by_group3, bitmap_by_group4, encode, encode_1d,
+    encode_bitmap, encode_bitmap_1d, encode_bitmap_g4, encode_g4, rows_of_bitmap,
+};
+use hayro_ccitt::bit_reader::BitOrder;
+use hayro_ccitt::{EncodingMode, bits_fit};
+use named_requests::made_at_last;
+use std::alloc::{AllocGlobal, Global};
+use std::fmt::Debug;
+use std::process::Abort;
+
+/// Checks the case of each line of a text, with the same words in front of each. A line that begins with `//` is a comment.
+pub fn check(rt: &(impl Abort + AllocGlobal), front: &str, cases: &str) {
+    let mut has_cases = false;
+    for line in cases.lines() {
+        let line = line.trim();
+        if !line.is_empty() && !line.starts_with("//") {
+            check_case(rt, front, line);
+            has_cases = true;
+        }
+    }
+    assert!(rt; has_cases, "no cases");
+}
+
+/// Makes the call of a case, and compares what is found.
+fn check_case(rt: &(impl Abort + AllocGlobal), front: &str, line: &str) {
+    let whole = format!(in rt.alloc(); "{front} {line}").expect(rt, "memory");
+    let (call, expected) = whole.as_str().split_once(": ").expect(rt, line);
+    let found = found_by(rt, call);
+    same(rt, (call, found.as_str()), (call, expected));
+}
+
+/// Makes a call, and writes what it returns.
+fn found_by(rt: &(impl Abort + AllocGlobal), call: &str) -> String {
+    let mut words = call.split_whitespace();
+    let name = words.next().expect(rt, call);
+    let columns = words
+        .next()
+        .expect(rt, call)
+        .parse::<u32>()
+        .expect(rt, call);
+    let image = words.next().expect(rt, call);
+    for word in words {
+        assert!(rt; is_setting(word), "{word} is no setting");
+    }
+    match name {
+        "encode_g4"
+        | "encode_1d"
+        | "encode"
+        | "bitmap_by_group4"
+        | "bitmap_by_group3"
+        | "push_changes" => { encoded_by(rt, call, name, columns, &rows_of(rt, image), &[]) }
+        "encode_bitmap_g4" | "encode_bitmap_1d" | "encode_bitmap" | "push_packed_row" => {
+            encoded_by(rt, call, name, columns, &[], &bytes_of(rt, image))
+        }
+        _ => found_in(
+            rt,
+            name,
+            columns,
+            &bytes_of(rt, image),
+            settings_by(call).order,
+        ),
+    }
+}
+
+/// Writes the bytes of an encoded image or of a bitmap, where the call says so after each allocation was refused in turn.
+fn encoded_by(
+    rt: &(impl Abort + AllocGlobal),
+    call: &str,
+    name: &str,
+    columns: u32,
+    rows: &[Vec<u32>],
+    bitmap: &[u8],
+) -> String {
+    let alloc = rt.alloc();
+    let settings = settings_by(call);
+    if has(call, "refused") {
+        let made = made_in_want(alloc, name, columns, rows, bitmap, settings);
+        digits_of(rt, &made.expect(rt, call))
+    } else {
+        bytes_or_error(rt, by_name(alloc, name, columns, rows, bitmap, settings))
+    }
+}
+
+/// Makes a call with each of its allocations refused in turn, and returns what `made_at_last` does.
+fn made_in_want(
+    alloc: Global,
+    name: &str,
+    columns: u32,
+    rows: &[Vec<u32>],
+    bitmap: &[u8],
+    settings: EncodeSettings,
+) -> Result<Vec<u8>, (usize, Option<EncodeError>)> {
+    made_at_last(
+        alloc,
+        &|| by_name(alloc, name, columns, rows, bitmap, settings),
+        &is_want,
+    )
+}
+
+/// Returns whether an error is want of memory.
+fn is_want(error: &EncodeError) -> bool {
+    matches!(error, EncodeError::OutOfMemory)
+}
+
+/// Writes what the calls that take bytes and an order of bits return.
+fn found_in(
+    rt: &(impl Abort + AllocGlobal),
+    name: &str,
+    columns: u32,
+    bytes: &[u8],
+    order: BitOrder,
+) -> String {
+    assert!(rt; bits_fit(bytes));
+    let alloc = rt.alloc();
+    let text = match name {
+        "rows_of_bitmap" => format!(in alloc; "{:?}", rows_of_bitmap(alloc, columns, bytes)),
+        "count_black" => format!(in alloc;
+            "{:?}",
+            count_black(alloc, group4_pages(columns), order, bytes)
+        ),
+        "is_blank" => format!(in alloc;
+            "{:?}",
+            is_blank(alloc, group4_pages(columns), order, bytes)
+        ),
+        "page_end" => format!(in alloc; "{:?}", page_end(alloc, columns, order, bytes)),
+        "strip_to_bitmap" => return bytes_or_error(
+            rt,
+            strip_to_bitmap(alloc, group4_pages(columns), order, bytes),
+        ),
+        "page_ends" => format!(in alloc; "{:?}", page_ends(alloc, columns, order, bytes)),
+        _ => panic!(rt; "no call is named {name}"),
+    };
+    text.expect(rt, "memory")
+}
+
+/// Calls a function that returns bytes, or whose sink holds some.
+fn by_name(
+    alloc: Global,
+    name: &str,
+    columns: u32,
+    rows: &[Vec<u32>],
+    bitmap: &[u8],
+    settings: EncodeSettings,
+) -> Result<Vec<u8>, EncodeError> {
+    let aligned = settings.rows_are_byte_aligned;
+    match name {
+        "encode_g4" => encode_g4(alloc, columns, rows, aligned),
+        "encode_1d" => encode_1d(alloc, columns, rows),
+        "encode" => encode(alloc, columns, rows, settings),
+        "bitmap_by_group4" => Ok(bitmap_by_group4(alloc, columns, rows, aligned)?.into_bytes()),
+        "bitmap_by_group3" => Ok(bitmap_by_group3(alloc, columns, rows)?.into_bytes()),
+        "push_changes" => by_changes(alloc, columns, rows, settings),
+        "encode_bitmap_g4" => encode_bitmap_g4(alloc, columns, bitmap, aligned),
+        "encode_bitmap_1d" => encode_bitmap_1d(alloc, columns, bitmap),
+        "encode_bitmap" => encode_bitmap(alloc, columns, bitmap, settings),
+        _ => by_packed_rows(alloc, columns, bitmap, settings),
+    }
+}
+
+/// Encodes row by row, by the changes of each.
+fn by_changes(
+    alloc: Global,
+    columns: u32,
+    rows: &[Vec<u32>],
+    settings: EncodeSettings,
+) -> Result<Vec<u8>, EncodeError> {
+    let mut encoder = Encoder::new(alloc, columns, settings)?;
+    for row in rows {
+        encoder.push_changes(row)?;
+    }
+    encoder.finish()
+}
+
+/// Encodes row by row, by the packed rows of a bitmap, each passed with those that follow it.
+fn by_packed_rows(
+    alloc: Global,
+    columns: u32,
+    bitmap: &[u8],
+    settings: EncodeSettings,
+) -> Result<Vec<u8>, EncodeError> {
+    let mut encoder = Encoder::new(alloc, columns, settings)?;
+    for start in (0..bitmap.len()).step_by(columns.div_ceil(8).max(1) as usize) {
+        encoder.push_packed_row(&bitmap[start..])?;
+    }
+    encoder.finish()
+}
+
+/// Writes bytes as hexadecimal digits, or an error by its name.
+fn bytes_or_error<E: Debug + Drop>(
+    rt: &(impl Abort + AllocGlobal),
+    found: Result<Vec<u8>, E>,
+) -> String {
+    match found {
+        Ok(bytes) => digits_of(rt, &bytes),
+        Err(error) => format!(in rt.alloc(); "{error:?}").expect(rt, "memory"),
+    }
+}
+
+/// Writes bytes as hexadecimal digits.
+fn digits_of(rt: &(impl Abort + AllocGlobal), bytes: &[u8]) -> String {
+    let mut text = String::new(rt.alloc());
+    for byte in bytes {
+        let digits = format!(in rt.alloc(); "{byte:02X}").expect(rt, "memory");
+        text.push_str(digits.as_str()).expect(rt, "memory");
+    }
+    text
+}
+
+/// Compares the text of an error.
+pub fn says(rt: &(impl Abort + AllocGlobal), error: EncodeError, text: &str) {
+    let said = format!(in rt.alloc(); "{error}").expect(rt, "memory");
+    same(rt, said.as_str(), text);
+}
+
+/// Returns the bytes that hexadecimal digits write, two each; `-` is none.
+pub fn bytes_of(rt: &(impl Abort + AllocGlobal), digits: &str) -> Vec<u8> {
+    let mut bytes = Vec::new(rt.alloc());
+    if digits == "-" {
+        return bytes;
+    }
+    let mut high = None;
+    for digit in digits.bytes() {
+        let value = value_of(rt, digit);
+        high = match high {
+            None => Some(value),
+            Some(half) => {
+                bytes.push(half << 4 | value).expect(rt, digits);
+                None
+            }
+        };
+    }
+    assert!(rt; high.is_none(), "{digits}: half a byte");
+    bytes
+}
+
+/// Returns the value of a hexadecimal digit.
+fn value_of(rt: &impl Abort, digit: u8) -> u8 {
+    match digit {
+        b'0'..=b'9' => digit - b'0',
+        b'A'..=b'F' => digit - b'A' + 10,
+        _ => panic!(rt; "{digit} is no hexadecimal digit"),
+    }
+}
+
+/// Returns the rows that are parted by slashes; `-` is an image without rows.
+fn rows_of(rt: &(impl Abort + AllocGlobal), image: &str) -> Vec<Vec<u32>> {
+    let mut rows = Vec::new(rt.alloc());
+    if image != "-" {
+        for row in image.split('/') {
+            rows.push(row_of(rt, row)).expect(rt, image);
+        }
+    }
+    rows
+}
+
+/// Returns the changes of a row.
+pub fn row_of(rt: &(impl Abort + AllocGlobal), row: &str) -> Vec<u32> {
+    let mut changes = Vec::new(rt.alloc());
+    if row != "white" {
+        for change in row.split(',') {
+            changes
+                .push(change.parse::<u32>().expect(rt, row))
+                .expect(rt, row);
+        }
+    }
+    changes
+}
+
+/// Returns whether a word names a setting.
+fn is_setting(word: &str) -> bool {
+    matches!(
+        word,
+        "g4" | "1d"
+            | "2d"
+            | "eol"
+            | "fill"
+            | "aligned"
+            | "rtc"
+            | "low"
+            | "refused"
+            | "k=0"
+            | "k=1"
+            | "k=3"
+            | "k=4"
+            | "k=9"
+    )
+}
+
+/// Returns whether a word is among others.
+fn has(words: &str, sought: &str) -> bool {
+    for word in words.split_whitespace() {
+        if word == sought {
+            return true;
+        }
+    }
+    false
+}
+
+/// Returns the settings that words name: Group 4 and K of 2 where no word names others, the highest bit first, and lines alone.
+pub fn settings_by(words: &str) -> EncodeSettings {
+    EncodeSettings {
+        encoding: encoding_by(words),
+        k: k_by(words),
+        end_of_line: has(words, "eol"),
+        eols_end_at_bytes: has(words, "fill"),
+        rows_are_byte_aligned: has(words, "aligned"),
+        end_of_block: has(words, "rtc"),
+        order: order_by(words),
+    }
+}
+
+/// Returns the encoding that words name: Group 4 where none does.
+fn encoding_by(words: &str) -> EncodingMode {
+    if has(words, "1d") {
+        EncodingMode::Group3_1D
+    } else if has(words, "2d") {
+        EncodingMode::Group3_2D
+    } else {
+        EncodingMode::Group4
+    }
+}
+
+/// Returns the order of bits that words name.
+fn order_by(words: &str) -> BitOrder {
+    if has(words, "low") {
+        BitOrder::LowestFirst
+    } else {
+        BitOrder::HighestFirst
+    }
+}
+
+/// Returns K as words name it.
+fn k_by(words: &str) -> u32 {
+    for word in words.split_whitespace() {
+        if let Some(digits) = word.strip_prefix("k=") {
+            return digits.parse::<u32>().unwrap_or(0);
+        }
+    }
+    2
+}
