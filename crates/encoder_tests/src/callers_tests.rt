@@ -30,6 +30,19 @@ const TWO_PAGES: [u8; 10] = [0x31, 0xC0, 0x04, 0x00, 0x40, 0x31, 0xF8, 0x00, 0x8
 /// One row with the changes 3 and 5, and after it the start of another, 001 100: 31CC.
 const CUT_ROW: [u8; 2] = [0x31, 0xCC];
 
+/// Decodes the first rows of 8 columns into a bitmap, and returns the result and the rows.
+fn first_of(
+    rt: &(impl Abort + AllocGlobal),
+    data: &[u8],
+    most: u64,
+) -> (Result<bool>, FirstRows<BitmapSink>) {
+    assert!(rt; bits_fit(data));
+    let mut ctx = DecoderContext::new(rt.alloc(), group4_pages(8)).expect(rt, "memory");
+    let mut first = FirstRows::new(BitmapSink::new(rt.alloc(), 8), most);
+    let found = decode_first_rows(HighestFirst, data, &mut first, &mut ctx);
+    (found, first)
+}
+
 /// Decodes the first rows of 8 columns into a bitmap, and compares the result, their number and the bitmap.
 fn takes_first(
     rt: &(impl Abort + AllocGlobal),
@@ -38,10 +51,7 @@ fn takes_first(
     answer: Result<bool>,
     bitmap: &[u8],
 ) {
-    assert!(rt; bits_fit(data));
-    let mut ctx = DecoderContext::new(rt.alloc(), group4_pages(8)).expect(rt, "memory");
-    let mut first = FirstRows::new(BitmapSink::new(rt.alloc(), 8), most);
-    let found = decode_first_rows(HighestFirst, data, &mut first, &mut ctx);
+    let (found, first) = first_of(rt, data, most);
     same(
         rt,
         ("rows at most", most, found, first.rows, first.sink.bytes()),
@@ -219,10 +229,7 @@ fn decodes_strip(rt: &(impl Abort + AllocGlobal), data: &[u8], expected: &[u8]) 
 
 /// Decodes all rows of a strip as its first ones, and compares them.
 fn takes_all(rt: &(impl Abort + AllocGlobal), data: &[u8], expected: &[u8]) {
-    assert!(rt; bits_fit(data));
-    let mut first = FirstRows::new(BitmapSink::new(rt.alloc(), 8), u64::MAX);
-    let mut ctx = DecoderContext::new(rt.alloc(), group4_pages(8)).expect(rt, "memory");
-    let stopped = decode_first_rows(HighestFirst, data, &mut first, &mut ctx);
+    let (stopped, first) = first_of(rt, data, u64::MAX);
     same(
         rt,
         (stopped, first.rows),

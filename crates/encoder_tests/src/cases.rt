@@ -282,21 +282,9 @@ pub fn row_of(rt: &(impl Abort + AllocGlobal), row: &str) -> Vec<u32> {
 
 /// Returns whether a word names a setting.
 fn is_setting(word: &str) -> bool {
-    matches!(
+    has(
+        "g4 1d 2d eol fill aligned rtc low refused k=0 k=1 k=3 k=4 k=9",
         word,
-        "g4" | "1d"
-            | "2d"
-            | "eol"
-            | "fill"
-            | "aligned"
-            | "rtc"
-            | "low"
-            | "refused"
-            | "k=0"
-            | "k=1"
-            | "k=3"
-            | "k=4"
-            | "k=9"
     )
 }
 
