@@ -618,6 +618,18 @@ fn cursor_of(rt: &(impl Abort + AllocGlobal), data: &[u8], settings: DecodeSetti
     RowCursor::new(rt.alloc(), data, BitOrder::HighestFirst, settings).expect(rt, "memory")
 }
 
+/// Reads the next row. The proofs of the callers carry none of what its contract says.
+fn next_of(reader: &mut RowReader) -> Result<bool> {
+    reader.next_row()
+}
+
+/// Reads a cursor's next row, as `next_of` does that of a reader.
+fn next_in(cursor: &mut RowCursor, data: &[u8]) -> Result<bool>
+    requires { BitsFit «data».now }
+{
+    cursor.next_row(data)
+}
+
 /// What a reader of rows says of each row, and at the end.
 fn reads_rows(
     rt: &(impl Abort + AllocGlobal),
@@ -631,7 +643,7 @@ fn reads_rows(
     let mut reader = reader_of(rt, data, settings);
     let mut cursor = cursor_of(rt, data, settings);
     for (row, start) in rows {
-        let found = (reader.next_row(), cursor.next_row(data));
+        let found = (next_of(&mut reader), next_in(&mut cursor, data));
         same(rt, found, (Ok(true), Ok(true)));
         same(
             rt,
@@ -645,7 +657,11 @@ fn reads_rows(
     }
     // It stays at the end.
     for _ in 0..2 {
-        same(rt, (reader.next_row(), cursor.next_row(data)), (end, end));
+        same(
+            rt,
+            (next_of(&mut reader), next_in(&mut cursor, data)),
+            (end, end),
+        );
     }
     let count = rows.len() as u64;
     same(
@@ -703,14 +719,14 @@ fn tells_damage(
         if fault.is_some() {
             damaged_rows = damaged_rows.saturating_add(1);
         }
-        let found = reader.next_row();
+        let found = next_of(&mut reader);
         same(
             rt,
             (found, reader.damage(), reader.damaged_rows()),
             (Ok(true), *fault, damaged_rows),
         );
     }
-    assert!(rt; reader.next_row() != Ok(true), "no row more");
+    assert!(rt; next_of(&mut reader) != Ok(true), "no row more");
     let mut ctx = context_of(rt, settings);
     for _ in 0..2 {
         let _ = decoded(rt, &mut ctx, data, usize::MAX);
@@ -773,8 +789,8 @@ fn tells_missed_of_rows(
     let mut cursor = cursor_of(rt, data, settings);
     same(rt, reader.missed_eol(), None);
     for (count, place) in missed {
-        let _ = reader.next_row();
-        let _ = cursor.next_row(data);
+        let _ = next_of(&mut reader);
+        let _ = next_in(&mut cursor, data);
         same(
             rt,
             (
@@ -819,9 +835,9 @@ fn fails_at(
     let data = &bytes_of(rt, digits);
     let mut reader = reader_of(rt, data, settings);
     for _ in 0..rows {
-        same(rt, reader.next_row(), Ok(true));
+        same(rt, next_of(&mut reader), Ok(true));
     }
-    let failed = reader.next_row();
+    let failed = next_of(&mut reader);
     same(
         rt,
         (failed, reader.rows_read(), reader.line_start()),
