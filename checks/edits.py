@@ -20,7 +20,7 @@ function that only calls one that isn't proved, show nothing. If the check's own
 more by `search rules` alone, which ends. A line 'search: GOAL' in the edit names such a goal, and saves the first try.
 
 Edits of different functions are checked together, each batch on a copy of the crate and of what a check of the crate without
-edits stored. They start when that check has ended, while the crates above are still checked. A goal of a function isn't
+edits stored. They start when all crates are checked so, since other checks wait for that. A goal of a function isn't
 searched for while one that it calls isn't proved. So an edit that such a batch doesn't refuse for its reason is tried with
 functions that don't call one another, and then alone.
 With --write an edit that another clause of its function refuses gets that clause's name, and one at whose goal the check's own
@@ -508,7 +508,7 @@ class Whole:
         self.rt, self.chosen, self.kept, self.lanes, self.most = rt, chosen, kept, lanes, most
         self.used = {below for crate in chosen for below in crate.below()}
         self.crates = [crate for crate in crates if crate in chosen or crate in self.used]
-        self.is_checked, self.is_built = ({crate: Future() for crate in self.crates} for _ in range(2))
+        self.is_built = {crate: Future() for crate in self.crates}
         self.functions = {}
 
     def check(self, crate):
@@ -518,14 +518,11 @@ class Whole:
                 self.is_built[below].result()
             if crate in self.chosen:
                 self.lanes.submit(0, self.prove, crate).result()
-            self.is_checked[crate].set_result(None)
             if crate in self.used:
                 self.lanes.submit(0, self.build, crate).result()
             self.is_built[crate].set_result(None)
         except Exception as error:  # whoever waits for the crate gets it
-            for future in (self.is_checked[crate], self.is_built[crate]):
-                if not future.done():
-                    future.set_exception(error)
+            self.is_built[crate].set_exception(error)
             raise
 
     def prove(self, crate):
@@ -607,8 +604,7 @@ def main():
                 lanes.put(lane)
 
         def judge(crate):
-            """Tries the edits of a crate once it is checked."""
-            whole.is_checked[crate].result()
+            """Tries the edits of a crate."""
             own = [edit for edit in edits if edit.crate is crate]
             for edit in own:
                 if not edit.function:
@@ -643,17 +639,15 @@ def main():
                 for found in [threads.submit(1, work, batch, is_mixed, is_alone) for batch in batches]:
                     results.update(found.result())
 
-        running = [each.submit(whole.check, crate) for crate in whole.crates]
-        tried = [each.submit(judge, crate) for crate in chosen]
         try:
-            for it in running:
+            for it in [each.submit(whole.check, crate) for crate in whole.crates]:
                 it.result()
             if words.ready:
                 with open(words.ready, "w", encoding="utf-8"):
                     pass
             for folder in held:
                 os.close(folder)
-            for it in tried:
+            for it in [each.submit(judge, crate) for crate in chosen]:
                 it.result()
         except RuntimeError as error:
             threads.is_closed = True
