@@ -52,14 +52,14 @@ built_tests() {
     done
     python3 checks/run.py built_tests
 }
-# As many tasks of `rt ci` at a time as there are processors, if there is memory: each takes up to 4 GB. Without RT_JOBS it counts
-# 12 GB for the library, and so tries the library's edits last, alone.
+# All processors but one for `rt ci`, if there is memory: a task takes up to 4 GB. Without RT_JOBS it counts more for the library, and
+# so tries the library's edits last, alone. The last processor is for checks/edits.py, which takes the others too when `rt ci` has ended.
 available=$(awk '/^MemAvailable/ { print $2 }' /proc/meminfo)
 jobs=
-[ "${available:-0}" -ge 16000000 ] && jobs=$(nproc)
+[ "${available:-0}" -ge 16000000 ] && jobs=$(($(nproc) > 1 ? $(nproc) - 1 : 1))
 part ci env RT_JOBS="$jobs" rt ci &
 ci=$!
-part edits nice -n 15 python3 "$copy/checks/edits.py" --ready "$said/ready" --ci "$said/ci" &
+part edits python3 "$copy/checks/edits.py" --ready "$said/ready" --ci "$said/ci" --beside 1 &
 edits=$!
 part run other_checks &
 run=$!

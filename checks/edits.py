@@ -8,6 +8,7 @@
     python3 checks/edits.py --keep FOLDER      writes what each check printed into this folder
     python3 checks/edits.py --write            writes into the edits what refused them: see below
     python3 checks/edits.py --ci FILE          takes what `rt ci` says of the edits in must-fail/ from FILE: see below
+    python3 checks/edits.py --beside N         N checks in parallel while this `rt ci` runs
 
 An edit is a file in crates/NAME/edits or crates/NAME/must-fail: a line 'file: src/x.rt', then pairs of lines 'old: TEXT' and
 'new: TEXT', and a line 'breaks: FUNCTION: CLAUSE', which says what must refuse it: a goal of that function that names that
@@ -17,15 +18,15 @@ clause. FUNCTION is its name as a check prints it, without the crate's: group3::
 An edit is refused for its reason if that goal stays open: a search for it ended without a proof, values were found at which it
 is false, or its written proof no longer fits. A search that gave up at its limits, a name that a proof file lost, and a
 function that only calls one that isn't proved, show nothing. If the check's own searches gave up at the goal, it is tried once
-more by `search rules` alone, which ends. A line 'search: GOAL' in the edit names such a goal, and saves the first try.
+more by `search rules` alone, which ends. A line 'search: GOAL' in the edit names a goal of the function that stays open and has no
+written answer: it is tried by `search rules` from the start, which takes half the time, since the check then prints no help.
 
 Edits of different functions are checked together, each batch on a copy of the crate and of what a check of the crate without
 edits stored. They start when all crates are checked so, since other checks wait for that. A goal of a function isn't
 searched for while one that it calls isn't proved. So an edit that such a batch doesn't refuse for its reason is tried with
 functions that don't call one another, and then alone.
-With --write an edit that another clause of its function refuses gets that clause's name, and one at whose goal the check's own
-searches gave up gets its line 'search: GOAL'. Look at what was written: a clause that has nothing to do with what the edit breaks
-means that the edit is a bad one.
+With --write an edit that another clause of its function refuses gets that clause's name, and each refused one its lines 'search:
+GOAL'. Look at what was written: a clause that has nothing to do with what the edit breaks means that the edit is a bad one.
 `rt ci` tries the edits in must-fail/ too, and prints the first line of what refused each. With --ci these are judged by that
 line, once rt ci has ended and there is a file FILE.end; only where it doesn't show that the clause refuses the edit is it tried here.
 The last line is 'N refused, M not'.
@@ -172,7 +173,7 @@ class Edit:
         olds = re.findall(r"^old: (.*)$", self.text, re.MULTILINE)
         places = [source.texts.get(self.path, "").find(old) for old in olds]
         found = [source.item_at(self.path, at + len(old) - len(old.lstrip())) for at, old in zip(places, olds) if at >= 0]
-        self.changed, self.given_up, self.other = [item for item in found if item], [], ""
+        self.changed, self.unanswered, self.other = [item for item in found if item], [], ""
         self.touched = {*self.changed, *source.named(self.function)}
         self.made = set(re.findall(r"\bfn (\w+)", "\n".join(re.findall(r"^new:(.*)$", self.text, re.MULTILINE))))
         self.reaches = set().union(*[source.below[item] for item in self.touched]) if self.touched else set()
@@ -243,10 +244,11 @@ OPEN = re.compile(r"note: (src/\S+?):\d+:\d+: (.*?) \(`([^`]+)`\)(.*)")
 
 
 class Said:
-    """What a check says of one function: whether it is proved, and what stays open, as pairs of a goal's name and why."""
+    """What a check says of one function: whether it is proved, what stays open, as pairs of a goal's name and why, and which of these
+    goals have no written answer."""
 
     def __init__(self):
-        self.line, self.open, self.weak = "", [], []
+        self.line, self.open, self.weak, self.unanswered = "", [], [], []
 
 
 def read(output, crate, is_mixed=False):
@@ -279,6 +281,7 @@ def read(output, crate, is_mixed=False):
             it.line = verdict
             for goal, why in notes:
                 (it.weak if GAVE_UP.search(why) else it.open).append((goal, why))
+                it.unanswered.append(goal)
             notes = []
     for function, found in errors.items():
         it = said.setdefault(function, Said())
@@ -354,10 +357,14 @@ def judged_by_line(edit, told, source):
 
 
 class Lanes:
-    """Runs calls in parallel, those of the lowest rank first."""
+    """Runs calls in parallel, those of the lowest rank first, and no more than `most` returns at that time.
 
-    def __init__(self, count):
+    Checks that share a processor take up to half as much again of its time, since each needs the caches.
+    """
+
+    def __init__(self, count, most):
         self.waiting, self.numbers, self.is_closed = queue.PriorityQueue(), itertools.count(), False
+        self.most, self.running, self.turn, self.counting = most, 0, threading.Lock(), threading.Lock()
         for _ in range(count):
             threading.Thread(target=self.run, daemon=True).start()
 
@@ -368,13 +375,22 @@ class Lanes:
 
     def run(self):
         while True:
-            _, _, future, call = self.waiting.get()
+            with self.turn:
+                _, _, future, call = self.waiting.get()
+                while self.running >= self.most():
+                    time.sleep(1)
+                self.add(1)
             try:
                 if self.is_closed:
                     raise RuntimeError("a crate isn't proved without edits")
                 future.set_result(call())
             except BaseException as error:  # who waits for the result gets it
                 future.set_exception(error)
+            self.add(-1)
+
+    def add(self, number):
+        with self.counting:
+            self.running += number
 
 
 class Lane:
@@ -436,14 +452,14 @@ class Lane:
         output = self.check(crate, edits, store)
         said = read(output, crate.name, is_mixed)
         found |= {edit: judged(edit, said, output) for edit in edits}
+        for edit in edits:
+            edit.unanswered = said[edit.function].unanswered if edit.function in said else []
         given_up = [edit for edit in edits if not found[edit][0] and gave_up(edit, said)]
         if given_up:
             answer(output, f"{self.folder}/room", {edit.function for edit in given_up})
             more = self.check(crate, given_up, store)
             said = read(more, crate.name, is_mixed)
             found |= {edit: judged(edit, said, more) for edit in given_up}
-            for edit in given_up:
-                edit.given_up = [goal for goal, _ in said[edit.function].open if names(goal, edit.clause)] if edit.function in said else []
             output += more
         return found, output
 
@@ -564,6 +580,7 @@ def main():
     words.add_argument("--keep", default="", help="a folder for what each check printed")
     words.add_argument("--write", action="store_true", help="write into the edits what refused them")
     words.add_argument("--ci", default="", help="a file with what `rt ci` prints, and once it has ended, one more with .end")
+    words.add_argument("--beside", type=int, default=0, help="how many checks run in parallel until `rt ci` has ended; without it, no fewer")
     words.add_argument("--ready", default="", help="a file to make once the crates are checked without edits")
     words = words.parse_args()
     began = time.time()
@@ -579,12 +596,17 @@ def main():
     if not edits:
         sys.exit("no edit has such a name")
     chosen = [crate for crate in crates if any(edit.crate is crate for edit in edits)]
-    threads, printing, results, numbers = Lanes(words.lanes), threading.Lock(), {}, []
+
+    def most():
+        """How many checks may run now."""
+        return words.beside if words.beside and words.ci and not os.path.exists(f"{words.ci}.end") else words.lanes
+
+    threads, printing, results, numbers = Lanes(words.lanes, most), threading.Lock(), {}, []
     with tempfile.TemporaryDirectory(prefix="edits-") as room, ThreadPoolExecutor(2 * len(crates)) as each:
         os.mkdir(f"{room}/kept")
         held = rt.rtlib.lock(crates)
-        # One processor is left to what runs beside.
-        whole = Whole(rt, crates, chosen, f"{room}/kept", threads, max(words.lanes - 1, 1))
+        # Half of the processors are left to what runs beside: `rt ci` proves the lowest crate twice meanwhile.
+        whole = Whole(rt, crates, chosen, f"{room}/kept", threads, max(words.lanes // 2, 1))
         lanes = queue.SimpleQueue()
         for number in range(words.lanes):
             lanes.put(Lane(f"{room}/{number}", rt, f"{room}/kept"))
@@ -659,8 +681,6 @@ def main():
             failed.append(edit)
         if words.write:
             write(edit, refused)
-        if edit.given_up and words.show:
-            print(f"{edit.label}: a line 'search: {edit.given_up[0]}' saves a check")
         if words.show or not refused:
             print(f"{'refused' if refused else 'NOT REFUSED'}: {edit.label}: {why}")
     used = resource.getrusage(resource.RUSAGE_CHILDREN)
@@ -671,12 +691,13 @@ def main():
 
 
 def write(edit, refused):
-    """Writes the clause that refused the edit, where it is another, and the goals at which the check's own searches gave up."""
+    """Writes the clause that refused the edit, where it is another, and the goals of its function that have no written answer."""
     text = edit.text if edit.text.endswith("\n") else f"{edit.text}\n"
     if not refused and edit.other:
         text = re.sub(r"^breaks: .*$", f"breaks: {edit.function}: {edit.other}", text, flags=re.MULTILINE)
-    if refused and edit.given_up:
-        text = re.sub(r"^search: .*\n", "", text, flags=re.MULTILINE) + "".join(f"search: {goal}\n" for goal in edit.given_up)
+    if refused and edit.unanswered:
+        goals = sorted({*edit.goals, *edit.unanswered})
+        text = re.sub(r"^search: .*\n", "", text, flags=re.MULTILINE) + "".join(f"search: {goal}\n" for goal in goals)
     if text != edit.text:
         with open(edit.file, "w", encoding="utf-8") as file:
             file.write(text)

@@ -138,25 +138,24 @@ impl DecoderContext {
         self.decoded_rows
     }
 
-    /// The number of rows among them whose line was damaged and repaired, as a lenient reading of Group 3 with EOLs does (T.4
-    /// section 4.1.2): after [`decode`](crate::decode), which resets it, those of that image, also where it answered an
-    /// error.
+    /// Returns the number of decoded rows whose line was damaged, and repaired, as lenient Group 3 data with EOLs is (T.4
+    /// section 4.1.2): after [`decode`](crate::decode), which resets it, those of that image, even if it returned an error.
     pub fn damaged_rows(&self) -> u64
         ensures { result ≡ self.now.held.repairs.rows }
     {
         self.damaged_rows
     }
 
-    /// The number of rows among them after which a lenient reading of Group 3 passed other bits up to the next EOL, or found
-    /// none (T.4 section 4.1.2): after [`decode`](crate::decode), which resets it, those of that image. After a repaired row
-    /// none is missed: there the search for the EOL is the repair.
+    /// Returns the number of decoded rows after which a lenient reading of Group 3 skipped other bits up to the next EOL, or
+    /// found none (T.4 section 4.1.2): after [`decode`](crate::decode), which resets it, those of that image. After a repaired
+    /// row none is missed: there the search for the EOL is part of the repair.
     pub fn missed_eols(&self) -> u64
         ensures { result ≡ self.now.held.repairs.missed }
     {
         self.missed_eols
     }
 
-    /// The fault of the last line that was repaired.
+    /// Returns the fault of the last line that was repaired.
     pub(crate) fn last_fault(&self) -> DecodeError
         ensures { result ≡ self.now.held.repairs.fault }
     {
@@ -212,8 +211,8 @@ impl DecoderContext {
         self.fault_start = place;
     }
 
-    /// Whether EOLs are sought between the lines of Group 3 (T.4 section 4.1.2): at first where `end_of_line` is set or
-    /// the data begins with EOLs, and no longer once none is left. After Group 4 it is false.
+    /// Returns whether EOLs are expected between the lines of Group 3 (T.4 section 4.1.2): at first if `end_of_line` is set or
+    /// the data begins with an EOL, and no longer once none is left. After Group 4 it is false.
     pub fn has_eols(&self) -> bool
         ensures { result ≡ self.now.held.has_eols }
     {
@@ -229,7 +228,7 @@ impl DecoderContext {
         self.ref_changes.as_slice()
     }
 
-    /// Sets whether EOLs are sought between the lines. Nothing else changes.
+    /// Sets whether EOLs are expected between the lines. Nothing else changes.
     pub fn set_has_eols(&mut self, has_eols: bool)
         ensures frame { self.new ≡ record self.old { held = record self.old.held { has_eols = has_eols } } }
     {
