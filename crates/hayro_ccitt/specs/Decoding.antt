@@ -1,18 +1,19 @@
 -- What decoding leaves: in the sink, in the context, and of the reading.
-use Rattle.std.specs.Prelude.{sum_by, ◌≡◌, ◌≢◌, ◌≤◌, ◌<◌, ℕ, ◌+◌, ◌-◌, Bool, true, false, not, ◌&&◌, if◌then◌else◌, List, []}
+use Rattle.std.specs.Prelude.{sum_by, ◌≡◌, ◌≢◌, ◌≤◌, ◌<◌, ℕ, ◌+◌, ◌-◌, ◌*◌, Bool, true, false, not, ◌&&◌, if◌then◌else◌, List, []}
 use Rattle.std.specs.Prelude.{length, take, get_or, Result, Ok, Err, OnOk, OnErr, IfOk, IfErr}
 use Rattle.hayro_ccitt.specs.declared.codes.Color.TheVariants.{White}
 use Rattle.hayro_ccitt.specs.declared.error.DecodeError.{DecodeError}
 use Rattle.hayro_ccitt.specs.declared.error.DecodeError.TheVariants.{OutOfMemory, Refused}
-use Rattle.hayro_ccitt.specs.Answers.{IsFault, OnAnswer, HasBlack, PaintsBlack, front_of, meaning_after}
-use Rattle.hayro_ccitt.specs.Bits.{Bits}
+use Rattle.hayro_ccitt.specs.Answers.{IsFault, OnAnswer, DrawsLine, HasBlack, PaintsBlack, front_of, meaning_after}
+use Rattle.hayro_ccitt.specs.Bits.{Bits, BitsAt, here}
 use Rattle.hayro_ccitt.specs.Context.{Context, Held, Repairs, redrawn, with_missed}
 use Rattle.hayro_ccitt.specs.Damage.{Damaged, repaired_by_turn, missed_by_turn}
 use Rattle.hayro_ccitt.specs.declared.settings.DecodeSettings.{DecodeSettings}
-use Rattle.hayro_ccitt.specs.Lines.{Line}
+use Rattle.hayro_ccitt.specs.declared.settings.EncodingMode.{EncodingMode}
+use Rattle.hayro_ccitt.specs.Lines.{Line, line_found}
 use Rattle.hayro_ccitt.specs.PlainReading.{Progress, Ending, Gap, move_on, one_each, end_of, ending_from, gathered_of}
 use Rattle.hayro_ccitt.specs.PlainReading.{gathered_from, line_of_turn, start_of_turn, end_of_turn, failing_at, failed_at}
-use Rattle.hayro_ccitt.specs.PlainReading.{misses_eol}
+use Rattle.hayro_ccitt.specs.PlainReading.{misses_eol, line_by}
 use Rattle.hayro_ccitt.specs.Rows.{Row, changes}
 use Rattle.hayro_ccitt.specs.Work.{CountsRun, words_of_turn, most_counted}
 
@@ -92,6 +93,22 @@ leaving (Err e) rest = Err e
 abbrev pub gap_said : Result Bool DecodeError → Bool → Bits → Gap
 gap_said (Ok over) has_eols rest = elim over [ true ↦ Gap.over (Ok rest) | false ↦ Gap.line_at has_eols rest ]
 gap_said (Err e) has_eols rest = Gap.over (Err e)
+
+-- What a call leaves that reads the line here, in data of this encoding: what was drawn of the line, and of the context only
+-- another front and colour. Its work is at least a tick for each word that the line finds, unless an allocation failed, and at
+-- most four for each, one for each change of the reference row, and this many more (T.4, 4.1 and 4.2; T.6, 2.2).
+pub record ReadsLine (encoding : EncodingMode) (more : ℕ) (old new : Context) (answer : Result (Unit {0}) DecodeError)
+    (before after : BitsAt) : Type 0 where
+  pub drawn : DrawsLine (line_by encoding old.held.settings.strict old.held.settings.columns old.held.reference (here before))
+      answer new.held.front (here after)
+  pub held : new.held ≡ redrawn old.held new.held.front new.held.color
+  pub same_bits : after.bits ≡ before.bits
+  pub counts : old.ticks ≤ new.ticks
+  pub at_least : OnAnswer answer (old.ticks + length
+      (line_found encoding old.held.settings.strict old.held.settings.columns old.held.reference (here before)) ≤ new.ticks)
+  pub at_most : new.ticks ≤ old.ticks + 4 * length
+      (line_found encoding old.held.settings.strict old.held.settings.columns old.held.reference (here before)) + more
+      + length (changes old.held.reference)
 
 -- the context after one more accepted row
 abbrev pub with_row_taken : Held → Row → Held

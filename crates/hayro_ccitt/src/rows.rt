@@ -2,15 +2,13 @@
 
 ghost use Rattle.std.specs.Prelude.{false, ◌≡◌, ◌≢◌, ◌<◌, ◌≤◌, ◌+◌, ◌*◌, Err, OnOk, OnErr, IfOk, IfErr, IsOkUnless, true, ◌||◌};
 ghost use Rattle.std.specs.Prelude.{[], length, ◌^◌};
-ghost use Rattle.hayro_ccitt.specs.Answers.{DrawsLine, OnAnswer, IsRepairable, RepairStoresChange, line_from_2d, words_from_2d};
+ghost use Rattle.hayro_ccitt.specs.Answers.{IsRepairable, RepairStoresChange};
 ghost use Rattle.hayro_ccitt.specs.Bits.{here};
-ghost use Rattle.hayro_ccitt.specs.Context.{fresh, redrawn, after_repair};
-ghost use Rattle.hayro_ccitt.specs.Decoding.{DecodesFrom, FailsFrom, TakesOneRow, leaving, gap_said, repairs_behind};
+ghost use Rattle.hayro_ccitt.specs.Context.{fresh, after_repair};
+ghost use Rattle.hayro_ccitt.specs.Decoding.{DecodesFrom, FailsFrom, ReadsLine, TakesOneRow, leaving, gap_said, repairs_behind};
 ghost use Rattle.hayro_ccitt.specs.Decoding.{with_row_taken};
 ghost use Rattle.hayro_ccitt.specs.PlainReading.{eols_by, eols_here, is_end_of_block, is_over, gap_behind_row, row_of_line};
-ghost use Rattle.hayro_ccitt.specs.PlainReading.{line_by, line_here};
-ghost use Rattle.hayro_ccitt.specs.PlainReading.{behind_row, limit_met};
-ghost use Rattle.hayro_ccitt.specs.Lines.{line_found};
+ghost use Rattle.hayro_ccitt.specs.PlainReading.{behind_row, limit_met, line_here};
 ghost use Rattle.hayro_ccitt.specs.Rows.{changes};
 ghost use Rattle.hayro_ccitt.specs.Ticks.{looked, looked_ahead, tag_tests};
 ghost use Rattle.hayro_ccitt.specs.Work.{found_here, most_from_line};
@@ -212,17 +210,11 @@ pub(crate) fn pass_gap(ctx: &mut DecoderContext, reader: &mut BitReader<'_>) -> 
     Ok(is_over(ctx, reader, count))
 }
 
-/// Decodes the line here as `decode_2d_line` does, as a call, so that tagged one-dimensional lines don't pay for its registers.
+/// Decodes the line here as `decode_2d_line` does, and so as a line of T.6 data. It is a call, so that tagged one-dimensional
+/// lines don't pay for its registers.
 #[inline(never)]
 fn decode_2d_line_apart(ctx: &mut DecoderContext, reader: &mut BitReader<'_>) -> Result<()>
-    ensures line { DrawsLine (line_from_2d ctx.old.held (here reader.old)) result ctx.new.held.front (here reader.new) }
-    ensures held { ctx.new.held ≡ redrawn ctx.old.held ctx.new.held.front ctx.new.held.color }
-    ensures same_bits { reader.new.bits ≡ reader.old.bits }
-    ensures counts { ctx.old.ticks ≤ ctx.new.ticks }
-    ensures at_least { OnAnswer result (ctx.old.ticks
-        + length (words_from_2d ctx.old.held (here reader.old)) ≤ ctx.new.ticks) }
-    ensures at_most { ctx.new.ticks ≤ ctx.old.ticks + 4 * length (words_from_2d ctx.old.held (here reader.old)) + 1
-        + length (changes ctx.old.held.reference) }
+    ensures line { ReadsLine EncodingMode.Group4 1 ctx.old ctx.new result reader.old reader.new }
 {
     decode_2d_line(ctx, reader)
 }
@@ -232,18 +224,8 @@ fn decode_2d_line_apart(ctx: &mut DecoderContext, reader: &mut BitReader<'_>) ->
 #[inline(always)]
 fn decode_tagged_line(ctx: &mut DecoderContext, reader: &mut BitReader<'_>) -> Result<()>
     requires begun { ctx.old.held.front ≡ [] }
-    ensures line { DrawsLine (line_by EncodingMode.Group3_2D ctx.old.held.settings.strict ctx.old.held.settings.columns
-        ctx.old.held.reference (here reader.old)) result ctx.new.held.front (here reader.new) }
-    ensures held { ctx.new.held ≡ redrawn ctx.old.held ctx.new.held.front ctx.new.held.color }
-    ensures same_bits { reader.new.bits ≡ reader.old.bits }
-    ensures counts { ctx.old.ticks ≤ ctx.new.ticks }
+    ensures line { ReadsLine EncodingMode.Group3_2D 2 ctx.old ctx.new result reader.old reader.new }
     ensures no_tag { here reader.old ≡ [] → ctx.new.ticks ≡ ctx.old.ticks }
-    ensures at_least { OnAnswer result (ctx.old.ticks + length (line_found EncodingMode.Group3_2D
-        ctx.old.held.settings.strict ctx.old.held.settings.columns ctx.old.held.reference (here reader.old))
-        ≤ ctx.new.ticks) }
-    ensures at_most { ctx.new.ticks ≤ ctx.old.ticks + 4 * length (line_found EncodingMode.Group3_2D
-        ctx.old.held.settings.strict ctx.old.held.settings.columns ctx.old.held.reference (here reader.old)) + 2
-        + length (changes ctx.old.held.reference) }
 {
     let tag = reader.read_bit()?;
     ctx.ticks().tick();
@@ -258,16 +240,7 @@ fn decode_tagged_line(ctx: &mut DecoderContext, reader: &mut BitReader<'_>) -> R
 #[inline(always)]
 fn decode_line(ctx: &mut DecoderContext, reader: &mut BitReader<'_>) -> Result<()>
     requires begun { ctx.old.held.front ≡ [] }
-    ensures line { DrawsLine (line_here ctx.old.held.settings ctx.old.held.reference (here reader.old))
-        result ctx.new.held.front (here reader.new) }
-    ensures held { ctx.new.held ≡ redrawn ctx.old.held ctx.new.held.front ctx.new.held.color }
-    ensures same_bits { reader.new.bits ≡ reader.old.bits }
-    ensures counts { ctx.old.ticks ≤ ctx.new.ticks }
-    ensures at_least { OnAnswer result (ctx.old.ticks
-        + length (found_here ctx.old.held.settings ctx.old.held.reference (here reader.old)) ≤ ctx.new.ticks) }
-    ensures at_most { ctx.new.ticks ≤ ctx.old.ticks
-        + 4 * length (found_here ctx.old.held.settings ctx.old.held.reference (here reader.old)) + 2
-        + length (changes ctx.old.held.reference) }
+    ensures line { ReadsLine ctx.old.held.settings.encoding 2 ctx.old ctx.new result reader.old reader.new }
 {
     match ctx.settings().encoding {
         EncodingMode::Group3_1D => decode_1d_line(ctx, reader),

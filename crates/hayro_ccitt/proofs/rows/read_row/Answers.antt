@@ -12,21 +12,21 @@ returns-in_err-recover_from-clause-row g c =
     let left = here c.recover_from.new.reader in
     let answer = err_from_is_err_and c.from_residual.result c.from_residual.ensures.1 in
     let draws = draws_anywhere line c.in-Err.error c.decode_line.new.ctx.held.front
-    (here c.decode_line.new.reader) left c.in-Err.ensures.line in
+    (here c.decode_line.new.reader) left c.in-Err.ensures.line.drawn in
     let ends = isnt_repaired line (here c.args.reader.now) (g.D.Decoder.step (g.D.Decoder.width c.args.decoder.now)) (record {
       meaning = g.D.Decoder.meaning c.args.decoder.now;
       refused = g.D.Decoder.has_refused c.args.decoder.now;
       refuses = g.D.Decoder.refuses c.args.decoder.now;
-    }) held c.decode_line.new.ctx.held c.decode_line.ensures.held left c.in-Err.error c.in_err-recover_from.field-0.0 draws
+    }) held c.decode_line.new.ctx.held c.decode_line.ensures.line.held left c.in-Err.error c.in_err-recover_from.field-0.0 draws
     c.in_err-recover_from.ensures.only_memory c.in_err-recover_from.ensures.memory c.in_err-recover_from.ensures.otherwise in
     rw (answer.1, answer.2, c.in_err-recover_from.ensures.unchanged) ends
 
 pub take_row-requires-clause-full : goal.take_row-requires-clause-full
 take_row-requires-clause-full g c =
     let held = c.args.ctx.now.held in
-    let full = subst (IsFull held.settings.columns) c.in_default.ensures.line
+    let full = subst (IsFull held.settings.columns) c.in_default.ensures.line.drawn
     (line_by_full held.settings.encoding held.settings.strict held.settings.columns held.reference (here c.args.reader.now)) in
-    rw (ap (λ (h : Held). h.settings.columns) c.decode_line.ensures.held) full
+    rw (ap (λ (h : Held). h.settings.columns) c.decode_line.ensures.line.held) full
 
 pub returns-in-Err-clause-stored : goal.returns-in-Err-clause-stored
 returns-in-Err-clause-stored g c =
@@ -36,7 +36,7 @@ returns-in-Err-clause-stored g c =
     let few = changes_found held.settings.encoding held.settings.strict held.settings.columns held.reference start in
     let left = c.decode_line.new.ctx.held in
     let breaks = line_breaks (line_here held.settings held.reference start) c.in-Err.error left.front
-    (here c.decode_line.new.reader) c.in_ok-recover_from.ensures.only_damage.fault c.in-Err.ensures.line in
+    (here c.decode_line.new.reader) c.in_ok-recover_from.ensures.only_damage.fault c.in-Err.ensures.line.drawn in
     let drawn = subst (λ (l : Line). length (changes (front_of l)) ≤ length words) breaks few in
     let stands = ap (λ (x : Context). length (changes x.held.front)) c.in_ok-recover_from.ensures.frame in
     on_ok_weaker c.take_damaged_row.result (λ taken. omega (
@@ -53,5 +53,5 @@ returns-clause-stored g c =
     let start = here c.args.reader.now in
     let words = found_here held.settings held.reference start in
     let few = changes_found held.settings.encoding held.settings.strict held.settings.columns held.reference start in
-    let drawn = subst (λ (l : Line). length (changes (front_of l)) ≤ length words) c.in_default.ensures.line few in
+    let drawn = subst (λ (l : Line). length (changes (front_of l)) ≤ length words) c.in_default.ensures.line.drawn few in
     omega (arith, drawn, ap (λ (h : Held). length (changes h.reference)) c.in_default-take_row.ensures.taken)
