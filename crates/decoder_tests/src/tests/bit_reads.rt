@@ -1,13 +1,12 @@
 //! The reader's calls on data of each length from 0 to 40 bytes, in either order of bits, beside a plain list of its bits.
 
-ghost use Rattle.hayro_ccitt.specs.Bits.{BitsFit};
 ghost use Rattle.std.specs.Prelude.{◌≤◌};
 
+use super::calls::zeros_of;
 use super::same;
 use hayro_ccitt::DecodeError::UnexpectedEof;
 use hayro_ccitt::bit_reader::BitReader;
-use hayro_ccitt::bits_fit;
-use hayro_ccitt::codes::Ticks;
+use hayro_ccitt::{Result, bits_fit};
 use std::process::Abort;
 
 const DATA: [u8; 40] = [
@@ -30,108 +29,104 @@ const LOW_FIRST: &str = "1001001111110000010110110100010110000100000101100100001
     0100000011010000011111010110010111011100110010001101100101000100\
     1000101001010010000100001001111001110001001011000010000010111011";
 
-/// Returns the first 32 of some bits, written as digits, as a number; zeros if there are fewer.
-fn first_32(bits: &[u8]) -> u32 {
+/// Returns 32 bits from an offset on, of bits that are written as digits, as a number; zeros where there are fewer.
+fn word_at(bits: &[u8], from: usize) -> u32 {
     let mut number = 0;
-    for place in 0..32usize {
-        let is_one = bits.get(place) == Some(&b'1');
-        number = number << 1 | u32::from(is_one);
+    let mut rest = bits.get(from..).unwrap_or(&[]);
+    for _ in 0..32usize {
+        number <<= 1;
+        if let [digit, others @ ..] = rest {
+            number |= u32::from(*digit == b'1');
+            rest = others;
+        }
     }
     number
 }
 
-/// Makes a reader in an order of bits.
-fn ordered_reader<'a>(data: &'a [u8], is_low_first: bool) -> BitReader<'a>
-    requires { BitsFit «data».now }
-{
-    if is_low_first {
-        BitReader::new_low_first(data)
-    } else {
-        BitReader::new(data)
+/// Returns the bit at an offset.
+fn bit_at(bits: &[u8], place: usize) -> Result<u32> {
+    match bits.get(place) {
+        Some(b'1') => Ok(1),
+        Some(_) => Ok(0),
+        None => Err(UnexpectedEof),
     }
+}
+
+/// Returns how many zeros follow an offset.
+fn zeros_at(bits: &[u8], place: usize) -> usize {
+    let from = bits.get(place..).unwrap_or(&[]);
+    let mut rest = from;
+    for _ in 0..from.len() {
+        if let [b'0', others @ ..] = rest {
+            rest = others;
+        }
+    }
+    from.len().saturating_sub(rest.len())
+}
+
+/// Makes a reader in an order of bits.
+fn ordered_reader<'a>(rt: &impl Abort, data: &'a [u8], is_low_first: bool) -> BitReader<'a> {
+    assert!(rt; bits_fit(data));
+    if is_low_first {
+        return BitReader::new_low_first(data);
+    }
+    BitReader::new(data)
 }
 
 /// Consumes a number of bits to the end, and twice past it.
 fn consumes_by(rt: &impl Abort, reader: &mut BitReader, bits: &[u8], n: usize)
     requires { n ≤ 32 }
 {
-    let mut rest = bits;
+    let mut place = 0usize;
     for _ in 0..(bits.len() / n.max(1)).saturating_add(2) {
-        let first = first_32(rest);
-        let answer = if n <= rest.len() {
-            Ok(())
-        } else {
-            Err(UnexpectedEof)
-        };
-        rest = rest.get(n..).unwrap_or(&[]);
         let peeked = reader.peek_u32();
-        let consumed = reader.consume(n);
-        let place = bits.len().checked_sub(rest.len());
-        same(
-            rt,
-            (n, bits.len(), peeked, consumed, Some(reader.bit_pos())),
-            (n, bits.len(), first, answer, place),
-        );
+        same(rt, (n, place, peeked), (n, place, word_at(bits, place)));
+        let next = place.saturating_add(n);
+        let is_within = next <= bits.len();
+        same(rt, reader.consume(n).is_ok(), is_within);
+        place = next.min(bits.len());
+        same(rt, reader.bit_pos(), place);
     }
 }
 
-/// By each number of bits.
-#[test]
-fn consumes_as_a_list_of_bits(rt: HostRuntime) {
-    for (digits, is_low_first) in [(HIGH_FIRST, false), (LOW_FIRST, true)] {
-        for length in 0..=40usize {
-            let data = &DATA[..length];
-            let bits = digits.as_bytes().get(..8 * length).unwrap_or(&[]);
-            assert!(rt; bits_fit(data));
-            for n in 0..=32usize {
-                consumes_by(&rt, &mut ordered_reader(data, is_low_first), bits, n);
-            }
-        }
-    }
-}
-
-/// At an offset a clone reads a bit, one moves to a whole byte, and the zeros are counted; then a bit is consumed.
+/// At an offset a clone reads a bit, and one moves to a whole byte; the zeros are counted, and then a bit is consumed.
 fn reads_on_from(rt: &impl Abort, reader: &mut BitReader, bits: &[u8], place: usize)
     requires { place ≤ 320 }
 {
-    let rest = bits.get(place..).unwrap_or(&[]);
-    let bit = rest.first().map(|digit| u32::from(*digit == b'1'));
-    let behind = rest.get(1..).unwrap_or(&[]);
-    let edge = place.div_ceil(8) * 8;
-    let aligned = bits.get(edge..).unwrap_or(&[]);
-    let zeros = rest.iter().take_while(|digit| **digit == b'0').count();
     let mut next = reader.clone().expect(rt, "memory");
-    let mut whole = reader.clone().expect(rt, "memory");
-    whole.align();
+    same(rt, (place, next.read_bit()), (place, bit_at(bits, place)));
     same(
         rt,
-        (
-            place,
-            (next.read_bit(), next.peek_u32()),
-            (whole.bit_pos(), whole.peek_u32()),
-            (
-                reader.zero_run(&mut Ticks::new()).0,
-                reader.consume(1).is_ok(),
-            ),
-        ),
-        (
-            place,
-            (bit.ok_or(UnexpectedEof), first_32(behind)),
-            (edge, first_32(aligned)),
-            (zeros, bit.is_some()),
-        ),
+        (place, next.peek_u32()),
+        (place, word_at(bits, place + 1)),
     );
+    let mut whole = reader.clone().expect(rt, "memory");
+    whole.align();
+    let edge = place.div_ceil(8) * 8;
+    same(
+        rt,
+        (whole.bit_pos(), whole.peek_u32()),
+        (edge, word_at(bits, edge)),
+    );
+    same(
+        rt,
+        (place, zeros_of(reader).0),
+        (place, zeros_at(bits, place)),
+    );
+    same(rt, reader.consume(1).is_ok(), place < bits.len());
 }
 
-/// From each offset.
+/// By each number of bits, and then from each offset.
 #[test]
-fn reads_on_as_a_list_of_bits(rt: HostRuntime) {
+fn reads_as_a_list_of_bits(rt: HostRuntime) {
     for (digits, is_low_first) in [(HIGH_FIRST, false), (LOW_FIRST, true)] {
         for length in 0..=40usize {
             let data = &DATA[..length];
             let bits = digits.as_bytes().get(..8 * length).unwrap_or(&[]);
-            assert!(rt; bits_fit(data));
-            let mut reader = ordered_reader(data, is_low_first);
+            for n in 0..=32usize {
+                consumes_by(&rt, &mut ordered_reader(&rt, data, is_low_first), bits, n);
+            }
+            let mut reader = ordered_reader(&rt, data, is_low_first);
             for place in 0..=8 * length {
                 reads_on_from(&rt, &mut reader, bits, place);
             }
@@ -142,22 +137,14 @@ fn reads_on_as_a_list_of_bits(rt: HostRuntime) {
 /// Zeros of each number in 17 bytes, with a one after them, and without.
 #[test]
 fn counts_zeros(rt: HostRuntime) {
-    let mut ticks = Ticks::new();
     for zeros in 0..136usize {
         let mut data = [0; 17];
         data[zeros / 8] = 0x80 >> (zeros % 8);
-        assert!(rt; bits_fit(&data));
-        let (count, after) = BitReader::new(&data).zero_run(&mut ticks);
-        same(
-            &rt,
-            (count, after.map(|after| after.bit_pos())),
-            (zeros, Some(zeros + 1)),
-        );
+        let found = zeros_of(&ordered_reader(&rt, &data, false));
+        same(&rt, found, (zeros, Some(zeros + 1)));
     }
     for length in 0..=17usize {
-        let data = &[0; 17][..length];
-        assert!(rt; bits_fit(data));
-        let (count, after) = BitReader::new(data).zero_run(&mut ticks);
-        same(&rt, (count, after.is_none()), (8 * length, true));
+        let found = zeros_of(&ordered_reader(&rt, &[0; 17][..length], false));
+        same(&rt, found, (8 * length, None));
     }
 }

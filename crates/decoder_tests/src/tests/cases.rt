@@ -1,104 +1,79 @@
-//! Cases of decoding as text, one a line, of three fields: the settings, the data in hexadecimal digits, and the changes of the
-//! rows with the result, as `Debug` writes them.
+//! Cases as text, one a line, of fields between `|`: the settings, the data in hexadecimal digits, and what is expected.
 //!
 //! ```text
 //! Group4 8 columns 2 rows b | 31F8 | [[3, 5], [3, 5]] Ok(2)
 //! ```
 //!
-//! The settings are the encoding, the columns, the row limit, and the flags as in `settings_of`, if there are any. A line that
-//! begins with `//` is a comment. The proof of a test takes time by the size of its body, and a text is one value.
+//! The settings are the encoding, the columns, the row limit, and the flags, if there are any: a for aligned rows, b for EOFB
+//! or RTC, l for EOLs and s for strict. Words of digits are joined, and `AB*3` is AB three times. A line that begins with `//` is
+//! a comment. The proof of a test takes time by the size of its body, and a text is one value.
 
-ghost use Rattle.hayro_ccitt.specs.Bits.{BitsFit};
-ghost use Rattle.std.specs.Prelude.{◌≡◌};
-
-use super::{bytes_of, context_of, decoded, mirrored, same, settings_of, sink_of};
-use hayro_ccitt::{DecodeSettings, DecoderContext, EncodingMode, Result, decode_low_first};
+use super::{
+    bytes_of, context_of, decoded, decoded_low_first, joined, mirrored, number_in, same_text,
+};
+use hayro_ccitt::{DecodeSettings, DecoderContext, EncodingMode};
 use std::alloc::AllocGlobal;
 use std::process::Abort;
 
-/// Reads settings.
-fn settings_in(words: &str) -> Option<DecodeSettings> {
-    let mut words = words.split_whitespace();
-    let encoding = match words.next()? {
+/// Reads the encoding of settings.
+fn encoding_in(rt: &impl Abort, word: &str) -> EncodingMode {
+    match word {
         "Group4" => EncodingMode::Group4,
         "Group3_1D" => EncodingMode::Group3_1D,
         "Group3_2D" => EncodingMode::Group3_2D,
-        _ => return None,
-    };
-    let columns = words.next()?.parse::<u32>().ok()?;
-    let of_columns = words.next()?;
-    let rows = words.next()?.parse::<u32>().ok()?;
-    let of_rows = words.next()?;
-    let flags = words.next().unwrap_or("");
-    for flag in flags.chars() {
-        if !"abls".contains(flag) {
-            return None;
-        }
+        _ => panic!(rt; "no encoding: {word}"),
     }
-    let is_whole = of_columns == "columns" && of_rows == "rows" && words.next().is_none();
-    is_whole.then_some(settings_of(encoding, columns, rows, flags))
 }
 
-/// Compares rows and a result, which the first bytes of the data name, with the text of them.
-pub(super) fn has_text(
-    rt: &(impl Abort + AllocGlobal),
-    data: &[u8],
-    rows: &[Vec<u32>],
-    answer: Result<usize>,
-    expected: &str,
-) {
-    let front = data.get(..16).unwrap_or(data);
-    let found = format!(in rt.alloc(); "{rows:?} {answer:?}").expect(rt, "memory");
-    same(rt, (front, found.as_str()), (front, expected));
+/// Adds a flag to settings.
+fn set(rt: &impl Abort, settings: &mut DecodeSettings, flag: &str) {
+    match flag {
+        "a" => settings.rows_are_byte_aligned = true,
+        "b" => settings.end_of_block = true,
+        "l" => settings.end_of_line = true,
+        "s" => settings.strict = true,
+        _ => panic!(rt; "no flag: {flag}"),
+    }
 }
 
-/// Decodes in a context, with the highest bit first and then mirrored with the lowest, and compares the rows and the results.
-pub(super) fn decodes_data(
-    rt: &(impl Abort + AllocGlobal),
-    ctx: &mut DecoderContext,
-    data: &[u8],
-    expected: &str,
-)
-    requires { BitsFit «data».now }
-    ensures { ctx.new.held.settings ≡ ctx.old.held.settings }
-{
-    let (read, sink) = decoded(rt, ctx, data, usize::MAX);
-    let count = sink.rows.len() as u64;
-    same(rt, (expected, ctx.decoded_rows()), (expected, count));
-    has_text(rt, data, &sink.rows, read, expected);
-    let mut sink = sink_of(rt.alloc(), ctx.settings().columns, usize::MAX);
-    let read = decode_low_first(&mirrored(rt, data), &mut sink, ctx);
-    has_text(rt, data, &sink.rows, read, expected);
+/// Reads settings.
+pub(super) fn settings_in(rt: &impl Abort, text: &str) -> DecodeSettings {
+    let mut words = text.split_whitespace();
+    let mut settings = DecodeSettings {
+        columns: 0,
+        rows: 0,
+        end_of_block: false,
+        end_of_line: false,
+        rows_are_byte_aligned: false,
+        encoding: encoding_in(rt, words.next().unwrap_or("")),
+        strict: false,
+    };
+    settings.columns = number_in(rt, words.next().unwrap_or(""));
+    assert!(rt; words.next() == Some("columns"));
+    settings.rows = number_in(rt, words.next().unwrap_or(""));
+    assert!(rt; words.next() == Some("rows"));
+    for flag in words {
+        set(rt, &mut settings, flag);
+    }
+    settings
 }
 
-/// Decodes digits in a context, and compares the rows and the results.
-pub(super) fn decodes_as(
-    rt: &(impl Abort + AllocGlobal),
-    ctx: &mut DecoderContext,
-    digits: &str,
-    expected: &str,
-)
-    ensures { ctx.new.held.settings ≡ ctx.old.held.settings }
-{
-    decodes_data(rt, ctx, &bytes_of(rt, digits), expected);
-}
-
-/// The fields of a case.
-fn fields_of(case: &str) -> Option<(DecodeSettings, &str, &str)> {
+/// Returns the fields of a case.
+fn fields_of(case: &str) -> Option<(&str, &str, &str)> {
     let (settings, others) = case.split_once('|')?;
     let (digits, expected) = others.split_once('|')?;
-    Some((settings_in(settings)?, digits.trim(), expected.trim()))
+    Some((settings.trim(), digits.trim(), expected.trim()))
 }
 
 /// Returns the cases of a text: the settings, the digits and what is expected.
 pub(super) fn cases_of<'a>(
     rt: &(impl Abort + AllocGlobal),
     text: &'a str,
-) -> Vec<(DecodeSettings, &'a str, &'a str)> {
+) -> Vec<(&'a str, &'a str, &'a str)> {
     let mut cases = Vec::new(rt.alloc());
     for line in text.lines() {
         let case = line.trim();
-        if !case.is_empty() && !case.starts_with("//") {
+        if !case.is_empty() && !case.starts_with('/') {
             let fields = fields_of(case).expect(rt, case);
             assert!(rt; cases.push(fields).is_ok());
         }
@@ -107,9 +82,62 @@ pub(super) fn cases_of<'a>(
     cases
 }
 
-/// Decodes each case of a text in a context of its own, and compares the rows and the results.
+/// Writes what a context says after it decoded: the offset of a fault, the damaged rows, the missed EOLs, and whether EOLs are
+/// sought.
+fn told(rt: &(impl Abort + AllocGlobal), ctx: &DecoderContext) -> String {
+    let fault = ctx.fault_start();
+    let (damaged, missed) = (ctx.damaged_rows(), ctx.missed_eols());
+    let has_eols = ctx.has_eols();
+    format!(in rt.alloc(); "{fault:?} {damaged} {missed} {has_eols}").expect(rt, "memory")
+}
+
+/// Makes a new context if there are settings, and returns how many rows the sink takes.
+fn prepares(rt: &(impl Abort + AllocGlobal), ctx: &mut DecoderContext, words: &str) -> u64 {
+    let (settings, taken) = words.split_once(',').unwrap_or((words, "9999"));
+    if !settings.is_empty() {
+        *ctx = context_of(rt, settings_in(rt, settings));
+    }
+    u64::from(number_in(rt, taken.trim()))
+}
+
+/// Decodes digits in a context up to a number of rows, with the highest bit first and then with the lowest, and compares the
+/// rows, the results, and what the context says if that is given.
+fn decodes(
+    rt: &(impl Abort + AllocGlobal),
+    ctx: &mut DecoderContext,
+    limit: u64,
+    digits: &str,
+    expected: &str,
+) {
+    if digits == "reset" {
+        ctx.reset();
+        same_text(rt, digits, told(rt, ctx).as_str(), expected);
+        return;
+    }
+    let data = bytes_of(rt, digits);
+    let (rows, says) = expected.split_once('|').unwrap_or((expected, ""));
+    let wanted = joined(rt, rows);
+    let found = decoded(rt, ctx, &data, limit);
+    same_text(rt, digits, found.as_str(), wanted.as_str());
+    if !says.is_empty() {
+        let found = told(rt, ctx);
+        same_text(rt, digits, found.as_str(), says.trim());
+    }
+    let found = decoded_low_first(rt, ctx, &mirrored(rt, &data), limit);
+    same_text(rt, digits, found.as_str(), wanted.as_str());
+}
+
+/// Decodes each case of a text, and compares the rows with the result, as `Debug` writes them, and a fourth field, if there is
+/// one, with what the context says then. A case without settings is decoded in the context of the one before. With a
+/// number after the settings the sink refuses the row after so many, and `reset` as data resets the context.
+///
+/// ```text
+/// Group3_1D 8 columns 0 rows l, 1 | 0019800C400033 | [[]] Err(Refused) | Some(29) 0 0 true
+/// ```
 pub(super) fn decodes_each(rt: &(impl Abort + AllocGlobal), text: &str) {
-    for (settings, digits, expected) in &cases_of(rt, text) {
-        decodes_as(rt, &mut context_of(rt, *settings), digits, expected);
+    let mut ctx = context_of(rt, settings_in(rt, "Group4 0 columns 0 rows"));
+    for (words, digits, expected) in &cases_of(rt, text) {
+        let limit = prepares(rt, &mut ctx, words);
+        decodes(rt, &mut ctx, limit, digits, expected);
     }
 }

@@ -1,17 +1,13 @@
 //! Group 3: lines with and without EOLs, damaged lines, tags and limits.
 
-use super::cases::{cases_of, decodes_as, decodes_each};
-use super::{
-    bytes_of, context_of, decoded, decodes, group_3_1d, group_3_2d, refuses_each, repeated, same,
-};
-use hayro_ccitt::DecodeError::{InvalidCode, Overflow, UnexpectedEof};
+use super::cases::decodes_each;
 
 #[test]
 fn lines_between_eols(rt: HostRuntime) {
     decodes_each(
         &rt,
-        "Group3_1D 8 columns 0 rows l | 0019800C700033 | [[], [3, 5], []] Ok(7)
-        Group3_1D 8 columns 0 rows ls | 0019800C700033 | [[], [3, 5], []] Ok(7)
+        "Group3_1D 8 columns 0 rows l | 0019800C700033 | [[], [3, 5], []] Ok(7) | None 0 0 true
+        Group3_1D 8 columns 0 rows l s | 0019800C700033 | [[], [3, 5], []] Ok(7)
         Group3_1D 8 columns 0 rows l | 0019800C06F80033 | [[], [], []] Ok(8)",
     );
 }
@@ -20,13 +16,16 @@ fn lines_between_eols(rt: HostRuntime) {
 fn lines_without_eols(rt: HostRuntime) {
     decodes_each(
         &rt,
-        "Group3_1D 8 columns 1 rows | 98 | [[]] Ok(1)
+        "Group3_1D 8 columns 1 rows | 98 | [[]] Ok(1) | None 0 0 false
         Group3_1D 8 columns 1 rows s | 98 | [[]] Ok(1)
         Group3_1D 8 columns 2 rows a | 9898 | [[], []] Ok(2)
-        Group3_1D 8 columns 2 rows as | 9898 | [[], []] Ok(2)
+        Group3_1D 8 columns 2 rows a s | 9898 | [[], []] Ok(2)
         Group3_1D 2 columns 0 rows a | 7770 | [[], []] Ok(2)
-        // the row after which EOLs are no longer sought isn't aligned
-        Group3_1D 2 columns 0 rows la | 7770 | [[], [], []] Ok(2)",
+        // no EOL is left: the row after which EOLs are no longer sought isn't aligned
+        Group3_1D 2 columns 0 rows l a | 7770 | [[], [], []] Ok(2) | None 0 1 false
+        Group3_1D 2 columns 0 rows l | 7770 | [[], [], []] Err(UnexpectedEof) | Some(12) 0 1 false
+        | 7770 | [[], [], []] Err(UnexpectedEof) | Some(12) 0 1 false
+        | reset | None 0 0 false",
     );
 }
 
@@ -34,10 +33,10 @@ fn lines_without_eols(rt: HostRuntime) {
 fn rtc_and_leading_eols(rt: HostRuntime) {
     decodes_each(
         &rt,
-        "Group3_1D 8 columns 0 rows b | 001980080080080080080080 | [[]] Ok(12)
-        Group3_1D 8 columns 0 rows bs | 001980080080080080080080 | [[]] Ok(12)
+        "Group3_1D 8 columns 0 rows b | 001980080080080080080080 | [[]] Ok(12) | None 0 0 true
+        Group3_1D 8 columns 0 rows b s | 001980080080080080080080 | [[]] Ok(12)
         Group3_1D 8 columns 0 rows b | 001001001001001001 | [[]] Ok(9)
-        Group3_1D 8 columns 0 rows bs | 001001001001001001 | [] Err(UnexpectedEof)
+        Group3_1D 8 columns 0 rows b s | 001001001001001001 | [] Err(UnexpectedEof)
         Group3_1D 8 columns 0 rows | 001001 | [[]] Ok(3)",
     );
 }
@@ -52,7 +51,7 @@ fn data_that_ends_in_a_line(rt: HostRuntime) {
         Group3_1D 8 columns 1 rows s | | [] Err(UnexpectedEof)
         Group3_1D 8 columns 1 rows s | 01 | [] Err(UnexpectedEof)
         Group3_1D 8 columns 1 rows s | 8E | [] Err(UnexpectedEof)
-        Group3_1D 8 columns 0 rows l | | [[]] Ok(0)",
+        Group3_1D 8 columns 0 rows l | | [[]] Ok(0) | None 1 0 true",
     );
 }
 
@@ -60,22 +59,35 @@ fn data_that_ends_in_a_line(rt: HostRuntime) {
 fn damaged_lines(rt: HostRuntime) {
     decodes_each(
         &rt,
-        "Group3_1D 8 columns 0 rows l | 0019800C400033 | [[], [3, 6], []] Ok(7)
+        "Group3_1D 8 columns 0 rows l | 0019800C400033 | [[], [3, 6], []] Ok(7) | None 1 0 true
+        | 0019800C400033 | [[], [3, 6], []] Ok(7) | None 1 0 true
+        | reset | None 0 0 false
         Group3_1D 8 columns 0 rows l | 0019800C000033 | [[], [], []] Ok(7)
-        // the last code word uses zeros of the EOL
-        Group3_1D 8 columns 0 rows l | 00198008EE0033 | [[], [1, 5]] Err(InvalidCode)
+        // the last code word uses zeros of the EOL, which is missed
+        Group3_1D 8 columns 0 rows l | 00198008EE0033 | [[], [1, 5]] Err(InvalidCode) | Some(42) 0 1 false
         // repaired, and the same bits are read again
         Group3_1D 8 columns 0 rows l | 00 | [[]] Err(InvalidCode)
-        Group3_1D 8 columns 0 rows ls | 0019800C400033 | [[]] Err(InvalidCode)",
+        Group3_1D 8 columns 0 rows l | 00*65536 | [[]] Err(InvalidCode)
+        Group3_1D 8 columns 0 rows l | 0019800C70 00*2000 | [[], [3, 5]] Err(InvalidCode)
+        // the second line's black run has no word
+        Group3_1D 8 columns 0 rows l s | 0019800C400033 | [[]] Err(InvalidCode) | Some(29) 0 0 true
+        | 0019800C400033 | [[]] Err(InvalidCode) | Some(29) 0 0 true
+        | reset | None 0 0 false",
     );
 }
 
+/// From the end of the first line on.
 #[test]
 fn bits_before_an_eol(rt: HostRuntime) {
     decodes_each(
         &rt,
-        "Group3_1D 8 columns 2 rows l | 0019F800CC | [[], []] Ok(5)
-        Group3_1D 8 columns 2 rows ls | 0019F800CC | [[]] Err(InvalidCode)
+        "Group3_1D 8 columns 2 rows l | 0019F800CC | [[], []] Ok(5) | None 0 1 true
+        | 0019F800CC | [[], []] Ok(5) | None 0 1 true
+        , 1 | 0019F800CC | [[]] Err(Refused) | Some(33) 0 1 true
+        , 0 | 0019F800CC | [] Err(Refused) | Some(12) 0 0 true
+        Group3_1D 8 columns 1 rows l | 0019F800CC | [[]] Ok(3) | None 0 0 true
+        Group3_1D 8 columns 2 rows l s | 0019F800CC | [[]] Err(InvalidCode) | Some(17) 0 0 true
+        | 0019F800CC | [[]] Err(InvalidCode) | Some(17) 0 0 true
         Group3_1D 8 columns 0 rows s | 001980 | [[]] Err(InvalidCode)",
     );
 }
@@ -85,24 +97,19 @@ fn limit_at_a_damaged_line(rt: HostRuntime) {
     decodes_each(
         &rt,
         "Group3_1D 8 columns 2 rows l | 0019800C700033 | [[], [3, 5]] Ok(7)
-        Group3_1D 8 columns 2 rows l | 0019800C400033 | [[], [3, 6]] Ok(4)",
+        Group3_1D 8 columns 2 rows l | 0019800C400033 | [[], [3, 6]] Ok(4) | None 1 0 true",
     );
 }
 
+/// The last is 1677722 words of 2560.
 #[test]
 fn runs_longer_than_the_row(rt: HostRuntime) {
     decodes_each(
         &rt,
         "Group3_1D 4 columns 1 rows | 98 | [[]] Ok(1)
-        Group3_1D 4 columns 1 rows s | 98 | [] Err(InvalidCode)",
+        Group3_1D 4 columns 1 rows s | 98 | [] Err(InvalidCode)
+        Group3_1D 4294967295 columns 1 rows | 01F01F*838861 | [] Err(Overflow)",
     );
-}
-
-/// 1677722 words of 2560.
-#[test]
-fn a_run_past_the_largest_number(rt: HostRuntime) {
-    let data = repeated(&rt, "01F01F", 838861, &[]);
-    decodes(&rt, group_3_1d(u32::MAX, 1, ""), &data, &[], Err(Overflow));
 }
 
 #[test]
@@ -111,10 +118,14 @@ fn tagged_lines(rt: HostRuntime) {
         &rt,
         "Group3_2D 8 columns 1 rows | CC | [[]] Ok(1)
         Group3_2D 8 columns 2 rows | CD | [[], []] Ok(1)
-        Group3_2D 8 columns 0 rows b | 001CC005001800C006003001800C | [[], []] Ok(14)
+        Group3_2D 8 columns 0 rows b | 001CC005001800C006003001800C | [[], []] Ok(14) | None 0 0 true
         Group3_2D 8 columns 0 rows | CC006003001800C0060034 | [[], []] Err(UnexpectedEof)
         Group3_2D 8 columns 0 rows l | | [[]] Ok(0)
-        Group3_2D 8 columns 0 rows | | [] Err(UnexpectedEof)",
+        Group3_2D 8 columns 0 rows | | [] Err(UnexpectedEof)
+        Group3_2D 0 columns 0 rows l | FF | [] Ok(0) | None 0 0 false
+        // an EOL and a tag of one, 616 times
+        Group3_2D 8 columns 0 rows | 001800C006003001800C006003*77 | [[]] Ok(1001)
+        Group3_2D 8 columns 0 rows b | 001800C006003001800C006003*77 | [[]] Ok(1001)",
     );
 }
 
@@ -123,66 +134,74 @@ fn tagged_lines(rt: HostRuntime) {
 fn damaged_tagged_lines(rt: HostRuntime) {
     decodes_each(
         &rt,
-        "Group3_2D 8 columns 0 rows l | 18C0 | [[3, 5]] Err(InvalidCode)
+        "Group3_2D 8 columns 0 rows l | 18C0 | [[3, 5]] Err(InvalidCode) | Some(0) 1 0 false
+        | | [[]] Ok(0)
+        | 18C0 | [[3, 5]] Err(InvalidCode) | Some(0) 1 0 false
         Group3_2D 1 columns 0 rows l | 280005 | [[0], [], []] Ok(3)
         Group3_2D 1 columns 0 rows l | 2800A0 | [[0], [], []] Err(UnexpectedEof)",
     );
 }
 
+/// Each line is damaged, and the next EOL is looked for.
 #[test]
 fn many_damaged_lines(rt: HostRuntime) {
-    let settings = group_3_1d(8, 0, "l");
-    let zeros = repeated(&rt, "00", 65536, &[]);
-    decodes(&rt, settings, &zeros, &[&[]], Err(InvalidCode));
-    let rows: [&[u32]; 1000] = [&[]; 1000];
-    let data = repeated(&rt, "001F", 1000, &[]);
-    decodes(&rt, settings, &data, &rows, Err(UnexpectedEof));
+    decodes_each(
+        &rt,
+        "Group3_1D 8 columns 0 rows l | 001F*1000 | [ [],*999 [] ] Err(UnexpectedEof)
+        Group3_2D 8 columns 0 rows l | 0018FF*1000 | [ [1,3],*499 [1,3] ] Err(InvalidCode)",
+    );
 }
 
+/// After each refusal the same context decodes the same data, or other data.
 #[test]
 fn refusals_of_group_3_rows(rt: HostRuntime) {
-    let settings = group_3_1d(8, 0, "l");
-    refuses_each(&rt, settings, "0019800C700033", "[[], [3, 5], []] Ok(7)");
-    // a row that was repaired
-    refuses_each(&rt, settings, "0019800C400033", "[[], [3, 6], []] Ok(7)");
-    let settings = group_3_2d(8, 0, "b");
-    refuses_each(
+    decodes_each(
         &rt,
-        settings,
-        "001CC005001800C006003001800C",
-        "[[], []] Ok(14)",
+        "Group3_1D 8 columns 0 rows l, 0 | 0019800C700033 | [] Err(Refused)
+        , 1 | 0019800C700033 | [[]] Err(Refused)
+        , 2 | 0019800C700033 | [[], [3, 5]] Err(Refused)
+        | 0019800C700033 | [[], [3, 5], []] Ok(7)
+        // a row that was repaired
+        Group3_1D 8 columns 0 rows l, 0 | 0019800C400033 | [] Err(Refused)
+        | 0019800C700033 | [[], [3, 5], []] Ok(7)
+        , 1 | 0019800C400033 | [[]] Err(Refused) | Some(29) 0 0 true
+        | 0019800C700033 | [[], [3, 5], []] Ok(7) | None 0 0 true
+        , 2 | 0019800C400033 | [[], [3, 6]] Err(Refused)
+        | 0019800C700033 | [[], [3, 5], []] Ok(7)
+        | 0019800C400033 | [[], [3, 6], []] Ok(7)
+        Group3_2D 8 columns 0 rows b, 0 | 001CC005001800C006003001800C | [] Err(Refused)
+        , 1 | 001CC005001800C006003001800C | [[]] Err(Refused)
+        | 001CC005001800C006003001800C | [[], []] Ok(14)
+        , 0 | 001C70002E00231C006003001800C0060030 | [] Err(Refused)
+        | 001CC005001800C006003001800C | [[], []] Ok(14)
+        , 1 | 001C70002E00231C006003001800C0060030 | [[3, 5]] Err(Refused)
+        | 001CC005001800C006003001800C | [[], []] Ok(14)
+        , 2 | 001C70002E00231C006003001800C0060030 | [[3, 5], [3, 5]] Err(Refused)
+        | 001CC005001800C006003001800C | [[], []] Ok(14)
+        | 001C70002E00231C006003001800C0060030 | [[3, 5], [3, 5], [3, 5]] Ok(18)",
     );
 }
 
+/// Two-dimensional data, each followed by the same with one line changed: the rows differ from that line up to the next
+/// one-dimensional one.
 #[test]
-fn one_context_reads_lines_again(rt: HostRuntime) {
-    let mut ctx = context_of(&rt, group_3_2d(8, 0, "l"));
-    decodes_as(&rt, &mut ctx, "18C0", "[[3, 5]] Err(InvalidCode)");
-    decodes_as(&rt, &mut ctx, "", "[[]] Ok(0)");
-    decodes_as(&rt, &mut ctx, "18C0", "[[3, 5]] Err(InvalidCode)");
-}
-
-/// EOLs came or were announced, and are still sought.
-#[test]
-fn eols_that_were_there(rt: HostRuntime) {
-    let cases = cases_of(
+fn damage_ends_at_a_one_dimensional_line(rt: HostRuntime) {
+    decodes_each(
         &rt,
-        "Group3_1D 8 columns 0 rows l | 0019800C700033 | true
-        Group3_1D 8 columns 0 rows b | 001980080080080080080080 | true
-        Group3_1D 8 columns 0 rows l | | true
-        Group3_1D 8 columns 0 rows ls | 0019800C400033 | true
-        Group3_2D 8 columns 0 rows b | 001CC005001800C006003001800C | true
-        Group3_1D 8 columns 1 rows | 98 | false
-        Group3_1D 2 columns 0 rows la | 7770 | false
-        Group3_1D 8 columns 0 rows l | 00198008EE0033 | false
-        Group3_2D 8 columns 0 rows l | 18C0 | false
-        Group3_2D 0 columns 0 rows l | FF | false
-        Group4 8 columns 1 rows l | 0018 | false",
+        "Group3_2D 8 columns 0 rows l | 001CC00463800B800073 | [[], [3, 5], [3, 5], []] Ok(10)
+        Group3_2D 8 columns 0 rows l | 001CC0046F800B800073 | [[], [4, 6], [4, 6], []] Ok(10)
+        Group3_2D 8 columns 0 rows l | 001CC00407800B800073 | [[], [], [], []] Ok(10)
+
+        Group3_2D 3 columns 0 rows b l | 0002301B80000DD0000082800CD6 | [[], [2], [0], [0]] Ok(14)
+        Group3_2D 3 columns 0 rows b l | 0002301B80000CD0000082800CD6 | [[], [], [1], [0]] Ok(14)
+
+        Group3_2D 5 columns 0 rows l | 0000500044746037000914E50E001BC000DE | [[], [1, 2], [0, 1, 3, 4], [2], [2]] Ok(18)
+        Group3_2D 5 columns 0 rows l | 0000500045746027000914E50E001BC000DE | [[], [], [4], [2], [2]] Ok(18)
+
+        Group3_2D 2 columns 0 rows l | 00001135C00019AA1C000002B00041800037 | [[0], [0, 1], [0], [], []] Ok(18)
+        Group3_2D 2 columns 0 rows l | 00001135C00019BA1C000002B00041800037 | [[0], [], [], [], []] Ok(18)
+
+        Group3_2D 2 columns 0 rows l | 00066B8002A80002C8E1B80037 | [[0], [0, 1], [0, 1], []] Ok(13)
+        Group3_2D 2 columns 0 rows l | 0006638002A80002C8E1B80037 | [[], [], [], []] Ok(13)",
     );
-    for (settings, digits, expected) in &cases {
-        let mut ctx = context_of(&rt, *settings);
-        let _ = decoded(&rt, &mut ctx, &bytes_of(&rt, digits), usize::MAX);
-        let has_eols = if ctx.has_eols() { "true" } else { "false" };
-        same(&rt, (*digits, has_eols), (*digits, *expected));
-    }
 }

@@ -1,0 +1,166 @@
+//! Rows one at a time, as cases: the settings, the data, and what each call of `next_row` returns, with what is then said of the
+//! row and of all rows.
+
+use super::cases::{cases_of, settings_in};
+use super::{bytes_of, said, same, same_text};
+use hayro_ccitt::bit_reader::BitOrder;
+use hayro_ccitt::{DecodeSettings, Result, RowCursor, RowReader, bits_fit};
+use std::alloc::AllocGlobal;
+use std::process::Abort;
+
+/// Makes a reader of rows.
+fn reader_of<'a>(
+    rt: &(impl Abort + AllocGlobal),
+    data: &'a [u8],
+    settings: DecodeSettings,
+) -> RowReader<'a> {
+    assert!(rt; bits_fit(data));
+    RowReader::new(rt.alloc(), data, BitOrder::HighestFirst, settings).expect(rt, "memory")
+}
+
+/// Makes a cursor over rows.
+fn cursor_of(rt: &(impl Abort + AllocGlobal), data: &[u8], settings: DecodeSettings) -> RowCursor {
+    assert!(rt; bits_fit(data));
+    RowCursor::new(rt.alloc(), data, BitOrder::HighestFirst, settings).expect(rt, "memory")
+}
+
+/// Reads the next row. The proofs of the callers carry none of what its contract says.
+fn next_of(reader: &mut RowReader) -> Result<bool> {
+    reader.next_row()
+}
+
+/// Reads a cursor's next row, as `next_of` does that of a reader.
+fn next_in(rt: &impl Abort, cursor: &mut RowCursor, data: &[u8]) -> Result<bool> {
+    assert!(rt; bits_fit(data));
+    cursor.next_row(data)
+}
+
+/// Writes what a reader says.
+fn said_by_reader(rt: &(impl Abort + AllocGlobal), reader: &RowReader) -> String {
+    let counts = [
+        reader.rows_read(),
+        reader.damaged_rows(),
+        reader.missed_eols(),
+    ];
+    let places = (reader.line_start(), reader.bytes_read());
+    said(
+        rt,
+        &(reader.row(), places.0, reader.damage(), counts, places.1),
+    )
+}
+
+/// Writes what a cursor says.
+fn said_by_cursor(rt: &(impl Abort + AllocGlobal), cursor: &RowCursor) -> String {
+    let counts = [
+        cursor.rows_read(),
+        cursor.damaged_rows(),
+        cursor.missed_eols(),
+    ];
+    let places = (cursor.line_start(), cursor.bytes_read());
+    said(
+        rt,
+        &(cursor.row(), places.0, cursor.damage(), counts, places.1),
+    )
+}
+
+/// Reads the next row by a reader and by a cursor, and compares what they return and say.
+fn reads_next(
+    rt: &(impl Abort + AllocGlobal),
+    reader: &mut RowReader,
+    cursor: &mut RowCursor,
+    data: &[u8],
+    expected: &str,
+) {
+    let found = next_of(reader);
+    same(rt, next_in(rt, cursor, data), found);
+    let entry = said_by_reader(rt, reader);
+    same_text(
+        rt,
+        "by a cursor",
+        said_by_cursor(rt, cursor).as_str(),
+        entry.as_str(),
+    );
+    let missed = reader.missed_eol();
+    let found = format!(in rt.alloc(); "{found:?} {entry} {missed:?}").expect(rt, "memory");
+    same_text(rt, "by a reader", found.as_str(), expected);
+}
+
+/// Reads the rows of each case of a text: each call of `next_row` with what it returns, the last row, the offset of its line,
+/// its damage, how many rows were read and damaged and EOLs missed, the bytes read, and the EOL that was missed.
+fn reads_each(rt: &(impl Abort + AllocGlobal), text: &str) {
+    for (words, digits, expected) in &cases_of(rt, text) {
+        let settings = settings_in(rt, words);
+        let data = &bytes_of(rt, digits);
+        let mut reader = reader_of(rt, data, settings);
+        let mut cursor = cursor_of(rt, data, settings);
+        same(rt, cursor.settings().columns, settings.columns);
+        let before = said_by_reader(rt, &reader);
+        same_text(
+            rt,
+            digits,
+            said_by_cursor(rt, &cursor).as_str(),
+            before.as_str(),
+        );
+        assert!(rt; before.as_str().starts_with("([], 0, None, [0, 0, 0], "));
+        same(rt, reader.missed_eol(), None);
+        for entry in expected.split(';') {
+            reads_next(rt, &mut reader, &mut cursor, data, entry.trim());
+        }
+    }
+}
+
+/// An EOL and a white line, an EOL and 3 white pixels, 2 black ones and 3 white ones, an EOL and a white line; the same with a
+/// black run that has no word, which strict data may not have.
+#[test]
+fn rows_one_at_a_time(rt: HostRuntime) {
+    reads_each(
+        &rt,
+        "Group3_1D 8 columns 0 rows l | 0019800C700033 | Ok(true) ([], 12, None, [1, 0, 0], 3) None; \
+         Ok(true) ([3, 5], 29, None, [2, 0, 0], 5) None; Ok(true) ([], 51, None, [3, 0, 0], 7) None; \
+         Ok(false) ([], 51, None, [3, 0, 0], 7) None; Ok(false) ([], 51, None, [3, 0, 0], 7) None
+        Group3_1D 8 columns 2 rows l | 0019800C700033 | Ok(true) ([], 12, None, [1, 0, 0], 3) None; \
+         Ok(true) ([3, 5], 29, None, [2, 0, 0], 5) None; Ok(false) ([3, 5], 29, None, [2, 0, 0], 7) None; \
+         Ok(false) ([3, 5], 29, None, [2, 0, 0], 7) None
+        Group3_1D 8 columns 0 rows l | 0019800C400033 | Ok(true) ([], 12, None, [1, 0, 0], 3) None; \
+         Ok(true) ([3, 6], 29, Some(InvalidCode), [2, 1, 0], 4) None; Ok(true) ([], 51, None, [3, 1, 0], 7) None; \
+         Ok(false) ([], 51, None, [3, 1, 0], 7) None
+        Group3_1D 8 columns 2 rows l | 0019800C400033 | Ok(true) ([], 12, None, [1, 0, 0], 3) None; \
+         Ok(true) ([3, 6], 29, Some(InvalidCode), [2, 1, 0], 4) None; Ok(false) ([3, 6], 29, Some(InvalidCode), [2, 1, 0], 4) None
+        Group3_1D 8 columns 0 rows l s | 0019800C400033 | Ok(true) ([], 12, None, [1, 0, 0], 3) None; \
+         Err(InvalidCode) ([], 29, None, [1, 0, 0], 4) None; Err(InvalidCode) ([], 29, None, [1, 0, 0], 4) None
+        // no line
+        Group3_1D 8 columns 0 rows l | | Ok(true) ([], 0, Some(UnexpectedEof), [1, 1, 0], 0) None; \
+         Ok(false) ([], 0, Some(UnexpectedEof), [1, 1, 0], 0) None
+        // a tagged line without its end
+        Group3_2D 8 columns 0 rows l | 18C0 | Ok(true) ([3, 5], 0, Some(InvalidCode), [1, 1, 0], 0) None; \
+         Err(InvalidCode) ([3, 5], 0, Some(InvalidCode), [1, 1, 0], 0) None",
+    );
+}
+
+/// Bits stand behind a whole line, and then an EOL, which is missed once the second line is read; or no EOL is left.
+#[test]
+fn missed_eols_are_told(rt: HostRuntime) {
+    reads_each(
+        &rt,
+        "Group3_1D 8 columns 2 rows l | 0019F800CC | Ok(true) ([], 12, None, [1, 0, 0], 3) None; \
+         Ok(true) ([], 33, None, [2, 0, 1], 5) Some(17); Ok(false) ([], 33, None, [2, 0, 1], 5) None
+        Group3_1D 8 columns 2 rows l s | 0019F800CC | Ok(true) ([], 12, None, [1, 0, 0], 3) None; \
+         Err(InvalidCode) ([], 17, None, [1, 0, 0], 3) None
+        Group3_1D 2 columns 0 rows l | 7770 | Ok(true) ([], 0, None, [1, 0, 0], 1) None; \
+         Ok(true) ([], 4, None, [2, 0, 1], 1) Some(4); Ok(true) ([], 8, None, [3, 0, 1], 2) None; \
+         Err(UnexpectedEof) ([], 12, None, [3, 0, 1], 2) None",
+    );
+}
+
+/// Horizontal mode, 3 white pixels, 2 black ones, V0; then EOFB, or padding that is no mode.
+#[test]
+fn rows_of_group_4_one_at_a_time(rt: HostRuntime) {
+    reads_each(
+        &rt,
+        "Group4 8 columns 0 rows b | 31C0040040 | Ok(true) ([3, 5], 0, None, [1, 0, 0], 2) None; \
+         Ok(false) ([3, 5], 0, None, [1, 0, 0], 5) None; Ok(false) ([3, 5], 0, None, [1, 0, 0], 5) None
+        Group4 8 columns 0 rows | 31C0 | Ok(true) ([3, 5], 0, None, [1, 0, 0], 2) None; \
+         Err(InvalidCode) ([3, 5], 10, None, [1, 0, 0], 2) None; Err(InvalidCode) ([3, 5], 10, None, [1, 0, 0], 2) None
+        Group4 0 columns 0 rows | 31C0 | Ok(false) ([], 0, None, [0, 0, 0], 0) None; Ok(false) ([], 0, None, [0, 0, 0], 0) None",
+    );
+}
