@@ -1,7 +1,8 @@
 -- What a run writes, from what decoding returns.
 use Rattle.faxrows_runs.proofs.Names.{◌≡◌, ℕ, List, [], ◌∷◌, ◌++◌, refl, sym, ap, ◌∙◌, subst, take, length, map, take_all, arith}
 use Rattle.faxrows_runs.proofs.Names.{append_assoc, append-nil, Option, None, Some, Ok, Err, IfSome, IsOk, IsErr, fold, take-map}
-use Rattle.faxrows_runs.proofs.Names.{length-map, UnexpectedEof, InvalidCode, Overflow, OutOfMemory, Refused, DecodeSettings, IfOk, Result}
+use Rattle.faxrows_runs.proofs.Names.{length-map, UnexpectedEof, InvalidCode, Overflow, OutOfMemory, Refused, DecodeSettings}
+use Rattle.faxrows_runs.proofs.Names.{IfOk, Result}
 use Rattle.faxrows_runs.proofs.Names.{meaning_after, Bits, bits_in, Held, SinkState, TakesRows, StopsShort, plain, lines_of, Row}
 use Rattle.faxrows_runs.proofs.Names.{changes, Arguments, Good, Faulty, Outcome, OnKnown, EndsAfter, rows_of, outcome_of}
 use Rattle.faxrows_runs.proofs.Names.{text_after}

@@ -53,6 +53,10 @@ module _ (g : Over) (c : goal.After-drop-input-2 g) where
       known (λ s b. (text : List ℕ) × IsDamageWithoutMemory s b text × Grew text)
       (_, damage_without_memory settings bits read outcome ends (sym same), grew)
 
+  -- there are at most as many bits as offsets
+  fits : IfSome (g.R.Read.remaining c.args.reader.now.0) BitsFit
+  fits = on_input _ c.in_ok-arguments.input.items BitsFit c.in_ok-arguments.ensures.all c.in_ok-arguments.ensures.fit
+
 pub returns-clause-ended : goal.returns-clause-ended
 returns-clause-ended g c = IfOk-weaker c.write_damage.result _ _ (ended g c) c.write_damage.ensures.written
 
@@ -63,10 +67,6 @@ returns-clause-front g c = λ e.
     (g.W.Write.contents c.write_damage.new.writer.0) text) e c.write_damage.ensures.front in
     known g c (λ s b. (text : List ℕ) × IsDamageText s b text
     × AppendsFront (g.W.Write.contents c.args.writer.now.0) (g.W.Write.contents c.write_damage.new.writer.0) text) front
-
--- there are at most as many bits as offsets
-fits : (g : Over) (c : goal.After-drop-input-2 g) → IfSome (g.R.Read.remaining c.args.reader.now.0) BitsFit
-fits g c = on_input _ c.in_ok-arguments.input.items BitsFit c.in_ok-arguments.ensures.all c.in_ok-arguments.ensures.fit
 
 pub returns-clause-fit : goal.returns-clause-fit
 returns-clause-fit g c = if_ok c.write_damage.result _ (fits g c)

@@ -48,12 +48,12 @@ module _ (g : Over) (c : goal.After-drop-input-2 g) where
   ended Memory (outcome, ends, same, grew) =
       known (λ s b. (text : List ℕ) × IsTextOfWant s b text × Grew text) (_, (_, outcome, ends, sym same, refl), grew)
 
+  -- there are at most as many bits as offsets
+  fits : IfSome (g.R.Read.remaining c.args.reader.now.0) BitsFit
+  fits = on_input _ c.in_ok-arguments.input.items BitsFit c.in_ok-arguments.ensures.all c.in_ok-arguments.ensures.fit
+
 pub returns-clause-ended : goal.returns-clause-ended
 returns-clause-ended g c = IfOk-weaker c.write_decoded.result _ _ (ended g c) c.write_decoded.ensures.written
-
--- there are at most as many bits as offsets
-fits : (g : Over) (c : goal.After-drop-input-2 g) → IfSome (g.R.Read.remaining c.args.reader.now.0) BitsFit
-fits g c = on_input _ c.in_ok-arguments.input.items BitsFit c.in_ok-arguments.ensures.all c.in_ok-arguments.ensures.fit
 
 pub returns-clause-fit : goal.returns-clause-fit
 returns-clause-fit g c = if_ok c.write_decoded.result _ (fits g c)
