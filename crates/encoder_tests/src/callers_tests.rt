@@ -4,18 +4,21 @@
 //! With 8 columns a row whose pixels 3 and 4 are black is, below a white one, horizontal mode, a white run of 3, a black run of 2
 //! and V0: 001 1000 11 1. Below a row like itself it is three times V0: 111. EOFB is 000000000001 twice.
 
-use crate::cases::check;
+ghost use Rattle.std.specs.Prelude.{◌≡◌};
+ghost use Rattle.hayro_ccitt.specs.Rows.{AreChanges};
+
+use crate::cases::{check, first_of};
 use crate::same;
 use fax_callers::{
     BlackPixels, FirstRows, count_black, decode_first_rows, decode_once, group4_pages, page_end,
     page_ends, strip_to_bitmap,
 };
 use fax_encode::BitmapSink;
-use hayro_ccitt::DecodeError::{OutOfMemory, Refused, UnexpectedEof};
+use hayro_ccitt::DecodeError::{OutOfMemory, Refused};
 use hayro_ccitt::bit_reader::BitOrder::HighestFirst;
-use hayro_ccitt::{DecodeError, Decoder, DecoderContext, EncodingMode, Result, bits_fit};
+use hayro_ccitt::{DecodeError, Decoder, DecoderContext, Result, bits_fit};
 use named_requests::made_at_last;
-use std::alloc::AllocGlobal;
+use std::alloc::{AllocGlobal, Global};
 use std::process::Abort;
 
 /// One row with the changes 3 and 5, and EOFB: 31C0040040.
@@ -27,49 +30,23 @@ const TWO_ROWS: [u8; 5] = [0x31, 0xF8, 0x00, 0x80, 0x08];
 /// The page of one row, and after it that of two.
 const TWO_PAGES: [u8; 10] = [0x31, 0xC0, 0x04, 0x00, 0x40, 0x31, 0xF8, 0x00, 0x80, 0x08];
 
-/// One row with the changes 3 and 5, and after it the start of another, 001 100: 31CC.
-const CUT_ROW: [u8; 2] = [0x31, 0xCC];
-
-/// Decodes the first rows of 8 columns into a bitmap, and returns the result and the rows.
-fn first_of(
-    rt: &(impl Abort + AllocGlobal),
-    data: &[u8],
-    most: u64,
-) -> (Result<bool>, FirstRows<BitmapSink>) {
-    assert!(rt; bits_fit(data));
-    let mut ctx = DecoderContext::new(rt.alloc(), group4_pages(8)).expect(rt, "memory");
-    let mut first = FirstRows::new(BitmapSink::new(rt.alloc(), 8), most);
-    let found = decode_first_rows(HighestFirst, data, &mut first, &mut ctx);
-    (found, first)
-}
-
-/// Decodes the first rows of 8 columns into a bitmap, and compares the result, their number and the bitmap.
-fn takes_first(
-    rt: &(impl Abort + AllocGlobal),
-    data: &[u8],
-    most: u64,
-    answer: Result<bool>,
-    bitmap: &[u8],
-) {
-    let (found, first) = first_of(rt, data, most);
-    same(
-        rt,
-        ("rows at most", most, found, first.rows, first.sink.bytes()),
-        ("rows at most", most, answer, bitmap.len() as u64, bitmap),
-    );
-}
-
 #[test]
 fn settings_of_pages(rt: HostRuntime) {
-    let settings = group4_pages(8);
-    same(&rt, (settings.columns, settings.rows), (8, 0));
-    same(&rt, settings.encoding, EncodingMode::Group4);
-    same(&rt, (settings.end_of_block, settings.strict), (true, true));
-    same(
+    check(
         &rt,
-        (settings.end_of_line, settings.rows_are_byte_aligned),
-        (false, false),
+        "group4_pages 8 -",
+        ": DecodeSettings { columns: 8, rows: 0, end_of_block: true, end_of_line: false, \
+            rows_are_byte_aligned: false, encoding: Group4, strict: true }",
     );
+}
+
+/// Counts the black pixels of one more row, and returns how many all rows have.
+fn black_with(sink: &mut BlackPixels, row: &[u32]) -> Result<u64>
+    requires { AreChanges sink.old.columns row.now }
+    ensures { sink.new.columns ≡ sink.old.columns }
+{
+    sink.push_row(row)?;
+    Ok(sink.black())
 }
 
 #[test]
@@ -92,25 +69,10 @@ fn black_pixels(rt: HostRuntime) {
         &mut sink,
     );
     same(&rt, (read, sink.black()), (Ok(5), 2));
-    let taken: Result<()> = sink.push_row(&[]);
-    same(
-        &rt,
-        ("a white row", taken, sink.black()),
-        ("a white row", Ok(()), 2),
-    );
-    let taken: Result<()> = sink.push_row(&[0]);
-    same(
-        &rt,
-        ("a black row", taken, sink.black()),
-        ("a black row", Ok(()), 10),
-    );
-    let taken: Result<()> = sink.push_row(&[0, 1, 7]);
-    let first_and_last = "its first and last pixel";
-    same(
-        &rt,
-        (first_and_last, taken, sink.black()),
-        (first_and_last, Ok(()), 12),
-    );
+    // A white row, a black one, and the first and the last pixel.
+    same(&rt, black_with(&mut sink, &[]), Ok(2));
+    same(&rt, black_with(&mut sink, &[0]), Ok(10));
+    same(&rt, black_with(&mut sink, &[0, 1, 7]), Ok(12));
 }
 
 #[test]
@@ -146,12 +108,18 @@ fn blank_images(rt: HostRuntime) {
 
 #[test]
 fn first_rows(rt: HostRuntime) {
-    takes_first(&rt, &TWO_ROWS, 0, Ok(true), &[]);
-    takes_first(&rt, &TWO_ROWS, 1, Ok(true), &[0x18]);
-    takes_first(&rt, &TWO_ROWS, 2, Ok(true), &[0x18, 0x18]);
-    takes_first(&rt, &TWO_ROWS, 3, Ok(false), &[0x18, 0x18]);
-    takes_first(&rt, &CUT_ROW, 1, Ok(true), &[0x18]);
-    takes_first(&rt, &CUT_ROW, 2, Err(UnexpectedEof), &[0x18]);
+    check(
+        &rt,
+        "decode_first_rows 8",
+        r#"
+        31F8008008 most=0: Ok(true) 0 ""
+        31F8008008 most=1: Ok(true) 1 "18"
+        31F8008008 most=2: Ok(true) 2 "1818"
+        31F8008008 most=3: Ok(false) 2 "1818"
+        31CC most=1: Ok(true) 1 "18"
+        31CC most=2: Err(UnexpectedEof) 1 "18"
+        "#,
+    );
 }
 
 #[test]
@@ -229,7 +197,7 @@ fn decodes_strip(rt: &(impl Abort + AllocGlobal), data: &[u8], expected: &[u8]) 
 
 /// Decodes all rows of a strip as its first ones, and compares them.
 fn takes_all(rt: &(impl Abort + AllocGlobal), data: &[u8], expected: &[u8]) {
-    let (stopped, first) = first_of(rt, data, u64::MAX);
+    let (stopped, first) = first_of(rt, 8, HighestFirst, data, u64::MAX);
     same(
         rt,
         (stopped, first.rows),
@@ -253,27 +221,31 @@ fn is_want(error: &DecodeError) -> bool {
     matches!(error, OutOfMemory | Refused)
 }
 
+/// Makes the call of this name: the black pixels, the bitmap, and the ends of pages, of which it returns one.
+fn called(alloc: Global, name: &str) -> Result<(u64, Vec<u8>, Vec<usize>)> {
+    let mut black = 0;
+    let mut bitmap = Vec::new(alloc);
+    let mut ends = Vec::new(alloc);
+    match name {
+        "count_black" => black = count_black(alloc, group4_pages(8), HighestFirst, &TWO_ROWS)?,
+        "strip_to_bitmap" => {
+            bitmap = strip_to_bitmap(alloc, group4_pages(8), HighestFirst, &TWO_ROWS)?;
+        }
+        _ => ends = page_ends(alloc, 8, HighestFirst, &TWO_PAGES)?,
+    }
+    Ok((black, bitmap, ends))
+}
+
+/// Makes the call of this name with each allocation refused in turn, and compares the result.
+fn made_with(rt: &(impl Abort + AllocGlobal), name: &str, expected: &str) {
+    let made = made_at_last(rt.alloc(), &|| called(rt.alloc(), name), &is_want);
+    let made = format!(in rt.alloc(); "{made:?}").expect(rt, "memory");
+    same(rt, (name, made.as_str()), (name, expected));
+}
+
 #[test]
 fn refused_memory(rt: HostRuntime) {
-    let alloc = rt.alloc();
-    let black = made_at_last(
-        alloc,
-        &|| count_black(alloc, group4_pages(8), HighestFirst, &TWO_ROWS),
-        &is_want,
-    );
-    same(&rt, black, Ok(4));
-    let bitmap = made_at_last(
-        alloc,
-        &|| strip_to_bitmap(alloc, group4_pages(8), HighestFirst, &TWO_ROWS),
-        &is_want,
-    )
-    .expect(&rt, "requests");
-    same(&rt, bitmap.as_slice(), [0x18u8, 0x18].as_slice());
-    let ends = made_at_last(
-        alloc,
-        &|| page_ends(alloc, 8, HighestFirst, &TWO_PAGES),
-        &is_want,
-    )
-    .expect(&rt, "requests");
-    same(&rt, ends.as_slice(), [5usize, 10].as_slice());
+    made_with(&rt, "count_black", "Ok((4, [], []))");
+    made_with(&rt, "strip_to_bitmap", "Ok((0, [24, 24], []))");
+    made_with(&rt, "page_ends", "Ok((0, [], [5, 10]))");
 }

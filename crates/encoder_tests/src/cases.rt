@@ -10,13 +10,16 @@
 //! as hexadecimal digits. What is found is written as bytes are, or as `Debug` writes it; errors are written by their names.
 
 use crate::same;
-use fax_callers::{count_black, group4_pages, is_blank, page_end, page_ends, strip_to_bitmap};
+use fax_callers::{
+    FirstRows, count_black, decode_first_rows, group4_pages, is_blank, page_end, page_ends,
+    strip_to_bitmap,
+};
 use fax_encode::{
-    EncodeError, EncodeSettings, Encoder, bitmap_by_group3, bitmap_by_group4, encode, encode_1d,
-    encode_bitmap, encode_bitmap_1d, encode_bitmap_g4, encode_g4, rows_of_bitmap,
+    BitmapSink, EncodeError, EncodeSettings, Encoder, bitmap_by_group3, bitmap_by_group4, encode,
+    encode_1d, encode_bitmap, encode_bitmap_1d, encode_bitmap_g4, encode_g4, rows_of_bitmap,
 };
 use hayro_ccitt::bit_reader::BitOrder;
-use hayro_ccitt::{EncodingMode, bits_fit};
+use hayro_ccitt::{DecoderContext, EncodingMode, bits_fit};
 use named_requests::made_at_last;
 use std::alloc::{AllocGlobal, Global};
 use std::fmt::Debug;
@@ -66,14 +69,32 @@ fn found_by(rt: &(impl Abort + AllocGlobal), call: &str) -> String {
         "encode_bitmap_g4" | "encode_bitmap_1d" | "encode_bitmap" | "push_packed_row" => {
             encoded_by(rt, call, name, columns, &[], &bytes_of(rt, image))
         }
-        _ => found_in(
-            rt,
-            name,
-            columns,
-            &bytes_of(rt, image),
-            settings_by(call).order,
-        ),
+        "decode_first_rows" => first_rows_in(rt, call, columns, &bytes_of(rt, image)),
+        _ => found_in(rt, name, columns, &bytes_of(rt, image), order_by(call)),
     }
+}
+
+/// Decodes the first rows into a bitmap, at most as many as given, and returns the result and the rows.
+pub fn first_of(
+    rt: &(impl Abort + AllocGlobal),
+    columns: u32,
+    order: BitOrder,
+    data: &[u8],
+    most: u64,
+) -> (hayro_ccitt::Result<bool>, FirstRows<BitmapSink>) {
+    assert!(rt; bits_fit(data));
+    let mut ctx = DecoderContext::new(rt.alloc(), group4_pages(columns)).expect(rt, "memory");
+    let mut first = FirstRows::new(BitmapSink::new(rt.alloc(), columns), most);
+    let found = decode_first_rows(order, data, &mut first, &mut ctx);
+    (found, first)
+}
+
+/// Writes the result of decoding the first rows, their number, and their bitmap.
+fn first_rows_in(rt: &(impl Abort + AllocGlobal), call: &str, columns: u32, data: &[u8]) -> String {
+    let most = u64::from(number_by(call, "most=", 0));
+    let (found, first) = first_of(rt, columns, order_by(call), data, most);
+    let bitmap = digits_of(rt, first.sink.bytes());
+    format!(in rt.alloc(); "{found:?} {} {bitmap:?}", first.rows).expect(rt, "memory")
 }
 
 /// Writes the bytes of an encoded image or of a bitmap, where the call says so after each allocation was refused in turn.
@@ -136,6 +157,7 @@ fn found_in(
             "{:?}",
             is_blank(alloc, group4_pages(columns), order, bytes)
         ),
+        "group4_pages" => format!(in alloc; "{:?}", group4_pages(columns)),
         "page_end" => format!(in alloc; "{:?}", page_end(alloc, columns, order, bytes)),
         "strip_to_bitmap" => return bytes_or_error(
             rt,
@@ -283,7 +305,7 @@ pub fn row_of(rt: &(impl Abort + AllocGlobal), row: &str) -> Vec<u32> {
 /// Returns whether a word names a setting.
 fn is_setting(word: &str) -> bool {
     has(
-        "g4 1d 2d eol fill aligned rtc low refused k=0 k=1 k=3 k=4 k=9",
+        "g4 1d 2d eol fill aligned rtc low refused k=0 k=1 k=3 k=4 k=9 most=0 most=1 most=2 most=3",
         word,
     )
 }
@@ -302,7 +324,7 @@ fn has(words: &str, sought: &str) -> bool {
 pub fn settings_by(words: &str) -> EncodeSettings {
     EncodeSettings {
         encoding: encoding_by(words),
-        k: k_by(words),
+        k: number_by(words, "k=", 2),
         end_of_line: has(words, "eol"),
         eols_end_at_bytes: has(words, "fill"),
         rows_are_byte_aligned: has(words, "aligned"),
@@ -331,12 +353,12 @@ fn order_by(words: &str) -> BitOrder {
     }
 }
 
-/// Returns K as words name it.
-fn k_by(words: &str) -> u32 {
+/// Returns the number that a word gives after a front, or another number where no word does.
+fn number_by(words: &str, front: &str, otherwise: u32) -> u32 {
     for word in words.split_whitespace() {
-        if let Some(digits) = word.strip_prefix("k=") {
+        if let Some(digits) = word.strip_prefix(front) {
             return digits.parse::<u32>().unwrap_or(0);
         }
     }
-    2
+    otherwise
 }

@@ -3,7 +3,10 @@
 
 use crate::cases::{check, says};
 use crate::same;
-use fax_encode::{BitmapSink, EncodeError, bitmap_by_group4, encode_1d, paint_row};
+use fax_encode::{
+    BitmapSink, EncodeError, bitmap_by_group3, bitmap_by_group4, encode_1d, encode_bitmap_1d,
+    encode_bitmap_g4, encode_g4, paint_row, rows_of_bitmap,
+};
 use hayro_ccitt::{
     DecodeError, DecodeSettings, Decoder, DecoderContext, EncodingMode, bits_fit, decode,
 };
@@ -11,38 +14,50 @@ use named_requests::{refuse_request, was_refused};
 use std::alloc::AllocGlobal;
 use std::process::Abort;
 
-/// Encodes rows as Group 4, decodes them, and compares the bitmap.
+/// Encodes rows as Group 4, from their changes and from their bitmap, and decodes them, and compares the bytes and the bitmaps.
 fn packs(
     rt: &(impl Abort + AllocGlobal),
     columns: u32,
     lists: &[Vec<u32>],
     aligned: bool,
-    bytes: &[u8],
+    bitmap: &[u8],
 ) {
-    let sink = bitmap_by_group4(rt.alloc(), columns, lists, aligned).expect(rt, "a bitmap");
+    let alloc = rt.alloc();
+    let bytes = encode_g4(alloc, columns, lists, aligned).expect(rt, "rows");
+    let of_bitmap = encode_bitmap_g4(alloc, columns, bitmap, aligned).expect(rt, "a bitmap");
+    let sink = bitmap_by_group4(alloc, columns, lists, aligned).expect(rt, "a bitmap");
     same(
         rt,
-        (columns, aligned, sink.bytes()),
-        (columns, aligned, bytes),
+        (columns, aligned, of_bitmap.as_slice(), sink.bytes()),
+        (columns, aligned, bytes.as_slice(), bitmap),
     );
 }
 
-/// Encodes rows as one-dimensional Group 3, decodes them in a context, and compares the bitmap.
+/// Encodes rows as one-dimensional Group 3, from their changes and from their bitmap, decodes them in a context, and at once, and
+/// compares the bytes and the bitmaps.
 fn packs_1d(
     rt: &(impl Abort + AllocGlobal),
     ctx: &mut DecoderContext,
     lists: &[Vec<u32>],
-    bytes: &[u8],
+    bitmap: &[u8],
 ) {
+    let alloc = rt.alloc();
     let columns = ctx.settings().columns;
-    let encoded = encode_1d(rt.alloc(), columns, lists).expect(rt, "rows");
-    assert!(rt; bits_fit(&encoded));
-    let mut sink = BitmapSink::new(rt.alloc(), columns);
-    let read = decode(&encoded, &mut sink, ctx);
+    let bytes = encode_1d(alloc, columns, lists).expect(rt, "rows");
+    let of_bitmap = encode_bitmap_1d(alloc, columns, bitmap).expect(rt, "a bitmap");
+    let at_once = bitmap_by_group3(alloc, columns, lists).expect(rt, "a bitmap");
+    same(
+        rt,
+        (columns, of_bitmap.as_slice(), at_once.bytes()),
+        (columns, bytes.as_slice(), bitmap),
+    );
+    assert!(rt; bits_fit(&bytes));
+    let mut sink = BitmapSink::new(alloc, columns);
+    let read = decode(&bytes, &mut sink, ctx);
     same(
         rt,
         (columns, read, sink.bytes()),
-        (columns, Ok(encoded.len()), bytes),
+        (columns, Ok(bytes.len()), bitmap),
     );
 }
 
@@ -146,7 +161,7 @@ fn changes_of(rt: &(impl Abort + AllocGlobal), pixels: u8, columns: u32) -> Vec<
     changes
 }
 
-/// Packs the first rows of a picture, given by its bits, three rows one after another, the first the lowest.
+/// Finds the changes of the first rows of a picture, and packs them. It is given by its bits, three rows one after another, the first the lowest.
 fn small_picture(rt: &(impl Abort + AllocGlobal), ctx: &mut DecoderContext, picture: u16) {
     let columns = ctx.settings().columns;
     assert!(rt; 1 <= columns && columns <= 4);
@@ -159,6 +174,8 @@ fn small_picture(rt: &(impl Abort + AllocGlobal), ctx: &mut DecoderContext, pict
         lists
             .push(changes_of(rt, left, columns))
             .expect(rt, "memory");
+        let found = rows_of_bitmap(rt.alloc(), columns, &bytes).expect(rt, "memory");
+        same(rt, (columns, found.as_slice()), (columns, lists.as_slice()));
         packs(rt, columns, &lists, false, &bytes);
         packs(rt, columns, &lists, true, &bytes);
         packs_1d(rt, ctx, &lists, &bytes);

@@ -18,7 +18,7 @@ pub use Rattle.faxrows_runs.specs.declared.program.Done.{Done}
 pub use Rattle.faxrows_runs.specs.declared.strict_reading.StrictFault.{StrictFault}
 pub use Rattle.faxrows_runs.specs.declared.program.Done.TheVariants.{Faulty, Good, Memory}
 pub use Rattle.hayro_ccitt.specs.Answers.{IsFault, meaning_after}
-pub use Rattle.hayro_ccitt.specs.Bits.{Bits, bits_in, bits_of}
+pub use Rattle.hayro_ccitt.specs.Bits.{Bits, BitsFit, bits_in, bits_of}
 pub use Rattle.hayro_ccitt.specs.Context.{Held}
 pub use Rattle.hayro_ccitt.specs.Damage.{misses_by_line, missed_before, start_in}
 pub use Rattle.hayro_ccitt.specs.Decoding.{SinkState, StopsShort, TakesRows}
@@ -31,7 +31,7 @@ pub use Rattle.hayro_ccitt.specs.declared.error.DecodeError.TheVariants.{Invalid
 pub use Rattle.hayro_ccitt.specs.declared.error.DecodeError.TheVariants.{UnexpectedEof}
 pub use Rattle.hayro_ccitt.specs.declared.settings.DecodeSettings.{DecodeSettings}
 pub use Rattle.hayro_ccitt.specs.declared.settings.EncodingMode.TheVariants.{Group3_1D, Group3_2D, Group4}
-pub use Rattle.std.proofs.Common.{Bool, Err, IfSome, List, None, Ok, OnErr, OnOk, Option, Result, Some, [], ap, append-nil}
+pub use Rattle.std.proofs.Common.{Bool, Err, IfOk, IfSome, List, None, Ok, OnErr, OnOk, Option, Result, Some, [], ap, append-nil}
 pub use Rattle.std.proofs.Common.{append_assoc, arith, drop, drop_of_length-le, false, get_or, inl, inr, length, length-append}
 pub use Rattle.std.proofs.Common.{length-drop, map, refl, rules, set, string_bytes, subst, suc, sym, take, take-append-drop}
 pub use Rattle.std.proofs.Common.{take_all, true, zero, ℕ, ◌++◌, ◌+◌, ◌-◌, ◌/◌, ◌<◌, ◌^◌, ◌∙◌, ◌∷◌, ◌≡◌, ◌≢◌, ◌≤◌}

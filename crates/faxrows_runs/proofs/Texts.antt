@@ -2,6 +2,7 @@
 use Rattle.faxrows_runs.proofs.Names.{◌≡◌, ℕ, List, [], ◌∷◌, ◌++◌, refl, sym, ap, ◌∙◌, subst, take, length, map, take_all, arith}
 use Rattle.faxrows_runs.proofs.Names.{append_assoc, append-nil, Option, None, Some, Ok, Err, IfSome, IsOk, IsErr, fold, take-map}
 use Rattle.faxrows_runs.proofs.Names.{length-map, UnexpectedEof, InvalidCode, Overflow, OutOfMemory, Refused, DecodeSettings}
+use Rattle.faxrows_runs.proofs.Names.{IfOk, Result}
 use Rattle.faxrows_runs.proofs.Names.{meaning_after, Bits, bits_in, Held, SinkState, TakesRows, StopsShort, plain, lines_of, Row}
 use Rattle.faxrows_runs.proofs.Names.{changes, Arguments, Good, Faulty, Outcome, OnKnown, EndsAfter, rows_of, outcome_of}
 use Rattle.faxrows_runs.proofs.Names.{text_after}
@@ -84,10 +85,15 @@ text_of_faulty settings bits taken (Err OutOfMemory) ends e = cc
 text_of_faulty settings bits taken (Err Refused) ends e = cc
 
 -- a statement about the bytes that were read is one about the bytes that the reader specifies
-on_input : (known : Option (List ℕ)) (input : List ℕ) (P : List ℕ → Type 0) → IfSome known (λ xs. input ≡ xs) → P input
+pub on_input : (known : Option (List ℕ)) (input : List ℕ) (P : List ℕ → Type 0) → IfSome known (λ xs. input ≡ xs) → P input
     → IfSome known P
 on_input None input P same p = tt
 on_input (Some xs) input P same p = subst P same p
+
+-- a fact holds of each value of a result
+pub if_ok : {A E : Type 0} (r : Result A E) (P : Type 0) → P → IfOk r (λ _. P)
+if_ok (Ok x) P p = p
+if_ok (Err e) P p = tt
 
 -- a statement about the settings and the bits of a run is one about what is known of them
 pub on_known : (meant : Option Arguments) (arguments : Arguments) (settings : DecodeSettings) (known : Option (List ℕ))

@@ -3,8 +3,9 @@ use Rattle.faxrows_runs.proofs.Names.{IfErr-at_err, DecodeSettings, Bits, Append
 use Rattle.faxrows_runs.proofs.Names.{arguments_of_words}
 use Rattle.faxrows_runs.proofs.Names.{Outcome, OnKnown, done_of, outcome_of, text_after, whole_text, IsEndOfRun, EndsByRow}
 use Rattle.faxrows_runs.proofs.Names.{IsTextByRow, IsTextWithoutMemory}
+use Rattle.faxrows_runs.proofs.Names.{BitsFit, IfSome}
 use Rattle.faxrows_runs.proofs.{RunsByRow.text_without_memory, by_row.run_by_row.Given.Over}
-use Rattle.faxrows_runs.proofs.Texts.{text_of_good, text_of_faulty, on_known}
+use Rattle.faxrows_runs.proofs.Texts.{if_ok, text_of_good, text_of_faulty, on_input, on_known}
 use Rattle.faxrows_runs.proofs.by_row.run_by_row.Goals as goal
 
 module _ (g : Over) (c : goal.After-drop-input-2 g) where
@@ -52,6 +53,10 @@ module _ (g : Over) (c : goal.After-drop-input-2 g) where
       known (λ s b. (text : List ℕ) × IsTextWithoutMemory s b text × Grew text)
       (_, text_without_memory settings bits read outcome ends (sym same), grew)
 
+  -- there are at most as many bits as offsets
+  fits : IfSome (g.R.Read.remaining c.args.reader.now.0) BitsFit
+  fits = on_input _ c.in_ok-arguments.input.items BitsFit c.in_ok-arguments.ensures.all c.in_ok-arguments.ensures.fit
+
 pub returns-clause-ended : goal.returns-clause-ended
 returns-clause-ended g c = IfOk-weaker c.write_by_row.result _ _ (ended g c) c.write_by_row.ensures.written
 
@@ -62,3 +67,9 @@ returns-clause-front g c = λ e.
     (g.W.Write.contents c.write_by_row.new.writer.0) text) e c.write_by_row.ensures.front in
     known g c (λ s b. (text : List ℕ) × IsTextByRow s b text
     × AppendsFront (g.W.Write.contents c.args.writer.now.0) (g.W.Write.contents c.write_by_row.new.writer.0) text) front
+
+pub returns-clause-fit : goal.returns-clause-fit
+returns-clause-fit g c = if_ok c.write_by_row.result _ (fits g c)
+
+pub returns-clause-fit_write : goal.returns-clause-fit_write
+returns-clause-fit_write g c = λ _. fits g c

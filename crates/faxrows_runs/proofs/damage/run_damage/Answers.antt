@@ -3,7 +3,8 @@ use Rattle.faxrows_runs.proofs.Names.{IfErr-at_err, DecodeSettings, Bits, Append
 use Rattle.faxrows_runs.proofs.Names.{arguments_of_words}
 use Rattle.faxrows_runs.proofs.Names.{Outcome, OnKnown, done_of, outcome_of, IsEndOfRun, IsDamageText, IsDamageWithoutMemory}
 use Rattle.faxrows_runs.proofs.Names.{damage_after, whole_damage, EndsByRow}
-use Rattle.faxrows_runs.proofs.{Texts.on_known, damage.run_damage.Given.Over}
+use Rattle.faxrows_runs.proofs.Names.{BitsFit, IfSome}
+use Rattle.faxrows_runs.proofs.{Texts.if_ok, Texts.on_input, Texts.on_known, damage.run_damage.Given.Over}
 use Rattle.faxrows_runs.proofs.DamageTexts.{damage_of_good, damage_of_faulty, damage_without_memory}
 use Rattle.faxrows_runs.proofs.damage.run_damage.Goals as goal
 
@@ -52,6 +53,10 @@ module _ (g : Over) (c : goal.After-drop-input-2 g) where
       known (λ s b. (text : List ℕ) × IsDamageWithoutMemory s b text × Grew text)
       (_, damage_without_memory settings bits read outcome ends (sym same), grew)
 
+  -- there are at most as many bits as offsets
+  fits : IfSome (g.R.Read.remaining c.args.reader.now.0) BitsFit
+  fits = on_input _ c.in_ok-arguments.input.items BitsFit c.in_ok-arguments.ensures.all c.in_ok-arguments.ensures.fit
+
 pub returns-clause-ended : goal.returns-clause-ended
 returns-clause-ended g c = IfOk-weaker c.write_damage.result _ _ (ended g c) c.write_damage.ensures.written
 
@@ -62,3 +67,9 @@ returns-clause-front g c = λ e.
     (g.W.Write.contents c.write_damage.new.writer.0) text) e c.write_damage.ensures.front in
     known g c (λ s b. (text : List ℕ) × IsDamageText s b text
     × AppendsFront (g.W.Write.contents c.args.writer.now.0) (g.W.Write.contents c.write_damage.new.writer.0) text) front
+
+pub returns-clause-fit : goal.returns-clause-fit
+returns-clause-fit g c = if_ok c.write_damage.result _ (fits g c)
+
+pub returns-clause-fit_write : goal.returns-clause-fit_write
+returns-clause-fit_write g c = λ _. fits g c

@@ -1,7 +1,9 @@
 use Rattle.faxrows_runs.proofs.Names.{rules, ◌≡◌, List, ℕ, subst, refl, sym, IsOk, IsErr, map, string_bytes, Appends, IfOk-weaker}
 use Rattle.faxrows_runs.proofs.Names.{DecodeSettings, Bits, bits_in, Done, Good, Faulty, Memory, arguments_of_words, Outcome}
 use Rattle.faxrows_runs.proofs.Names.{EndsAfter, OnKnown, IsTextOfWant, done_of, outcome_of, text_after, whole_text, IsEndOfRun}
-use Rattle.faxrows_runs.proofs.{Texts.on_known, Texts.text_of_faulty, Texts.text_of_good, program.run.Given.Over}
+use Rattle.faxrows_runs.proofs.Names.{BitsFit, IfSome}
+use Rattle.faxrows_runs.proofs.Texts.{if_ok, on_input, on_known, text_of_faulty, text_of_good}
+use Rattle.faxrows_runs.proofs.{program.run.Given.Over}
 use Rattle.faxrows_runs.proofs.program.run.Goals as goal
 
 module _ (g : Over) (c : goal.After-drop-input-2 g) where
@@ -46,5 +48,15 @@ module _ (g : Over) (c : goal.After-drop-input-2 g) where
   ended Memory (outcome, ends, same, grew) =
       known (λ s b. (text : List ℕ) × IsTextOfWant s b text × Grew text) (_, (_, outcome, ends, sym same, refl), grew)
 
+  -- there are at most as many bits as offsets
+  fits : IfSome (g.R.Read.remaining c.args.reader.now.0) BitsFit
+  fits = on_input _ c.in_ok-arguments.input.items BitsFit c.in_ok-arguments.ensures.all c.in_ok-arguments.ensures.fit
+
 pub returns-clause-ended : goal.returns-clause-ended
 returns-clause-ended g c = IfOk-weaker c.write_decoded.result _ _ (ended g c) c.write_decoded.ensures.written
+
+pub returns-clause-fit : goal.returns-clause-fit
+returns-clause-fit g c = if_ok c.write_decoded.result _ (fits g c)
+
+pub returns-clause-fit_write : goal.returns-clause-fit_write
+returns-clause-fit_write g c = λ _. fits g c
