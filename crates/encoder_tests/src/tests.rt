@@ -161,7 +161,8 @@ fn changes_of(rt: &(impl Abort + AllocGlobal), pixels: u8, columns: u32) -> Vec<
     changes
 }
 
-/// Finds the changes of the first rows of a picture, and packs them. It is given by its bits, three rows one after another, the first the lowest.
+/// Finds the changes of the first rows of a picture, and packs them. It is given by its bits, three rows one after another, the
+/// first the lowest.
 fn small_picture(rt: &(impl Abort + AllocGlobal), ctx: &mut DecoderContext, picture: u16) {
     let columns = ctx.settings().columns;
     assert!(rt; 1 <= columns && columns <= 4);
