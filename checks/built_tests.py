@@ -16,8 +16,8 @@ NAMED = {
         "tests::sink_without_memory": (1, 0),
     },
     "faxrows_tests": {
-        "tests::refused_memory_by_row": (57, 18),
-        "tests::refused_memory_of_damage": (38, 16),
+        "tests::refused_memory_by_row": (19, 6),
+        "tests::refused_memory_of_damage": (19, 8),
         "tests::sink_without_memory": (1, 0),
     },
     "decoder_tests": {
