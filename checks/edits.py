@@ -8,7 +8,7 @@
     python3 checks/edits.py --keep FOLDER      writes what each check printed into this folder
     python3 checks/edits.py --write            writes into the edits what refused them: see below
     python3 checks/edits.py --ci FILE          takes what `rt ci` says of the edits in must-fail/ from FILE: see below
-    python3 checks/edits.py --beside N         N checks in parallel while this `rt ci` runs
+    python3 checks/edits.py --beside N         N checks in parallel while this `rt ci` runs, and half of all at its start
 
 An edit is a file in crates/NAME/edits or crates/NAME/must-fail: a line 'file: src/x.rt', then pairs of lines 'old: TEXT' and
 'new: TEXT', and a line 'breaks: FUNCTION: CLAUSE', which says what must refuse it: a goal of that function that names that
@@ -138,6 +138,11 @@ class Source:
     def item_at(self, path, place):
         inside = [item for item in self.items if item.path == path and item.begin <= place < item.end]
         return max(inside, key=lambda item: item.begin, default=None)
+
+    def item_from(self, path, place):
+        """The item at this place, or else the next one: an item's attributes stand above it."""
+        behind = [item for item in self.items if item.path == path and item.begin >= place]
+        return self.item_at(path, place) or min(behind, key=lambda item: item.begin, default=None)
 
     def public(self):
         """The functions that another crate can name, and the sinks' `push_row`."""
@@ -342,17 +347,26 @@ def told_by_ci(path):
     """Waits until rt ci has ended, and returns the line that it prints of each edit, by the names of crate and edit."""
     while not os.path.exists(f"{path}.end"):
         time.sleep(1)
+    return {(crate, name): told for crate, name, told in TOLD.findall(said_by(path))}
+
+
+def said_by(path):
+    """What a running check has printed so far into a file."""
+    if not os.path.exists(path):
+        return ""
     with open(path, encoding="utf-8", errors="replace") as file:
-        return {(crate, name): told for crate, name, told in TOLD.findall(file.read())}
+        return file.read()
 
 
 def judged_by_line(edit, told, source):
     """Whether one line of a check shows that the edit is refused for its reason, and what to print."""
     place = re.match(r"note: (src/\S+?):(\d+):", told)
-    if place and place[1] in source.texts:  # the line of a function, which the check names below it
+    if place and place[1] in source.texts:  # the line of a function or of an attribute of it; the check names the function later
         lines = source.texts[place[1]].splitlines(keepends=True)
-        item = source.item_at(place[1], len("".join(lines[: int(place[2]) - 1])))
-        told += f"\nfn {edit.crate.name}::{item.name}: not proved" if item else ""
+        item = source.item_from(place[1], len("".join(lines[: int(place[2]) - 1])))
+        if item:
+            name = edit.function if item in source.named(edit.function) else item.name
+            told += f"\nfn {edit.crate.name}::{name}: not proved"
     return judged(edit, read(told, edit.crate.name), told)
 
 
@@ -580,7 +594,7 @@ def main():
     words.add_argument("--keep", default="", help="a folder for what each check printed")
     words.add_argument("--write", action="store_true", help="write into the edits what refused them")
     words.add_argument("--ci", default="", help="a file with what `rt ci` prints, and once it has ended, one more with .end")
-    words.add_argument("--beside", type=int, default=0, help="how many checks run in parallel until `rt ci` has ended; without it, no fewer")
+    words.add_argument("--beside", type=int, default=0, help="how many checks run in parallel until `rt ci` has ended (half of all until it has proved the lowest crates); without it, no fewer")
     words.add_argument("--ready", default="", help="a file to make once the crates are checked without edits")
     words = words.parse_args()
     began = time.time()
@@ -598,8 +612,12 @@ def main():
     chosen = [crate for crate in crates if any(edit.crate is crate for edit in edits)]
 
     def most():
-        """How many checks may run now."""
-        return words.beside if words.beside and words.ci and not os.path.exists(f"{words.ci}.end") else words.lanes
+        """How many checks may run now. `rt ci` has two tasks until it has proved the lowest crate: its proof, and the seed of its edits."""
+        if not words.beside or not words.ci or os.path.exists(f"{words.ci}.end"):
+            return words.lanes
+        proved = set(re.findall(r"^rt: (\w+) (?:proved|is kept)", said_by(words.ci), re.MULTILINE))
+        lowest = {below.name for crate in crates for below in crate.below() if not below.below()}
+        return words.beside if lowest <= proved else max(words.lanes // 2, words.beside)
 
     threads, printing, results, numbers = Lanes(words.lanes, most), threading.Lock(), {}, []
     with tempfile.TemporaryDirectory(prefix="edits-") as room, ThreadPoolExecutor(2 * len(crates)) as each:
