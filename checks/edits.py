@@ -8,7 +8,7 @@
     python3 checks/edits.py --keep FOLDER      writes what each check printed into this folder
     python3 checks/edits.py --write            writes into the edits what refused them: see below
     python3 checks/edits.py --ci FILE          takes what `rt ci` says of the edits in must-fail/ from FILE: see below
-    python3 checks/edits.py --beside N         N checks in parallel while this `rt ci` runs, and half of all at its start
+    python3 checks/edits.py --beside N         as many checks in parallel as other programs leave processors, at least N
 
 An edit is a file in crates/NAME/edits or crates/NAME/must-fail: a line 'file: src/x.rt', then pairs of lines 'old: TEXT' and
 'new: TEXT', and a line 'breaks: FUNCTION: CLAUSE', which says what must refuse it: a goal of that function that names that
@@ -370,6 +370,36 @@ def judged_by_line(edit, told, source):
     return judged(edit, read(told, edit.crate.name), told)
 
 
+def processors_beside(seconds=2):
+    """How many processors the processes use that this one didn't start, as seen for some seconds.
+
+    A check that has to share a processor uses less than one; two of them are to count as two.
+    """
+    before = ticks_beside()
+    time.sleep(seconds)
+    used = sum(ticks - before.get(number, 0) for number, ticks in ticks_beside().items())
+    return int(used / os.sysconf("SC_CLK_TCK") / seconds + 0.7)
+
+
+def ticks_beside():
+    """The processor time of each process that isn't below this one."""
+    above, ticks = {}, {}
+    for number in filter(str.isdigit, os.listdir("/proc")):
+        try:
+            with open(f"/proc/{number}/stat", encoding="utf-8", errors="replace") as file:
+                fields = file.read().rpartition(")")[2].split()
+        except OSError:  # it has ended
+            continue
+        above[number], ticks[number] = fields[1], int(fields[11]) + int(fields[12])
+
+    def is_own(number):
+        while number in above and number != str(os.getpid()):
+            number = above[number]
+        return number == str(os.getpid())
+
+    return {number: used for number, used in ticks.items() if not is_own(number)}
+
+
 class Lanes:
     """Runs calls in parallel, those of the lowest rank first, and no more than `most` returns at that time.
 
@@ -594,7 +624,7 @@ def main():
     words.add_argument("--keep", default="", help="a folder for what each check printed")
     words.add_argument("--write", action="store_true", help="write into the edits what refused them")
     words.add_argument("--ci", default="", help="a file with what `rt ci` prints, and once it has ended, one more with .end")
-    words.add_argument("--beside", type=int, default=0, help="how many checks run in parallel until `rt ci` has ended (half of all until it has proved the lowest crates); without it, no fewer")
+    words.add_argument("--beside", type=int, default=0, help="how many checks run in parallel at least, while other programs run too; without it, no fewer")
     words.add_argument("--ready", default="", help="a file to make once the crates are checked without edits")
     words = words.parse_args()
     began = time.time()
@@ -612,19 +642,15 @@ def main():
     chosen = [crate for crate in crates if any(edit.crate is crate for edit in edits)]
 
     def most():
-        """How many checks may run now. `rt ci` has two tasks until it has proved the lowest crate: its proof, and the seed of its edits."""
-        if not words.beside or not words.ci or os.path.exists(f"{words.ci}.end"):
-            return words.lanes
-        proved = set(re.findall(r"^rt: (\w+) (?:proved|is kept)", said_by(words.ci), re.MULTILINE))
-        lowest = {below.name for crate in crates for below in crate.below() if not below.below()}
-        return words.beside if lowest <= proved else max(words.lanes // 2, words.beside)
+        """How many checks may run now."""
+        return max(words.lanes - processors_beside(), words.beside) if words.beside else words.lanes
 
     threads, printing, results, numbers = Lanes(words.lanes, most), threading.Lock(), {}, []
     with tempfile.TemporaryDirectory(prefix="edits-") as room, ThreadPoolExecutor(2 * len(crates)) as each:
         os.mkdir(f"{room}/kept")
         held = rt.rtlib.lock(crates)
-        # Half of the processors are left to what runs beside: `rt ci` proves the lowest crate twice meanwhile.
-        whole = Whole(rt, crates, chosen, f"{room}/kept", threads, max(words.lanes // 2, 1))
+        # One processor is left to what runs beside: `rt ci` proves the lowest crate meanwhile.
+        whole = Whole(rt, crates, chosen, f"{room}/kept", threads, max(words.lanes - 1, 1))
         lanes = queue.SimpleQueue()
         for number in range(words.lanes):
             lanes.put(Lane(f"{room}/{number}", rt, f"{room}/kept"))
