@@ -1,4 +1,4 @@
-use Rattle.hayro_ccitt.proofs.Names.{ap, length, ◌∙◌, HighestFirst, BitsAt}
+use Rattle.hayro_ccitt.proofs.Names.{rules, ap, length, ◌∙◌, HighestFirst, BitsAt}
 use Rattle.hayro_ccitt.proofs.BitReading.BitLists.{length-bits_in, bits_are_whole}
 use Rattle.hayro_ccitt.proofs.Readings.PlainAnswers.{whole_bytes_within}
 use Rattle.hayro_ccitt.proofs.decode.Goals as goal
@@ -14,3 +14,9 @@ returns-clause-within g c =
 
 pub returns-clause-decodes : goal.returns-clause-decodes
 returns-clause-decodes g c = rw (← ap (λ (at : BitsAt). at.bits) c.new.ensures) c.decode_bits.ensures.decodes
+
+pub returns-clause-count : goal.returns-clause-count
+returns-clause-count g c = search rules
+
+pub returns-clause-row_number : goal.returns-clause-row_number
+returns-clause-row_number g c = search rules

@@ -61,3 +61,6 @@ returns-clause-decodes g c =
     rw (c.set_fault_start.ensures.frame)
     (decodes c.args.ctx.now.held.settings c.args.reader.now.bits _ _ _ c.decode_rows-answer.new.ctx.held c.fault_start_of.result _
     (Ok c.byte_pos.result) are c.requires.whole leaves (search rules) (search rules) repaired missed tt none)
+
+pub returns-clause-work : goal.returns-clause-work
+returns-clause-work g c = search rules

@@ -138,3 +138,21 @@ returns-clause-at_least c =
       ap (λ (b : Bool). cond b (looked found) (length found)) c.if-not-skip_to_eol.false,
       c.read_eols-count-2.ensures.at_least,
     )
+
+pub returns-then-not-skip_to_eol-clause-gap : goal.returns-then-not-skip_to_eol-clause-gap
+returns-then-not-skip_to_eol-clause-gap c = search rules
+
+pub returns-then-not-skip_to_eol-clause-work : goal.returns-then-not-skip_to_eol-clause-work
+returns-then-not-skip_to_eol-clause-work c = search rules
+
+pub returns-then-count-gt0-clause-at_least : goal.returns-then-count-gt0-clause-at_least
+returns-then-count-gt0-clause-at_least c = search rules
+
+pub returns-then-count-gt0-clause-counts : goal.returns-then-count-gt0-clause-counts
+returns-then-count-gt0-clause-counts c = search rules
+
+pub returns-then-settings-clause-counts : goal.returns-then-settings-clause-counts
+returns-then-settings-clause-counts c = search rules
+
+pub returns-then-settings-clause-work_refused : goal.returns-then-settings-clause-work_refused
+returns-then-settings-clause-work_refused c = search rules

@@ -1,4 +1,4 @@
-use Rattle.hayro_ccitt.proofs.Names.{arith, here}
+use Rattle.hayro_ccitt.proofs.Names.{rules, arith, here}
 use Rattle.hayro_ccitt.proofs.BitReading.EolCounts.{eols_leave, all_eols_leave}
 use Rattle.hayro_ccitt.proofs.rows.read_eols_of_t6.Goals as goal
 
@@ -29,3 +29,6 @@ pub returns-else-settings-clause-forward : goal.returns-else-settings-clause-for
 returns-else-settings-clause-forward c =
     all_eols_leave c.read_eol_if_available.result (here c.args.reader.now)
     (here c.read_eol_if_available.new.self) c.read_eol_if_available.ensures.eols
+
+pub returns-then-settings-clause-eols : goal.returns-then-settings-clause-eols
+returns-then-settings-clause-eols c = search rules

@@ -1,4 +1,4 @@
-use Rattle.hayro_ccitt.proofs.Names.{◌≡◌, ◌<◌, length, bit_and, Err, refl, sym, ap, ◌∙◌, err_from_is_err_and, false≢true}
+use Rattle.hayro_ccitt.proofs.Names.{rules, ◌≡◌, ◌<◌, length, bit_and, Err, refl, sym, ap, ◌∙◌, err_from_is_err_and, false≢true}
 use Rattle.hayro_ccitt.proofs.Names.{and_mask, here, padded, telling_bits, run_or_none, codes_of}
 use Rattle.hayro_ccitt.proofs.BitReading.BitPlaces.{moved_on, bits_enough, bits_missing}
 use Rattle.hayro_ccitt.proofs.CodeWords.LookedUp.{high_bits, low_twelve, looked_up_cut, looked_up_wrong, looked_up_found}
@@ -42,3 +42,12 @@ returns-clause-word c =
     let moved = moved_on at c.consume.new.self c.from.result (telling_bits (codes_of color) seen)
     (c.from.ensures ∙ width) c.in_ok-consume.ensures.moved enough (some_bits_tell color (here at)) in
     looked_up_found color (here at) (λ e. c.if-run-eq-LOOKUP_INVALID.false (run ∙ e)) enough ∙ cc
+
+pub returns-clause-ticks : goal.returns-clause-ticks
+returns-clause-ticks c = search rules
+
+pub returns-in_err-consume-clause-ticks : goal.returns-in_err-consume-clause-ticks
+returns-in_err-consume-clause-ticks c = search rules
+
+pub returns-then-run-eq-LOOKUP_INVALID-clause-ticks : goal.returns-then-run-eq-LOOKUP_INVALID-clause-ticks
+returns-then-run-eq-LOOKUP_INVALID-clause-ticks c = search rules

@@ -1,4 +1,4 @@
-use Rattle.hayro_ccitt.proofs.Names.{sym, subst, DecodeSettings, Bits, CountsWork}
+use Rattle.hayro_ccitt.proofs.Names.{rules, sym, subst, DecodeSettings, Bits, CountsWork}
 use Rattle.hayro_ccitt.proofs.Work.CallsPaid.{begun_is_counted}
 use Rattle.hayro_ccitt.proofs.row_reader.RowReader.new.Goals as goal
 
@@ -14,3 +14,6 @@ returns-clause-work c =
     (subst (λ (b : Bits). CountsWork settings b held.taken ticks) (sym first.ensures.same_bits)
     (begun_is_counted first.result settings bits held first.new.reader.place ticks first.ensures.none_taken
     first.ensures.stands first.ensures.paid))
+
+pub returns-clause-bits : goal.returns-clause-bits
+returns-clause-bits c = search rules

@@ -1,3 +1,4 @@
+use Rattle.hayro_ccitt.proofs.Names.{rules}
 use Rattle.hayro_ccitt.proofs.Work.CallsPaid.{work_is_counted}
 use Rattle.hayro_ccitt.proofs.row_reader.RowReader.next_row.Goals as goal
 
@@ -8,3 +9,9 @@ returns-in-AtLine-clause-work c =
     let reader = c.next_row.new.reader in
     let stands = c.next_row.ensures.stands c.self.invariant in
     work_is_counted rows.stand rows.ctx.held.settings reader.bits rows.ctx.held reader.place rows.ctx.ticks stands.0 stands.2
+
+pub returns-in-AtFault-clause-ended : goal.returns-in-AtFault-clause-ended
+returns-in-AtFault-clause-ended c = search rules
+
+pub returns-in-AtFault-clause-reads : goal.returns-in-AtFault-clause-reads
+returns-in-AtFault-clause-reads c = search rules
