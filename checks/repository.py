@@ -185,7 +185,7 @@ def each_public_function_has_an_edit():
 
 
 def each_edit_can_be_applied():
-    """Each edit's old texts occur once in the file, in an item, and it says what it breaks."""
+    """Each edit's old texts occur once in the file, in an item, it says what it breaks, and no goal that it names has an answer."""
     rt, found = edits.kit(), []
     for crate in sorted(os.listdir("crates")):
         source = edits.Source(f"crates/{crate}")
@@ -195,6 +195,11 @@ def each_edit_can_be_applied():
                 found.append(f"{edit.label}: {why or 'it changes no item'}")
             elif not edit.function:
                 found.append(f"{edit.label}: it has no line 'breaks: FUNCTION: CLAUSE'")
+            answers = f"crates/{crate}/proofs/{edit.function.replace('::', '/')}/Answers.antt"
+            if edit.goals and os.path.exists(answers):
+                with open(answers, encoding="utf-8") as file:
+                    answered = set(re.findall(r"^pub (\S+) :", file.read(), re.MULTILINE))
+                found += [f"{edit.label}: {goal} has a written answer" for goal in edit.goals if goal in answered]
     assert not found, "\n".join(found)
 
 
