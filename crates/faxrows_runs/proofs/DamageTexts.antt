@@ -2,11 +2,11 @@
 use Rattle.faxrows_runs.proofs.Names.{◌≡◌, ◌≢◌, ◌≤◌, ◌+◌, ◌-◌, ℕ, zero, suc, Bool, List, [], ◌++◌, refl, true, inl, inr, sym, ap}
 use Rattle.faxrows_runs.proofs.Names.{subst, ◌∙◌, Result, Ok, Err, length, get_or, append_assoc, append-nil, arith, Option}
 use Rattle.faxrows_runs.proofs.Names.{None, Some}
-use Rattle.faxrows_runs.proofs.Names.{IsOk, IsErr, DecodeError, UnexpectedEof, InvalidCode, Overflow, OutOfMemory, Refused}
+use Rattle.faxrows_runs.proofs.Names.{DecodeError, UnexpectedEof, InvalidCode, Overflow, OutOfMemory, Refused}
 use Rattle.faxrows_runs.proofs.Names.{DecodeSettings, Bits, line_starts, failed_at, RowsRead, ReadsNext, at_end_of_rows}
 use Rattle.faxrows_runs.proofs.Names.{AppendsFront}
-use Rattle.faxrows_runs.proofs.Names.{Good, Faulty, Memory, IsDamageText, IsDamageWithoutMemory, damage_after, damage_lines}
-use Rattle.faxrows_runs.proofs.Names.{damage_of_row, line_of_damage, whole_damage, Outcome, EndsAfter, done_of, outcome_of}
+use Rattle.faxrows_runs.proofs.Names.{Memory, IsDamageText, IsDamageWithoutMemory, damage_after, damage_lines}
+use Rattle.faxrows_runs.proofs.Names.{damage_of_row, line_of_damage, whole_damage, Outcome, done_of, outcome_of}
 use Rattle.faxrows_runs.proofs.Names.{rows_of}
 use Rattle.faxrows_runs.proofs.Names.{EndsByRow, line_of_miss, miss_of_row, missed_before, misses_by_line, repair_of_row}
 use Rattle.faxrows_runs.proofs.Names.{start_in}
@@ -117,36 +117,11 @@ failed_there old new error reads unended =
 -- ---- The whole text
 
 -- with all rows and the result of the plain reading, the whole damage is written
-all_damage : (settings : DecodeSettings) (bits : Bits) (read : ℕ) (outcome : Outcome) → read ≡ length (rows_of settings bits)
+pub all_damage : (settings : DecodeSettings) (bits : Bits) (read : ℕ) (outcome : Outcome) → read ≡ length (rows_of settings bits)
     → outcome_of settings bits ≡ outcome → damage_after settings bits read outcome ≡ whole_damage settings bits
 all_damage settings bits read outcome all same =
     ap (λ (n : ℕ). damage_after settings bits n outcome) all
     ∙ ap (damage_after settings bits (length (rows_of settings bits))) (sym same)
-
--- a good run writes the whole damage
-pub damage_of_good : (settings : DecodeSettings) (bits : Bits) (read : ℕ) (outcome : Outcome)
-    → EndsAfter settings bits read outcome → done_of outcome ≡ Good
-    → (damage_after settings bits read outcome ≡ whole_damage settings bits) × IsOk (outcome_of settings bits)
-damage_of_good settings bits read (Ok n) ends e = (all_damage settings bits read (Ok n) ends.0 ends.1, rw (ends.1) refl)
-damage_of_good settings bits read (Err UnexpectedEof) ends e = cc
-damage_of_good settings bits read (Err InvalidCode) ends e = cc
-damage_of_good settings bits read (Err Overflow) ends e = cc
-damage_of_good settings bits read (Err OutOfMemory) ends e = cc
-damage_of_good settings bits read (Err Refused) ends e = cc
-
--- a faulty run writes the whole damage
-pub damage_of_faulty : (settings : DecodeSettings) (bits : Bits) (read : ℕ) (outcome : Outcome)
-    → EndsAfter settings bits read outcome → done_of outcome ≡ Faulty
-    → (damage_after settings bits read outcome ≡ whole_damage settings bits) × IsErr (outcome_of settings bits)
-damage_of_faulty settings bits read (Ok n) ends e = cc
-damage_of_faulty settings bits read (Err UnexpectedEof) ends e =
-    (all_damage settings bits read (Err UnexpectedEof) ends.0 ends.1, rw (ends.1) refl)
-damage_of_faulty settings bits read (Err InvalidCode) ends e =
-    (all_damage settings bits read (Err InvalidCode) ends.0 ends.1, rw (ends.1) refl)
-damage_of_faulty settings bits read (Err Overflow) ends e =
-    (all_damage settings bits read (Err Overflow) ends.0 ends.1, rw (ends.1) refl)
-damage_of_faulty settings bits read (Err OutOfMemory) ends e = cc
-damage_of_faulty settings bits read (Err Refused) ends e = cc
 
 -- the text is the whole damage, or that up to an allocation failure
 pub is_damage_text : (settings : DecodeSettings) (bits : Bits) (read : ℕ) (outcome : Outcome)

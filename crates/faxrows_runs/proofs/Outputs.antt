@@ -2,7 +2,6 @@
 use Rattle.faxrows_runs.proofs.Names.{◌≡◌, ◌<◌, ◌+◌, ℕ, List, [], ◌∷◌, ◌++◌, Option, length, take, drop, get_or, sym, ap, subst}
 use Rattle.faxrows_runs.proofs.Names.{◌∙◌}
 use Rattle.faxrows_runs.proofs.Names.{append_assoc, append-nil, take-append-drop, flat_map, take_more, flat_map-append}
-use Rattle.faxrows_runs.proofs.Names.{Appends-nil}
 use Rattle.faxrows_runs.proofs.Names.{Appends-trans, AppendsFront, PassesOn, line_of_row, text_of_change}
 
 -- a text after what was written and what waits

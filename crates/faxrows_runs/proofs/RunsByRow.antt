@@ -2,18 +2,15 @@
 use Rattle.faxrows_runs.proofs.Names.{◌≡◌, ℕ, refl, inl, inr, Ok, Err, UnexpectedEof, InvalidCode, Overflow, OutOfMemory, Refused}
 use Rattle.faxrows_runs.proofs.Names.{DecodeSettings, Bits, Memory, Outcome, done_of, text_after, EndsByRow, IsTextByRow}
 use Rattle.faxrows_runs.proofs.Names.{IsTextWithoutMemory}
-use Rattle.faxrows_runs.proofs.Texts.{text_of_good, text_of_faulty}
+use Rattle.faxrows_runs.proofs.Texts.{all_text}
 
 -- the text is the whole one, or that of an allocation failure
 pub text_by_row : (settings : DecodeSettings) (bits : Bits) (read : ℕ) (outcome : Outcome) → EndsByRow settings bits read outcome
     → IsTextByRow settings bits (text_after settings bits read outcome)
-text_by_row settings bits read (Ok n) ends = inl (text_of_good settings bits read (Ok n) (ends.0.0, ends.0.1) refl).0
-text_by_row settings bits read (Err UnexpectedEof) ends = inl (text_of_faulty settings bits read (Err UnexpectedEof)
-    (ends.0.0, ends.0.1) refl).0
-text_by_row settings bits read (Err InvalidCode) ends = inl (text_of_faulty settings bits read (Err InvalidCode)
-    (ends.0.0, ends.0.1) refl).0
-text_by_row settings bits read (Err Overflow) ends = inl (text_of_faulty settings bits read (Err Overflow)
-    (ends.0.0, ends.0.1) refl).0
+text_by_row settings bits read (Ok n) ends = inl (all_text settings bits read (Ok n) ends.0.0 ends.0.1)
+text_by_row settings bits read (Err UnexpectedEof) ends = inl (all_text settings bits read (Err UnexpectedEof) ends.0.0 ends.0.1)
+text_by_row settings bits read (Err InvalidCode) ends = inl (all_text settings bits read (Err InvalidCode) ends.0.0 ends.0.1)
+text_by_row settings bits read (Err Overflow) ends = inl (all_text settings bits read (Err Overflow) ends.0.0 ends.0.1)
 text_by_row settings bits read (Err OutOfMemory) ends = inr (read, ends.0, refl)
 text_by_row settings bits read (Err Refused) ends = absurd (ends.1 refl)
 

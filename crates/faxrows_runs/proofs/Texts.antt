@@ -1,10 +1,10 @@
 -- What a run writes, from what decoding returns.
 use Rattle.faxrows_runs.proofs.Names.{◌≡◌, ℕ, List, [], ◌∷◌, ◌++◌, refl, sym, ap, ◌∙◌, subst, take, length, map, take_all, arith}
-use Rattle.faxrows_runs.proofs.Names.{append_assoc, append-nil, Option, None, Some, Ok, Err, IfSome, IsOk, IsErr, fold, take-map}
+use Rattle.faxrows_runs.proofs.Names.{append_assoc, append-nil, Option, None, Some, Ok, Err, IfSome, fold, take-map}
 use Rattle.faxrows_runs.proofs.Names.{length-map, UnexpectedEof, InvalidCode, Overflow, OutOfMemory, Refused, DecodeSettings}
 use Rattle.faxrows_runs.proofs.Names.{IfOk, Result}
 use Rattle.faxrows_runs.proofs.Names.{meaning_after, Bits, bits_in, Held, SinkState, TakesRows, StopsShort, plain, lines_of, Row}
-use Rattle.faxrows_runs.proofs.Names.{changes, Arguments, Good, Faulty, Outcome, OnKnown, EndsAfter, rows_of, outcome_of}
+use Rattle.faxrows_runs.proofs.Names.{changes, Arguments, Memory, Outcome, OnKnown, EndsAfter, IsEndOfRun, rows_of, outcome_of}
 use Rattle.faxrows_runs.proofs.Names.{text_after}
 use Rattle.faxrows_runs.proofs.Names.{whole_text, done_of, line_of_row, lines_of_rows}
 
@@ -55,34 +55,27 @@ ends_after step settings bits before after held (Err Refused) takes short =
     rw (length-map (plain settings bits).rows changes) (short.refused refl)
 
 -- with all rows and the result of the plain reading, the whole text is written
-all_text : (settings : DecodeSettings) (bits : Bits) (taken : ℕ) (outcome : Outcome) → taken ≡ length (rows_of settings bits)
+pub all_text : (settings : DecodeSettings) (bits : Bits) (taken : ℕ) (outcome : Outcome) → taken ≡ length (rows_of settings bits)
     → outcome_of settings bits ≡ outcome → text_after settings bits taken outcome ≡ whole_text settings bits
 all_text settings bits taken outcome all same = rw (same, take_all taken (rows_of settings bits) (omega arith)) refl
 
--- a good run writes the whole text
-pub text_of_good : (settings : DecodeSettings) (bits : Bits) (taken : ℕ) (outcome : Outcome)
-    → EndsAfter settings bits taken outcome → done_of outcome ≡ Good
-    → (text_after settings bits taken outcome ≡ whole_text settings bits) × IsOk (outcome_of settings bits)
-text_of_good settings bits taken (Ok n) ends e = (all_text settings bits taken (Ok n) ends.0 ends.1, rw (ends.1) refl)
-text_of_good settings bits taken (Err UnexpectedEof) ends e = cc
-text_of_good settings bits taken (Err InvalidCode) ends e = cc
-text_of_good settings bits taken (Err Overflow) ends e = cc
-text_of_good settings bits taken (Err OutOfMemory) ends e = cc
-text_of_good settings bits taken (Err Refused) ends e = cc
-
--- a faulty run writes the whole text
-pub text_of_faulty : (settings : DecodeSettings) (bits : Bits) (taken : ℕ) (outcome : Outcome)
-    → EndsAfter settings bits taken outcome → done_of outcome ≡ Faulty
-    → (text_after settings bits taken outcome ≡ whole_text settings bits) × IsErr (outcome_of settings bits)
-text_of_faulty settings bits taken (Ok n) ends e = cc
-text_of_faulty settings bits taken (Err UnexpectedEof) ends e =
-    (all_text settings bits taken (Err UnexpectedEof) ends.0 ends.1, rw (ends.1) refl)
-text_of_faulty settings bits taken (Err InvalidCode) ends e =
-    (all_text settings bits taken (Err InvalidCode) ends.0 ends.1, rw (ends.1) refl)
-text_of_faulty settings bits taken (Err Overflow) ends e =
-    (all_text settings bits taken (Err Overflow) ends.0 ends.1, rw (ends.1) refl)
-text_of_faulty settings bits taken (Err OutOfMemory) ends e = cc
-text_of_faulty settings bits taken (Err Refused) ends e = cc
+-- How a run ended, from what it wrote after some rows: `after` of the outcome, which is `whole` after all rows and with the
+-- result of the plain reading, and a text that is cut after an allocation failure or a refusal.
+pub end_of_run : (settings : DecodeSettings) (bits : Bits) (taken : ℕ) (after : Outcome → List ℕ) (whole : List ℕ)
+    (IsCut Wrote : List ℕ → Type 0) → ((outcome : Outcome) → taken ≡ length (rows_of settings bits)
+    → outcome_of settings bits ≡ outcome → after outcome ≡ whole) → (outcome : Outcome) → EndsAfter settings bits taken outcome
+    → (done_of outcome ≡ Memory → IsCut (after outcome)) → Wrote (after outcome)
+    → IsEndOfRun (done_of outcome) (outcome_of settings bits) whole IsCut Wrote
+end_of_run settings bits taken after whole IsCut Wrote all (Ok n) ends cut wrote =
+    (rw (ends.1) refl, subst Wrote (all (Ok n) ends.0 ends.1) wrote)
+end_of_run settings bits taken after whole IsCut Wrote all (Err UnexpectedEof) ends cut wrote =
+    (rw (ends.1) refl, subst Wrote (all (Err UnexpectedEof) ends.0 ends.1) wrote)
+end_of_run settings bits taken after whole IsCut Wrote all (Err InvalidCode) ends cut wrote =
+    (rw (ends.1) refl, subst Wrote (all (Err InvalidCode) ends.0 ends.1) wrote)
+end_of_run settings bits taken after whole IsCut Wrote all (Err Overflow) ends cut wrote =
+    (rw (ends.1) refl, subst Wrote (all (Err Overflow) ends.0 ends.1) wrote)
+end_of_run settings bits taken after whole IsCut Wrote all (Err OutOfMemory) ends cut wrote = (_, cut refl, wrote)
+end_of_run settings bits taken after whole IsCut Wrote all (Err Refused) ends cut wrote = (_, cut refl, wrote)
 
 -- a statement about the bytes that were read is one about the bytes that the reader specifies
 pub on_input : (known : Option (List ℕ)) (input : List ℕ) (P : List ℕ → Type 0) → IfSome known (λ xs. input ≡ xs) → P input

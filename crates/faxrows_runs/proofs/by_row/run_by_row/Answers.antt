@@ -1,11 +1,11 @@
-use Rattle.faxrows_runs.proofs.Names.{rules, ◌≡◌, List, ℕ, subst, sym, IsOk, IsErr, map, string_bytes, Appends, IfOk-weaker}
-use Rattle.faxrows_runs.proofs.Names.{IfErr-at_err, DecodeSettings, Bits, AppendsFront, Done, Good, Faulty, Memory}
+use Rattle.faxrows_runs.proofs.Names.{rules, ◌≡◌, List, ℕ, subst, map, string_bytes, Appends, IfOk-weaker}
+use Rattle.faxrows_runs.proofs.Names.{IfErr-at_err, DecodeSettings, Bits, AppendsFront, Done}
 use Rattle.faxrows_runs.proofs.Names.{arguments_of_words}
 use Rattle.faxrows_runs.proofs.Names.{Outcome, OnKnown, done_of, outcome_of, text_after, whole_text, IsEndOfRun, EndsByRow}
 use Rattle.faxrows_runs.proofs.Names.{IsTextByRow, IsTextWithoutMemory}
 use Rattle.faxrows_runs.proofs.Names.{BitsFit, IfSome}
 use Rattle.faxrows_runs.proofs.{RunsByRow.text_without_memory, by_row.run_by_row.Given.Over}
-use Rattle.faxrows_runs.proofs.Texts.{if_ok, text_of_good, text_of_faulty, on_input, on_known}
+use Rattle.faxrows_runs.proofs.Texts.{all_text, end_of_run, if_ok, on_input, on_known}
 use Rattle.faxrows_runs.proofs.by_row.run_by_row.Goals as goal
 
 module _ (g : Over) (c : goal.After-drop-input-2 g) where
@@ -40,18 +40,15 @@ module _ (g : Over) (c : goal.After-drop-input-2 g) where
       on_known _ c.in_ok-arguments.arguments settings _ c.as_slice.result.now P (search rules) (search rules) (search rules)
       (subst (P settings) (search rules) holds)
 
-  -- what is written for each way to end
-  ended : (done : Done) → Written done
-      → Known (λ s b. IsEndOfRun done (outcome_of s b) (whole_text s b) (IsTextWithoutMemory s b) Grew)
-  ended Good (outcome, ends, same, grew) =
-      let (all, holds) = text_of_good settings bits read outcome ends.0 (sym same) in
-      known (λ s b. IsOk (outcome_of s b) × Grew (whole_text s b)) (holds, subst Grew all grew)
-  ended Faulty (outcome, ends, same, grew) =
-      let (all, holds) = text_of_faulty settings bits read outcome ends.0 (sym same) in
-      known (λ s b. IsErr (outcome_of s b) × Grew (whole_text s b)) (holds, subst Grew all grew)
-  ended Memory (outcome, ends, same, grew) =
-      known (λ s b. (text : List ℕ) × IsTextWithoutMemory s b text × Grew text)
-      (_, text_without_memory settings bits read outcome ends (sym same), grew)
+  -- how the run ended, of some data
+  abbrev Ended : Done → DecodeSettings → Bits → Type 0
+  Ended done s b = IsEndOfRun done (outcome_of s b) (whole_text s b) (IsTextWithoutMemory s b) Grew
+
+  ended : (done : Done) → Written done → Known (Ended done)
+  ended done (outcome, ends, same, grew) =
+      known (Ended done) (rw same (end_of_run settings bits read (text_after settings bits read) (whole_text settings bits)
+      (IsTextWithoutMemory settings bits) Grew (all_text settings bits read) outcome ends.0
+      (text_without_memory settings bits read outcome ends) grew))
 
   -- there are at most as many bits as offsets
   fits : IfSome (g.R.Read.remaining c.args.reader.now.0) BitsFit

@@ -1,8 +1,8 @@
-use Rattle.faxrows_runs.proofs.Names.{rules, ◌≡◌, List, ℕ, subst, refl, sym, IsOk, IsErr, map, string_bytes, Appends, IfOk-weaker}
-use Rattle.faxrows_runs.proofs.Names.{DecodeSettings, Bits, bits_in, Done, Good, Faulty, Memory, arguments_of_words, Outcome}
+use Rattle.faxrows_runs.proofs.Names.{rules, ◌≡◌, List, ℕ, refl, map, string_bytes, Appends, IfOk-weaker}
+use Rattle.faxrows_runs.proofs.Names.{DecodeSettings, Bits, bits_in, Done, arguments_of_words, Outcome}
 use Rattle.faxrows_runs.proofs.Names.{EndsAfter, OnKnown, IsTextOfWant, done_of, outcome_of, text_after, whole_text, IsEndOfRun}
 use Rattle.faxrows_runs.proofs.Names.{BitsFit, IfSome}
-use Rattle.faxrows_runs.proofs.Texts.{if_ok, on_input, on_known, text_of_faulty, text_of_good}
+use Rattle.faxrows_runs.proofs.Texts.{all_text, end_of_run, if_ok, on_input, on_known}
 use Rattle.faxrows_runs.proofs.{program.run.Given.Over}
 use Rattle.faxrows_runs.proofs.program.run.Goals as goal
 
@@ -37,16 +37,15 @@ module _ (g : Over) (c : goal.After-drop-input-2 g) where
   known P holds =
       on_known _ c.in_ok-arguments.arguments settings _ c.as_slice.result.now P (search rules) (search rules) (search rules) holds
 
-  -- what is written for each way to end
-  ended : (done : Done) → Written done → Known (λ s b. IsEndOfRun done (outcome_of s b) (whole_text s b) (IsTextOfWant s b) Grew)
-  ended Good (outcome, ends, same, grew) =
-      let (all, holds) = text_of_good settings bits taken outcome ends (sym same) in
-      known (λ s b. IsOk (outcome_of s b) × Grew (whole_text s b)) (holds, subst Grew all grew)
-  ended Faulty (outcome, ends, same, grew) =
-      let (all, holds) = text_of_faulty settings bits taken outcome ends (sym same) in
-      known (λ s b. IsErr (outcome_of s b) × Grew (whole_text s b)) (holds, subst Grew all grew)
-  ended Memory (outcome, ends, same, grew) =
-      known (λ s b. (text : List ℕ) × IsTextOfWant s b text × Grew text) (_, (_, outcome, ends, sym same, refl), grew)
+  -- how the run ended, of some data
+  abbrev Ended : Done → DecodeSettings → Bits → Type 0
+  Ended done s b = IsEndOfRun done (outcome_of s b) (whole_text s b) (IsTextOfWant s b) Grew
+
+  ended : (done : Done) → Written done → Known (Ended done)
+  ended done (outcome, ends, same, grew) =
+      known (Ended done) (rw same (end_of_run settings bits taken (text_after settings bits taken) (whole_text settings bits)
+      (IsTextOfWant settings bits) Grew (all_text settings bits taken) outcome ends
+      (λ want. (_, outcome, ends, want, refl)) grew))
 
   -- there are at most as many bits as offsets
   fits : IfSome (g.R.Read.remaining c.args.reader.now.0) BitsFit
