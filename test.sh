@@ -53,8 +53,7 @@ built_tests() {
     python3 checks/run.py built_tests
 }
 # All processors but one for `rt ci`, if there is memory: a task takes up to 4 GB. Without RT_JOBS it counts more for the library, and
-# so tries the library's edits last, alone. The last processor is for checks/edits.py, which has half of all until the library is
-# proved, and all when `rt ci` has ended.
+# so tries the library's edits last, alone. checks/edits.py has what the other parts leave, and at least one processor.
 available=$(awk '/^MemAvailable/ { print $2 }' /proc/meminfo)
 jobs=
 [ "${available:-0}" -ge 16000000 ] && jobs=$(($(nproc) > 1 ? $(nproc) - 1 : 1))
