@@ -1,8 +1,8 @@
 #!/usr/bin/env bash
 # All tests, in three parts that run in parallel. `rt ci` proves every crate from scratch, here. On a copy of the repository run
-# the edits (checks/edits.py), and, once the crates are checked there, the repository's other checks (checks/run.py), except those
-# of the test programs that `rt ci` builds, which follow it. The output of each part is printed when it has ended. The exit status
-# is 0 if all passed.
+# the edits (checks/edits.py), with what `rt ci` builds and stores, and, once all is built, the repository's other checks
+# (checks/run.py), except those of the test programs, which follow `rt ci`. The output of each part is printed when it has ended. The
+# exit status is 0 if all passed.
 cd "$(dirname "$0")" || exit 1
 copy=$(mktemp -d) || exit 1
 said=$(mktemp -d) || exit 1
@@ -38,7 +38,7 @@ part() {
     echo "$SECONDS" >"$said/$name.end"
     exit "$status"
 }
-# The repository's other checks, once the crates are checked in the copy.
+# The repository's other checks, once the crates are built in the copy.
 other_checks() {
     while [ ! -e "$said/ready" ] && [ ! -e "$said/edits.end" ]; do
         sleep 1
@@ -57,9 +57,11 @@ built_tests() {
 available=$(awk '/^MemAvailable/ { print $2 }' /proc/meminfo)
 jobs=
 [ "${available:-0}" -ge 16000000 ] && jobs=$(($(nproc) > 1 ? $(nproc) - 1 : 1))
-part ci env RT_JOBS="$jobs" rt ci &
+# What `rt ci` runs as nobody lies among its temporary files.
+mkdir "$said/temporary" && chmod 711 "$said" "$said/temporary" && pwd >"$said/checkout" || exit 1
+part ci env TMPDIR="$said/temporary" RT_JOBS="$jobs" rt ci &
 ci=$!
-part edits python3 "$copy/checks/edits.py" --ready "$said/ready" --ci "$said/ci" --beside 1 &
+part edits python3 "$copy/checks/edits.py" --ready "$said/ready" --ci "$said" --beside 1 &
 edits=$!
 part run other_checks &
 run=$!

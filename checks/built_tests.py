@@ -4,6 +4,8 @@ import re
 import subprocess
 import tempfile
 
+from built import is_newest
+
 # The tests of each crate that name allocations: how often each names one, and how many of these were made, and so refused. All
 # others name none. A test that has each allocation refused in turn names one more than there are.
 NAMED = {
@@ -29,27 +31,6 @@ NAMED = {
         "tests::refused_memory::white_rows_without_memory": (5, 0),
     },
 }
-
-
-def with_libraries(crate):
-    """A crate and the crates of the repository that it depends on."""
-    with open("crates.txt", encoding="utf-8") as file:
-        lines = [line.split(":") for line in file if not line.startswith("#")]
-    libraries = next(names.split() for name, names in lines if name.split()[0] == crate)
-    return [crate, *libraries]
-
-
-def is_newest(path, crate):
-    """Whether a file is newer than everything that it is built from."""
-    if not os.path.exists(path):
-        return False
-    built_at = os.path.getmtime(path)
-    for name in with_libraries(crate):
-        for part in ("src", "specs", "proofs"):
-            for folder, _, files in os.walk(f"crates/{name}/{part}"):
-                if any(os.path.getmtime(f"{folder}/{file}") > built_at for file in files):
-                    return False
-    return True
 
 
 def built(crate):

@@ -7,7 +7,8 @@
     python3 checks/edits.py --show             also prints what refused each edit
     python3 checks/edits.py --keep FOLDER      writes what each check printed into this folder
     python3 checks/edits.py --write            writes into the edits what refused them: see below
-    python3 checks/edits.py --ci FILE          takes what `rt ci` says of the edits in must-fail/ from FILE: see below
+    python3 checks/edits.py --anew             also those that an earlier run on this machine refused: see below
+    python3 checks/edits.py --ci FOLDER        takes from an `rt ci` that runs beside what it makes: see below
     python3 checks/edits.py --beside N         as many checks in parallel as other programs leave processors, at least N
 
 An edit is a file in crates/NAME/edits or crates/NAME/must-fail: a line 'file: src/x.rt', then pairs of lines 'old: TEXT' and
@@ -27,8 +28,16 @@ searched for while one that it calls isn't proved. So an edit that such a batch 
 functions that don't call one another, and then alone.
 With --write an edit that another clause of its function refuses gets that clause's name, and each refused one its lines 'search:
 GOAL'. Look at what was written: a clause that has nothing to do with what the edit breaks means that the edit is a bad one.
-`rt ci` tries the edits in must-fail/ too, and prints the first line of what refused each. With --ci these are judged by that
-line, once rt ci has ended and there is a file FILE.end; only where it doesn't show that the clause refuses the edit is it tried here.
+
+An edit that was refused is not tried again on this machine while its text, the crate, the crates below, the kit and this file stay
+the same.
+
+With --ci an `rt ci` runs beside, on a checkout with the same files: the folder has what it prints, in the file `ci`, its temporary
+files, in the folder `temporary`, the path of its checkout, in the file `checkout`, and once it has ended the file `ci.end`. What it
+proves isn't proved again here: libraries and programs are copied once they are built, and so is what its check of a crate stored for
+the edits in must-fail/, if it made one. The other crates are checked here. `rt ci` tries the edits in must-fail/ itself, and prints
+the first line of what refused each. These are judged by that line, once it has ended; only where it doesn't show that the clause
+refuses the edit is it tried here.
 The last line is 'N refused, M not'.
 """
 import argparse
@@ -50,6 +59,10 @@ import time
 from concurrent.futures import Future, ThreadPoolExecutor
 
 sys.dont_write_bytecode = True
+
+from beside import Beside, is_stored  # noqa: E402
+from refused_before import RefusedBefore  # noqa: E402
+
 ROOT = os.path.realpath(os.path.join(os.path.dirname(os.path.abspath(__file__)), ".."))
 FOLDERS = ("must-fail", "edits")
 
@@ -60,6 +73,8 @@ def kit():
     loader = importlib.machinery.SourceFileLoader("rt", path)
     made = importlib.util.module_from_spec(importlib.util.spec_from_loader("rt", loader))
     loader.exec_module(made)
+    if not hasattr(made, "linked"):  # older kits don't link what was stored
+        made.linked = shutil.copytree
     return made
 
 
@@ -343,19 +358,11 @@ def judged(edit, said, output):
 TOLD = re.compile(r"^rt: must-fail (\w+)/(\S+)\.edit: refused, as it must be: (.*)$", re.MULTILINE)
 
 
-def told_by_ci(path):
+def told_by_ci(beside):
     """Waits until rt ci has ended, and returns the line that it prints of each edit, by the names of crate and edit."""
-    while not os.path.exists(f"{path}.end"):
+    while not beside.has_ended():
         time.sleep(1)
-    return {(crate, name): told for crate, name, told in TOLD.findall(said_by(path))}
-
-
-def said_by(path):
-    """What a running check has printed so far into a file."""
-    if not os.path.exists(path):
-        return ""
-    with open(path, encoding="utf-8", errors="replace") as file:
-        return file.read()
+    return {(crate, name): told for crate, name, told in TOLD.findall(beside.said())}
 
 
 def judged_by_line(edit, told, source):
@@ -370,34 +377,38 @@ def judged_by_line(edit, told, source):
     return judged(edit, read(told, edit.crate.name), told)
 
 
-def processors_beside(seconds=2):
-    """How many processors the processes use that this one didn't start, as seen for some seconds.
-
-    A check that has to share a processor uses less than one; two of them are to count as two.
-    """
-    before = ticks_beside()
-    time.sleep(seconds)
-    used = sum(ticks - before.get(number, 0) for number, ticks in ticks_beside().items())
-    return int(used / os.sysconf("SC_CLK_TCK") / seconds + 0.7)
+def processors_beside(seconds=2, looks=8):
+    """How many processors the processes want that this one didn't start, as seen for some seconds: those that wait for one too."""
+    seen = 0
+    for _ in range(looks):
+        seen += threads_beside()
+        time.sleep(seconds / looks)
+    return int(seen / looks + 0.5)
 
 
-def ticks_beside():
-    """The processor time of each process that isn't below this one."""
-    above, ticks = {}, {}
+def threads_beside():
+    """How many threads of processes that aren't below this one run, or wait for a processor."""
+    above, wanting = {}, {}
     for number in filter(str.isdigit, os.listdir("/proc")):
         try:
-            with open(f"/proc/{number}/stat", encoding="utf-8", errors="replace") as file:
-                fields = file.read().rpartition(")")[2].split()
+            above[number] = fields_of(f"/proc/{number}/stat")[1]
+            tasks = [fields_of(f"/proc/{number}/task/{task}/stat") for task in os.listdir(f"/proc/{number}/task")]
         except OSError:  # it has ended
             continue
-        above[number], ticks[number] = fields[1], int(fields[11]) + int(fields[12])
+        wanting[number] = sum(fields[0] == "R" for fields in tasks)
 
     def is_own(number):
         while number in above and number != str(os.getpid()):
             number = above[number]
         return number == str(os.getpid())
 
-    return {number: used for number, used in ticks.items() if not is_own(number)}
+    return sum(count for number, count in wanting.items() if count and not is_own(number))
+
+
+def fields_of(path):
+    """The fields of a file `stat` of /proc behind the name: the state, the number of the process above, and more."""
+    with open(path, encoding="utf-8", errors="replace") as file:
+        return file.read().rpartition(")")[2].split()
 
 
 class Lanes:
@@ -407,15 +418,21 @@ class Lanes:
     """
 
     def __init__(self, count, most):
-        self.waiting, self.numbers, self.is_closed = queue.PriorityQueue(), itertools.count(), False
-        self.most, self.running, self.turn, self.counting = most, 0, threading.Lock(), threading.Lock()
+        self.count, self.waiting, self.numbers, self.is_closed = count, queue.PriorityQueue(), itertools.count(), False
+        self.most, self.running, self.left = most, 0, 0
+        self.turn, self.counting = threading.Lock(), threading.Lock()
         for _ in range(count):
             threading.Thread(target=self.run, daemon=True).start()
 
     def submit(self, rank, call, *given):
         future = Future()
+        self.add(0, 1)
         self.waiting.put((rank, next(self.numbers), future, functools.partial(call, *given)))
         return future
+
+    def is_idle(self):
+        """Whether no call runs, and none waits."""
+        return self.left == 0
 
     def run(self):
         while True:
@@ -423,18 +440,19 @@ class Lanes:
                 _, _, future, call = self.waiting.get()
                 while self.running >= self.most():
                     time.sleep(1)
-                self.add(1)
+                self.add(1, 0)
             try:
                 if self.is_closed:
                     raise RuntimeError("a crate isn't proved without edits")
                 future.set_result(call())
             except BaseException as error:  # who waits for the result gets it
                 future.set_exception(error)
-            self.add(-1)
+            self.add(-1, -1)
 
-    def add(self, number):
+    def add(self, running, left):
         with self.counting:
-            self.running += number
+            self.running += running
+            self.left += left
 
 
 class Lane:
@@ -447,7 +465,7 @@ class Lane:
         """The lane's store of a crate, as it was after the check without edits."""
         kept, own = f"{self.kept}/{crate.name}", f"{self.folder}/{crate.name}"
         if crate.name not in self.stores:
-            shutil.copytree(kept, own)
+            self.rt.linked(kept, own)
             self.stores[crate.name] = stamps(own)
             return own
         was, now = self.stores[crate.name], stamps(own)
@@ -524,10 +542,12 @@ def answer(output, room, functions):
 
 
 def answer_named(crate, room, edit):
-    """Answers the goals that the edit names by `search rules`."""
+    """Answers the goals that the edit names: by `search rules` if they are of its clause; by holes, which cost no search, if they are of
+    others, since these don't count."""
     if edit.goals:
         uses = ["use Rattle.std.proofs.Common.{rules}", f"use Rattle.{crate}.proofs.{edit.function.replace('::', '.')}.Goals as goal"]
-        lines = [f"pub {goal} : goal.{goal}\n{goal} c = search rules\n" for goal in edit.goals]
+        answers = {goal: "search rules" if names(goal, edit.clause) else "?" for goal in edit.goals}
+        lines = [f"pub {goal} : goal.{goal}\n{goal} c = {by}\n" for goal, by in answers.items()]
         write_answers(room, edit.function.replace("::", "/"), uses, lines)
 
 
@@ -562,43 +582,79 @@ def stamps(folder):
 
 
 class Whole:
-    """The checks of crates without edits, each once the libraries below are built."""
+    """What crates without edits are built to, and what checks of them store: made by the `rt ci` that runs beside, or here.
 
-    def __init__(self, rt, crates, chosen, kept, lanes, most):
-        self.rt, self.chosen, self.kept, self.lanes, self.most = rt, chosen, kept, lanes, most
-        self.used = {below for crate in chosen for below in crate.below()}
-        self.crates = [crate for crate in crates if crate in chosen or crate in self.used]
+    Those to try are the crates whose edits are tried.
+    """
+
+    def __init__(self, rt, crates, to_try, kept, lanes, beside):
+        self.rt, self.to_try, self.kept, self.lanes, self.beside = rt, to_try, kept, lanes, beside
+        self.used = {below for crate in to_try for below in crate.below()}
+        self.crates = crates if beside else [crate for crate in crates if crate in to_try or crate in self.used]
         self.is_built = {crate: Future() for crate in self.crates}
-        self.functions = {}
+        self.is_stored = {crate: Future() for crate in to_try}
+        self.functions = {}  # those that a check printed: none, if rt ci kept what an earlier run proved
 
-    def check(self, crate):
-        """Checks a crate, keeps what the check stored, and builds the crate's library, if others use it."""
+    def have(self, futures, make, crate):
+        """Waits for the libraries below a crate, makes what is wanted of it, and lets whoever waits for it go on."""
         try:
             for below in crate.below():
                 self.is_built[below].result()
-            if crate in self.chosen:
-                self.lanes.submit(0, self.prove, crate).result()
-            if crate in self.used:
-                self.lanes.submit(0, self.build, crate).result()
-            self.is_built[crate].set_result(None)
-        except Exception as error:  # whoever waits for the crate gets it
-            self.is_built[crate].set_exception(error)
+            make(crate)
+            futures[crate].set_result(None)
+        except Exception as error:
+            futures[crate].set_exception(error)
             raise
 
-    def prove(self, crate):
-        """Checks a crate, with several jobs if no other crate can be checked beside it."""
-        began = time.time()
-        is_alone = all(it is crate or crate in it.below() or it in crate.below() for it in self.chosen)
-        flags = ["--jobs", str(self.most if is_alone else 1)]
-        words = [self.rt.rtlib.RATTLE, "check", *crate.words(flags, keeps=False), "--incremental", "out/incremental"]
-        output = self.run(crate, f"{crate.name} isn't proved without edits", lambda it: it.call(*words))
-        self.functions[crate] = set(re.findall(rf"^fn {crate.name}::(\S+): ", output, re.MULTILINE))
-        shutil.copytree(f"{crate.folder}/out/incremental", f"{self.kept}/{crate.name}")
-        print(f"{crate.name} without edits: {time.time() - began:.0f} s", flush=True)
+    def have_built(self, crate):
+        self.have(self.is_built, self.build, crate)
+
+    def have_stored(self, crate):
+        self.have(self.is_stored, self.store, crate)
 
     def build(self, crate):
-        """Builds a crate's library, over what its check stored."""
-        self.run(crate, f"the library {crate.name} isn't built", lambda it: it.build_rlib(["--jobs", "1"], anew=False))
+        """Takes a crate's library or program from `rt ci`, or builds the library, if others use it, over what its check stored."""
+        if self.beside and self.beside.is_proved(crate) and self.beside.take_built(crate):
+            return
+        if crate in self.to_try:
+            self.is_stored[crate].result()
+        if crate in self.used:
+            failure = f"the library {crate.name} isn't built"
+            self.lanes.submit(0, self.run, crate, failure, lambda it: it.build_rlib(["--jobs", "1"], anew=False)).result()
+
+    def store(self, crate):
+        """Takes what `rt ci` stores of a crate for its edits, or checks the crate here. One that is no library is checked here, since
+        others build it over what is stored here."""
+        store = self.awaited_store(crate) if self.beside and self.beside.has_store(crate) and crate.makes_rlib() else None
+        if not store:
+            self.lanes.submit(0, self.prove, crate).result()
+            return
+        self.rt.linked(store, f"{self.kept}/{crate.name}")
+        self.functions[crate] = functions_in(self.beside.said(), crate)
+        print(f"{crate.name} without edits: checked by rt ci", flush=True)
+
+    def awaited_store(self, crate, patience=60):
+        """The folder of what `rt ci` stores of a crate, once it is complete; or None, if for some seconds there was none and no edit to
+        try either."""
+        idle = 0
+        while idle < patience and not self.beside.has_ended():
+            store = self.beside.store(crate)
+            if store and is_stored(store):
+                return store
+            idle = 0 if store or not self.lanes.is_idle() else idle + 2
+            time.sleep(2)
+        return None
+
+    def prove(self, crate):
+        """Checks a crate, with several jobs if no other check can run beside it."""
+        began = time.time()
+        is_alone = not self.beside and all(it is crate or crate in it.below() or it in crate.below() for it in self.to_try)
+        flags = ["--jobs", str(self.lanes.count if is_alone else 1)]
+        words = [self.rt.rtlib.RATTLE, "check", *crate.words(flags, keeps=False), "--incremental", "out/incremental"]
+        output = self.run(crate, f"{crate.name} isn't proved without edits", lambda it: it.call(*words))
+        self.functions[crate] = functions_in(output, crate)
+        self.rt.linked(f"{crate.folder}/out/incremental", f"{self.kept}/{crate.name}")
+        print(f"{crate.name} without edits: {time.time() - began:.0f} s", flush=True)
 
     @staticmethod
     def run(crate, failure, call):
@@ -614,6 +670,11 @@ class Whole:
         return output
 
 
+def functions_in(output, crate):
+    """The functions of a crate that a check names."""
+    return set(re.findall(rf"^fn {crate.name}::(\S+): ", output, re.MULTILINE))
+
+
 def main():
     words = argparse.ArgumentParser(description=__doc__, formatter_class=argparse.RawDescriptionHelpFormatter)
     words.add_argument("--only", action="append", help="a word of the names of the edits to run; may be given several times")
@@ -623,9 +684,10 @@ def main():
     words.add_argument("--show", action="store_true", help="print what refused each edit")
     words.add_argument("--keep", default="", help="a folder for what each check printed")
     words.add_argument("--write", action="store_true", help="write into the edits what refused them")
-    words.add_argument("--ci", default="", help="a file with what `rt ci` prints, and once it has ended, one more with .end")
+    words.add_argument("--anew", action="store_true", help="try also the edits that an earlier run on this machine refused")
+    words.add_argument("--ci", default="", help="a folder of an `rt ci` that runs beside")
     words.add_argument("--beside", type=int, default=0, help="how many checks run in parallel at least, while other programs run too; without it, no fewer")
-    words.add_argument("--ready", default="", help="a file to make once the crates are checked without edits")
+    words.add_argument("--ready", default="", help="a file to make once other commands may build the crates here")
     words = words.parse_args()
     began = time.time()
     rt = kit()
@@ -639,18 +701,21 @@ def main():
     ]
     if not edits:
         sys.exit("no edit has such a name")
-    chosen = [crate for crate in crates if any(edit.crate is crate for edit in edits)]
+    beside = Beside(words.ci) if words.ci else None
+    before = RefusedBefore([os.path.abspath(__file__)])
+    known = {edit: before.reason(edit) for edit in edits if not words.anew and not words.write}
+    results = {edit: (True, reason) for edit, reason in known.items() if reason is not None}
+    to_try = [crate for crate in crates if any(edit.crate is crate and edit not in results for edit in edits)]
 
     def most():
         """How many checks may run now."""
         return max(words.lanes - processors_beside(), words.beside) if words.beside else words.lanes
 
-    threads, printing, results, numbers = Lanes(words.lanes, most), threading.Lock(), {}, []
-    with tempfile.TemporaryDirectory(prefix="edits-") as room, ThreadPoolExecutor(2 * len(crates)) as each:
+    threads, printing, numbers = Lanes(words.lanes, most), threading.Lock(), []
+    with tempfile.TemporaryDirectory(prefix="edits-") as room, ThreadPoolExecutor(3 * len(crates)) as each:
         os.mkdir(f"{room}/kept")
         held = rt.rtlib.lock(crates)
-        # One processor is left to what runs beside: `rt ci` proves the lowest crate meanwhile.
-        whole = Whole(rt, crates, chosen, f"{room}/kept", threads, max(words.lanes - 1, 1))
+        whole = Whole(rt, crates, to_try, f"{room}/kept", threads, beside)
         lanes = queue.SimpleQueue()
         for number in range(words.lanes):
             lanes.put(Lane(f"{room}/{number}", rt, f"{room}/kept"))
@@ -671,20 +736,21 @@ def main():
 
         def judge(crate):
             """Tries the edits of a crate."""
-            own = [edit for edit in edits if edit.crate is crate]
+            whole.is_stored[crate].result()
+            own = [edit for edit in edits if edit.crate is crate and edit not in results]
             for edit in own:
                 if not edit.function:
                     guess = edit.changed[0].name if edit.changed else "FUNCTION"
                     results[edit] = False, f"it doesn't say what it breaks: add a line 'breaks: {guess}: CLAUSE'"
-                elif edit.function not in whole.functions[crate]:
+                elif whole.functions[crate] and edit.function not in whole.functions[crate]:
                     last = edit.function.rpartition("::")[2]
                     near = sorted(name for name in whole.functions[crate] if name.rpartition("::")[2] == last)
                     results[edit] = False, f"a check names no function {edit.function}: is it {' or '.join(near) or 'another'}?"
             told = {edit for edit in own if edit in results}
-            later = [edit for edit in own if words.ci and os.path.basename(os.path.dirname(edit.file)) == "must-fail"]
+            later = [edit for edit in own if beside and os.path.basename(os.path.dirname(edit.file)) == "must-fail"]
             attempt([edit for edit in own if edit not in told and edit not in later])
             if later:
-                said, source = told_by_ci(words.ci), Source(crate.folder)
+                said, source = told_by_ci(beside), Source(crate.folder)
                 lines = {edit: said.get((crate.name, edit.name), "") for edit in later if edit not in told}
                 results.update({edit: judged_by_line(edit, line, source) for edit, line in lines.items()})
                 attempt([edit for edit in lines if not results[edit][0]])
@@ -706,14 +772,18 @@ def main():
                     results.update(found.result())
 
         try:
-            for it in [each.submit(whole.check, crate) for crate in whole.crates]:
+            built = [each.submit(whole.have_built, crate) for crate in whole.crates]
+            stored = {crate: each.submit(whole.have_stored, crate) for crate in to_try}
+            judged_all = [each.submit(judge, crate) for crate in to_try]
+            # Others build the crates here: over these libraries, and those that are no libraries over what is stored of them.
+            for it in [*built, *(it for crate, it in stored.items() if not (beside and crate.makes_rlib()))]:
                 it.result()
             if words.ready:
                 with open(words.ready, "w", encoding="utf-8"):
                     pass
             for folder in held:
                 os.close(folder)
-            for it in [each.submit(judge, crate) for crate in chosen]:
+            for it in [*stored.values(), *judged_all]:
                 it.result()
         except RuntimeError as error:
             threads.is_closed = True
@@ -723,11 +793,15 @@ def main():
         refused, why = results[edit]
         if not refused:
             failed.append(edit)
+        elif edit not in known or known[edit] is None:
+            before.keep(edit, why)
         if words.write:
             write(edit, refused)
         if words.show or not refused:
             print(f"{'refused' if refused else 'NOT REFUSED'}: {edit.label}: {why}")
     used = resource.getrusage(resource.RUSAGE_CHILDREN)
+    if any(known.values()):
+        print(f"{sum(reason is not None for reason in known.values())} were refused by earlier runs on this machine", end=", ")
     print(f"{sum(numbers)} batches, {used.ru_utime + used.ru_stime:.0f} s of processor", end=", ")
     print(f"{time.time() - began:.0f} s")
     print(f"{len(edits) - len(failed)} refused, {len(failed)} not")

@@ -30,14 +30,16 @@ import refusals  # noqa: E402
 import repository  # noqa: E402
 import row_by_row  # noqa: E402
 import users  # noqa: E402
+from built import is_newest  # noqa: E402
 from left_out import LEFT_OUT  # noqa: E402
 
 
 def build(name, path):
-    """A program as LLVM builds it. `rt run` proves it first, and runs it with its stored arguments and input.
-
-    Its status is the program's own if it was built, so that a program of an older build is never used.
+    """A program as LLVM builds it. The gate builds it; `rt run` proves and builds it here if a file is newer, and runs it with its stored
+    arguments and input. Its status is the program's own if it was built, so that a program of an older build is never used.
     """
+    if is_newest(path, name):
+        return
     folder = f"crates/{name}"
     with open(f"{folder}/args", encoding="utf-8") as file:
         words = file.read().splitlines()

@@ -27,8 +27,7 @@ fn main(rt: HostRuntime) -> ExitCode {
     }
 }
 
-/// Runs with the arguments of the environment, on standard input and output, and returns the exit status. It prints the
-/// error of a bitmap's decoding.
+/// Runs with the arguments of the environment, and returns the exit status.
 fn run_words(rt: &HostRuntime) -> Result<u8, RunFault>
     ensures status { IfOk result IsStatusOfRun }
 {
@@ -39,17 +38,32 @@ fn run_words(rt: &HostRuntime) -> Result<u8, RunFault>
         return Err(RunFault::BadArguments);
     };
     let words: Vec<String> = words;
-    let mut reader = Device::new(rt.stdin());
-    let mut writer = Device::new(rt.stdout());
-    let words = words.as_slice();
+    run_with(rt, words.as_slice())
+}
+
+/// Prints a text, and returns the exit status of that.
+fn print(rt: &HostRuntime, text: &str) -> Result<u8, RunFault>
+    ensures status { IfOk result (λ status. status ≡ 0) }
+{
+    match println!(rt; "{text}") {
+        Ok(()) => Ok(0),
+        Err(_) => Err(RunFault::Write),
+    }
+}
+
+/// Runs with these arguments, on standard input and output, and returns the exit status. It prints the error of a bitmap's
+/// decoding.
+fn run_with(rt: &HostRuntime, words: &[String]) -> Result<u8, RunFault>
+    ensures status { IfOk result IsStatusOfRun }
+{
     if is_only_word(words, "--help") {
-        let printed = println!(rt; "{USAGE}");
-        return printed.map(|_| 0u8).map_err(|_| RunFault::Write);
+        return print(rt, USAGE);
     }
     if is_only_word(words, "--version") {
-        let printed = println!(rt; "{VERSION}");
-        return printed.map(|_| 0u8).map_err(|_| RunFault::Write);
+        return print(rt, VERSION);
     }
+    let mut reader = Device::new(rt.stdin());
+    let mut writer = Device::new(rt.stdout());
     if is_first_word(words, "-o") {
         let answer = run_packed(rt.alloc(), &words[1..], &mut reader, &mut writer)?;
         if let Err(error) = answer {
@@ -57,15 +71,13 @@ fn run_words(rt: &HostRuntime) -> Result<u8, RunFault>
         }
         return Ok(status_of_answer(answer));
     }
-    if is_first_word(words, "-i") {
-        let done = run_by_row(rt.alloc(), &words[1..], &mut reader, &mut writer)?;
-        return Ok(status_of_done(done));
-    }
-    if is_first_word(words, "-d") {
-        let done = run_damage(rt.alloc(), &words[1..], &mut reader, &mut writer)?;
-        return Ok(status_of_done(done));
-    }
-    let done = run(rt.alloc(), words, &mut reader, &mut writer)?;
+    let done = if is_first_word(words, "-i") {
+        run_by_row(rt.alloc(), &words[1..], &mut reader, &mut writer)?
+    } else if is_first_word(words, "-d") {
+        run_damage(rt.alloc(), &words[1..], &mut reader, &mut writer)?
+    } else {
+        run(rt.alloc(), words, &mut reader, &mut writer)?
+    };
     Ok(status_of_done(done))
 }
 

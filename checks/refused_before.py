@@ -1,0 +1,33 @@
+"""What refused edits in earlier runs on this machine, so that they needn't be tried again: as the kit's `rt ci` keeps what it passed."""
+import hashlib
+import os
+
+
+class RefusedBefore:
+    """A file for each edit that was refused, named by a sum of all that its verdict rests on: the edit, its crate, the crates below,
+    the kit, and the programs that judge it. It has what refused the edit."""
+
+    def __init__(self, programs):
+        cache = os.environ.get("XDG_CACHE_HOME") or os.path.expanduser("~/.cache")
+        self.folder, self.programs = f"{cache}/hayro_ccitt/edits", [text_of(program) for program in programs]
+
+    def path(self, edit):
+        stands_on = repr((edit.text, edit.label, edit.crate.stamp(), self.programs))
+        return f"{self.folder}/{hashlib.sha256(stands_on.encode()).hexdigest()}"
+
+    def reason(self, edit):
+        """What refused the edit before, or None."""
+        path = self.path(edit)
+        return text_of(path) if os.path.exists(path) else None
+
+    def keep(self, edit, reason):
+        path = self.path(edit)
+        os.makedirs(self.folder, exist_ok=True)
+        with open(f"{path}.{os.getpid()}", "w", encoding="utf-8") as file:
+            file.write(reason)
+        os.replace(f"{path}.{os.getpid()}", path)
+
+
+def text_of(path):
+    with open(path, encoding="utf-8") as file:
+        return file.read()
