@@ -31,7 +31,7 @@ class Beside:
             verdict = re.search(rf"^rt: {crate.name} (proved|is kept:|NOT PROVED)", self.said(), re.MULTILINE)
             if verdict or has_ended:
                 return bool(verdict) and verdict[1] != "NOT PROVED"
-            time.sleep(1)
+            time.sleep(3)
 
     def take_built(self, crate):
         """Copies a proved crate's library or program, so that `rt` takes it for its own. Returns whether there is one."""
@@ -57,16 +57,21 @@ class Beside:
     def store(self, crate):
         """The folder in which it does so, if it has begun that check."""
         temporary = f"{self.folder}/temporary"
-        for name in os.listdir(temporary):
-            folder = f"{temporary}/{name}/seed"
-            if name.startswith("rt-edits-") and any(of_crate(file, crate.name) for _, _, files in os.walk(folder) for file in files):
-                return folder
-        return None
+        folders = [f"{temporary}/{name}/seed" for name in os.listdir(temporary) if name.startswith("rt-edits-")]
+        return next((folder for folder in folders if crate_stored_in(folder) == crate.name), None)
 
 
-def of_crate(file, name):
-    """Whether a stored file is one of this crate's modules."""
-    return file.startswith((f"Rattle-{name}-", f"Rattle-{name}."))
+def crate_stored_in(folder):
+    """The crate whose modules a check stores in a folder, which has a folder for each build of `rattle`."""
+    try:
+        for build in os.scandir(folder):
+            for file in os.scandir(build) if build.is_dir() else ():
+                found = re.match(r"Rattle-(\w+)[-.]", file.name)
+                if found:
+                    return found[1]
+    except OSError:  # it isn't there yet, or no more
+        pass
+    return None
 
 
 def is_stored(folder):

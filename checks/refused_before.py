@@ -1,4 +1,5 @@
 """What refused edits in earlier runs on this machine, so that they needn't be tried again: as the kit's `rt ci` keeps what it passed."""
+import functools
 import hashlib
 import os
 
@@ -10,9 +11,11 @@ class RefusedBefore:
     def __init__(self, programs):
         cache = os.environ.get("XDG_CACHE_HOME") or os.path.expanduser("~/.cache")
         self.folder, self.programs = f"{cache}/hayro_ccitt/edits", [text_of(program) for program in programs]
+        self.stamp = functools.cache(lambda crate: crate.stamp())
+        self.stamp_at_the_end = functools.cache(lambda crate: crate.stamp())
 
     def path(self, edit):
-        stands_on = repr((edit.text, edit.label, edit.crate.stamp(), self.programs))
+        stands_on = repr((edit.text, edit.label, self.stamp(edit.crate), self.programs))
         return f"{self.folder}/{hashlib.sha256(stands_on.encode()).hexdigest()}"
 
     def reason(self, edit):
@@ -21,6 +24,9 @@ class RefusedBefore:
         return text_of(path) if os.path.exists(path) else None
 
     def keep(self, edit, reason):
+        """Keeps what refused the edit, once all are tried, unless a file of its crate changed meanwhile."""
+        if self.stamp_at_the_end(edit.crate) != self.stamp(edit.crate):
+            return
         path = self.path(edit)
         os.makedirs(self.folder, exist_ok=True)
         with open(f"{path}.{os.getpid()}", "w", encoding="utf-8") as file:
