@@ -65,6 +65,8 @@ from refused_before import RefusedBefore  # noqa: E402
 
 ROOT = os.path.realpath(os.path.join(os.path.dirname(os.path.abspath(__file__)), ".."))
 FOLDERS = ("must-fail", "edits")
+# The memory that three checks of one crate take at most, one of them with several jobs, in bytes.
+ROOM = 16_000_000_000
 
 
 def kit():
@@ -377,7 +379,7 @@ def judged_by_line(edit, told, source):
     return judged(edit, read(told, edit.crate.name), told)
 
 
-def processors_beside(seconds=2, looks=8):
+def processors_beside(seconds=3, looks=6):
     """How many processors the processes want that this one didn't start, as seen for some seconds: those that wait for one too."""
     seen = 0
     for _ in range(looks):
@@ -623,9 +625,10 @@ class Whole:
             self.lanes.submit(0, self.run, crate, failure, lambda it: it.build_rlib(["--jobs", "1"], anew=False)).result()
 
     def store(self, crate):
-        """Takes what `rt ci` stores of a crate for its edits, or checks the crate here. One that is no library is checked here, since
-        others build it over what is stored here."""
-        store = self.awaited_store(crate) if self.beside and self.beside.has_store(crate) and crate.makes_rlib() else None
+        """Takes what `rt ci` stores of a crate for its edits, or checks the crate here: one that is no library, since others build it
+        over what is stored here; and one that `rt ci` begins with, if processors are idle meanwhile."""
+        is_taken = self.beside and self.beside.has_store(crate) and crate.makes_rlib() and self.idle_jobs(crate) < 2
+        store = self.awaited_store(crate) if is_taken else None
         if not store:
             self.lanes.submit(0, self.prove, crate).result()
             return
@@ -645,11 +648,18 @@ class Whole:
             time.sleep(2)
         return None
 
+    def idle_jobs(self, crate):
+        """How many jobs a check of a crate may have, on processors that no other check could use. An `rt ci` beside checks a crate twice,
+        each time with one job, before it can check those above."""
+        if self.beside:
+            return max(self.lanes.count - 2, 1) if not crate.below() and self.rt.free() > ROOM else 1
+        is_alone = all(it is crate or crate in it.below() or it in crate.below() for it in self.to_try)
+        return self.lanes.count if is_alone else 1
+
     def prove(self, crate):
-        """Checks a crate, with several jobs if no other check can run beside it."""
+        """Checks a crate, and keeps what the check stored."""
         began = time.time()
-        is_alone = not self.beside and all(it is crate or crate in it.below() or it in crate.below() for it in self.to_try)
-        flags = ["--jobs", str(self.lanes.count if is_alone else 1)]
+        flags = ["--jobs", str(self.idle_jobs(crate))]
         words = [self.rt.rtlib.RATTLE, "check", *crate.words(flags, keeps=False), "--incremental", "out/incremental"]
         output = self.run(crate, f"{crate.name} isn't proved without edits", lambda it: it.call(*words))
         self.functions[crate] = functions_in(output, crate)

@@ -32,8 +32,7 @@ fn main(rt: HostRuntime) -> ExitCode {
     }
 }
 
-/// Runs with the arguments of the environment, on standard input and output, and returns the exit status. It prints what is
-/// wrong with the picture.
+/// Runs with the arguments of the environment, and returns the exit status.
 fn run_words(rt: &HostRuntime) -> Result<u8, RunFault>
     ensures status { IfOk result IsStatusOfRun }
 {
@@ -44,14 +43,29 @@ fn run_words(rt: &HostRuntime) -> Result<u8, RunFault>
         return Err(RunFault::BadArguments);
     };
     let words: Vec<String> = words;
-    let words = words.as_slice();
+    run_with(rt, words.as_slice())
+}
+
+/// Prints a text, and returns the exit status of that.
+fn print(rt: &HostRuntime, text: &str) -> Result<u8, RunFault>
+    ensures status { IfOk result (λ status. status ≡ 0) }
+{
+    match println!(rt; "{text}") {
+        Ok(()) => Ok(0),
+        Err(_) => Err(RunFault::Write),
+    }
+}
+
+/// Runs with these arguments, on standard input and output, and returns the exit status. It prints what is wrong with the
+/// picture.
+fn run_with(rt: &HostRuntime, words: &[String]) -> Result<u8, RunFault>
+    ensures status { IfOk result IsStatusOfRun }
+{
     if is_only_word(words, "--help") {
-        let printed = println!(rt; "{USAGE}");
-        return printed.map(|_| 0u8).map_err(|_| RunFault::Write);
+        return print(rt, USAGE);
     }
     if is_only_word(words, "--version") {
-        let printed = println!(rt; "{VERSION}");
-        return printed.map(|_| 0u8).map_err(|_| RunFault::Write);
+        return print(rt, VERSION);
     }
     let mut reader = Device::new(rt.stdin());
     let mut writer = Device::new(rt.stdout());
