@@ -25,6 +25,7 @@ NAMED = {
     "decoder_tests": {
         "tests::refused_memory::calls_without_memory": (1, 0),
         "tests::refused_memory::contexts_without_memory": (1, 0),
+        "tests::refused_memory::reach_without_memory": (1, 0),
         "tests::refused_memory::refused_bodies": (2, 1),
         "tests::refused_memory::refused_growths_of_a_row": (12, 11),
         "tests::refused_memory::refused_rows": (9, 6),

@@ -35,7 +35,8 @@ the same.
 With --ci an `rt ci` runs beside, on a checkout with the same files: the folder has what it prints, in the file `ci`, its temporary
 files, in the folder `temporary`, the path of its checkout, in the file `checkout`, and once it has ended the file `ci.end`. What it
 proves isn't proved again here: libraries and programs are copied once they are built, and so is what its check of a crate stored for
-the edits in must-fail/, if it made one. The other crates are checked here. `rt ci` tries the edits in must-fail/ itself, and prints
+the edits in must-fail/, if it made one. The other crates are checked here, and so is a crate that depends on no other: until
+`rt ci` has proved it, nothing else can be checked, and processors are idle. `rt ci` tries the edits in must-fail/ itself, and prints
 the first line of what refused each. These are judged by that line, once it has ended; only where it doesn't show that the clause
 refuses the edit is it tried here.
 The last line is 'N refused, M not'.
@@ -626,7 +627,7 @@ class Whole:
 
     def store(self, crate):
         """Takes what `rt ci` stores of a crate for its edits, or checks the crate here: one that is no library, since others build it
-        over what is stored here; and one that `rt ci` begins with, if processors are idle meanwhile."""
+        over what is stored here; and one that `rt ci` begins with, if processors are idle until it is proved."""
         is_taken = self.beside and self.beside.has_store(crate) and crate.makes_rlib() and self.idle_jobs(crate) < 2
         store = self.awaited_store(crate) if is_taken else None
         if not store:

@@ -146,27 +146,22 @@ fn found_in(
     order: BitOrder,
 ) -> String {
     assert!(rt; bits_fit(bytes));
-    let alloc = rt.alloc();
-    let text = match name {
-        "rows_of_bitmap" => format!(in alloc; "{:?}", rows_of_bitmap(alloc, columns, bytes)),
-        "count_black" => format!(in alloc;
-            "{:?}",
-            count_black(alloc, group4_pages(columns), order, bytes)
-        ),
-        "is_blank" => format!(in alloc;
-            "{:?}",
-            is_blank(alloc, group4_pages(columns), order, bytes)
-        ),
-        "group4_pages" => format!(in alloc; "{:?}", group4_pages(columns)),
-        "page_end" => format!(in alloc; "{:?}", page_end(alloc, columns, order, bytes)),
-        "strip_to_bitmap" => return bytes_or_error(
-            rt,
-            strip_to_bitmap(alloc, group4_pages(columns), order, bytes),
-        ),
-        "page_ends" => format!(in alloc; "{:?}", page_ends(alloc, columns, order, bytes)),
+    let (alloc, settings) = (rt.alloc(), group4_pages(columns));
+    match name {
+        "rows_of_bitmap" => said(rt, &rows_of_bitmap(alloc, columns, bytes)),
+        "count_black" => said(rt, &count_black(alloc, settings, order, bytes)),
+        "is_blank" => said(rt, &is_blank(alloc, settings, order, bytes)),
+        "group4_pages" => said(rt, &settings),
+        "page_end" => said(rt, &page_end(alloc, columns, order, bytes)),
+        "page_ends" => said(rt, &page_ends(alloc, columns, order, bytes)),
+        "strip_to_bitmap" => { bytes_or_error(rt, strip_to_bitmap(alloc, settings, order, bytes)) }
         _ => panic!(rt; "no call is named {name}"),
-    };
-    text.expect(rt, "memory")
+    }
+}
+
+/// Writes a value as `Debug` does.
+fn said<T: Debug>(rt: &(impl Abort + AllocGlobal), value: &T) -> String {
+    format!(in rt.alloc(); "{value:?}").expect(rt, "memory")
 }
 
 /// Calls a function that returns bytes, or whose sink holds some.
@@ -180,16 +175,30 @@ fn by_name(
 ) -> Result<Vec<u8>, EncodeError> {
     let aligned = settings.rows_are_byte_aligned;
     match name {
+        "encode_bitmap_g4" => encode_bitmap_g4(alloc, columns, bitmap, aligned),
+        "encode_bitmap_1d" => encode_bitmap_1d(alloc, columns, bitmap),
+        "encode_bitmap" => encode_bitmap(alloc, columns, bitmap, settings),
+        "push_packed_row" => by_packed_rows(alloc, columns, bitmap, settings),
+        _ => by_name_of_rows(alloc, name, columns, rows, settings),
+    }
+}
+
+/// Calls a function that takes rows.
+fn by_name_of_rows(
+    alloc: Global,
+    name: &str,
+    columns: u32,
+    rows: &[Vec<u32>],
+    settings: EncodeSettings,
+) -> Result<Vec<u8>, EncodeError> {
+    let aligned = settings.rows_are_byte_aligned;
+    match name {
         "encode_g4" => encode_g4(alloc, columns, rows, aligned),
         "encode_1d" => encode_1d(alloc, columns, rows),
         "encode" => encode(alloc, columns, rows, settings),
         "bitmap_by_group4" => Ok(bitmap_by_group4(alloc, columns, rows, aligned)?.into_bytes()),
         "bitmap_by_group3" => Ok(bitmap_by_group3(alloc, columns, rows)?.into_bytes()),
-        "push_changes" => by_changes(alloc, columns, rows, settings),
-        "encode_bitmap_g4" => encode_bitmap_g4(alloc, columns, bitmap, aligned),
-        "encode_bitmap_1d" => encode_bitmap_1d(alloc, columns, bitmap),
-        "encode_bitmap" => encode_bitmap(alloc, columns, bitmap, settings),
-        _ => by_packed_rows(alloc, columns, bitmap, settings),
+        _ => by_changes(alloc, columns, rows, settings),
     }
 }
 
@@ -228,7 +237,7 @@ fn bytes_or_error<E: Debug + Drop>(
 ) -> String {
     match found {
         Ok(bytes) => digits_of(rt, &bytes),
-        Err(error) => format!(in rt.alloc(); "{error:?}").expect(rt, "memory"),
+        Err(error) => said(rt, &error),
     }
 }
 

@@ -216,13 +216,8 @@ fn error_of(argument: &str) -> DecodeError {
     }
 }
 
-/// Calls a reader of bits.
-fn reads(
-    rt: &(impl Abort + AllocGlobal),
-    call: &str,
-    argument: &str,
-    reader: &mut BitReader,
-) -> String {
+/// Calls a reader of bits that reads bits.
+fn reads(rt: &(impl Abort + AllocGlobal), call: &str, reader: &mut BitReader) -> String {
     match call {
         "read_bit" => said(rt, &reader.read_bit()),
         "peek_u32" => said(rt, &reader.peek_u32()),
@@ -233,6 +228,18 @@ fn reads(
         "at_end" => said(rt, &reader.at_end()),
         "byte_pos" => said(rt, &reader.byte_pos()),
         "bit_pos" => said(rt, &reader.bit_pos()),
+        _ => panic!(rt; "no call: {call}"),
+    }
+}
+
+/// Calls a reader of bits.
+fn reads_codes(
+    rt: &(impl Abort + AllocGlobal),
+    call: &str,
+    argument: &str,
+    reader: &mut BitReader,
+) -> String {
+    match call {
         "white_run" => said(rt, &run_of(rt, reader, Color::White)),
         "black_run" => said(rt, &run_of(rt, reader, Color::Black)),
         "decode_mode" => said(rt, &mode_of(reader)),
@@ -241,11 +248,55 @@ fn reads(
         "read_eol_if_available" => said(rt, &all_eols_of(reader)),
         "read_tagged_eols" => said(rt, &tagged_eols_of(reader)),
         "skip_to_eol" => said(rt, &has_eol_left(reader)),
-        _ => panic!(rt; "no call: {call}"),
+        _ => reads(rt, call, reader),
     }
 }
 
-/// Calls a context, or a reader of bits.
+/// Asks or sets what a context keeps, or calls a reader of bits.
+fn asks(
+    rt: &(impl Abort + AllocGlobal),
+    call: &str,
+    argument: &str,
+    data: &[u8],
+    ctx: &mut DecoderContext,
+    reader: &mut BitReader,
+) -> String {
+    match call {
+        "body_is_local" => said(rt, &is_local_by(rt, data, ctx, argument)),
+        "rows_reached" => said(
+            rt,
+            &reach_of(rt, data, ctx, number_in(rt, argument) as usize),
+        ),
+        "settings" => said(rt, &ctx.settings()),
+        "decoded_rows" => said(rt, &ctx.decoded_rows()),
+        "has_eols" => said(rt, &ctx.has_eols()),
+        "set_has_eols" => said(rt, &ctx.set_has_eols(argument == "true")),
+        "tick" => said(rt, &counts_tick(ctx)),
+        "reset" => said(rt, &ctx.reset()),
+        _ => reads_codes(rt, call, argument, reader),
+    }
+}
+
+/// Draws a line in a context, or calls what `asks` does.
+fn draws(
+    rt: &(impl Abort + AllocGlobal),
+    call: &str,
+    argument: &str,
+    data: &[u8],
+    ctx: &mut DecoderContext,
+    reader: &mut BitReader,
+) -> String {
+    match call {
+        "decode_1d_line" => said(rt, &draws_1d(ctx, reader)),
+        "decode_2d_line" => said(rt, &draws_2d(ctx, reader)),
+        "push_pixels" => said(rt, &paints(ctx, number_in(rt, argument))),
+        "fill_white" => said(rt, &fills(ctx)),
+        "b1_and_b2" => said(rt, &places_of(ctx)),
+        _ => asks(rt, call, argument, data, ctx, reader),
+    }
+}
+
+/// Decodes rows in a context, or calls what `draws` does.
 fn calls<'a>(
     rt: &(impl Abort + AllocGlobal),
     call: &str,
@@ -259,27 +310,11 @@ fn calls<'a>(
         "group4::decode" => said(rt, &decodes_group4(rt, ctx, reader, sink)),
         "decode_1d" => said(rt, &decodes_1d(rt, ctx, reader, sink)),
         "decode_2d" => said(rt, &decodes_2d(rt, ctx, reader, sink)),
-        "decode_1d_line" => said(rt, &draws_1d(ctx, reader)),
-        "decode_2d_line" => said(rt, &draws_2d(ctx, reader)),
         "next_line" => said(rt, &moves_on(rt, ctx, sink)),
         "rows" => joined(rt, sink.text.as_str()),
-        "push_pixels" => said(rt, &paints(ctx, number_in(rt, argument))),
-        "fill_white" => said(rt, &fills(ctx)),
-        "b1_and_b2" => said(rt, &places_of(ctx)),
         "check_eob" => said(rt, &is_over(rt, ctx, reader)),
         "recover" => said(rt, &repairs(rt, ctx, reader, data, error_of(argument))),
-        "body_is_local" => said(rt, &is_local_by(rt, data, ctx, argument)),
-        "rows_reached" => said(
-            rt,
-            &reach_of(rt, data, ctx, number_in(rt, argument) as usize),
-        ),
-        "settings" => said(rt, &ctx.settings()),
-        "decoded_rows" => said(rt, &ctx.decoded_rows()),
-        "has_eols" => said(rt, &ctx.has_eols()),
-        "set_has_eols" => said(rt, &ctx.set_has_eols(argument == "true")),
-        "tick" => said(rt, &counts_tick(ctx)),
-        "reset" => said(rt, &ctx.reset()),
-        _ => reads(rt, call, argument, reader),
+        _ => draws(rt, call, argument, data, ctx, reader),
     }
 }
 

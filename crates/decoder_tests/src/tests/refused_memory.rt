@@ -166,9 +166,7 @@ fn refused_bodies(rt: HostRuntime) {
 #[test]
 fn calls_without_memory(rt: HostRuntime) {
     let mut ctx = context_of(&rt, settings_in(&rt, "Group4 8 columns 0 rows"));
-    let mut other = context_of(&rt, settings_in(&rt, "Group3_2D 8 columns 0 rows l"));
     let data = bytes_of(&rt, "31C0");
-    let lines = bytes_of(&rt, "001CC005400398");
     let mut sink = sink_of(&rt, 2);
     assert!(rt; bits_fit(&data));
     let drawn = draws_2d(&mut ctx, &mut BitReader::new(&data));
@@ -189,7 +187,16 @@ fn calls_without_memory(rt: HostRuntime) {
     same(&rt, moves_on(&rt, &mut ctx, &mut sink), Err(Refused));
     ctx.reset();
     same(&rt, (ctx.decoded_rows(), ctx.has_eols()), (0, false));
-    same(&rt, reach_of(&rt, &lines, &mut other, 18), Some(2));
+    same(&rt, was_refused(rt.alloc()), false);
+}
+
+#[test]
+fn reach_without_memory(rt: HostRuntime) {
+    let settings = settings_in(&rt, "Group3_2D 8 columns 0 rows l");
+    let mut ctx = context_of(&rt, settings);
+    let lines = bytes_of(&rt, "001CC005400398");
+    refuse_request(rt.alloc(), 1);
+    same(&rt, reach_of(&rt, &lines, &mut ctx, 18), Some(2));
     same(&rt, was_refused(rt.alloc()), false);
 }
 
