@@ -1,12 +1,12 @@
 """Checks of the library for C: the example on real strips, and each call on cases with known results."""
 import ctypes
-import functools
 import os
 import random
 import subprocess
 import tempfile
 
 import program
+from built import is_newest
 
 CRATE = "crates/hayro_ccitt_c"
 LIBRARY = f"{CRATE}/out/libhayro_ccitt_c.a"
@@ -47,9 +47,10 @@ def settings_of(mode, columns, rows, flags):
     return Settings(int(columns), int(rows), MODES.index(mode), sum(1 << LETTERS.index(letter) for letter in flags if letter != "-"))
 
 
-@functools.cache
 def build():
-    """The static library, proved and built: once, however many checks call it."""
+    """The static library: it is proved and built here if a file is newer."""
+    if is_newest(LIBRARY, "hayro_ccitt_c"):
+        return
     done = subprocess.run(["rt", "lib"], cwd=CRATE, capture_output=True, text=True, check=False)
     assert done.returncode == 0 and os.path.exists(LIBRARY), done.stdout[-2000:] + done.stderr[-2000:]
 

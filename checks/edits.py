@@ -38,7 +38,7 @@ proves isn't proved again here: libraries and programs are copied once they are 
 the edits in must-fail/, if it made one. The other crates are checked here, and so is a crate that depends on no other: until
 `rt ci` has proved it, nothing else can be checked, and processors are idle. `rt ci` tries the edits in must-fail/ itself, and prints
 the first line of what refused each. These are judged by that line, once it has ended; only where it doesn't show that the clause
-refuses the edit is it tried here.
+refuses the edit is it tried here. A line 'first: another clause' in an edit says that it doesn't: this one is tried with the others.
 The last line is 'N refused, M not'.
 """
 import argparse
@@ -191,6 +191,8 @@ class Edit:
         found = re.search(r"^breaks: ([\w:]+): (\S+)$", self.text, re.MULTILINE)
         self.function, self.clause = (found[1], found[2]) if found else ("", "")
         self.goals = re.findall(r"^search: (\S+)$", self.text, re.MULTILINE)
+        # rt ci tries it, and its line may show that the clause refuses it
+        self.is_told = os.path.basename(os.path.dirname(file)) == "must-fail" and not re.search(r"^first: another clause$", self.text, re.MULTILINE)
         path = re.search(r"^file: (\S+)$", self.text, re.MULTILINE)
         self.path = path[1] if path else ""
         olds = re.findall(r"^old: (.*)$", self.text, re.MULTILINE)
@@ -758,7 +760,7 @@ def main():
                     near = sorted(name for name in whole.functions[crate] if name.rpartition("::")[2] == last)
                     results[edit] = False, f"a check names no function {edit.function}: is it {' or '.join(near) or 'another'}?"
             told = {edit for edit in own if edit in results}
-            later = [edit for edit in own if beside and os.path.basename(os.path.dirname(edit.file)) == "must-fail"]
+            later = [edit for edit in own if beside and edit.is_told]
             attempt([edit for edit in own if edit not in told and edit not in later])
             if later:
                 said, source = told_by_ci(beside), Source(crate.folder)

@@ -1,13 +1,16 @@
 """The repository's own checks. The last line is 'N passed, M failed', and what was left out because a tool is missing.
 
     python3 checks/run.py                  all of them
-    python3 checks/run.py NAME             those of one file: repository, program, built_tests ..
+    python3 checks/run.py NAME             those of one file, or one check: repository, program, cost.slow_shapes ..
     python3 checks/run.py --without NAME   all but those of one file
+
+Several checks run in parallel, each in a process of its own: one for each processor.
 """
 import os
 import subprocess
 import sys
 import traceback
+from concurrent.futures import ThreadPoolExecutor
 
 os.chdir(os.path.join(os.path.dirname(os.path.abspath(__file__)), ".."))
 sys.dont_write_bytecode = True
@@ -50,26 +53,83 @@ def build(name, path):
         sys.exit(f"{name} was not built")
 
 
+FILES = [
+    repository, program, built_tests, packing, c_library, row_by_row, encoder, refusals, devices, cuts, damage_by_k, hostile, memory, large, installed, users, files, cost,
+]
+# those that run beside the build of the library for C
+WITHOUT_LIBRARY = [repository, program, built_tests, packing, devices]
+# those that call `make`, which run in turn, and those that take longest
+MAKE = [installed, users, files]
+LONG = [cost, large, memory, hostile]
+
+
+def names_of(file):
+    return [f"{file.__name__}.{check.__name__}" for check in file.CHECKS]
+
+
+def run_one(name):
+    """Runs a check here. Returns whether it passed."""
+    file, _, check = name.partition(".")
+    try:
+        next(it for of in FILES if of.__name__ == file for it in of.CHECKS if it.__name__ == check)()
+    except Exception:
+        print(f"{check}: FAILED")
+        traceback.print_exc(file=sys.stdout)
+        return False
+    print(f"{check}: ok")
+    return True
+
+
+def run_beside(name, library):
+    """Runs a check in a process of its own, once the library for C is built if it is one that may use it. Returns its output."""
+    try:
+        if library:
+            library.result()
+    except AssertionError as error:
+        return f"{name}: FAILED, as the library for C isn't built: {error}\n0 passed, 1 failed"
+    done = subprocess.run([sys.executable, "checks/run.py", name], stdout=subprocess.PIPE, stderr=subprocess.STDOUT, text=True, check=False)
+    return done.stdout
+
+
+def run_in_parallel(chosen):
+    """Runs the checks of these files. Returns the output of each."""
+    outputs = {}
+    with ThreadPoolExecutor(1) as builder, ThreadPoolExecutor(len(os.sched_getaffinity(0))) as pool:
+        library = builder.submit(c_library.build) if {*chosen} - {*WITHOUT_LIBRARY} else None
+
+        def run_in_turn(names, library):
+            outputs.update({name: run_beside(name, library) for name in names})
+
+        others = [it for it in chosen if it not in WITHOUT_LIBRARY and it not in MAKE]
+        turns = [([name], None) for it in chosen if it in WITHOUT_LIBRARY for name in names_of(it)]
+        turns.append(([name for it in chosen if it in MAKE for name in names_of(it)], library))
+        turns += [([name], library) for it in sorted(others, key=lambda it: it not in LONG) for name in names_of(it)]
+        for running in [pool.submit(run_in_turn, *turn) for turn in turns]:
+            running.result()
+    return [outputs[name] for it in chosen for name in names_of(it)]
+
+
 def main():
-    passed = failed = 0
-    all_files = [
-        repository, program, built_tests, packing, c_library, row_by_row, encoder, refusals, devices, cuts, damage_by_k, hostile, memory, large, installed, users, files, cost,
-    ]
     words = sys.argv[1:]
-    chosen = [it for it in all_files if not words or (it.__name__ in words) != (words[0] == "--without")]
+    if words and "." in words[0]:
+        passed = run_one(words[0])
+        summary(int(passed), int(not passed), LEFT_OUT)
+    chosen = [it for it in FILES if not words or (it.__name__ in words) != (words[0] == "--without")]
     if {*chosen} - {repository, built_tests}:
         build("faxrows", program.PROGRAM)
         build("faxpack", packing.PROGRAM)
-    for check in [check for file in chosen for check in file.CHECKS]:
-        try:
-            check()
-            passed += 1
-            print(f"{check.__name__}: ok")
-        except Exception:  # each check stands alone
-            failed += 1
-            print(f"{check.__name__}: FAILED")
-            traceback.print_exc()
-    print(f"{passed} passed, {failed} failed" + (f"; left out: {', '.join(LEFT_OUT)}" if LEFT_OUT else ""))
+    passed, failed, left_out = 0, 0, []
+    for *lines, last in map(str.splitlines, run_in_parallel(chosen)):
+        print(*lines, sep="\n", flush=True)
+        is_passed = last.startswith("1 passed, 0 failed")
+        passed, failed = passed + is_passed, failed + (not is_passed)
+        left_out += [it for it in last.partition("; left out: ")[2].split(", ") if it]
+    summary(passed, failed, left_out)
+
+
+def summary(passed, failed, left_out):
+    """Prints the last line, and ends with the status."""
+    print(f"{passed} passed, {failed} failed" + (f"; left out: {', '.join(left_out)}" if left_out else ""))
     sys.exit(1 if failed or not passed else 0)
 
 

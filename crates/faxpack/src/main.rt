@@ -16,10 +16,9 @@ pub mod picture;
 pub mod program;
 
 use fax_program::words::is_only_word;
-use fax_program::{Device, RunFault, status_of_fault};
+use fax_program::{Device, RunFault, print, status_of_fault, words_of_run};
 pub use picture::PictureFault;
 pub use program::run;
-use std::env;
 use std::process::ExitCode;
 
 fn main(rt: HostRuntime) -> ExitCode {
@@ -32,28 +31,12 @@ fn main(rt: HostRuntime) -> ExitCode {
     }
 }
 
-/// Runs with the arguments of the environment, and returns the exit status.
+/// Runs with the arguments of the program's run, and returns the exit status.
 fn run_words(rt: &HostRuntime) -> Result<u8, RunFault>
     ensures status { IfOk result IsStatusOfRun }
 {
-    let Ok(all) = env::args(rt) else {
-        return Err(RunFault::BadArguments);
-    };
-    let Ok(words) = all.skip(1).collect(rt.alloc()) else {
-        return Err(RunFault::BadArguments);
-    };
-    let words: Vec<String> = words;
+    let words = words_of_run(rt)?;
     run_with(rt, words.as_slice())
-}
-
-/// Prints a text, and returns the exit status of that.
-fn print(rt: &HostRuntime, text: &str) -> Result<u8, RunFault>
-    ensures status { IfOk result (λ status. status ≡ 0) }
-{
-    match println!(rt; "{text}") {
-        Ok(()) => Ok(0),
-        Err(_) => Err(RunFault::Write),
-    }
 }
 
 /// Runs with these arguments, on standard input and output, and returns the exit status. It prints what is wrong with the
@@ -62,10 +45,12 @@ fn run_with(rt: &HostRuntime, words: &[String]) -> Result<u8, RunFault>
     ensures status { IfOk result IsStatusOfRun }
 {
     if is_only_word(words, "--help") {
-        return print(rt, USAGE);
+        print(rt, USAGE)?;
+        return Ok(0);
     }
     if is_only_word(words, "--version") {
-        return print(rt, VERSION);
+        print(rt, VERSION)?;
+        return Ok(0);
     }
     let mut reader = Device::new(rt.stdin());
     let mut writer = Device::new(rt.stdout());
