@@ -85,10 +85,10 @@ def run_beside(name, library):
     try:
         if library:
             library.result()
-    except AssertionError as error:
+    except Exception as error:
         return f"{name}: FAILED, as the library for C isn't built: {error}\n0 passed, 1 failed"
     done = subprocess.run([sys.executable, "checks/run.py", name], stdout=subprocess.PIPE, stderr=subprocess.STDOUT, text=True, check=False)
-    return done.stdout
+    return done.stdout or f"{name}: ended with status {done.returncode}\n0 passed, 1 failed"
 
 
 def run_in_parallel(chosen):
