@@ -1,4 +1,4 @@
-//! The loop over rows that all encodings share: a row, and the gap after it (T.4 section 4.1, T.6 section 2).
+//! A row and the gap after it, in every encoding (T.4 section 4.1, T.6 section 2).
 
 ghost use Rattle.std.specs.Prelude.{false, ◌≡◌, ◌≢◌, ◌<◌, ◌≤◌, ◌+◌, ◌*◌, Err, OnOk, OnErr, IfOk, IfErr, IsOkUnless, true, ◌||◌};
 ghost use Rattle.std.specs.Prelude.{[], length, ◌^◌};
