@@ -255,7 +255,7 @@ def slow_shapes():
     c_library.build()
     worse = []
     with tempfile.TemporaryDirectory() as folder:
-        driver = c_library.compiled(f"{folder}/driver", "bench/driver.c", "c/heap.c", c_library.LIBRARY)
+        driver = c_library.compiled(f"{folder}/driver", "bench/driver.c", c_library.LIBRARY)
         for shape, encoding, flags, of_size, measured, of_crate in SHAPES:
             costs = []
             for size in SIZES:
@@ -292,7 +292,7 @@ def encoding_dense_rows():
     c_library.build()
     worse = []
     with tempfile.TemporaryDirectory() as folder:
-        driver = c_library.compiled(f"{folder}/driver", "checks/measured_encoding.c", "c/heap.c", c_library.LIBRARY)
+        driver = c_library.compiled(f"{folder}/driver", "checks/measured_encoding.c", c_library.LIBRARY)
         for shape, encoding, bits, measured in DENSE_ROWS:
             costs = []
             for columns in WIDTHS:

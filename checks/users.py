@@ -120,7 +120,7 @@ def the_cargo_package():
             done = subprocess.run(["cargo", *words], cwd=PACKAGE, env=cargo, capture_output=True, text=True, check=False)
             assert done.returncode == 0, done.stdout[-2000:] + done.stderr[-2000:]
         example = f"{folder}/target/release/examples/strip_to_pbm"
-        in_c = c_library.compiled(f"{folder}/strip_to_pbm", "examples/strip_to_pbm.c", "c/heap.c", c_library.LIBRARY)
+        in_c = c_library.compiled(f"{folder}/strip_to_pbm", "examples/strip_to_pbm.c", c_library.LIBRARY)
         for name, strip, mode, columns, _, settings, *_ in manifest():
             with open(f"corpus/{strip}", "rb") as file:
                 data = file.read()
