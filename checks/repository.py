@@ -5,7 +5,7 @@ import re
 import subprocess
 
 import edits
-from want_of_memory import want_of_memory_is_made_where_it_is_listed
+import places
 
 
 def tracked():
@@ -357,7 +357,7 @@ CHECKS = [
     readme_names_the_kit,
     no_proof_has_a_hole,
     no_work_is_thrown_away,
-    want_of_memory_is_made_where_it_is_listed,
+    *places.CHECKS,
     each_lemma_is_cited,
     no_name_stands_twice,
     one_line_is_unsafe,
