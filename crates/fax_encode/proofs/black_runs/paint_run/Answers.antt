@@ -1,0 +1,30 @@
+use Rattle.fax_encode.proofs.Names.{◌≡◌, ◌+◌, ◌-◌, ◌*◌, ◌/◌, ◌%◌, ◌<◌, ◌++◌, ℕ, true, length, replicate, ap, ◌∙◌, arith, Bits}
+use Rattle.fax_encode.proofs.Names.{white_after, bits_of, sym}
+use Rattle.fax_encode.proofs.BlackRuns.{run_across, longer}
+use Rattle.fax_encode.proofs.black_runs.paint_run.Goals as goal
+
+pub returns-else-from-to-clause-painted : goal.returns-else-from-to-clause-painted
+returns-else-from-to-clause-painted c = λ front long white.
+    let from : ℕ = c.args.from in
+    let to : ℕ = c.args.to in
+    let across : from / 64 < to / 64 = omega (arith, c.requires.ascend, c.if-from-to.false) in
+    let first : ℕ = 64 - from % 64 in
+    let between : ℕ = 8 * (to / 64 * 8 - (from / 64 * 8 + 8)) in
+    let one : Bits = front ++ replicate first true in
+    let two : Bits = one ++ replicate between true in
+    let long_one : length one ≡ 8 * (from / 64 * 8 + 8) = omega (arith, longer front first, long) in
+    let long_two : length two ≡ 8 * (to / 64 * 8) + 0 = omega (arith, longer one between, long_one, across) in
+    let row1 = c.paint_in_word-else-from-to.new.row in
+    let row2 = c.paint_bytes.new.row in
+    let row3 = c.paint_in_word-else-from-to-2.new.row in
+    let word = c.paint_in_word-else-from-to.ensures in
+    let bytes = c.paint_bytes.ensures in
+    let last = c.paint_in_word-else-from-to-2.ensures in
+    let there : length front ≡ 8 * (from / 64 * 8) + from % 64 = omega (arith, long) in
+    let painted_one : bits_of row1 ≡ white_after one (length row1) =
+    word.painted front there white ∙ ap (white_after one) (sym word.length) in
+    let painted_two : bits_of row2 ≡ white_after two (length row2) =
+    bytes.painted one long_one painted_one ∙ ap (white_after two) (sym bytes.length) in
+    let same : length row2 ≡ length c.args.row.now = bytes.length ∙ word.length in
+    run_across from to (length c.args.row.now) row3 front across (last.painted two long_two painted_two
+    ∙ ap (white_after (two ++ replicate (to % 64 - 0) true)) same)
