@@ -2,10 +2,12 @@
 use Rattle.fax_encode.proofs.Names.{◌≡◌, ℕ, ◌+◌, ◌-◌, ◌*◌, ◌/◌, ◌%◌, ◌^◌, ◌<◌, ◌≤◌, true, false, List, []}
 use Rattle.fax_encode.proofs.Names.{◌++◌, length, get_or, take, drop, replicate, refl, sym, ap, ◌∙◌, arith, append_assoc}
 use Rattle.fax_encode.proofs.Names.{flat_map-append, length-append, length-replicate, length-drop, drop_all, bit_xor}
-use Rattle.fax_encode.proofs.Names.{replicate-append-replicate, take-replicate, drop-replicate, take-append-add, drop-append-add, drop-drop}
-use Rattle.fax_encode.proofs.Names.{append-nil, take-append-le, drop-append-le, take-append-drop, put_mid, HighestFirst, Bits, bits_of}
+use Rattle.fax_encode.proofs.Names.{replicate-append-replicate, take-replicate, drop-replicate, take-append-add}
+use Rattle.fax_encode.proofs.Names.{drop-append-add, drop-drop}
+use Rattle.fax_encode.proofs.Names.{append-nil, take-append-le, drop-append-le, take-append-drop, put_mid, HighestFirst, Bits}
+use Rattle.fax_encode.proofs.Names.{bits_of}
 use Rattle.fax_encode.proofs.Names.{bits_of_byte, low_bits, AscendFrom, pixels, pixels_from}
-use Rattle.fax_encode.proofs.Names.{white_after, White}
+use Rattle.fax_encode.proofs.Names.{then_white, White}
 use Rattle.fax_encode.proofs.PaintedRows.{bits_of_plain}
 use Rattle.fax_encode.proofs.PaintedWords.{bits_of-take, bits_of-drop, turned_behind}
 use Rattle.fax_encode.proofs.RunsWritten.{next_is, next_right, next_within, next_ascends, one_part}
@@ -30,10 +32,10 @@ longer front n = length-append front (replicate n true) ∙ ap (λ (k : ℕ). le
 
 -- bytes are written over a part, with the last pixels before, black ones and white ones
 pub part_painted : (start count black : ℕ) (row row' : List ℕ) (front part : Bits) → start + count ≤ length row
-    → 8 * start ≤ length front → length front + black ≤ 8 * (start + count) → bits_of row ≡ white_after front (length row)
+    → 8 * start ≤ length front → length front + black ≤ 8 * (start + count) → bits_of row ≡ then_white front (length row)
     → part ≡ (drop (8 * start) front ++ replicate black true) ++ replicate (8 * (start + count) - (length front + black)) false
     → bits_of row' ≡ bits_of (take start row) ++ (part ++ bits_of (drop (start + count) row))
-    → bits_of row' ≡ white_after (front ++ replicate black true) (length row)
+    → bits_of row' ≡ then_white (front ++ replicate black true) (length row)
 part_painted start count black row row' front part within over under white is written =
     let n : ℕ = 8 * length row - length front in
     let seam : ℕ = 8 * (start + count) - length front in
@@ -65,11 +67,11 @@ part_painted start count black row row' front part within over under white is wr
 
 -- a word is painted between two offsets
 pub word_painted : (start from to : ℕ) (row row' : List ℕ) (word new : ℕ) (front : Bits) → start + 8 ≤ length row → from ≤ to
-    → to ≤ 64 → length front ≡ 8 * start + from → bits_of row ≡ white_after front (length row)
+    → to ≤ 64 → length front ≡ 8 * start + from → bits_of row ≡ then_white front (length row)
     → low_bits 64 word ≡ take 64 (bits_of (drop start row) ++ replicate 64 false)
     → new ≡ bit_xor (bit_xor word (2 ^ (64 - from) - 1)) (2 ^ (64 - to) - 1)
     → bits_of row' ≡ bits_of (take start row) ++ (low_bits 64 new ++ bits_of (drop (start + 8) row))
-    → bits_of row' ≡ white_after (front ++ replicate (to - from) true) (length row)
+    → bits_of row' ≡ then_white (front ++ replicate (to - from) true) (length row)
 word_painted start from to row row' word new front within ascend below long white is new_is written =
     let n : ℕ = 8 * length row - length front in
     let inside : Bits = drop (8 * start) front in
@@ -100,8 +102,8 @@ word_painted start from to row row' word new front within ascend below long whit
 
 -- bytes are painted from one that begins where the white does
 pub bytes_painted : (from to : ℕ) (row row' : List ℕ) (front : Bits) → from ≤ to → to ≤ length row → length front ≡ 8 * from
-    → bits_of row ≡ white_after front (length row) → row' ≡ put_mid from (to - from) row (replicate (to - from) 255)
-    → bits_of row' ≡ white_after (front ++ replicate (8 * (to - from)) true) (length row)
+    → bits_of row ≡ then_white front (length row) → row' ≡ put_mid from (to - from) row (replicate (to - from) 255)
+    → bits_of row' ≡ then_white (front ++ replicate (8 * (to - from)) true) (length row)
 bytes_painted from to row row' front ascend within long white is =
     let count : ℕ = to - from in
     let black : Bits = replicate (8 * count) true in
@@ -114,13 +116,14 @@ bytes_painted from to row row' front ascend within long white is =
     ∙ ap (λ (k : ℕ). (drop (8 * from) front ++ black) ++ replicate k false) left in
     let written : bits_of row' ≡ bits_of (take from row) ++ (bits_of part ++ bits_of (drop (from + count) row)) = ap bits_of is
     ∙ bits_of-put_mid from count row part in
-    part_painted from count (8 * count) row row' front (bits_of part) (omega arith) (omega arith) (omega arith) white shape written
+    part_painted from count (8 * count) row row' front (bits_of part) (omega arith) (omega arith) (omega arith) white shape
+    written
 
 -- ---- a run
 -- the first word of a run, the bytes between, and its last word
 pub run_across : (from to bytes : ℕ) (row : List ℕ) (front : Bits) → from / 64 < to / 64
-    → bits_of row ≡ white_after (((front ++ replicate (64 - from % 64) true) ++ replicate (8 * (to / 64 * 8 - (from / 64 * 8 + 8)))
-    true) ++ replicate (to % 64 - 0) true) bytes → bits_of row ≡ white_after (front ++ replicate (to - from) true) bytes
+    → bits_of row ≡ then_white (((front ++ replicate (64 - from % 64) true)
+    ++ replicate (8 * (to / 64 * 8 - (from / 64 * 8 + 8))) true) ++ replicate (to % 64 - 0) true) bytes → bits_of row ≡ then_white (front ++ replicate (to - from) true) bytes
 run_across from to bytes row front across painted =
     let first : ℕ = 64 - from % 64 in
     let between : ℕ = 8 * (to / 64 * 8 - (from / 64 * 8 + 8)) in
@@ -129,7 +132,7 @@ run_across from to bytes row front across painted =
     let black : ((front ++ replicate first true) ++ replicate between true) ++ replicate last true
     ≡ front ++ replicate (to - from) true = ap (λ (b : Bits). b ++ replicate last true) (black_more front first between)
     ∙ black_more front (first + between) last ∙ ap (λ (k : ℕ). front ++ replicate k true) sum in
-    painted ∙ ap (λ (b : Bits). white_after b bytes) black
+    painted ∙ ap (λ (b : Bits). then_white b bytes) black
 
 -- ---- what is left to paint
 -- A row is painted up to a position, and white from there on; this many changes are done, an even number.
@@ -140,11 +143,11 @@ pub record AreBlack (columns : ℕ) (changes : List ℕ) (done : ℕ) (row : Lis
   pub ascend : AscendFrom place columns (drop done changes)
   pub long : length front ≡ place
   pub left : front ++ pixels_from place false columns (drop done changes) ≡ pixels columns changes
-  pub painted : bits_of row ≡ white_after front (length row)
+  pub painted : bits_of row ≡ then_white front (length row)
 
 -- white pixels are white pixels before white ones
 white_more : (front : Bits) (n bytes : ℕ) → length front + n ≤ 8 * bytes
-    → white_after front bytes ≡ white_after (front ++ replicate n false) bytes
+    → then_white front bytes ≡ then_white (front ++ replicate n false) bytes
 white_more front n bytes within =
     let long : length (front ++ replicate n false) ≡ length front + n =
     length-append front (replicate n false) ∙ ap (λ (k : ℕ). length front + k) (length-replicate n false) in
@@ -156,8 +159,8 @@ white_more front n bytes within =
 -- what painting a black run does to a row that is white from its first pixel on
 abbrev pub TurnsBlack : ℕ → ℕ → List ℕ → List ℕ → Type 0
 TurnsBlack from to row row' =
-    (front : Bits) → length front ≡ from → bits_of row ≡ white_after front (length row)
-    → bits_of row' ≡ white_after (front ++ replicate (to - from) true) (length row)
+    (front : Bits) → length front ≡ from → bits_of row ≡ then_white front (length row)
+    → bits_of row' ≡ then_white (front ++ replicate (to - from) true) (length row)
 
 module _ (columns : ℕ) (changes : List ℕ) (done : ℕ) (row row' : List ℕ) (lt : done < length changes)
     (room : columns ≤ 8 * length row) (is : AreBlack columns changes done row) where
@@ -185,7 +188,7 @@ module _ (columns : ℕ) (changes : List ℕ) (done : ℕ) (row row' : List ℕ)
     length-replicate (first - is.place) false,
   )
 
-  white_to : bits_of row ≡ white_after front_to (length row)
+  white_to : bits_of row ≡ then_white front_to (length row)
   white_to = is.painted
       ∙ white_more is.front (first - is.place) (length row) (omega (arith, is.long, first_within, first_right, room))
 
@@ -214,30 +217,30 @@ module _ (columns : ℕ) (changes : List ℕ) (done : ℕ) (row row' : List ℕ)
             (pixels_from second false columns (drop (done + 2) changes)) (pixels columns changes) left_to
             (ap (pixels_from first true columns) (next_is columns first (done + 1) White changes more first_ascends)
             ∙ ap (λ (n : ℕ). black ++ pixels_from second false columns (drop n changes)) two) refl;
-        painted = turns front_to long_to white_to ∙ ap (white_after (front_to ++ black)) (sym same);
+        painted = turns front_to long_to white_to ∙ ap (then_white (front_to ++ black)) (sym same);
       }
 
   -- a black run that the row's end ends
   pub last_painted : length changes ≤ done + 1 → TurnsBlack first columns row row'
-      → bits_of row' ≡ white_after (pixels columns changes) (length row)
+      → bits_of row' ≡ then_white (pixels columns changes) (length row)
   last_painted all turns =
       let none : drop (done + 1) changes ≡ [] = drop_all (done + 1) changes all in
-      turns front_to long_to white_to ∙ ap (λ (b : Bits). white_after b (length row))
+      turns front_to long_to white_to ∙ ap (λ (b : Bits). then_white b (length row))
       (sym (ap (λ (l : List ℕ). front_to ++ pixels_from first true columns l) none) ∙ left_to)
 
 -- a row that ends white
 pub no_run_left : (columns : ℕ) (changes : List ℕ) (done : ℕ) (row : List ℕ) → length changes ≤ done → columns ≤ 8 * length row
-    → AreBlack columns changes done row → bits_of row ≡ white_after (pixels columns changes) (length row)
+    → AreBlack columns changes done row → bits_of row ≡ then_white (pixels columns changes) (length row)
 no_run_left columns changes done row all room is =
     let none : drop done changes ≡ [] = drop_all done changes all in
     let within = is.within in
     let long = is.long in
     is.painted ∙ white_more is.front (columns - is.place) (length row) (omega arith)
-    ∙ ap (λ (b : Bits). white_after b (length row))
+    ∙ ap (λ (b : Bits). then_white b (length row))
     (sym (ap (λ (l : List ℕ). is.front ++ pixels_from is.place false columns l) none) ∙ is.left)
 
 -- a row of zeros is white
-pub zeros_are_white : (count : ℕ) (row : List ℕ) → row ≡ replicate count 0 → bits_of row ≡ white_after [] count
+pub zeros_are_white : (count : ℕ) (row : List ℕ) → row ≡ replicate count 0 → bits_of row ≡ then_white [] count
 zeros_are_white count row is =
     let all : 8 * count ≡ 8 * count - 0 = omega arith in
     ap bits_of is ∙ bits_of_plain 0 count false refl ∙ ap (λ (n : ℕ). replicate n false) all

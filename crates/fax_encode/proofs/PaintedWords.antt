@@ -1,6 +1,7 @@
 -- Words of pixels: their bits, their bytes, and turning the colour within one.
 use Rattle.fax_encode.proofs.Names.{◌≡◌, ℕ, zero, suc, ◌+◌, ◌-◌, ◌*◌, ◌/◌, ◌%◌, ◌^◌, ◌<◌, ◌≤◌, Bool, not, List, [], ◌∷◌, ◌++◌}
-use Rattle.fax_encode.proofs.Names.{length, take, drop, replicate, eqb, refl, sym, ap, ◌∙◌, arith, bit_at, to_be_bytes, w64, bit_xor}
+use Rattle.fax_encode.proofs.Names.{length, take, drop, replicate, eqb, refl, sym, ap, ◌∙◌, arith, bit_at, to_be_bytes, w64}
+use Rattle.fax_encode.proofs.Names.{bit_xor}
 use Rattle.fax_encode.proofs.Names.{bit_at_xor, bit_at_ones, bit_at_ones_above, bit_at-lt, HighestFirst, Bits, bit_of, bits_of}
 use Rattle.fax_encode.proofs.Names.{bits_of_byte, low_bits, low_bits-append}
 use Rattle.fax_encode.proofs.WrittenBits.{low_bits_mod}

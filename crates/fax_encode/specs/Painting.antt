@@ -14,5 +14,5 @@ pub record StandsAt (brush : Brush) (place : ℕ) : Type 0 where
   pub below : place < 8 * brush.start + 64
 
 -- the pixels up to a position, and white ones from there on, of a row of so many bytes
-abbrev pub white_after : Bits → ℕ → Bits
-white_after front bytes = front ++ replicate (8 * bytes - length front) false
+abbrev pub then_white : Bits → ℕ → Bits
+then_white front bytes = front ++ replicate (8 * bytes - length front) false

@@ -4,7 +4,7 @@ ghost use Rattle.std.specs.Prelude.{◌≡◌, ◌+◌, ◌-◌, ◌*◌, ◌/�
 ghost use Rattle.hayro_ccitt.specs.Bits.{Bits, bits_of};
 ghost use Rattle.hayro_ccitt.specs.Rows.{AreChanges, pixels};
 ghost use Rattle.fax_encode.specs.Chosen.{filled_up};
-ghost use Rattle.fax_encode.specs.Painting.{white_after};
+ghost use Rattle.fax_encode.specs.Painting.{then_white};
 
 use crate::pixel_words::{first_pixels, put_pixels};
 
@@ -23,8 +23,8 @@ fn paint_in_word(row: &mut [u8], start: usize, from: usize, to: usize)
     requires within { start + 8 ≤ length row.old }
     requires ascend { from ≤ to }
     requires below { to ≤ 64 }
-    ensures painted { (front : Bits) → length front ≡ 8 * start + from → bits_of row.old ≡ white_after front (length row.old)
-        → bits_of row.new ≡ white_after (front ++ replicate (to - from) true) (length row.old) }
+    ensures painted { (front : Bits) → length front ≡ 8 * start + from → bits_of row.old ≡ then_white front (length row.old)
+        → bits_of row.new ≡ then_white (front ++ replicate (to - from) true) (length row.old) }
     ensures length { length row.new ≡ length row.old }
 {
     let word = first_pixels(&row[start..]);
@@ -36,8 +36,8 @@ fn paint_in_word(row: &mut [u8], start: usize, from: usize, to: usize)
 fn paint_bytes(row: &mut [u8], from: usize, to: usize)
     requires ascend { from ≤ to }
     requires within { to ≤ length row.old }
-    ensures painted { (front : Bits) → length front ≡ 8 * from → bits_of row.old ≡ white_after front (length row.old)
-        → bits_of row.new ≡ white_after (front ++ replicate (8 * (to - from)) true) (length row.old) }
+    ensures painted { (front : Bits) → length front ≡ 8 * from → bits_of row.old ≡ then_white front (length row.old)
+        → bits_of row.new ≡ then_white (front ++ replicate (8 * (to - from)) true) (length row.old) }
     ensures length { length row.new ≡ length row.old }
 {
     if from < to {
@@ -50,8 +50,8 @@ fn paint_bytes(row: &mut [u8], from: usize, to: usize)
 fn paint_run(row: &mut [u8], from: usize, to: usize)
     requires ascend { from ≤ to }
     requires within { to / 64 * 8 + 8 ≤ length row.old }
-    ensures painted { (front : Bits) → length front ≡ from → bits_of row.old ≡ white_after front (length row.old)
-        → bits_of row.new ≡ white_after (front ++ replicate (to - from) true) (length row.old) }
+    ensures painted { (front : Bits) → length front ≡ from → bits_of row.old ≡ then_white front (length row.old)
+        → bits_of row.new ≡ then_white (front ++ replicate (to - from) true) (length row.old) }
     ensures length { length row.new ≡ length row.old }
 {
     let first = from / 64 * 8;
@@ -72,8 +72,8 @@ fn paint_last_run(row: &mut [u8], from: usize, to: usize)
     requires ascend { from ≤ to }
     requires right { 8 * length row.old < to + 64 }
     requires within { to ≤ 8 * length row.old }
-    ensures painted { (front : Bits) → length front ≡ from → bits_of row.old ≡ white_after front (length row.old)
-        → bits_of row.new ≡ white_after (front ++ replicate (to - from) true) (length row.old) }
+    ensures painted { (front : Bits) → length front ≡ from → bits_of row.old ≡ then_white front (length row.old)
+        → bits_of row.new ≡ then_white (front ++ replicate (to - from) true) (length row.old) }
     ensures length { length row.new ≡ length row.old }
 {
     let start = row.len() - 8;
@@ -91,8 +91,8 @@ fn paint_black(row: &mut [u8], from: usize, to: usize)
     requires long { 8 ≤ length row.old }
     requires ascend { from ≤ to }
     requires within { to ≤ 8 * length row.old }
-    ensures painted { (front : Bits) → length front ≡ from → bits_of row.old ≡ white_after front (length row.old)
-        → bits_of row.new ≡ white_after (front ++ replicate (to - from) true) (length row.old) }
+    ensures painted { (front : Bits) → length front ≡ from → bits_of row.old ≡ then_white front (length row.old)
+        → bits_of row.new ≡ then_white (front ++ replicate (to - from) true) (length row.old) }
     ensures length { length row.new ≡ length row.old }
 {
     if to / 64 < row.len() / 8 {
@@ -108,8 +108,8 @@ fn paint_runs(row: &mut [u8], columns: u32, changes: &[u32])
     requires changes { AreChanges columns changes.now }
     requires long { 8 ≤ length row.old }
     requires room { columns ≤ 8 * length row.old }
-    requires white { bits_of row.old ≡ white_after [] (length row.old) }
-    ensures painted { bits_of row.new ≡ white_after (pixels columns changes.now) (length row.old) }
+    requires white { bits_of row.old ≡ then_white [] (length row.old) }
+    ensures painted { bits_of row.new ≡ then_white (pixels columns changes.now) (length row.old) }
     ensures length { length row.new ≡ length row.old }
 {
     let mut done = 0;

@@ -1,5 +1,5 @@
 use Rattle.fax_encode.proofs.Names.{◌≡◌, ◌-◌, ◌*◌, ℕ, List, length, take, replicate, refl, sym, ap, ◌∙◌, arith, bits_of, take_all}
-use Rattle.fax_encode.proofs.Names.{length-bits_of, length-pixels, pixels, white_after}
+use Rattle.fax_encode.proofs.Names.{length-bits_of, length-pixels, pixels, then_white}
 use Rattle.fax_encode.proofs.{BlackRuns.zeros_are_white, PaintedRows.filled}
 use Rattle.fax_encode.proofs.black_runs.paint_by_runs.Goals as goal
 
@@ -20,6 +20,6 @@ returns c =
     let all : take (8 * length row) (bits_of new) ≡ bits_of new = take_all (8 * length row) (bits_of new)
     (omega (arith, length-bits_of new, c.paint_runs.ensures.length, bytes)) in
     record {
-      painted = filled columns n changes row new (white_after (pixels columns changes) total) c.requires.changes c.requires.room
+      painted = filled columns n changes row new (then_white (pixels columns changes) total) c.requires.changes c.requires.room
           (omega (arith, bytes, long)) (sym all ∙ ap (take (8 * length row)) c.paint_runs.ensures.painted) refl;
     }

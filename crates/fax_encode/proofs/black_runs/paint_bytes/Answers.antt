@@ -1,4 +1,5 @@
-use Rattle.fax_encode.proofs.Names.{◌≡◌, ◌-◌, ℕ, List, length, take, drop, replicate, ap, ◌∙◌, arith, put_mid, length-take-le, length-drop}
+use Rattle.fax_encode.proofs.Names.{◌≡◌, ◌-◌, ℕ, List, length, take, drop, replicate, ap, ◌∙◌, arith, put_mid, length-take-le}
+use Rattle.fax_encode.proofs.Names.{length-drop}
 use Rattle.fax_encode.proofs.BlackRuns.{bytes_painted}
 use Rattle.fax_encode.proofs.black_runs.paint_bytes.Goals as goal
 

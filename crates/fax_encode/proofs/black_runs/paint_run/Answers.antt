@@ -1,5 +1,5 @@
 use Rattle.fax_encode.proofs.Names.{◌≡◌, ◌+◌, ◌-◌, ◌*◌, ◌/◌, ◌%◌, ◌<◌, ◌++◌, ℕ, true, length, replicate, ap, ◌∙◌, arith, Bits}
-use Rattle.fax_encode.proofs.Names.{white_after, bits_of, sym}
+use Rattle.fax_encode.proofs.Names.{then_white, bits_of, sym}
 use Rattle.fax_encode.proofs.BlackRuns.{run_across, longer}
 use Rattle.fax_encode.proofs.black_runs.paint_run.Goals as goal
 
@@ -21,10 +21,10 @@ returns-else-from-to-clause-painted c = λ front long white.
     let bytes = c.paint_bytes.ensures in
     let last = c.paint_in_word-else-from-to-2.ensures in
     let there : length front ≡ 8 * (from / 64 * 8) + from % 64 = omega (arith, long) in
-    let painted_one : bits_of row1 ≡ white_after one (length row1) =
-    word.painted front there white ∙ ap (white_after one) (sym word.length) in
-    let painted_two : bits_of row2 ≡ white_after two (length row2) =
-    bytes.painted one long_one painted_one ∙ ap (white_after two) (sym bytes.length) in
+    let painted_one : bits_of row1 ≡ then_white one (length row1) =
+    word.painted front there white ∙ ap (then_white one) (sym word.length) in
+    let painted_two : bits_of row2 ≡ then_white two (length row2) =
+    bytes.painted one long_one painted_one ∙ ap (then_white two) (sym bytes.length) in
     let same : length row2 ≡ length c.args.row.now = bytes.length ∙ word.length in
     run_across from to (length c.args.row.now) row3 front across (last.painted two long_two painted_two
-    ∙ ap (white_after (two ++ replicate (to % 64 - 0) true)) same)
+    ∙ ap (then_white (two ++ replicate (to % 64 - 0) true)) same)
