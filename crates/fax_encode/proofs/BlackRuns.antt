@@ -1,5 +1,5 @@
 -- A white row that is painted by its black runs: what is painted, and white pixels after it.
-use Rattle.fax_encode.proofs.Names.{◌≡◌, ℕ, ◌+◌, ◌-◌, ◌*◌, ◌/◌, ◌%◌, ◌^◌, ◌<◌, ◌≤◌, true, false, List, []}
+use Rattle.fax_encode.proofs.Names.{◌≡◌, ℕ, ◌+◌, ◌-◌, ◌*◌, ◌^◌, ◌<◌, ◌≤◌, true, false, List, []}
 use Rattle.fax_encode.proofs.Names.{◌++◌, length, get_or, take, drop, replicate, refl, sym, ap, ◌∙◌, arith, append_assoc}
 use Rattle.fax_encode.proofs.Names.{flat_map-append, length-append, length-replicate, length-drop, drop_all, bit_xor}
 use Rattle.fax_encode.proofs.Names.{replicate-append-replicate, take-replicate, drop-replicate, take-append-add}
@@ -25,6 +25,12 @@ bits_of-put_mid start count row part =
 pub black_more : (front : Bits) (a b : ℕ) → (front ++ replicate a true) ++ replicate b true ≡ front ++ replicate (a + b) true
 black_more front a b = append_assoc front (replicate a true) (replicate b true)
     ∙ ap (λ (l : Bits). front ++ l) (replicate-append-replicate a b true)
+
+-- and after these more
+pub black_three : (front : Bits) (a b c n : ℕ) → a + b + c ≡ n
+    → ((front ++ replicate a true) ++ replicate b true) ++ replicate c true ≡ front ++ replicate n true
+black_three front a b c n sum = ap (λ (l : Bits). l ++ replicate c true) (black_more front a b) ∙ black_more front (a + b) c
+    ∙ ap (λ (k : ℕ). front ++ replicate k true) sum
 
 -- how many pixels they are together
 pub longer : (front : Bits) (n : ℕ) → length (front ++ replicate n true) ≡ length front + n
@@ -118,21 +124,6 @@ bytes_painted from to row row' front ascend within long white is =
     ∙ bits_of-put_mid from count row part in
     part_painted from count (8 * count) row row' front (bits_of part) (omega arith) (omega arith) (omega arith) white shape
     written
-
--- ---- a run
--- the first word of a run, the bytes between, and its last word
-pub run_across : (from to bytes : ℕ) (row : List ℕ) (front : Bits) → from / 64 < to / 64
-    → bits_of row ≡ then_white (((front ++ replicate (64 - from % 64) true)
-    ++ replicate (8 * (to / 64 * 8 - (from / 64 * 8 + 8))) true) ++ replicate (to % 64 - 0) true) bytes → bits_of row ≡ then_white (front ++ replicate (to - from) true) bytes
-run_across from to bytes row front across painted =
-    let first : ℕ = 64 - from % 64 in
-    let between : ℕ = 8 * (to / 64 * 8 - (from / 64 * 8 + 8)) in
-    let last : ℕ = to % 64 - 0 in
-    let sum : first + between + last ≡ to - from = omega arith in
-    let black : ((front ++ replicate first true) ++ replicate between true) ++ replicate last true
-    ≡ front ++ replicate (to - from) true = ap (λ (b : Bits). b ++ replicate last true) (black_more front first between)
-    ∙ black_more front (first + between) last ∙ ap (λ (k : ℕ). front ++ replicate k true) sum in
-    painted ∙ ap (λ (b : Bits). then_white b bytes) black
 
 -- ---- what is left to paint
 -- A row is painted up to a position, and white from there on; this many changes are done, an even number.

@@ -1,6 +1,6 @@
 use Rattle.fax_encode.proofs.Names.{◌≡◌, ◌+◌, ◌-◌, ◌*◌, ◌/◌, ◌%◌, ◌<◌, ◌++◌, ℕ, true, length, replicate, ap, ◌∙◌, arith, Bits}
 use Rattle.fax_encode.proofs.Names.{then_white, bits_of, sym}
-use Rattle.fax_encode.proofs.BlackRuns.{run_across, longer}
+use Rattle.fax_encode.proofs.BlackRuns.{black_three, longer}
 use Rattle.fax_encode.proofs.black_runs.paint_run.Goals as goal
 
 pub returns-else-from-to-clause-painted : goal.returns-else-from-to-clause-painted
@@ -16,7 +16,6 @@ returns-else-from-to-clause-painted c = λ front long white.
     let long_two : length two ≡ 8 * (to / 64 * 8) + 0 = omega (arith, longer one between, long_one, across) in
     let row1 = c.paint_in_word-else-from-to.new.row in
     let row2 = c.paint_bytes.new.row in
-    let row3 = c.paint_in_word-else-from-to-2.new.row in
     let word = c.paint_in_word-else-from-to.ensures in
     let bytes = c.paint_bytes.ensures in
     let last = c.paint_in_word-else-from-to-2.ensures in
@@ -26,5 +25,6 @@ returns-else-from-to-clause-painted c = λ front long white.
     let painted_two : bits_of row2 ≡ then_white two (length row2) =
     bytes.painted one long_one painted_one ∙ ap (then_white two) (sym bytes.length) in
     let same : length row2 ≡ length c.args.row.now = bytes.length ∙ word.length in
-    run_across from to (length c.args.row.now) row3 front across (last.painted two long_two painted_two
-    ∙ ap (then_white (two ++ replicate (to % 64 - 0) true)) same)
+    let sum : first + between + (to % 64 - 0) ≡ to - from = omega (arith, across) in
+    last.painted two long_two painted_two ∙ ap (then_white (two ++ replicate (to % 64 - 0) true)) same
+    ∙ ap (λ (b : Bits). then_white b (length c.args.row.now)) (black_three front first between (to % 64 - 0) (to - from) sum)
