@@ -1,4 +1,5 @@
 pub mod BitmapRoundTrip
+pub mod BlackRuns
 pub mod BytesOfBits
 pub mod ChosenBySettings
 pub mod ChosenLines
