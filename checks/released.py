@@ -4,6 +4,8 @@ installs it, and it decodes a page. Also of the Python package, by pytest.
 With BARE_DEBIAN=ROOT.tar in the environment the packages are also installed in that root of Debian, which this command makes:
 
     mmdebstrap --variant=minbase --include=gcc,libc6-dev,make,python3,python3-pip bookworm ROOT.tar
+
+With PROVE=1 the crate of docs/SINKS.md is proved, which takes a minute.
 """
 import os
 import re
@@ -162,6 +164,20 @@ def packages_where_the_kit_is_not():
     print(f"  the same bytes in two folders; {', '.join(chosen)}: each decodes a page")
 
 
+def cargo_without_the_library():
+    """In the repository without `make`, `cargo check` and `cargo doc` work, and a build says in a line what is missing."""
+    if not toolchain():
+        leave_out("the Cargo package without the library", "cargo")
+        return
+    with tempfile.TemporaryDirectory() as folder:
+        shutil.copytree("bindings/rust", f"{folder}/bindings/rust", ignore=shutil.ignore_patterns("target", "Cargo.lock"))
+        here = {"cwd": f"{folder}/bindings/rust", "env": {**os.environ, "CARGO_TARGET_DIR": f"{folder}/target"}}
+        for word in ("check", "doc"):
+            run(["cargo", word, "-q", "--offline"], **here)
+        done = subprocess.run(["cargo", "build", "--offline"], capture_output=True, text=True, check=False, **here)
+        assert done.returncode != 0 and "libhayro_ccitt_c.a: run `make`" in done.stderr and "panicked" not in done.stderr, done.stderr
+
+
 def in_a_bare_debian():
     """In a root of Debian with nothing but a C compiler and Python, each package is installed by the README's command."""
     root = os.environ.get("BARE_DEBIAN")
@@ -215,6 +231,32 @@ def installed_as_printed():
     assert told.startswith("18\nfaxrows "), told
 
 
+def crates_in_another_repository():
+    """The command of docs/SINKS.md copies the library as files into another repository, where the crate of that page names it; with PROVE
+    in the environment, which takes a minute, that crate is proved over what is stored of the library."""
+    with open("docs/SINKS.md", encoding="utf-8") as file:
+        text = file.read()
+    command, printed = re.search(r"^\$ python3 \.\./hayro_ccitt/(.* \. .*)\n((?:crates/.*\n)+)", text, re.MULTILINE).groups()
+    source = next(block for block in re.findall(r"^```rust\n(.*?)^```$", text, re.MULTILINE | re.DOTALL) if "#![tactic(auto)]" in block)
+    with tempfile.TemporaryDirectory() as folder:
+        for _ in range(2):
+            assert run(f"python3 {os.path.abspath(command)}", cwd=folder) == printed
+        files = [f"{at}/{name}" for at, _, names in os.walk(folder) for name in names]
+        assert len(files) > 100 and not any(map(os.path.islink, files))
+        with open(f"{folder}/crates.txt", encoding="utf-8") as file:
+            assert file.read() == "hayro_ccitt:\n"
+        if not os.environ.get("PROVE"):
+            leave_out("the proof of the crate in docs/SINKS.md", "PROVE")
+            return
+        os.makedirs(f"{folder}/crates/my_viewer/src")
+        with open(f"{folder}/crates/my_viewer/src/lib.rt", "w", encoding="utf-8") as file:
+            file.write(source)
+        with open(f"{folder}/crates.txt", "a", encoding="utf-8") as file:
+            file.write("my_viewer: hayro_ccitt\n")
+        shutil.copytree("crates/hayro_ccitt/out", f"{folder}/crates/hayro_ccitt/out")
+        run(["rt", "check"], cwd=f"{folder}/crates/my_viewer")
+
+
 def python_package():
     """The tests of python/, by an interpreter that has pytest, over the shared library."""
     interpreters = [it for it in (sys.executable, "/usr/bin/python3") if os.path.exists(it)]
@@ -233,7 +275,7 @@ def python_package():
             leave_out(f"the Python package beside {test}", test)
 
 
-CHECKS = [packages_where_the_kit_is_not, in_a_bare_debian, commands_of_the_readme, installed_as_printed, python_package]
+CHECKS = [packages_where_the_kit_is_not, in_a_bare_debian, cargo_without_the_library, commands_of_the_readme, installed_as_printed, crates_in_another_repository, python_package]
 
 if __name__ == "__main__":
     for check in CHECKS:

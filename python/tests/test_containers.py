@@ -141,6 +141,19 @@ def is_theirs(call, picture):
         return False
 
 
+@pytest.mark.parametrize("reader", ["pypdf", "pikepdf"])
+def test_the_lines_of_the_readme(reader, tmp_path, monkeypatch):
+    pytest.importorskip(reader)
+    blocks = (ROOT / "README.md").read_text(encoding="utf-8").split("```python\n")[1:]
+    lines = next(block.split("```")[0] for block in blocks if f"{reader}." in block)
+    assert lines.count("\n") == 3
+    monkeypatch.chdir(tmp_path)
+    (tmp_path / "FILE.pdf").write_bytes(next(file for file, shown in pdfs() if shown == SHOWN))
+    names = {reader: __import__(reader), "hayro_ccitt": hayro_ccitt}
+    exec(lines, names)
+    assert names["picture"].pbm() == SHOWN
+
+
 def test_the_command_reads_pdf(tmp_path):
     if not any(map(is_there, ("pikepdf", "pypdf"))):
         pytest.skip("neither pikepdf nor pypdf")

@@ -112,7 +112,7 @@ fn stored_cases() -> Vec<Case> {
     cases.collect()
 }
 
-/// Data longer than 65,536 bytes: rows whose pixels alternate, in each encoding.
+/// Data longer than 65,536 bytes: 1200 rows, half of which have pixels that alternate, in each encoding, with a row limit and without.
 fn long_data() -> Vec<Case> {
     let encodings = [
         ("g4", EncodingMode::Group4),
@@ -120,7 +120,8 @@ fn long_data() -> Vec<Case> {
         ("2d", EncodingMode::Group3_2D),
     ];
     encodings
-        .map(|(mode, encoding)| {
+        .into_iter()
+        .flat_map(|(mode, encoding)| {
             let settings = EncodeSettings {
                 columns: 1000,
                 encoding,
@@ -138,12 +139,12 @@ fn long_data() -> Vec<Case> {
             let data = encode_bitmap(&bitmap, settings).unwrap();
             assert!(data.len() > 1 << 16);
             let flags = if mode == "g4" { "b" } else { "bl" };
-            Case {
-                words: format!("{mode} 1000 0 {flags}"),
-                data,
-            }
+            [0, 1200].map(|limit| Case {
+                words: format!("{mode} 1000 {limit} {flags}"),
+                data: data.clone(),
+            })
         })
-        .into()
+        .collect()
 }
 
 /// The answers of the C program, one for each case.
