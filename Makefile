@@ -4,6 +4,7 @@
 #   make check                runs what was built on the first program of hayro_ccitt.h and on a picture
 #   make install PREFIX=DIR   headers, libraries, hayro_ccitt.pc, manual pages and programs; DESTDIR is respected
 #   make uninstall PREFIX=DIR
+#   make dist                 the packages of a release, in build/dist
 #   make clean                removes build/; the results of proofs in crates/*/out stay
 #
 # `rt`, of the Rattle kit, proves and compiles the crates first. JOBS=1 runs it with one job at a time.
@@ -114,3 +115,5 @@ uninstall:
 
 clean:
 	rm -rf $(BUILD)
+
+include dist.mk

@@ -14,6 +14,8 @@ PAGES = ["README.md", "docs/USING.md"]
 # Tools that a command may need and that need not be installed.
 TOOLS = ["cargo", "ppm2tiff", "tiffcp", "tiffdump", "gs", "img2pdf", "pdfimages", "strings"]
 PACKAGE = "bindings/rust"
+# What `installed` and `released` run: the commands that make and install, and what is compiled by hayro_ccitt.pc.
+ELSEWHERE = ("make ", "tar xzf ", "apt-get ", "python3 -m pip ", "export ", "cc first.c ")
 
 
 def make():
@@ -56,8 +58,8 @@ def outcomes(page):
         files_of_users(folder)
         lost = []  # files, and fronts of the names of several
         for command, text in commands(page):
-            if command.startswith("make "):
-                continue  # `installed` makes and installs
+            if command.startswith(ELSEWHERE):
+                continue
             files = re.findall(r"out/[\w.-]+|FILE\.\w+", command)
             absent = [name for name in files if not os.path.exists(f"{folder}/{name}")]
             missing = [tool for tool in TOOLS if re.search(rf"(^|[|;&(]|&&) *{tool} ", command) and not shutil.which(tool)]
