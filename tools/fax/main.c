@@ -115,7 +115,7 @@ static int next_wanted(run *of, page *into)
     return 0;
 }
 
-/* Does the pages of a file. Each is laid out before the one before it is written, whose name depends on whether there are others. */
+/* Does the pages of a file. A page is written after the next one is laid out, since its name depends on whether there are others. */
 static int do_pages(run *of)
 {
     page now, next;

@@ -9,13 +9,14 @@
 static const char help[] =
     "usage: fax [OPTION].. [FILE]..\n"
     "\n"
-    "Reads the fax pages of TIFF, BigTIFF and PDF files, raw fax data and PBM pictures, and writes them as PBM, PNG, TIFF or PDF.\n"
+    "Reads the fax pages of TIFF, BigTIFF and PDF files, raw fax data and PBM pictures; writes them as PBM, PNG, TIFF or PDF.\n"
     "Without FILE, or if it is -, standard input is read. What a file is, its first bytes say.\n"
     "\n"
     "  -o, --output NAME.EXT   writes NAME.pbm, NAME.png, NAME.tif or NAME.pdf; several pictures are NAME-1.png, NAME-2.png ..\n"
     "  -f, --format FORMAT     pbm, png, tiff or pdf, whatever the name; without -o to standard output\n"
     "  -p, --pages PAGES       only these, as 2-5 or 1,3,7-; the first one is 1\n"
-    "  -e, --encode ENCODING   TIFF and PDF: encodes all pages again, by g4, 1d or 2d; else only those that can't be copied, by g4\n"
+    "  -e, --encode ENCODING   TIFF and PDF: encodes all pages again, by g4, 1d or 2d; without it only those that can't be\n"
+    "                          copied, by g4\n"
     "      --check             writes no pictures, but a line for each page: whether a strict reading takes it\n"
     "      --help, --version\n"
     "\n"
@@ -26,14 +27,14 @@ static const char help[] =
     "  -F, --flags FLAGS       letters: b (EOFB or RTC may end the data), l (an EOL precedes each line), a (rows are aligned to\n"
     "                          bytes), s (strict), r (the lowest bit of each byte comes first), or - for none (b)\n"
     "\n"
-    "The status is 0 if every page is whole, 3 if some have all rows but are damaged, 1 if rows or pages are missing, and 2 for a\n"
-    "wrong call, an allocation failure, or an error in reading or writing. Each page that isn't whole has a line on standard error.\n";
+    "The status is 0 if every page is whole, 3 if some have all rows but are damaged, 1 if rows or pages are missing, and 2 for\n"
+    "a wrong call, an allocation failure, or an error in reading or writing. A page that isn't whole has a line on standard error.\n";
 
 static const char help_of_fax2pbm[] =
     "usage: fax2pbm [OPTION].. [FILE]\n"
     "\n"
-    "Writes the fax pages of a TIFF or PDF file, or of raw fax data, as PBM pictures on standard output, one after the other. It is\n"
-    "`fax`, with these options:\n"
+    "Writes the fax pages of a TIFF or PDF file, or of raw fax data, as PBM pictures on standard output, one after the other.\n"
+    "It is `fax`, with these options:\n"
     "\n"
     "  -o NAME      writes page 0 to NAME-0.pbm, and so on\n"
     "  -p PAGES     only these pages; the first one is 0\n"
@@ -182,8 +183,9 @@ int read_options(int count, char **words, options *into, int *status)
     *into = usual;
     into->program = slash ? slash + 1 : count ? words[0] : "fax";
     into->is_fax2pbm = !strcmp(into->program, "fax2pbm");
+    const char *letters = into->is_fax2pbm ? "o:p:m:w:r:f:h" : "o:f:p:e:m:w:r:F:h";
     *status = CANNOT_GO_ON;
-    while ((option = getopt_long(count, words, into->is_fax2pbm ? "o:p:m:w:r:f:h" : "o:f:p:e:m:w:r:F:h", words_known, NULL)) != -1) {
+    while ((option = getopt_long(count, words, letters, words_known, NULL)) != -1) {
         if (option == 'h' || option == 'V') {
             int is_written = option == 'h' ? fputs(into->is_fax2pbm ? help_of_fax2pbm : help, stdout) >= 0
                 : printf("%s %s\n", into->program, HAYRO_CCITT_VERSION_TEXT) > 0;

@@ -24,7 +24,7 @@ typedef struct {
     int count;
 } options;
 
-/* Reads the words of a call. Returns 1; else the run ends with `status`: help or the version was printed, or what isn't understood. */
+/* Reads the words of a call. Returns 1; else help, the version or what isn't understood was printed, and the run ends with `status`. */
 int read_options(int count, char **words, options *into, int *status);
 
 int is_wanted(const options *of, unsigned page);

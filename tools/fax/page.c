@@ -44,8 +44,8 @@ part *new_parts(page *it, uint64_t count)
     return it->parts;
 }
 
-/* Decodes rows that each begin at a multiple of 16 bits: one at a time, as a row that begins at a byte. The zeros between two rows
- * may look like an EOL, which a reader of one row doesn't reach. */
+/* Decodes rows that each begin at a multiple of 16 bits: one at a time, as a row that begins at a byte. The zeros between two
+ * rows may look like an EOL, which a reader of one row doesn't reach. */
 static uint32_t decode_words(span data, hayro_ccitt_settings settings, uint8_t *rows, size_t length, hayro_ccitt_outcome *outcome)
 {
     static const hayro_ccitt_outcome none = {0, 0, 0, 0, 0, 0};
@@ -117,8 +117,8 @@ static void note_strict(damage *found, const page *it, const part *from, uint32_
     found->why = status;
 }
 
-/* Decodes a part, whose rows follow each other from there. A strict reading without a fault is the lenient one too. Returns how many
- * rows were decoded. */
+/* Decodes a part, whose rows follow each other from there. A strict reading without a fault is the lenient one too. Returns how
+ * many rows were decoded. */
 static uint64_t decode_part(const page *it, const part *from, uint8_t *rows, size_t length, allowance *left, damage *found)
 {
     uint32_t flags = from->settings.flags;
@@ -175,8 +175,8 @@ static uint64_t rows_by(const page *it, uint32_t flags)
     return outcome.rows;
 }
 
-/* Takes other flags for the single part, which a strict reading of its own doesn't take: those by which a strict reading gives all
- * rows, else those by which a lenient one gives the most. Returns whether they are others. */
+/* Takes other flags for the single part, which a strict reading by its own doesn't take: those by which a strict reading gives
+ * all rows, else those by which a lenient one gives the most. Returns whether they are others. */
 static int choose_flags(page *it)
 {
     hayro_ccitt_settings *settings = &it->parts[0].settings;
@@ -268,7 +268,8 @@ int decode_page(page *it, allowance *left, picture *into, damage *found)
         refuse(it, "its %ss lie over each other", it->kind);
     else if (!end)
         refuse(it, "no row can be decoded: %s", found->is_strict ? "there is no data" : meaning(found->why));
-    if (rows < it->rows || (found->missing.count && into->width * rows > LARGE)) /* a false size: only the rows that were decoded */
+    int has_false_size = rows < it->rows || (found->missing.count && into->width * rows > LARGE);
+    if (has_false_size) /* the picture has only the rows that were decoded */
         into->rows = (uint32_t)end;
     if (it->refused[0]) {
         free(into->bytes);

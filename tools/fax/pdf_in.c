@@ -15,9 +15,11 @@ static pdf_value either(pdf *in, pdf_value dictionary, const char *key, const ch
 
 /* Part 1: finding the images. */
 
+static const char *const fax_names[2] = {"CCITTFaxDecode", "CCF"};
+
 static int is_fax_name(pdf_value name)
 {
-    return pdf_is_name(name, "CCITTFaxDecode") || pdf_is_name(name, "CCF");
+    return pdf_is_name(name, fax_names[0]) || pdf_is_name(name, fax_names[1]);
 }
 
 static int is_fax(pdf *in, pdf_value image)
@@ -164,7 +166,7 @@ static void read_contents(pdf_pages *to, pdf_value from, pdf_value resources, un
         span data;
         pdf_value stream = pdf_is_array(from) ? pdf_item(to->objects, from, i) : from;
         if (pdf_stream(to->objects, stream, &data)) {
-            if (pdf_decoded(to->objects, stream, data, NULL, NULL, &one, &why))
+            if (pdf_decoded(to->objects, stream, data, NULL, &one, &why))
                 add(&content, one.at, one.length);
             else
                 snprintf(to->unread, sizeof to->unread, "the content of page %u can't be read: %s", page, why);
@@ -311,7 +313,7 @@ static int is_white_first(pdf *in, pdf_value space, pdf_value resources)
     pdf_value table = pdf_item(in, space, 3);
     const char *why;
     span data;
-    if (!pdf_stream(in, table, &data) || !pdf_decoded(in, table, data, NULL, NULL, &colours, &why))
+    if (!pdf_stream(in, table, &data) || !pdf_decoded(in, table, data, NULL, &colours, &why))
         pdf_string(table, &colours);
     size_t half = colours.length / 2;
     double first = colours.at ? brightness(&colours, 0, half) : 0, second = colours.at ? brightness(&colours, half, half) : 0;
@@ -371,7 +373,7 @@ static int set_data(pdf_pages *from, const pdf_image *image, page *into)
     if (count > 1) {
         if (!is_fax_name(pdf_item(from->objects, filters, count - 1)))
             why = "a filter follows the fax";
-        else if (pdf_decoded(from->objects, image->dictionary, data, "CCITTFaxDecode", "CCF", &into->owned, &why))
+        else if (pdf_decoded(from->objects, image->dictionary, data, fax_names, &into->owned, &why))
             why = NULL;
         if (why)
             refuse(into, "its data can't be read: %s", why);

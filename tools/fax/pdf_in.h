@@ -1,5 +1,5 @@
-/* The fax images of a PDF file, as pages: those that the contents of its pages show, in their order, masks of other images, images in
- * a page's content, those that a page only names, and those that no page names. */
+/* The fax images of a PDF file, as pages: those that the contents of its pages show, in their order, masks of other images, images
+ * in a page's content, those that a page only names, and those that no page names. */
 #ifndef FAX_PDF_IN_H
 #define FAX_PDF_IN_H
 

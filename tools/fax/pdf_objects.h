@@ -1,5 +1,5 @@
-/* The objects of a PDF file. They are found by reading the file from its beginning, as a reader repairs a file, rather than by its
- * tables: of an object that occurs twice the later one counts, as in an update. */
+/* The objects of a PDF file. They are found by reading the file from its beginning, as a reader repairs a file, rather than by
+ * its tables: of an object that occurs twice the later one counts, as in an update. */
 #ifndef FAX_PDF_OBJECTS_H
 #define FAX_PDF_OBJECTS_H
 
@@ -42,9 +42,9 @@ void pdf_name(pdf_value it, char *into, size_t room); /* empty if it is none */
 /* The bytes of a stream as they are in the file. Returns 0 if the value is no stream. */
 int pdf_stream(pdf *in, pdf_value it, span *data);
 
-/* The bytes of a stream without its filters, up to the last filter named `last` if it isn't null. Returns 0, and why, if a filter
- * isn't known here or fails. */
-int pdf_decoded(pdf *in, pdf_value dictionary, span data, const char *last, const char *short_last, buffer *into, const char **why);
+/* The bytes of a stream without its filters: all, or those before one of the two names `last`. Returns 0, and why, if a filter isn't
+ * known here or fails. */
+int pdf_decoded(pdf *in, pdf_value dictionary, span data, const char *const last[2], buffer *into, const char **why);
 
 /* Reading text: past space and comments, and past a value. */
 const uint8_t *pdf_past_space(const uint8_t *at, const uint8_t *end);

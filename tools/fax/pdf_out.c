@@ -50,9 +50,10 @@ static void add_image(document *it, const strips *page)
     begin_object(it);
     add_text(&it->bytes, "<< /Type /XObject /Subtype /Image /Width %lu /Height %lu /ColorSpace /DeviceGray /BitsPerComponent 1\n",
              (unsigned long)page->columns, (unsigned long)page->rows);
-    add_text(&it->bytes, "/Filter /CCITTFaxDecode /DecodeParms << /K %d /Columns %lu /Rows %lu%s%s%s%s >> /Length %lu >>\nstream\n",
-             kinds[only->settings.encoding], (unsigned long)page->columns, (unsigned long)page->rows,
-             only->has_eols ? " /EndOfLine true" : "", only->settings.flags & HAYRO_CCITT_ALIGNED_ROWS ? " /EncodedByteAlign true" : "",
+    add_text(&it->bytes, "/Filter /CCITTFaxDecode /DecodeParms << /K %d /Columns %lu /Rows %lu", kinds[only->settings.encoding],
+             (unsigned long)page->columns, (unsigned long)page->rows);
+    add_text(&it->bytes, "%s%s%s%s >> /Length %lu >>\nstream\n", only->has_eols ? " /EndOfLine true" : "",
+             only->settings.flags & HAYRO_CCITT_ALIGNED_ROWS ? " /EncodedByteAlign true" : "",
              only->is_closed ? "" : " /EndOfBlock false", page->is_inverted ? " /BlackIs1 true" : "",
              (unsigned long)only->data.length);
     add(&it->bytes, only->data.at, only->data.length);
@@ -104,8 +105,8 @@ int finish_pdf(document *it)
         memcpy(&offset, it->offsets.at + i * sizeof offset, sizeof offset);
         add_text(&it->bytes, "%010" PRIu64 " 00000 n \n", offset);
     }
-    add_text(&it->bytes, "trailer\n<< /Size %lu /Root %d 0 R >>\nstartxref\n%" PRIu64 "\n%%%%EOF\n", (unsigned long)objects + 1, CATALOG,
-             start);
+    add_text(&it->bytes, "trailer\n<< /Size %lu /Root %d 0 R >>\nstartxref\n%" PRIu64 "\n%%%%EOF\n", (unsigned long)objects + 1,
+             CATALOG, start);
     return start < 10000000000u;
 }
 

@@ -27,7 +27,8 @@ void lay_out_raw(span file, hayro_ccitt_settings settings, page *into)
         into->note_status = NOT_WHOLE;
     }
     if (status == HAYRO_CCITT_UNEXPECTED_EOF && !settings.rows)
-        snprintf(into->note, sizeof into->note, "%s after %lu rows, without RTC or EOFB", meaning(status), (unsigned long)outcome.rows);
+        snprintf(into->note, sizeof into->note, "%s after %lu rows, without RTC or EOFB", meaning(status),
+                 (unsigned long)outcome.rows);
     into->columns = settings.columns;
     into->rows = (uint32_t)outcome.rows;
     only->data = file;

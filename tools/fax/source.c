@@ -41,13 +41,14 @@ int open_source(source *it, buffer file, int is_raw, hayro_ccitt_settings raw)
     memset(it, 0, sizeof *it);
     it->file = file;
     it->raw = raw;
-    it->left.left = 1 << 22;
+    it->left.left = 1 << 24;
     allow(&it->left, file.length);
     if (is_tiff(all) && all.length >= 8) {
         it->kind = TIFF_FILE;
         why = open_tiff(&it->directories, all) ? NULL : "out of memory";
     } else if (is_pdf(all)) {
         it->kind = PDF_FILE;
+        allow(&it->left, 4 * (uint64_t)file.length); /* its text may be compressed well */
         if (open_pdf(&it->images, all, &it->left, &why))
             why = NULL;
     } else if (is_pbm(all)) {

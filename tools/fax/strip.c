@@ -154,7 +154,7 @@ int take_strips(const page *it, enum target target, allowance *left, strips *int
 
 int encode_strip(const page *it, const picture *drawn, const way *how, strips *into)
 {
-    size_t size = drawn->width * drawn->rows;
+    size_t size = drawn->width * drawn->rows, room = size / 2 + 64;
     fax_encode_settings settings = {drawn->columns, how ? how->encoding : ways[0].encoding, how ? how->flags : ways[0].flags, 4};
     fax_encode_outcome outcome;
     describe(it, 1, into);
@@ -164,8 +164,9 @@ int encode_strip(const page *it, const picture *drawn, const way *how, strips *i
         into->across_inch = it->down_inch;
         into->down_inch = it->across_inch;
     }
-    uint32_t status = fax_encode_bitmap(drawn->bytes, size, &settings, room_for(&into->owned, size / 2 + 64), size / 2 + 64, &outcome);
-    if (status == FAX_ENCODE_REFUSED && outcome.bytes <= SIZE_MAX && room_for(&into->owned, (size_t)outcome.bytes))
+    uint8_t *data = room_for(&into->owned, room);
+    uint32_t status = data ? fax_encode_bitmap(drawn->bytes, size, &settings, data, room, &outcome) : FAX_ENCODE_OUT_OF_MEMORY;
+    if (status == FAX_ENCODE_REFUSED && room_for(&into->owned, (size_t)outcome.bytes))
         status = fax_encode_bitmap(drawn->bytes, size, &settings, into->owned.at, (size_t)outcome.bytes, &outcome);
     if (status != FAX_ENCODE_OK || !into->count) {
         release_strips(into);

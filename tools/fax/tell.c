@@ -6,14 +6,15 @@
 #include <unistd.h>
 
 static const char *name;
-static struct timespec start;
+static struct timespec next; /* when progress is shown again */
 static int is_terminal, is_shown;
 
 void begin_telling(const char *program)
 {
     name = program;
     is_terminal = isatty(STDERR_FILENO);
-    clock_gettime(CLOCK_MONOTONIC, &start);
+    clock_gettime(CLOCK_MONOTONIC, &next);
+    next.tv_sec++;
 }
 
 void tell(const char *file, const char *format, ...)
@@ -32,7 +33,9 @@ void show_progress(const char *file, unsigned page)
     struct timespec now;
     if (!is_terminal || clock_gettime(CLOCK_MONOTONIC, &now))
         return;
-    if (now.tv_sec - start.tv_sec > 1 || (now.tv_sec - start.tv_sec == 1 && now.tv_nsec >= start.tv_nsec)) {
+    if (now.tv_sec > next.tv_sec || (now.tv_sec == next.tv_sec && now.tv_nsec >= next.tv_nsec)) {
+        next = now;
+        next.tv_nsec += 100000000; /* at most some ten times a second */
         fprintf(stderr, "\r\033[K%s: %s: page %u", name, file, page);
         fflush(stderr);
         is_shown = 1;

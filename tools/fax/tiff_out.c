@@ -71,7 +71,8 @@ void add_tiff_page(document *it, const strips *page)
     int has_size = page->across_inch > 0 && page->down_inch > 0;
     uint64_t places[2] = {0, 0};
     to->has_failed |= !add_strips(to, page, places);
-    size_t across = has_size ? add_resolution(to, page->across_inch) : 0, down = has_size ? add_resolution(to, page->down_inch) : 0;
+    size_t across = has_size ? add_resolution(to, page->across_inch) : 0;
+    size_t down = has_size ? add_resolution(to, page->down_inch) : 0;
     size_t directory = align(to), count;
     set_number(to, it->link, directory, 4);
     add_number(to, 0, 2, 0);
