@@ -23,6 +23,7 @@ import cuts  # noqa: E402
 import damage_by_k  # noqa: E402
 import devices  # noqa: E402
 import encoder  # noqa: E402
+import fax  # noqa: E402
 import files  # noqa: E402
 import hostile  # noqa: E402
 import installed  # noqa: E402
@@ -56,12 +57,12 @@ def build(name, path):
 
 
 FILES = [
-    repository, program, built_tests, packing, c_library, row_by_row, encoder, refusals, devices, cuts, damage_by_k, hostile, memory, large, installed, users, files, released, clients, cost,
+    repository, program, built_tests, packing, c_library, row_by_row, encoder, refusals, devices, cuts, damage_by_k, hostile, memory, large, installed, users, files, fax, released, clients, cost,
 ]
 # those that run beside the build of the library for C
 WITHOUT_LIBRARY = [repository, program, built_tests, packing, devices]
 # those that call `make`, which run in turn, and those that take longest
-MAKE = [installed, users, files]
+MAKE = [installed, users, files, fax]
 LONG = [cost, large, memory, hostile, released]
 
 
