@@ -4,6 +4,7 @@ ghost use Rattle.fax_encode.specs.Laws.{ChosenBySettings, ChosenComesBack, Chose
 ghost use Rattle.fax_encode.specs.Laws.{NeverLonger, WorkedSettings};
 ghost use Rattle.fax_encode.specs.Laws.{RowsAreChosen, BitmapRoundTripT4, BitmapRoundTripT6, ChosenIsAnEncoding, PackedIsShown};
 ghost use Rattle.fax_encode.specs.Laws.{RoundTripT6, RoundTripT4, RowsArePacked};
+ghost use Rattle.fax_encode.specs.Shortest.{ShortestLines, ShortestPicturesT6, ShortestRuns};
 
 /// What is chosen for a picture encodes it: as T.6, closed by EOFB, and as one-dimensional T.4 with an EOL before each
 /// line, closed by RTC.
@@ -62,4 +63,11 @@ pub fn rows_are_chosen()
 /// one-dimensional one (T.4 section 4.2.1).
 pub fn damage_reaches_k_rows()
     ensures { DamageReachesKRows }
+{}
+
+/// No encoding of a run, of a two-dimensional line or of a T.6 picture has fewer bits than the shortest one.
+pub fn shortest()
+    ensures runs { ShortestRuns }
+    ensures lines { ShortestLines }
+    ensures pictures { ShortestPicturesT6 }
 {}
