@@ -198,7 +198,7 @@ module _ (reference row : Row) (same : length reference ≡ length row) where
   encodes_over at e = subst (λ (b : Bits). EncodesLine2D reference row at.from at.color b) (sym (chosen_over at (omega arith)))
       (subst (λ (n : ℕ). EncodesLine2D reference row n at.color []) (sym e) EncodesLine2D.over)
 
-  encodes_from : (turns : ℕ) (at : Place) → at.from ≤ suc (length row) → suc (length row) ≤ at.from + turns
+  pub encodes_from : (turns : ℕ) (at : Place) → at.from ≤ suc (length row) → suc (length row) ≤ at.from + turns
       → EncodesLine2D reference row at.from at.color (chosen_from reference row at)
   encodes_from zero at le enough = encodes_over at (omega arith)
   encodes_from (suc turns) at le enough = elim (cases_lt (length row) at.from) [

@@ -10,6 +10,9 @@ use Rattle.fax_encode.proofs.Names.{shortest_from}
 use Rattle.fax_encode.proofs.ChosenLines.{is_vertical}
 use Rattle.fax_encode.proofs.ShortestRuns.{shortest_runs}
 use Rattle.std.proofs.lemmas.Bool.{and_from, lt-leb}
+use Rattle.fax_encode.proofs.Names.{runs_of_mode, chosen_from, chosen_run, chosen_mode}
+use Rattle.fax_encode.proofs.ChosenLines.{chooses, goes_right, chosen_more, chosen_over, encodes_from}
+use Rattle.fax_encode.proofs.ChosenWords.{run_spelled}
 
 -- ---- Words of modes.
 -- a vertical mode is of at most three positions
@@ -89,6 +92,12 @@ shorter_second first second = by_leb (leb (length first) (length second)) refl
     by_leb true is = leb-true (length first) (length second) is
     by_leb false is = omega arith
 
+shorter_kept : (first second : Bits) → length first ≤ length (shorter first second) → shorter first second ≡ first
+shorter_kept first second le =
+    let further = shorter_second first second in
+    let is : leb (length first) (length second) ≡ true = le-leb (length first) (length second) (omega (arith, le, further)) in
+    rw is refl
+
 one_of : (P : Bits → Type 0) (first second : Bits) → P first → P second → P (shorter first second)
 one_of P first second left right = by_leb (leb (length first) (length second))
   where
@@ -135,6 +144,25 @@ module _ (bits_with : Mode → Bits) (vertical : Mode) where
   holds P true false pass vert horizontal = one_of P (bits_with Pass) (bits_with Horizontal) (pass refl) horizontal
   holds P false true pass vert horizontal = one_of P (bits_with vertical) (bits_with Horizontal) (vert refl) horizontal
   holds P false false pass vert horizontal = horizontal
+
+  -- the first lawful mode
+  first : Bool → Bool → Mode
+  first left near = cond left Pass (cond near vertical Horizontal)
+
+  first_longer : (left near : Bool) → length (shortest_of bits_with (others left near)) ≤ length (bits_with (first left near))
+  unfolding first
+  first_longer true near = (no_longer true near).1 refl
+  first_longer false true = (no_longer false true).2 refl
+  first_longer false false = (no_longer false false).0
+
+  -- is the mode of the shortest, unless it is longer
+  first_kept : (left near : Bool) → length (bits_with (first left near)) ≤ length (shortest_of bits_with (others left near))
+      → shortest_of bits_with (others left near) ≡ bits_with (first left near)
+  unfolding first others
+  first_kept true true le = shorter_kept (bits_with Pass) (shorter (bits_with vertical) (bits_with Horizontal)) le
+  first_kept true false le = shorter_kept (bits_with Pass) (bits_with Horizontal) le
+  first_kept false true le = shorter_kept (bits_with vertical) (bits_with Horizontal) le
+  first_kept false false le = refl
 
 -- ---- Lines.
 module _ (reference row : Row) (same : length reference ≡ length row) where
@@ -303,10 +331,100 @@ module _ (reference row : Row) (same : length reference ≡ length row) where
         (with_horizontal modes at inside on))
   ]
 
+  -- ---- The procedure's line, unless it is longer.
+  runs_longer : (at : Place) (mode : Mode) → length (shortest_runs_of_mode row at mode) ≤ length (runs_of_mode row at mode)
+  runs_longer at Pass = omega arith
+  runs_longer at (Vertical k) = omega arith
+  runs_longer at Horizontal =
+      let m : ℕ = a1 row at.from - (at.from - 1) in
+      let n : ℕ = a2 row at.from - a1 row at.from in
+      omega (
+        arith,
+        length-append (shortest_run at.color m) (shortest_run (opposite at.color) n),
+        length-append (chosen_run at.color m) (chosen_run (opposite at.color) n),
+        (shortest_runs at.color m).1 (chosen_run at.color m) (run_spelled at.color m),
+        (shortest_runs (opposite at.color) n).1 (chosen_run (opposite at.color) n) (run_spelled (opposite at.color) n),
+      )
+
+  runs_kept : (at : Place) (mode : Mode) → length (runs_of_mode row at mode) ≤ length (shortest_runs_of_mode row at mode)
+      → shortest_runs_of_mode row at mode ≡ runs_of_mode row at mode
+  runs_kept at Pass le = refl
+  runs_kept at (Vertical k) le = refl
+  runs_kept at Horizontal le =
+      let m : ℕ = a1 row at.from - (at.from - 1) in
+      let n : ℕ = a2 row at.from - a1 row at.from in
+      let mine = length-append (shortest_run at.color m) (shortest_run (opposite at.color) n) in
+      let other = length-append (chosen_run at.color m) (chosen_run (opposite at.color) n) in
+      let one = (shortest_runs at.color m).1 (chosen_run at.color m) (run_spelled at.color m) in
+      let two = (shortest_runs (opposite at.color) n).1 (chosen_run (opposite at.color) n) (run_spelled (opposite at.color) n) in
+      let first = (shortest_runs at.color m).2 (omega (arith, le, mine, other, one, two)) in
+      let second = (shortest_runs (opposite at.color) n).2 (omega (arith, le, mine, other, one, two)) in
+      ap (λ (b : Bits). b ++ shortest_run (opposite at.color) n) first ∙ ap (λ (b : Bits). chosen_run at.color m ++ b) second
+
+  first_best : (modes : ℕ) (at : Place) → at.from ≤ length row → length (shortest_from (suc modes) reference row at)
+      ≤ length (begins_with modes at (chosen_mode reference row at))
+  unfolding first others
+  first_best modes at inside =
+      rw (from_is modes at inside)
+      (first_longer (begins_with modes at) (vertical_mode (b1 reference at.from at.color) (a1 row at.from))
+      (ltb (b2 reference at.from at.color) (a1 row at.from)) (is_near (b1 reference at.from at.color) (a1 row at.from)))
+
+  first_begun : (modes : ℕ) (at : Place) → at.from ≤ length row
+      → length (begins_with modes at (chosen_mode reference row at)) ≤ length (shortest_from (suc modes) reference row at)
+      → shortest_from (suc modes) reference row at ≡ begins_with modes at (chosen_mode reference row at)
+  unfolding first others
+  first_begun modes at inside few =
+      let is = from_is modes at inside in
+      is ∙ first_kept (begins_with modes at) (vertical_mode (b1 reference at.from at.color) (a1 row at.from))
+      (ltb (b2 reference at.from at.color) (a1 row at.from)) (is_near (b1 reference at.from at.color) (a1 row at.from))
+      (omega (arith, few, ap length is))
+
+  begins_length : (modes : ℕ) (at : Place) (mode : Mode) → length (begins_with modes at mode)
+      ≡ length (word_of_mode mode) + length (shortest_runs_of_mode row at mode)
+      + length (shortest_from modes reference row (place_after reference row at mode))
+  unfolding begins_with
+  begins_length modes at mode =
+      omega (
+        arith,
+        length-append (word_of_mode mode ++ shortest_runs_of_mode row at mode)
+            (shortest_from modes reference row (place_after reference row at mode)),
+        length-append (word_of_mode mode) (shortest_runs_of_mode row at mode),
+      )
+
+  kept : (modes : ℕ) (at : Place) → at.from ≤ suc (length row) → suc (length row) ≤ at.from + modes
+      → length (chosen_from reference row at) ≤ length (shortest_from modes reference row at)
+      → shortest_from modes reference row at ≡ chosen_from reference row at
+  unfolding begins_with
+  kept zero at le enough few = sym (chosen_over reference row same at (omega arith))
+  kept (suc modes) at le enough few = elim (cases_lt (length row) at.from) [
+    | inl past ↦ over_is (suc modes) at past ∙ sym (chosen_over reference row same at past)
+    | inr inside ↦
+        let mode : Mode = chosen_mode reference row at in
+        let after : Place = place_after reference row at mode in
+        let right = goes_right reference row same at mode inside (chooses reference row same at inside) in
+        let more = chosen_more reference row same at inside in
+        let line = encodes_from reference row same (suc (length row)) after right.1 (omega arith) in
+        let rest = least modes after.from after.color (chosen_from reference row after) line (omega (arith, right.0)) in
+        let best = first_best modes at inside in
+        let word : Bits = word_of_mode mode in
+        let mine = begins_length modes at mode in
+        let other : length (chosen_from reference row at)
+        ≡ length word + length (runs_of_mode row at mode) + length (chosen_from reference row after)
+        = ap length more ∙ (length-append (word ++ runs_of_mode row at mode) (chosen_from reference row after)
+        ∙ ap (λ (n : ℕ). n + length (chosen_from reference row after)) (length-append word (runs_of_mode row at mode))) in
+        let runs = runs_longer at mode in
+        let same_runs = runs_kept at mode (omega (arith, few, best, mine, other, rest, runs)) in
+        let on = kept modes after right.1 (omega (arith, right.0)) (omega (arith, few, best, mine, other, rest, runs)) in
+        let begun = first_begun modes at inside (omega (arith, few, mine, other, rest, runs)) in
+        begun ∙ (ap (λ (b : Bits). (word ++ b) ++ shortest_from modes reference row after) same_runs
+        ∙ (ap (λ (b : Bits). (word ++ runs_of_mode row at mode) ++ b) on ∙ sym more))
+  ]
+
 -- the shortest two-dimensional line
 pub shortest_lines : ShortestLines
 unfolding Encodes
 shortest_lines reference row same = (
   encodes reference row same (suc (length row)) (record { from = 0; color = White }) (omega arith) (omega arith),
   λ bits derived. least reference row same (suc (length row)) 0 White bits derived (omega arith),
+  kept reference row same (suc (length row)) (record { from = 0; color = White }) (omega arith) (omega arith),
 )

@@ -6,6 +6,9 @@ use Rattle.fax_encode.proofs.Names.{cases_lt, length-append, Color, White, Black
 use Rattle.fax_encode.proofs.Names.{word_of_length, chosen_rest, first_makeup, shortest_words, shortest_run, ShortestRuns}
 use Rattle.fax_encode.proofs.ChosenWords.{makeup_word, rest_spelled}
 use Rattle.std.proofs.lemmas.Bool.{agree_below, lt-leb, ne_eqb}
+use Rattle.fax_encode.proofs.Names.{chosen_run, ◌⊎◌, append_assoc, flat_map, ltb-true, replicate}
+use Rattle.fax_encode.proofs.RunLengths.{run_parts}
+use Rattle.std.proofs.lemmas.Bool.{or_cases}
 
 -- ---- Bits of make-up words, in times of 64 pixels.
 -- the bits of the make-up word of this many times 64 pixels; none has no word
@@ -282,9 +285,156 @@ no_fewer color n bits (Spells.makeup m word {n = k} {bits = next} has large rest
     let last : ends color ((m + k) % 64) ≡ ends color (k % 64) = ap (ends color) same in
     omega (arith, on, more, sum, last, is.2, length-append word next)
 
+-- ---- T.4's words, unless they have more bits.
+-- the bits of the make-up words by T.4's rule
+usual : Color → ℕ → ℕ
+usual color times = times / 40 * 12 + one color (times % 40)
+
+usual_bits : (color : Color) (n : ℕ) → length (chosen_run color n) ≡ usual color (n / 64) + ends color (n % 64)
+unfolding usual
+usual_bits color n =
+    let rest : ℕ = n % 2560 in
+    let times : rest / 64 ≡ n / 64 % 40 = omega arith in
+    let same : rest % 64 ≡ n % 64 = omega arith in
+    let long : n / 2560 ≡ n / 64 / 40 = omega arith in
+    let behind = rest_bits color rest (omega arith) in
+    let few = total_few color (rest / 64) (omega arith) in
+    let word : one color (rest / 64) ≡ one color (n / 64 % 40) = ap (one color) times in
+    let last : ends color (rest % 64) ≡ ends color (n % 64) = ap (ends color) same in
+    omega (arith, run_parts color n, long, behind, few, word, last)
+
+-- the first word is T.4's, or T.4's words have more bits
+is_dearer : Color → ℕ → Bool
+is_dearer color times = ltb times 41 || (eqb (first_makeup color times) 40 || ltb (total color times) (usual color times))
+
+dearer_early : (color : Color) (times : ℕ) → times < 124 → is_dearer color times ≡ true
+unfolding is_dearer usual total best one
+dearer_early White times lt = agree_below_at (is_dearer White) (λ m. true) 124 times refl lt
+dearer_early Black times lt = agree_below_at (is_dearer Black) (λ m. true) 124 times refl lt
+
+dearer_first : (color : Color) (times : ℕ) → times < 124 → 41 ≤ times
+    → (first_makeup color times ≡ 40) ⊎ (total color times < usual color times)
+unfolding is_dearer
+dearer_first color times lt many =
+    let few : ltb times 41 ≡ false = le-ltb times 41 many in
+    let is : (eqb (first_makeup color times) 40 || ltb (total color times) (usual color times)) ≡ true
+    = (let all = dearer_early color times lt in rw few at all) in
+    elim (or_cases (eqb (first_makeup color times) 40) (ltb (total color times) (usual color times)) is) [
+      | inl same ↦ inl (eqb-true (first_makeup color times) 40 same)
+      | inr dear ↦ inr (ltb-true (total color times) (usual color times) dear)
+    ]
+
+usual_more : (color : Color) (times : ℕ) → 40 ≤ times → usual color times ≡ usual color (times - 40) + 12
+unfolding usual
+usual_more color times many =
+    let rest : times % 40 ≡ (times - 40) % 40 = omega arith in
+    let word : one color (times % 40) ≡ one color ((times - 40) % 40) = ap (one color) rest in
+    omega (arith, word)
+
+longest : (color : Color) → one color 40 ≡ 12
+unfolding one
+longest White = refl
+longest Black = refl
+
+white_dearer : (bound times : ℕ) → times ≤ bound → 68 ≤ times → total White times < usual White times
+white_dearer zero times le many = absurd (omega arith)
+white_dearer (suc bound) times le many = elim (cases_lt times 124) [
+  | inl early ↦
+      let a : leb times 67 ≡ false = lt-leb times 67 (omega arith) in
+      let b : leb 66 times ≡ true = le-leb 66 times (omega arith) in
+      let short : first_makeup White times ≡ 26 = rw (a, b) refl in
+      elim (dearer_first White times early (omega arith)) [
+        | inl same ↦ absurd (omega (arith, same, short))
+        | inr dear ↦ dear
+      ]
+  | inr late ↦
+      let less = white_dearer bound (times - 40) (omega arith) (omega arith) in
+      let one_more = adds White (times - 40) (times - 40) 40 (omega arith) (omega arith) in
+      let whole : (times - 40) + 40 ≡ times = omega arith in
+      let is : total White ((times - 40) + 40) ≡ total White times = ap (total White) whole in
+      omega (arith, less, one_more, is, usual_more White times (omega arith), longest White)
+]
+
+dearer : (color : Color) (times : ℕ) → 41 ≤ times → (first_makeup color times ≡ 40) ⊎ (total color times < usual color times)
+unfolding top
+dearer White times many = elim (cases_lt times 124) [
+  | inl early ↦ dearer_first White times early many
+  | inr late ↦ inr (white_dearer times times (omega arith) (omega arith))
+]
+dearer Black times many = elim (cases_lt times 124) [
+  | inl early ↦ dearer_first Black times early many
+  | inr late ↦ inl (first_late Black times late)
+]
+
+-- a run of 2560 pixels and more begins with their word
+chosen_longer : (color : Color) (n : ℕ) → 2560 ≤ n
+    → chosen_run color n ≡ word_of_length color 2560 ++ chosen_run color (n - 2560)
+chosen_longer color n many =
+    let word : Bits = word_of_length color 2560 in
+    let times : n / 2560 ≡ suc ((n - 2560) / 2560) = omega arith in
+    let same : n % 2560 ≡ (n - 2560) % 2560 = omega arith in
+    let words : Bits = flat_map (λ word. word) (replicate ((n - 2560) / 2560) word) in
+    ap (λ (m : ℕ). flat_map (λ word. word) (replicate m word) ++ chosen_rest color (n % 2560)) times
+    ∙ (ap (λ (m : ℕ). (word ++ words) ++ chosen_rest color m) same
+    ∙ append_assoc word words (chosen_rest color ((n - 2560) % 2560)))
+
+chosen_short : (color : Color) (n : ℕ) → n < 2560 → chosen_run color n ≡ chosen_rest color n
+chosen_short color n few =
+    let none : n / 2560 ≡ 0 = omega arith in
+    let same : n % 2560 ≡ n = omega arith in
+    ap (λ (m : ℕ). flat_map (λ word. word) (replicate m (word_of_length color 2560)) ++ chosen_rest color (n % 2560)) none
+    ∙ ap (chosen_rest color) same
+
+-- a word of 2560 pixels and a terminating word
+chosen_seam : (color : Color) (n : ℕ) → 2560 ≤ n → n < 2624 → chosen_rest color n ≡ chosen_run color n
+chosen_seam color n many few =
+    let last : ℕ = n - 2560 in
+    let e : ltb n 64 ≡ false = le-ltb n 64 (omega arith) in
+    let f : ltb last 64 ≡ true = lt-ltb last 64 (omega arith) in
+    let word : n - n % 64 ≡ 2560 = omega arith in
+    let same : n % 64 ≡ last = omega arith in
+    let kept : last % 64 ≡ last = omega arith in
+    let mine : chosen_rest color n ≡ word_of_length color 2560 ++ word_of_length color last
+    = rw (e, word, same) refl in
+    let behind : chosen_rest color last ≡ word_of_length color last = rw (f, kept) refl in
+    mine ∙ (ap (λ (b : Bits). word_of_length color 2560 ++ b) (sym (chosen_short color last (omega arith) ∙ behind))
+    ∙ sym (chosen_longer color n many))
+
+usual_kept : (color : Color) (words n : ℕ) → n < 1664 * suc words
+    → length (chosen_run color n) ≤ length (shortest_words color words n) → shortest_words color words n ≡ chosen_run color n
+usual_kept color zero n lt le = sym (chosen_short color n (omega arith))
+usual_kept color (suc words) n lt le = elim (cases_lt n 2624) [
+  | inl few ↦
+      let e : ltb n 2624 ≡ true = lt-ltb n 2624 few in
+      rw e (elim (cases_lt n 2560) [
+        | inl short ↦ sym (chosen_short color n short)
+        | inr seam ↦ chosen_seam color n seam few
+      ])
+  | inr many ↦
+      let e : ltb n 2624 ≡ false = le-ltb n 2624 many in
+      elim (dearer color (n / 64) (omega arith)) [
+        | inl same ↦
+            let left : ℕ = n - 2560 in
+            let front : Bits = word_of_length color 2560 in
+            let mine : shortest_words color (suc words) n ≡ front ++ shortest_words color words left = rw (e, same) refl in
+            let other = chosen_longer color n (omega arith) in
+            let on = usual_kept color words left (omega (arith, lt)) (omega (
+              arith,
+              le,
+              ap length mine,
+              ap length other,
+              length-append front (shortest_words color words left),
+              length-append front (chosen_run color left),
+            )) in
+            mine ∙ (ap (λ (b : Bits). front ++ b) on ∙ sym other)
+        | inr dear ↦ absurd (omega (arith, le, dear, words_bits color (suc words) n lt, usual_bits color n))
+      ]
+]
+
 -- the shortest words of a run
 pub shortest_runs : ShortestRuns
 shortest_runs color n = (
   words_spelled color (n / 1664) n (omega arith),
   λ bits spells. omega (arith, run_bits color n, no_fewer color n bits spells),
+  usual_kept color (n / 1664) n (omega arith),
 )

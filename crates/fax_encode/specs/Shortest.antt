@@ -10,6 +10,7 @@ use Rattle.hayro_ccitt.specs.Rows.{Row, white_row, opposite, b1, b2, a1, a2}
 use Rattle.hayro_ccitt.specs.Encodings.{Spells, EncodesLine2D, IsPicture, PictureT6, padding, eol}
 use Rattle.fax_encode.specs.Chosen.{word_of_length, word_of_mode, chosen_rest, Place, vertical_mode}
 use Rattle.fax_encode.specs.Chosen.{is_near, place_after, is_coded}
+use Rattle.fax_encode.specs.Chosen.{chosen_run, chosen_line_2d}
 
 -- ---- runs
 
@@ -95,6 +96,7 @@ shortest_t6 columns aligned rows = shortest_lines_2d aligned (white_row columns)
 abbrev pub ShortestRuns : Type 0
 ShortestRuns = (color : Color) (n : ℕ) → Spells color n (shortest_run color n)
     × ((bits : Bits) → Spells color n bits → length (shortest_run color n) ≤ length bits)
+    × (length (chosen_run color n) ≤ length (shortest_run color n) → shortest_run color n ≡ chosen_run color n)
 
 -- The shortest line encodes its row, no encoding of the row has fewer bits, and it is the one that T.6's procedure chooses
 -- unless that has more bits (T.4, 4.2.1.3; T.6, 2.2).
@@ -102,6 +104,8 @@ abbrev pub ShortestLines : Type 0
 ShortestLines = (reference row : Row) → length reference ≡ length row
     → EncodesLine2D reference row 0 White (shortest_line_2d reference row)
     × ((bits : Bits) → EncodesLine2D reference row 0 White bits → length (shortest_line_2d reference row) ≤ length bits)
+    × (length (chosen_line_2d reference row) ≤ length (shortest_line_2d reference row)
+    → shortest_line_2d reference row ≡ chosen_line_2d reference row)
 
 -- The shortest T.6 picture is an encoding of its rows, and no encoding with the same alignment has fewer bits (T.6, 2).
 abbrev pub ShortestPicturesT6 : Type 0

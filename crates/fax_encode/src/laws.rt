@@ -65,7 +65,9 @@ pub fn damage_reaches_k_rows()
     ensures { DamageReachesKRows }
 {}
 
-/// No encoding of a run, of a two-dimensional line or of a T.6 picture has fewer bits than the shortest one.
+/// The shortest words of a run, modes of a two-dimensional line against a reference row, and T.6 picture are encodings, and no
+/// other encoding of them, with the same alignment, has fewer bits. Where T.4's words of a run, or the modes of the procedure of
+/// T.4 section 4.2.1.3.2 with those words, are as short, they are the shortest.
 pub fn shortest()
     ensures runs { ShortestRuns }
     ensures lines { ShortestLines }
