@@ -115,3 +115,7 @@ pub use Rattle.std.specs.Prelude.{All, Ok, Vec, flat_map, negsuc, pos, ℤ, ◌+
 pub use borrow.Rule.Slice.PartMut.{put_mid}
 pub use lib.Count.{count_leading_zeros}
 pub use mathlib.Core.Bool.{beq}
+pub use Rattle.fax_encode.specs.Shortest.{ShortestLines, ShortestPicturesT6, ShortestRuns, first_makeup, other_modes, shorter}
+pub use Rattle.fax_encode.specs.Shortest.{shortest_from}
+pub use Rattle.fax_encode.specs.Shortest.{shortest_line_2d, shortest_lines_2d, shortest_of, shortest_run, shortest_runs_of_mode}
+pub use Rattle.fax_encode.specs.Shortest.{shortest_words}
