@@ -1,0 +1,4 @@
+pub mod EqualFronts
+pub mod LinesAgain
+pub mod RowsBeforeDamage
+pub mod TurnsLeave
