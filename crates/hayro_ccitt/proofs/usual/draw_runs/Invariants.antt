@@ -1,12 +1,12 @@
-use Rattle.hayro_ccitt.proofs.Names.{◌≡◌, ◌-◌, ◌<◌, ◌≤◌, White, GoesOn, IsReached, pen_at}
+use Rattle.hayro_ccitt.proofs.Names.{◌≡◌, ◌-◌, ◌≤◌, White, GoesOn, IsOpen, pen_at}
 use Rattle.hayro_ccitt.proofs.usual.draw_runs.Given as goal
 
 -- what is drawn so far, and that the row isn't full
 abbrev pub invariant-runs : goal.invariant-runs
 invariant-runs l =
-    GoesOn l.strict l.columns (pen_at l.painted l.fn.row.items White l.fn.hand.at) (pen_at l.place l.row.items White l.hand.at)
-    l.fn.ticks l.ticks × IsReached l.columns l.place White l.row.items × (l.painted ≤ l.place) × (l.place < l.columns)
-    × (l.hand.at.bits ≡ l.fn.hand.at.bits) × (l.fn.hand.at.place ≤ l.hand.at.place)
+    GoesOn l.settings.strict l.settings.columns (pen_at l.painted l.fn.row.items White l.fn.hand.at)
+    (pen_at l.place l.row.items White l.hand.at) l.fn.ticks l.ticks × IsOpen l.settings.columns l.place l.row.items
+    × (l.painted ≤ l.place) × (l.hand.at.bits ≡ l.fn.hand.at.bits) × (l.fn.hand.at.place ≤ l.hand.at.place)
 
 abbrev pub decreases-runs : goal.decreases-runs
-decreases-runs l = l.columns - l.place
+decreases-runs l = l.settings.columns - l.place
