@@ -29,7 +29,7 @@ TOOLS = ["make", "cc", "objcopy", "objdump", "strip", "dpkg-deb", "tar", "lintia
 # A path without `rt`.
 PATH = "/usr/sbin:/usr/bin:/sbin:/bin"
 STRIP, PICTURE = "corpus/strips/page/gs-g4", "corpus/pictures/page"
-DECODE = "fax2pbm -m g4 -w 1240 -r 1754 strip > page.pbm"
+DECODE = "fax -m g4 -w 1240 -r 1754 strip > page.pbm"
 IN_PYTHON = (
     "python3 -c "
     + shlex.quote("import hayro_ccitt; open('page.pbm', 'wb').write(hayro_ccitt.decode(open('strip', 'rb').read(), 1240, 1754, k=-1).pbm())")

@@ -176,7 +176,7 @@ def binary_tarball(build, version, told, epoch, work):
 
 
 TARBALL_README = """\
-bin       programs, which run as they are: {top}/bin/fax2pbm FILE.tif > page.pbm
+bin       programs, which run as they are: {top}/bin/fax -o page.pbm FILE.tif
 lib       the library, static and shared, and pkgconfig/hayro_ccitt.pc, which finds this folder wherever it is
 include   the headers; the first page of hayro_ccitt.h is a complete program
 share     manual pages, examples, changes, what is promised, and PROVENANCE
@@ -201,6 +201,11 @@ def newest_libc(paths):
     return max(versions, default=(2, 2, 5))
 
 
+def needs_zlib(path):
+    listed = subprocess.run(["objdump", "-p", path], capture_output=True, text=True, check=True).stdout
+    return "NEEDED" in listed and "libz.so" in listed
+
+
 def debian_package(build, version, told, epoch, work):
     root = f"{work}/debian"
     installed(build, root, "PREFIX=/usr", f"LIBDIR=/usr/lib/{TRIPLET}")
@@ -214,7 +219,7 @@ def debian_package(build, version, told, epoch, work):
         write(f"{name}.gz", gzip.compress(read(name), mtime=0))
         os.remove(name)
     write(f"{shared}/copyright", NO_LICENCE)
-    programs = [f"{root}/usr/bin/{name}" for name in os.listdir(f"{root}/usr/bin")]
+    programs = [f"{root}/usr/bin/{name}" for name in os.listdir(f"{root}/usr/bin") if not os.path.islink(f"{root}/usr/bin/{name}")]
     library = f"{root}/usr/lib/{TRIPLET}/libhayro_ccitt.so.{version}"
     for path in [*programs, library]:
         subprocess.run(["strip", "--strip-unneeded", path], check=True)
@@ -222,13 +227,14 @@ def debian_package(build, version, told, epoch, work):
     subprocess.run(["strip", "--strip-debug", f"{root}/usr/lib/{TRIPLET}/libhayro_ccitt.a"], check=True)
     size = sum(os.path.getsize(f"{root}/{name}") for name in files_in(root)) // 1024
     libc = ".".join(map(str, newest_libc([*programs, library])))
+    zlib = ", zlib1g" if any(needs_zlib(path) for path in programs) else ""
     control = [
         "Package: hayro-ccitt",
         f"Version: {version}-1",
         "Architecture: amd64",
         f"Maintainer: {MAKERS}",
         f"Installed-Size: {size}",
-        f"Depends: libc6 (>= {libc})",
+        f"Depends: libc6 (>= {libc}){zlib}",
         "Section: graphics",
         "Priority: optional",
         f"Description: {DESCRIPTION}",
@@ -304,7 +310,7 @@ def source_tarball(build, version, told, epoch, work):
         fail(assembly.stderr.decode())
     write(f"{root}/proved.s", assembly.stdout)
     strip = "corpus/strips/page/gs-g4"
-    for name in [it for it in tracked() if it.startswith(("c/", "man/"))] + ["CHANGELOG.md", "SECURITY.md", strip, "corpus/pictures/page"]:
+    for name in [it for it in tracked() if it.startswith(("c/", "man/", "tools/"))] + ["CHANGELOG.md", "SECURITY.md", strip, "corpus/pictures/page"]:
         write(f"{root}/{name}", read(name))
     for name in [it for it in tracked() if re.match(r"examples/[^/]*\.[ch]$", it)]:
         write(f"{root}/{name}", read(name))

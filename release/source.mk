@@ -21,11 +21,14 @@ SHARED = libhayro_ccitt.so.$(VERSION)
 SONAME = libhayro_ccitt.so.$(INTERFACE)
 HEADERS = c/hayro_ccitt.h c/fax_encode.h c/hayro_ccitt_heap.h
 OBJECTS = build/proved.o build/calls.o build/heap.o
-PROGRAMS = $(patsubst examples/%.c,build/%,$(wildcard examples/*.c))
-INSTALLED = $(filter build/fax%,$(PROGRAMS))
-PAGES = $(wildcard $(INSTALLED:build/%=man/%.1))
+EXAMPLES = $(patsubst examples/%.c,build/%,$(wildcard examples/*.c))
+# fax writes PNG and reads compressed PDF by zlib, where pkg-config finds it; WITH_ZLIB= builds it without.
+WITH_ZLIB ?= $(shell pkg-config --exists zlib 2>/dev/null && echo zlib)
+ZLIB_FLAGS = $(if $(WITH_ZLIB),-DFAX_HAVE_ZLIB $(shell pkg-config --cflags zlib))
+ZLIB_LIBS = $(if $(WITH_ZLIB),$(shell pkg-config --libs zlib))
+COMPLETIONS ?= $(PREFIX)/share/bash-completion/completions
 
-all: build/libhayro_ccitt.a build/libhayro_ccitt.so build/hayro_ccitt.pc $(PROGRAMS)
+all: build/libhayro_ccitt.a build/libhayro_ccitt.so build/hayro_ccitt.pc build/fax $(EXAMPLES)
 build:
 	mkdir -p $@
 build/proved.o: proved.s | build
@@ -39,6 +42,8 @@ build/libhayro_ccitt.so: $(OBJECTS) c/exports
 	$(CC) $(CFLAGS) $(LDFLAGS) -shared -Wl,-soname,$(SONAME) -Wl,--version-script=c/exports -o $@ $(OBJECTS)
 build/hayro_ccitt.pc: c/hayro_ccitt.pc.in c/hayro_ccitt.h | build
 	sed -e 's|@PREFIX@|$(PREFIX)|' -e 's|@LIBDIR@|$(LIBDIR)|' -e 's|@INCLUDEDIR@|$(INCLUDEDIR)|' -e 's|@VERSION@|$(VERSION)|' $< > $@
+build/fax: $(wildcard tools/fax/*.[ch]) $(HEADERS) build/libhayro_ccitt.a
+	$(CC) $(CFLAGS) -std=c99 -Ic $(ZLIB_FLAGS) $(LDFLAGS) -o $@ $(filter %.c,$^) build/libhayro_ccitt.a $(ZLIB_LIBS)
 build/%: examples/%.c $(HEADERS) build/libhayro_ccitt.a
 	$(CC) $(CFLAGS) -std=c99 -Ic $(LDFLAGS) -o $@ $< build/libhayro_ccitt.a
 
@@ -47,7 +52,8 @@ check: all
 	@echo "a page: as it should be"
 
 install: all
-	$(INSTALL) -d $(DESTDIR)$(BINDIR) $(DESTDIR)$(LIBDIR)/pkgconfig $(DESTDIR)$(INCLUDEDIR) $(DESTDIR)$(MANDIR)/man1 $(DESTDIR)$(MANDIR)/man3
+	$(INSTALL) -d $(DESTDIR)$(BINDIR) $(DESTDIR)$(LIBDIR)/pkgconfig $(DESTDIR)$(INCLUDEDIR) $(DESTDIR)$(MANDIR)/man1 $(DESTDIR)$(MANDIR)/man3 \
+		$(DESTDIR)$(COMPLETIONS)
 	rm -f build/hayro_ccitt.pc
 	$(MAKE) --no-print-directory build/hayro_ccitt.pc
 	$(INSTALL) -m 644 $(HEADERS) $(DESTDIR)$(INCLUDEDIR)
@@ -56,8 +62,10 @@ install: all
 	ln -sf $(SHARED) $(DESTDIR)$(LIBDIR)/$(SONAME)
 	ln -sf $(SONAME) $(DESTDIR)$(LIBDIR)/libhayro_ccitt.so
 	$(INSTALL) -m 644 build/hayro_ccitt.pc $(DESTDIR)$(LIBDIR)/pkgconfig
-	$(INSTALL) -m 755 $(INSTALLED) $(DESTDIR)$(BINDIR)
-	$(if $(PAGES),$(INSTALL) -m 644 $(PAGES) $(DESTDIR)$(MANDIR)/man1)
+	$(INSTALL) -m 755 build/fax $(DESTDIR)$(BINDIR)
+	ln -sf fax $(DESTDIR)$(BINDIR)/fax2pbm
+	$(INSTALL) -m 644 tools/fax/fax.bash $(DESTDIR)$(COMPLETIONS)/fax
+	$(INSTALL) -m 644 man/fax.1 man/fax2pbm.1 $(DESTDIR)$(MANDIR)/man1
 	$(INSTALL) -m 644 man/hayro_ccitt.3 $(DESTDIR)$(MANDIR)/man3
 
 clean:
