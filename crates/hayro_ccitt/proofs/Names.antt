@@ -15,7 +15,7 @@ pub use Rattle.hayro_ccitt.specs.Contract.{Decodes}
 pub use Rattle.hayro_ccitt.specs.Damage.{Damaged, damage_of, damaged_by_turn, fault_in, missed_behind, missed_by_turn}
 pub use Rattle.hayro_ccitt.specs.Damage.{missed_before, misses_by_line, repaired_by_turn, repaired_in, repairs_by_line}
 pub use Rattle.hayro_ccitt.specs.Damage.{start_in}
-pub use Rattle.hayro_ccitt.specs.Decoding.{CountsDamage, DecodesFrom, DecodesRows, FailsFrom, FailsHere, IsRefusedBy, RowIsTaken}
+pub use Rattle.hayro_ccitt.specs.Decoding.{CountsDamage, DecodesRows, FailsHere, RowIsTaken}
 pub use Rattle.hayro_ccitt.specs.Decoding.{SinkState, StopsShort, TakesAll, TakesOneRow, TakesRows, gap_said, leaving}
 pub use Rattle.hayro_ccitt.specs.Decoding.{repairs_behind, repairs_with, with_row_taken}
 pub use Rattle.hayro_ccitt.specs.Encodings.{ClosesWithEols, EncodesLine, EncodesLine1D, EncodesLine2D, EncodesRows}
@@ -61,7 +61,7 @@ pub use Rattle.hayro_ccitt.specs.RowsRead.{DamageIsCounted, HasEnded, HasFailed,
 pub use Rattle.hayro_ccitt.specs.RowsRead.{MissesAreCounted, MissesBehindRow, PaidAtLine, PaidBehindRow, ReachesNextLine}
 pub use Rattle.hayro_ccitt.specs.RowsRead.{ReaderStands, ReadsNext, RowsRead, StandsAtLine, StandsBehindRow, WorkIsPaid}
 pub use Rattle.hayro_ccitt.specs.RowsRead.{context_at, damage_since, ended, gaps_before, is_at_line, line_after, read_so_far}
-pub use Rattle.hayro_ccitt.specs.RowsRead.{MissIsTold, missed_since, seen, stand_after, start_after}
+pub use Rattle.hayro_ccitt.specs.RowsRead.{IsWhole, MissIsTold, missed_since, row_came, seen, stand_after, start_after}
 pub use Rattle.hayro_ccitt.specs.Runs.{codes_of, read_run, run_from, run_of_word, run_turn}
 pub use Rattle.hayro_ccitt.specs.Settings.{AreSettings}
 pub use Rattle.hayro_ccitt.specs.Ticks.{looked, looked_ahead, looked_at_tag, missed, run_found, run_gives, tag_tests, word_found}
@@ -71,7 +71,7 @@ pub use Rattle.hayro_ccitt.specs.UsualRuns.{AreTwoRunsHere, CanFollow, GoesOn, I
 pub use Rattle.hayro_ccitt.specs.UsualRuns.{RunGoesOn, pen_at}
 pub use Rattle.hayro_ccitt.specs.Window.{AtHand, IsFilled, moved, place_in_word}
 pub use Rattle.hayro_ccitt.specs.Work.{CountsRun, CountsWork, IsPaidUpTo, found_here, mode_found, most_counted, most_for_lines}
-pub use Rattle.hayro_ccitt.specs.Work.{most_from_line, most_given_up, runs_found, runs_found_behind, second_run_found, words_of}
+pub use Rattle.hayro_ccitt.specs.Work.{runs_found, runs_found_behind, second_run_found, words_of}
 pub use Rattle.hayro_ccitt.specs.Work.{words_of_turn}
 pub use Rattle.hayro_ccitt.specs.declared.bit_reader.BitOrder.{BitOrder}
 pub use Rattle.hayro_ccitt.specs.declared.bit_reader.BitOrder.TheVariants.{HighestFirst, LowestFirst}

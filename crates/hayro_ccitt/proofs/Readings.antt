@@ -5,13 +5,12 @@ pub mod PlainAnswers
 pub mod Repeated
 pub mod RowWidths
 pub mod RowsAndGaps
+pub mod RowsPushed
 pub mod DamageCounted
 pub mod RowByRow
-pub mod RowsTaken
 pub mod RunsOverRows
 pub mod RunsReach
 pub mod Strictness
-pub mod WholeRuns
 pub mod TurnsAddRows
 pub mod TurnsMoveOn
 pub mod Undamaged

@@ -11,8 +11,8 @@ use Rattle.hayro_ccitt.specs.Damage.{Damaged, repaired_by_turn, missed_by_turn}
 use Rattle.hayro_ccitt.specs.declared.settings.DecodeSettings.{DecodeSettings}
 use Rattle.hayro_ccitt.specs.declared.settings.EncodingMode.{EncodingMode}
 use Rattle.hayro_ccitt.specs.Lines.{Line, line_found}
-use Rattle.hayro_ccitt.specs.PlainReading.{Progress, Ending, Gap, move_on, one_each, end_of, ending_from, gathered_of}
-use Rattle.hayro_ccitt.specs.PlainReading.{gathered_from, line_of_turn, start_of_turn, end_of_turn, failing_at, failed_at}
+use Rattle.hayro_ccitt.specs.PlainReading.{Ending, Gap, end_of, gathered_of}
+use Rattle.hayro_ccitt.specs.PlainReading.{line_of_turn, failed_at}
 use Rattle.hayro_ccitt.specs.PlainReading.{misses_eol, line_by}
 use Rattle.hayro_ccitt.specs.Rows.{Row, changes}
 use Rattle.hayro_ccitt.specs.Work.{CountsRun, words_of_turn, most_counted}
@@ -110,7 +110,7 @@ pub record ReadsLine (encoding : EncodingMode) (more : ℕ) (old new : Context) 
       (line_found encoding old.held.settings.strict old.held.settings.columns old.held.reference (here before)) + more
       + length (changes old.held.reference)
 
--- the context after one more accepted row
+-- the context after one more row
 abbrev pub with_row_taken : Held → Row → Held
 with_row_taken h row =
     record {
@@ -135,45 +135,17 @@ repairs_behind held here =
     if misses_eol held.settings held.taken held.has_eols here && not held.settings.strict then with_missed held.taken held.repairs
     else held.repairs
 
--- the row of a line was accepted, and these bits follow it
-pub record RowIsTaken {M : Type 0} (line : Line) (row : Result (Row × Bits) DecodeError) (step : M → List ℕ → M)
-    (before after : SinkState M) (old new : Held) (rest : Bits) : Type 0 where
+-- the row of a line was read, and these bits follow it
+pub record RowIsTaken (line : Line) (row : Result (Row × Bits) DecodeError) (old new : Held) (rest : Bits) : Type 0 where
   pub taken : Row
   pub is : row ≡ Ok (taken, rest)
   pub held : new ≡ record (with_row_taken old taken) { repairs = repairs_with line old.taken old.repairs }
-  pub meaning : after.meaning ≡ step before.meaning (changes taken)
 
--- the row here is refused
-abbrev pub IsRefusedBy : (List ℕ → Type 0) → Result (Row × Bits) DecodeError → Type 0
-IsRefusedBy refuses (Ok (row, rest)) = refuses (changes row)
-IsRefusedBy refuses (Err e) = ⊥
-
--- What a call leaves that reads a line and passes its row to the sink, where the line yields this row.
-pub record TakesOneRow {M : Type 0} (line : Line) (row : Result (Row × Bits) DecodeError) (step : M → List ℕ → M)
-    (before after : SinkState M) (old new : Held) (answer : Result (Unit {0}) DecodeError) (rest : Bits) : Type 0 where
-  pub taken : OnOk answer (RowIsTaken line row step before after old new rest)
+-- What a call leaves that reads a line, where the line yields this row.
+pub record TakesOneRow (line : Line) (row : Result (Row × Bits) DecodeError) (old new : Held)
+    (answer : Result (Unit {0}) DecodeError) (rest : Bits) : Type 0 where
+  pub taken : OnOk answer (RowIsTaken line row old new rest)
   pub fault : IfErr answer (λ e. IsFault e → row ≡ Err e)
-  pub kept : OnErr answer (after.meaning ≡ before.meaning)
   pub held : OnErr answer (new ≡ redrawn old new.front new.color)
   pub memory : answer ≡ Err OutOfMemory → HasBlack (front_of line)
-  pub refused : answer ≡ Err Refused → IsRefusedBy after.refuses row
-  pub flag : answer ≡ Err Refused → after.refused ≡ true
-  pub no_flag : answer ≢ Err Refused → after.refused ≡ before.refused
-
--- a run over rows that begins at a line among some bits, with at most this much work
-abbrev pub DecodesFrom : {M : Type 0} → Bits → Progress → ℕ → (M → List ℕ → M) → SinkState M → SinkState M → Context → Context
-    → Result Bits DecodeError → Type 0
-DecodesFrom bits first most step before after old new answer =
-    TakesAll (ending_from (move_on old.held.settings) first)
-    (gathered_from (move_on old.held.settings) (one_each (line_of_turn old.held.settings)) first)
-    (gathered_from (move_on old.held.settings) (one_each (words_of_turn old.held.settings)) first)
-    (gathered_from (move_on old.held.settings) (one_each (repaired_by_turn old.held.settings bits)) first)
-    (gathered_from (move_on old.held.settings) (one_each (missed_by_turn old.held.settings bits)) first) most step before after
-    old new answer
-
--- a run over rows that begins at a line among some bits failed where the reading from there does
-abbrev pub FailsFrom : DecodeSettings → Bits → Progress → ℕ → Bits → Type 0
-FailsFrom settings bits first taken rest =
-    length bits - length rest
-    ≡ failing_at (gathered_from (move_on settings) (one_each (start_of_turn bits)) first)
-    (gathered_from (move_on settings) (one_each (end_of_turn settings bits)) first) taken
+  pub not_refused : answer ≢ Err Refused

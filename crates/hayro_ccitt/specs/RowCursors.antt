@@ -23,14 +23,14 @@ pub record Paused : Type 0 where
 
 abbrev pub paused_of : Inside → Paused
 paused_of r = record {
-  held = r.rows.ctx.held;
+  held = r.ctx.held;
   order = r.order;
   place = r.place;
   line_start = r.rows.started_at;
   damage = r.rows.damage;
   missed = r.rows.missed;
   stand = r.rows.stand;
-  ticks = r.rows.ctx.ticks;
+  ticks = r.ctx.ticks;
 }
 
 -- what was read of these bits
@@ -43,5 +43,5 @@ pub record IsReadingOf (bits : Bits) (paused : Paused) : Type 0 where
   pub within : paused.place ≤ length bits
   pub stands : ReaderStands paused.stand paused.held.settings bits paused.held paused.place
   pub damage : DamageIsCounted paused.stand paused.held.settings bits paused.held
-  pub work : WorkIsPaid paused.stand paused.held.settings bits paused.held paused.place paused.ticks
+  pub work : WorkIsPaid 0 paused.stand paused.held.settings bits paused.held paused.place paused.ticks
   pub missed : MissIsTold paused.stand paused.held.settings bits paused.held.taken paused.missed

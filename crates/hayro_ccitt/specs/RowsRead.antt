@@ -12,12 +12,12 @@ use Rattle.hayro_ccitt.specs.declared.row_reader.Stand.TheVariants.{AtLine, Behi
 use Rattle.hayro_ccitt.specs.declared.settings.DecodeSettings.{DecodeSettings}
 use Rattle.hayro_ccitt.specs.Answers.{IsFault, PaintsBlack}
 use Rattle.hayro_ccitt.specs.Bits.{Bits, BitsAt}
-use Rattle.hayro_ccitt.specs.Context.{Held, Repairs}
+use Rattle.hayro_ccitt.specs.Context.{Context, Held, Repairs}
 use Rattle.hayro_ccitt.specs.Damage.{fault_in, missed_before, repairs_by_line, misses_by_line}
 use Rattle.hayro_ccitt.specs.Decoding.{repairs_with}
 use Rattle.hayro_ccitt.specs.Lines.{Line}
 use Rattle.hayro_ccitt.specs.PlainReading.{Progress, row_before, with_row, first_gap, move_on, row_of_line, line_here}
-use Rattle.hayro_ccitt.specs.PlainReading.{line_of_turn, plain, lines_of, line_starts, failed_at}
+use Rattle.hayro_ccitt.specs.PlainReading.{end_of, line_of_turn, plain, lines_of, line_starts, failed_at}
 use Rattle.hayro_ccitt.specs.Repetition.{Turn, Reaches}
 use Rattle.hayro_ccitt.specs.Rows.{Row, changes}
 use Rattle.hayro_ccitt.specs.Work.{IsPaidUpTo, found_here, most_counted, words_of}
@@ -70,16 +70,21 @@ read_so_far held ticks reader line_start damage missed stand = record {
 }
 
 -- what a reading keeps between two rows, and the bits from here on
-abbrev pub seen : RowState → BitsAt → RowsRead
-seen rows reader = read_so_far rows.ctx.held rows.ctx.ticks reader rows.started_at rows.damage rows.missed rows.stand
+abbrev pub seen : RowState → Context → BitsAt → RowsRead
+seen rows ctx reader = read_so_far ctx.held ctx.ticks reader rows.started_at rows.damage rows.missed rows.stand
 
 abbrev pub rows_read_of : Inside → RowsRead
-rows_read_of r = seen r.rows r.reader
+rows_read_of r = seen r.rows r.ctx r.reader
 
 -- whether a line follows a gap that was passed, given whether the reading is over
 abbrev pub line_after : Result Bool DecodeError → Result Bool DecodeError
 line_after (Ok over) = Ok (not over)
 line_after (Err error) = Err error
+
+-- whether there was a row, where a line was read
+abbrev pub row_came : Result (Unit {0}) DecodeError → Result Bool DecodeError
+row_came (Ok x) = Ok true
+row_came (Err error) = Err error
 
 -- the state of a reading that passed a gap, given the result of the gap
 abbrev pub stand_after : Result Bool DecodeError → Stand
@@ -208,12 +213,23 @@ pub record StandsBehindRow (settings : DecodeSettings) (bits : Bits) (held : Hel
   pub row_is : row_of_line settings so_far.has_eols so_far.rest (line_of_turn settings so_far) ≡ Ok (row, rest)
   pub held_is : held ≡ context_at settings (with_row so_far row rest) held.repairs
 
+-- The reading of the bits of some data with columns is over, and this is what all of it is: its rows, how it ended, whether EOLs
+-- were sought to the end, and its damage.
+pub record IsWhole (settings : DecodeSettings) (bits : Bits) (held : Held) (outcome : Result Bits DecodeError) : Type 0 where
+  pub rows : held.taken ≡ length (end_of settings bits).rows
+  pub ends : (end_of settings bits).outcome ≡ outcome
+  pub has_eols : held.has_eols ≡ (end_of settings bits).has_eols
+  pub repaired : sum_by length (take held.taken (repairs_by_line settings bits)) ≡ sum_by length (repairs_by_line settings bits)
+  pub missed : sum_by length (take held.taken (misses_by_line settings bits)) ≡ sum_by length (misses_by_line settings bits)
+
 -- the state of a reader of rows
 abbrev pub ReaderStands : Stand → DecodeSettings → Bits → Held → ℕ → Type 0
 ReaderStands AtLine settings bits held place = StandsAtLine settings bits held (drop place bits)
 ReaderStands BehindRow settings bits held place = StandsBehindRow settings bits held (drop place bits)
-ReaderStands AtEnd settings bits held place = HasEnded settings bits held.taken place
-ReaderStands (AtFault error) settings bits held place = HasFailed settings bits held.taken error
+ReaderStands AtEnd settings bits held place =
+    HasEnded settings bits held.taken place × (0 < settings.columns → IsWhole settings bits held (Ok (drop place bits)))
+ReaderStands (AtFault error) settings bits held place =
+    HasFailed settings bits held.taken error × (0 < settings.columns → IsFault error → IsWhole settings bits held (Err error))
 
 -- the EOLs missed in this number of gaps were counted, and the last repaired row is before one of them (T.4, 4.1.2)
 pub record MissesAreCounted (settings : DecodeSettings) (bits : Bits) (repairs : Repairs) (gaps : ℕ) : Type 0 where
@@ -248,22 +264,23 @@ MissIsTold BehindRow settings bits taken missed = Unit {0}
 MissIsTold AtEnd settings bits taken missed = missed ≡ missed_before settings bits taken
 MissIsTold (AtFault error) settings bits taken missed = missed ≡ missed_before settings bits taken
 
--- What was counted up to a line is paid, from a first line before which this much was counted; where EOLs are sought, what
--- ceasing to seek them costs is left.
-pub record PaidAtLine (settings : DecodeSettings) (bits : Bits) (held : Held) (rest : Bits) (ticks : ℕ) : Type 0 where
+-- What was counted up to a line since a count is paid, from a first line before which this much was counted; where EOLs are
+-- sought, what ceasing to seek them costs is left.
+pub record PaidAtLine (from : ℕ) (settings : DecodeSettings) (bits : Bits) (held : Held) (rest : Bits) (ticks : ℕ) : Type 0 where
   pub begun : ℕ
   pub giving_up : ℕ
-  pub enough : begun + (16 * length bits + 6 + giving_up) ≤ most_counted settings.encoding (length bits)
+  pub enough : begun + (16 * length bits + 6 + giving_up) ≤ from + most_counted settings.encoding (length bits)
   pub sought : held.has_eols ≡ true → 8 * length bits + 8 ≤ giving_up
   pub within : length rest ≤ length bits
   pub paid : IsPaidUpTo begun (length bits) giving_up settings.encoding held.has_eols ticks (length (changes held.reference)) rest
 
 -- What was counted up to the line of the last row is paid, and that line counted as much as it may.
-pub record PaidBehindRow (settings : DecodeSettings) (bits : Bits) (held : Held) (rest : Bits) (ticks : ℕ) : Type 0 where
+pub record PaidBehindRow (from : ℕ) (settings : DecodeSettings) (bits : Bits) (held : Held) (rest : Bits)
+    (ticks : ℕ) : Type 0 where
   pub before : Held
   pub start : Bits
   pub ticks_before : ℕ
-  pub at_line : PaidAtLine settings bits before start ticks_before
+  pub at_line : PaidAtLine from settings bits before start ticks_before
   pub kept : held.has_eols ≡ before.has_eols
   pub row_is : row_of_line settings before.has_eols start (line_here settings before.reference start) ≡ Ok (held.reference, rest)
   pub line : ticks ≤ ticks_before + 4 * length (found_here settings before.reference start) + 2
@@ -271,28 +288,29 @@ pub record PaidBehindRow (settings : DecodeSettings) (bits : Bits) (held : Held)
   pub stored : length (changes held.reference) ≤ length (found_here settings before.reference start) + 1
 
 -- the account of a reader of rows
-abbrev pub IsPaid : Stand → DecodeSettings → Bits → Held → ℕ → ℕ → Type 0
-IsPaid AtLine settings bits held place ticks = PaidAtLine settings bits held (drop place bits) ticks
-IsPaid BehindRow settings bits held place ticks = PaidBehindRow settings bits held (drop place bits) ticks
-IsPaid AtEnd settings bits held place ticks = ticks ≤ most_counted settings.encoding (length bits)
-IsPaid (AtFault error) settings bits held place ticks = ticks ≤ most_counted settings.encoding (length bits)
+abbrev pub IsPaid : ℕ → Stand → DecodeSettings → Bits → Held → ℕ → ℕ → Type 0
+IsPaid from AtLine settings bits held place ticks = PaidAtLine from settings bits held (drop place bits) ticks
+IsPaid from BehindRow settings bits held place ticks = PaidBehindRow from settings bits held (drop place bits) ticks
+IsPaid from AtEnd settings bits held place ticks = ticks ≤ from + most_counted settings.encoding (length bits)
+IsPaid from (AtFault error) settings bits held place ticks = ticks ≤ from + most_counted settings.encoding (length bits)
 
--- the words of the lines of the rows that were read were counted, and what was counted is paid
-pub record WorkIsPaid (stand : Stand) (settings : DecodeSettings) (bits : Bits) (held : Held) (place ticks : ℕ) : Type 0 where
-  pub words : sum_by length (take held.taken (words_of settings bits)) ≤ ticks
-  pub paid : IsPaid stand settings bits held place ticks
+-- the words of the lines of the rows that were read were counted since a count, and what was counted is paid
+pub record WorkIsPaid (from : ℕ) (stand : Stand) (settings : DecodeSettings) (bits : Bits) (held : Held)
+    (place ticks : ℕ) : Type 0 where
+  pub words : from + sum_by length (take held.taken (words_of settings bits)) ≤ ticks
+  pub paid : IsPaid from stand settings bits held place ticks
 
--- it is there by the plain reading of these bits
-abbrev pub IsStanding : RowState → BitsAt → Type 0
-IsStanding rows reader =
-    ReaderStands rows.stand rows.ctx.held.settings reader.bits rows.ctx.held reader.place
-    × DamageIsCounted rows.stand rows.ctx.held.settings reader.bits rows.ctx.held
-    × WorkIsPaid rows.stand rows.ctx.held.settings reader.bits rows.ctx.held reader.place rows.ctx.ticks
-    × MissIsTold rows.stand rows.ctx.held.settings reader.bits rows.ctx.held.taken rows.missed
+-- it is there by the plain reading of these bits, and its work is counted from here on
+abbrev pub IsStanding : ℕ → RowState → Context → BitsAt → Type 0
+IsStanding from rows ctx reader =
+    ReaderStands rows.stand ctx.held.settings reader.bits ctx.held reader.place
+    × DamageIsCounted rows.stand ctx.held.settings reader.bits ctx.held
+    × WorkIsPaid from rows.stand ctx.held.settings reader.bits ctx.held reader.place ctx.ticks
+    × MissIsTold rows.stand ctx.held.settings reader.bits ctx.held.taken rows.missed
 
 -- at the first bit of a line
-abbrev pub IsStandingAtLine : RowState → BitsAt → Type 0
-IsStandingAtLine rows reader = (is_at_line rows.stand ≡ true) × (IsStanding rows reader)
+abbrev pub IsStandingAtLine : ℕ → RowState → Context → BitsAt → Type 0
+IsStandingAtLine from rows ctx reader = (is_at_line rows.stand ≡ true) × (IsStanding from rows ctx reader)
 
 abbrev pub IsReading : Inside → Type 0
-IsReading r = IsStanding r.rows r.reader
+IsReading r = IsStanding 0 r.rows r.ctx r.reader

@@ -38,14 +38,6 @@ pub record CountsRun (words : List (List Bits)) (taken before after most : ℕ) 
   pub at_least : before + sum_by length (take taken words) ≤ after
   pub at_most : after ≤ before + most
 
--- the most that ceasing to look for EOLs costs in this number of bits, where they are sought at all
-abbrev pub most_given_up : Bool → ℕ → ℕ
-most_given_up has_eols bits = if has_eols then 8 * bits + 8 else 0
-
--- the most that a run over this number of bits counts if it begins at a line
-abbrev pub most_from_line : Bool → ℕ → ℕ
-most_from_line has_eols bits = 16 * bits + 6 + most_given_up has_eols bits
-
 -- the most that a run over this number of bits counts
 abbrev pub most_counted : EncodingMode → ℕ → ℕ
 most_counted Group4 bits = 22 * bits + 1

@@ -1,6 +1,7 @@
 //! What a decoder keeps from line to line, and the lines themselves.
 
-ghost use Rattle.std.specs.Prelude.{◌≡◌, ◌+◌, ◌*◌, ◌^◌, ◌<◌, ◌≤◌, ◌⊎◌, ◌↔◌, ℕ, Ok, Err, OnOk, OnErr, IfOk, IfErr, true, false};
+ghost use Rattle.std.specs.Prelude.{◌≡◌, ◌+◌, ◌-◌, ◌*◌, ◌^◌, ◌<◌, ◌≤◌, ◌⊎◌, ◌↔◌, ℕ, Ok, Err, OnOk, OnErr, IfOk, IfErr, true};
+ghost use Rattle.std.specs.Prelude.{false};
 ghost use Rattle.std.specs.Prelude.{IsOkUnless, IsTrue, if◌then◌else◌, is_some, option_map, length, get_or, []};
 ghost use Rattle.hayro_ccitt.specs.LocalityByK.{behind_mode};
 ghost use Rattle.hayro_ccitt.specs.{Ticks.run_found, Work.mode_found};
@@ -470,14 +471,41 @@ impl DecoderContext {
         ensures only_refused { IsOkUnless result DecodeError.Refused }
     {
         self.hand_over(decoder)?;
-        // The row that was passed on is whole.
+        self.end_line();
+        Ok(())
+    }
+
+    /// Makes the row that was drawn, continued in its last colour if it isn't full, the reference row. The front is empty
+    /// then, the colour is white, and one more row is counted. It allocates nothing.
+    #[tactic(auto, using(crate::proofs::PixelRows::ChangesAndPixels::front_fits))]
+    #[inline(always)]
+    pub(crate) fn end_line(&mut self)
+        requires rows { self.old.held.taken + 1 < 2 ^ 64 }
+        ensures frame { self.new ≡ record self.old { held = after_taking self.old.held; passed = 0 } }
+    {
+        // The row that was drawn is whole.
         self.pixels_decoded = self.settings.columns;
         // No change of the new reference row was passed.
         self.passed = 0;
         exchange(&mut self.ref_changes, &mut self.coding_changes);
         self.begin_line();
         self.decoded_rows += 1;
-        Ok(())
+    }
+
+    /// Takes back the last row, which the sink refused: it isn't counted, and this many rows are damaged.
+    #[cold]
+    #[inline(never)]
+    pub(crate) fn take_back_row(&mut self, damaged_rows: u64)
+        requires { 0 < self.old.held.taken }
+        ensures frame { self.new ≡ record self.old {
+          held = record self.old.held {
+            taken = self.old.held.taken - 1;
+            repairs = record self.old.held.repairs { rows = damaged_rows };
+          };
+        } }
+    {
+        self.decoded_rows -= 1;
+        self.damaged_rows = damaged_rows;
     }
 
     /// Passes a run of a colour without drawing it, and returns whether one is here. If there is none, the offset is

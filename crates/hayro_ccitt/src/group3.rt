@@ -12,7 +12,8 @@ ghost use Rattle.hayro_ccitt.specs.Ticks.{looked, looked_ahead};
 
 use crate::bit_reader::BitReader;
 use crate::context::DecoderContext;
-use crate::rows::{pass_gap, read_rows};
+use crate::push_rows::push_rows;
+use crate::rows::pass_gap;
 use crate::{DecodeError, Decoder, EncodingMode, Result};
 
 /// Returns whether an error is a fault of the data, not an allocation failure or a refusal of the sink.
@@ -106,29 +107,6 @@ pub(crate) fn read_leading_eols(ctx: &mut DecoderContext, reader: &mut BitReader
     ctx.set_has_eols(count > 0 || end_of_line);
 }
 
-/// Decodes the rows of Group 3 data.
-fn decode_eols_and_rows<D: Decoder>(
-    ctx: &mut DecoderContext,
-    reader: &mut BitReader<'_>,
-    decoder: &mut D,
-) -> Result<()>
-    requires encoding { ctx.old.held.settings.encoding ≢ EncodingMode.Group4 }
-    requires columns { 0 < ctx.old.held.settings.columns }
-    requires fresh { ctx.old.held ≡ fresh ctx.old.held.settings }
-    requires start { reader.old.place ≡ 0 }
-    requires width { ctx.old.held.settings.columns ≤ D.width decoder.old }
-    ensures width { D.width decoder.new ≡ D.width decoder.old }
-    ensures rows { DecodesRows reader.old.bits (D.step (D.width decoder.old))
-        (record { meaning = D.meaning decoder.old; refused = D.has_refused decoder.old; refuses = D.refuses decoder.old })
-        (record { meaning = D.meaning decoder.new; refused = D.has_refused decoder.new; refuses = D.refuses decoder.new })
-        ctx.old ctx.new (leaving result (here reader.new)) }
-    ensures fails { OnErr result (FailsHere ctx.old.held.settings reader.old.bits ctx.new.held.taken (here reader.new)) }
-    ensures same_bits { reader.new.bits ≡ reader.old.bits }
-{
-    read_leading_eols(ctx, reader);
-    read_rows(ctx, reader, decoder)
-}
-
 /// Decodes the rows of one-dimensional data of Group 3 (T.4 section 4.1) until RTC (with `end_of_block`), the row limit
 /// or the end of the data.
 ///
@@ -154,7 +132,7 @@ pub fn decode_1d<D: Decoder>(
     ensures fails { OnErr result (FailsHere ctx.old.held.settings reader.old.bits ctx.new.held.taken (here reader.new)) }
     ensures same_bits { reader.new.bits ≡ reader.old.bits }
 {
-    decode_eols_and_rows(ctx, reader, decoder) // No line has a tag.
+    push_rows(ctx, reader, decoder) // No line has a tag.
 }
 
 /// Decodes the rows of two-dimensional data of Group 3 (T.4 section 4.2), each after its tag, until RTC (with
@@ -182,5 +160,5 @@ pub fn decode_2d<D: Decoder>(
     ensures fails { OnErr result (FailsHere ctx.old.held.settings reader.old.bits ctx.new.held.taken (here reader.new)) }
     ensures same_bits { reader.new.bits ≡ reader.old.bits }
 {
-    decode_eols_and_rows(ctx, reader, decoder) // Each line has its tag.
+    push_rows(ctx, reader, decoder) // Each line has its tag.
 }

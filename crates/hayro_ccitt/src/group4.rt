@@ -7,7 +7,7 @@ ghost use Rattle.hayro_ccitt.specs.Decoding.{DecodesRows, FailsHere, leaving};
 
 use crate::bit_reader::BitReader;
 use crate::context::DecoderContext;
-use crate::rows::{pass_gap, read_rows};
+use crate::push_rows::push_rows;
 use crate::{Decoder, EncodingMode, Result};
 
 /// Decodes the rows of Group 4 data until EOFB (with `end_of_block`), the row limit or the end of the data.
@@ -34,8 +34,5 @@ pub fn decode<D: Decoder>(
     ensures no_eols { ctx.new.held.has_eols ≡ false }
     ensures same_bits { reader.new.bits ≡ reader.old.bits }
 {
-    if pass_gap(ctx, reader)? {
-        return Ok(());
-    }
-    read_rows(ctx, reader, decoder)
+    push_rows(ctx, reader, decoder) // Each line is two-dimensional.
 }

@@ -32,6 +32,7 @@ pub mod laws;
 mod locality;
 mod modes;
 mod pairs;
+mod push_rows;
 mod reach;
 mod row_cursor;
 mod row_reader;

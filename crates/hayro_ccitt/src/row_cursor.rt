@@ -22,6 +22,7 @@ use std::marker::Model;
 /// outside of the data.
 #[derive(Drop)]
 pub struct RowCursor {
+    ctx: DecoderContext,
     rows: RowState,
     order: BitOrder,
     place: usize,
@@ -59,13 +60,8 @@ impl RowCursor {
         let mut reader = BitReader::at_place(data, order, 0);
         let stand = first_stand(&mut ctx, &mut reader);
         Ok(RowCursor {
-            rows: RowState {
-                ctx,
-                started_at: 0,
-                damage: None,
-                missed: None,
-                stand,
-            },
+            ctx,
+            rows: RowState::new(stand),
             order,
             place: reader.bit_pos(),
         })
@@ -86,7 +82,7 @@ impl RowCursor {
             return Err(DecodeError::UnexpectedEof);
         }
         let mut reader = BitReader::placed_at(data, self.order, self.place);
-        let answer = self.rows.next_row(&mut reader);
+        let answer = self.rows.next_row(&mut self.ctx, &mut reader);
         self.place = reader.bit_pos();
         answer
     }
@@ -126,21 +122,21 @@ impl RowCursor {
         ensures lawful { AreChanges self.now.held.settings.columns result.now }
         ensures width { length self.now.held.reference ≡ self.now.held.settings.columns }
     {
-        self.rows.ctx.reference_row()
+        self.ctx.reference_row()
     }
 
     /// Returns the number of rows that were read.
     pub fn rows_read(&self) -> u64
         ensures { result ≡ self.now.held.taken }
     {
-        self.rows.ctx.decoded_rows()
+        self.ctx.decoded_rows()
     }
 
     /// Returns the settings.
     pub fn settings(&self) -> DecodeSettings
         ensures { result ≡ self.now.held.settings }
     {
-        self.rows.ctx.settings()
+        self.ctx.settings()
     }
 
     /// Returns the offset in bits at which the line of the last row begins, after its EOL; in two-dimensional data of Group
@@ -163,7 +159,7 @@ impl RowCursor {
     pub fn damaged_rows(&self) -> u64
         ensures { result ≡ self.now.held.repairs.rows }
     {
-        self.rows.ctx.damaged_rows()
+        self.ctx.damaged_rows()
     }
 
     /// Returns the number of rows read after which the EOL was missed (T.4 section 4.1.2): of the last row it is known when
@@ -171,7 +167,7 @@ impl RowCursor {
     pub fn missed_eols(&self) -> u64
         ensures { result ≡ self.now.held.repairs.missed }
     {
-        self.rows.ctx.missed_eols()
+        self.ctx.missed_eols()
     }
 
     /// Returns the number of bytes consumed so far, the last one rounded up.

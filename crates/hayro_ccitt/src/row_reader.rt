@@ -1,50 +1,25 @@
 //! Rows one at a time.
 
-ghost use Rattle.std.specs.Prelude.{sum_by, take, length, ◌≡◌, ◌≢◌, ◌≤◌, ◌+◌, ◌/◌, true, None, Some, Err, IfOk, IsOkUnless};
-ghost use Rattle.std.specs.Prelude.{Result};
-ghost use Rattle.hayro_ccitt.specs.Bits.{BitsFit, bits_in};
+ghost use Rattle.std.specs.Prelude.{sum_by, take, length, ◌≡◌, ◌≢◌, ◌≤◌, ◌+◌, ◌-◌, ◌/◌, ℕ, [], true, false, None, Some, Err};
+ghost use Rattle.std.specs.Prelude.{IfOk, OnOk};
+ghost use Rattle.std.specs.Prelude.{OnErr, IsOkUnless, Result, is_some};
+ghost use Rattle.hayro_ccitt.specs.Bits.{BitsFit, bits_in, here};
 ghost use Rattle.hayro_ccitt.specs.Context.{fresh};
 ghost use Rattle.hayro_ccitt.specs.Rows.{changes};
 ghost use Rattle.hayro_ccitt.specs.Damage.{repairs_by_line, misses_by_line};
 ghost use Rattle.hayro_ccitt.specs.Work.{CountsWork};
 ghost use Rattle.hayro_ccitt.specs.RowsRead.{damage_since, missed_since, start_after, ReaderStands, IsPaid, ReachesNextLine};
 ghost use Rattle.hayro_ccitt.specs.RowsRead.{stand_after, line_after, is_at_line, at_end_of_rows, ended, seen, IsStanding};
-ghost use Rattle.hayro_ccitt.specs.RowsRead.{IsStandingAtLine, DamageIsCounted, ReadsNext, gaps_passed};
+ghost use Rattle.hayro_ccitt.specs.RowsRead.{IsStandingAtLine, DamageIsCounted, ReadsNext, gaps_passed, row_came};
 
 use crate::bit_reader::{BitOrder, BitReader};
 use crate::context::DecoderContext;
 use crate::group3::read_leading_eols;
 use crate::rows::{pass_gap, read_row};
 use crate::settings::{DecodeSettings, EncodingMode};
-use crate::{DecodeError, Decoder, Result};
+use crate::{DecodeError, Result};
 use std::alloc::Global;
 use std::marker::Model;
-
-/// A sink that accepts each row and keeps none.
-#[derive(Drop)]
-struct NoRows {
-    columns: u32,
-}
-
-impl Decoder for NoRows {
-    ghost use Rattle.std.specs.Prelude.{false};
-
-    ghost Meaning = { Unit {0} };
-
-    ghost meaning = { λ _. tt };
-
-    ghost step = { λ _ _ _. tt };
-
-    ghost width = { λ sink. sink.columns };
-
-    ghost has_refused = { λ _. false };
-
-    ghost refuses = { λ _ _. ⊥ };
-
-    fn push_row(&mut self, _changes: &[u32]) -> Result<()> {
-        Ok(())
-    }
-}
 
 /// Where a reader of rows is.
 #[derive(Copy, Clone)]
@@ -117,18 +92,27 @@ fn is_at_line(stand: Stand) -> bool
     matches!(&stand, Stand::AtLine)
 }
 
+/// Returns whether the reading has ended, well or with an error.
+pub(crate) fn has_ended(stand: Stand) -> bool
+    ensures { result ≡ is_some (ended stand) }
+{
+    matches!(&stand, Stand::AtEnd | Stand::AtFault(_))
+}
+
 /// Passes what is before the first line: EOFB in Group 4, EOLs in Group 3 (T.6 section 2.4.1.1, T.4 section 4.1.2).
 pub(crate) fn first_stand(ctx: &mut DecoderContext, reader: &mut BitReader<'_>) -> Stand
     requires fresh { ctx.old.held ≡ fresh ctx.old.held.settings }
     requires start { reader.old.place ≡ 0 }
-    requires uncounted { ctx.old.ticks ≡ 0 }
     ensures none_taken { ctx.new.held.taken ≡ 0 }
     ensures damage { DamageIsCounted result ctx.old.held.settings reader.old.bits ctx.new.held }
     ensures settings { ctx.new.held.settings ≡ ctx.old.held.settings }
     ensures same_bits { reader.new.bits ≡ reader.old.bits }
     ensures stands { ReaderStands result ctx.old.held.settings reader.old.bits ctx.new.held reader.new.place }
     ensures unfailed { (error : DecodeError) → ended result ≢ Some (Err error) }
-    ensures paid { IsPaid result ctx.old.held.settings reader.old.bits ctx.new.held reader.new.place ctx.new.ticks }
+    ensures paid { (from : ℕ) → ctx.old.ticks ≡ from
+        → IsPaid from result ctx.old.held.settings reader.old.bits ctx.new.held reader.new.place ctx.new.ticks }
+    ensures counts { ctx.old.ticks ≤ ctx.new.ticks }
+    ensures no_eols { ctx.old.held.settings.encoding ≡ EncodingMode.Group4 → ctx.new.held.has_eols ≡ false }
 {
     if ctx.settings().columns == 0 {
         return Stand::AtEnd;
@@ -147,10 +131,20 @@ pub(crate) fn first_stand(ctx: &mut DecoderContext, reader: &mut BitReader<'_>) 
     }
 }
 
-/// What a reading keeps between two rows, besides the bits.
+/// Returns whether these bits have room for as many rows as were read. If not, the rows were read from other data.
+fn has_room(ctx: &DecoderContext, reader: &BitReader<'_>) -> bool
+    ensures rows { result ≡ true → ctx.now.held.taken ≤ length reader.now.bits + 1 }
+    ensures damaged { result ≡ true → ctx.now.held.repairs.rows ≤ ctx.now.held.taken }
+    ensures room { ctx.now.held.taken ≤ length reader.now.bits + 1
+        → ctx.now.held.repairs.rows ≤ ctx.now.held.taken → result ≡ true }
+{
+    let rows = ctx.decoded_rows();
+    rows <= reader.bit_len() as u64 + 1 && ctx.damaged_rows() <= rows
+}
+
+/// What a reading keeps between two rows, besides its context and the bits.
 #[derive(Drop)]
 pub(crate) struct RowState {
-    pub(crate) ctx: DecoderContext,
     pub(crate) started_at: usize,
     pub(crate) damage: Option<DecodeError>,
     pub(crate) missed: Option<usize>,
@@ -158,59 +152,76 @@ pub(crate) struct RowState {
 }
 
 impl RowState {
+    /// Creates the state before the first row, where what is before it was passed.
+    pub(crate) fn new(stand: Stand) -> RowState
+        ensures { result ≡ record { started_at = 0; damage = None; missed = None; stand = stand } }
+    {
+        RowState {
+            started_at: 0,
+            damage: None,
+            missed: None,
+            stand,
+        }
+    }
+
     /// Passes the gap before the next line, and returns whether there is a line after it.
-    fn come_to_line(&mut self, reader: &mut BitReader<'_>) -> Result<bool>
+    #[inline(always)]
+    pub(crate) fn come_to_line(
+        &mut self,
+        ctx: &mut DecoderContext,
+        reader: &mut BitReader<'_>,
+    ) -> Result<bool>
         requires { ended self.old.stand ≡ None }
-        ensures comes { IsStanding self.old reader.old → ReachesNextLine (seen self.old reader.old) (seen self.new reader.new) result }
-        ensures stands { IsStanding self.old reader.old → IsStanding self.new reader.new }
-        ensures settings { self.new.ctx.held.settings ≡ self.old.ctx.held.settings }
+        ensures comes { (from : ℕ) → IsStanding from self.old ctx.old reader.old
+            → ReachesNextLine (seen self.old ctx.old reader.old) (seen self.new ctx.new reader.new) result }
+        ensures stands { (from : ℕ) → IsStanding from self.old ctx.old reader.old → IsStanding from self.new ctx.new reader.new }
+        ensures settings { ctx.new.held.settings ≡ ctx.old.held.settings }
         ensures same_bits { reader.new.bits ≡ reader.old.bits }
+        ensures fails { OnErr result (length reader.new.bits - length (here reader.new) ≡ self.new.started_at) }
+        ensures unsought { ctx.old.held.has_eols ≡ false → ctx.new.held.has_eols ≡ false }
     {
         if is_at_line(self.stand) {
             return Ok(true);
         }
         let gap_start = reader.bit_pos();
-        let missed_eols = self.ctx.missed_eols();
-        let over = pass_gap(&mut self.ctx, reader);
+        let missed_eols = ctx.missed_eols();
+        let over = pass_gap(ctx, reader);
         // An offset is known to be within the data once it is read.
         let _place = reader.bit_pos();
-        self.missed = missed_since(&self.ctx, missed_eols, gap_start);
+        self.missed = missed_since(ctx, missed_eols, gap_start);
         self.started_at = start_after_gap(over, gap_start, self.started_at);
         self.stand = stand_after_gap(over);
         line_after_gap(over)
     }
 
-    /// Returns whether these bits have room for as many rows as were read. If not, the rows were read from other data.
-    fn has_room(&self, reader: &BitReader<'_>) -> bool
-        ensures rows { result ≡ true → self.now.ctx.held.taken ≤ length reader.now.bits + 1 }
-        ensures damaged { result ≡ true → self.now.ctx.held.repairs.rows ≤ self.now.ctx.held.taken }
-        ensures room { self.now.ctx.held.taken ≤ length reader.now.bits + 1
-            → self.now.ctx.held.repairs.rows ≤ self.now.ctx.held.taken → result ≡ true }
-    {
-        let rows = self.ctx.decoded_rows();
-        rows <= reader.bit_len() as u64 + 1 && self.ctx.damaged_rows() <= rows
-    }
-
     /// Reads the line here.
-    fn read_line(&mut self, reader: &mut BitReader<'_>) -> Result<bool>
-        requires rows { self.old.ctx.held.taken ≤ length reader.old.bits + 1 }
-        requires damaged { self.old.ctx.held.repairs.rows ≤ self.old.ctx.held.taken }
-        ensures reads { IsStandingAtLine self.old reader.old → ReadsNext (seen self.old reader.old) (seen self.new reader.new) result }
-        ensures stands { IsStandingAtLine self.old reader.old → IsStanding self.new reader.new }
-        ensures settings { self.new.ctx.held.settings ≡ self.old.ctx.held.settings }
+    #[inline(always)]
+    pub(crate) fn read_line(
+        &mut self,
+        ctx: &mut DecoderContext,
+        reader: &mut BitReader<'_>,
+    ) -> Result<()>
+        requires rows { ctx.old.held.taken ≤ length reader.old.bits + 1 }
+        requires damaged { ctx.old.held.repairs.rows ≤ ctx.old.held.taken }
+        requires begun { ctx.old.held.front ≡ [] }
+        ensures reads { (from : ℕ) → IsStandingAtLine from self.old ctx.old reader.old
+            → ReadsNext (seen self.old ctx.old reader.old) (seen self.new ctx.new reader.new) (row_came result) }
+        ensures stands { (from : ℕ) → IsStandingAtLine from self.old ctx.old reader.old
+            → IsStanding from self.new ctx.new reader.new }
+        ensures behind_row { OnOk result (self.new.stand ≡ Stand.BehindRow) }
+        ensures settings { ctx.new.held.settings ≡ ctx.old.held.settings }
         ensures same_bits { reader.new.bits ≡ reader.old.bits }
+        ensures put_back { OnErr result (reader.new ≡ reader.old) }
+        ensures started { (self.new.started_at ≡ reader.old.place) × (reader.old.place ≤ length reader.old.bits) }
+        ensures has_eols { ctx.new.held.has_eols ≡ ctx.old.held.has_eols }
     {
-        self.ctx.begin_line();
-        let mut sink = NoRows {
-            columns: self.ctx.settings().columns,
-        };
         self.started_at = reader.bit_pos();
-        let damaged_rows = self.ctx.damaged_rows();
-        match read_row(&mut self.ctx, reader, &mut sink) {
+        let damaged_rows = ctx.damaged_rows();
+        match read_row(ctx, reader) {
             Ok(()) => {
-                self.damage = damage_since(&self.ctx, damaged_rows);
+                self.damage = damage_since(ctx, damaged_rows);
                 self.stand = Stand::BehindRow;
-                Ok(true)
+                Ok(())
             }
             Err(error) => {
                 self.stand = Stand::AtFault(error);
@@ -221,20 +232,27 @@ impl RowState {
 
     /// Reads the next row, and returns whether there was one. It is `UnexpectedEof` if more rows were read than these bits
     /// have room for.
-    pub(crate) fn next_row(&mut self, reader: &mut BitReader<'_>) -> Result<bool>
+    pub(crate) fn next_row(
+        &mut self,
+        ctx: &mut DecoderContext,
+        reader: &mut BitReader<'_>,
+    ) -> Result<bool>
         requires { ended self.old.stand ≡ None }
-        ensures reads { IsStanding self.old reader.old → ReadsNext (seen self.old reader.old) (seen self.new reader.new) result }
-        ensures stands { IsStanding self.old reader.old → IsStanding self.new reader.new }
-        ensures settings { self.new.ctx.held.settings ≡ self.old.ctx.held.settings }
+        ensures reads { IsStanding 0 self.old ctx.old reader.old
+            → ReadsNext (seen self.old ctx.old reader.old) (seen self.new ctx.new reader.new) result }
+        ensures stands { IsStanding 0 self.old ctx.old reader.old → IsStanding 0 self.new ctx.new reader.new }
+        ensures settings { ctx.new.held.settings ≡ ctx.old.held.settings }
         ensures same_bits { reader.new.bits ≡ reader.old.bits }
     {
-        if !self.come_to_line(reader)? {
+        if !self.come_to_line(ctx, reader)? {
             return Ok(false);
         }
-        if !self.has_room(reader) {
+        if !has_room(ctx, reader) {
             return Err(DecodeError::UnexpectedEof);
         }
-        self.read_line(reader)
+        ctx.begin_line();
+        self.read_line(ctx, reader)?;
+        Ok(true)
     }
 }
 
@@ -256,6 +274,7 @@ impl RowState {
 /// ```
 #[derive(Drop)]
 pub struct RowReader<'a> {
+    ctx: DecoderContext,
     rows: RowState,
     reader: BitReader<'a>,
 }
@@ -299,13 +318,8 @@ impl<'a> RowReader<'a> {
         };
         let stand = first_stand(&mut ctx, &mut reader);
         Ok(RowReader {
-            rows: RowState {
-                ctx,
-                started_at: 0,
-                damage: None,
-                missed: None,
-                stand,
-            },
+            ctx,
+            rows: RowState::new(stand),
             reader,
         })
     }
@@ -326,7 +340,7 @@ impl<'a> RowReader<'a> {
         match self.rows.stand {
             Stand::AtEnd => Ok(false),
             Stand::AtFault(error) => Err(error),
-            Stand::AtLine | Stand::BehindRow => self.rows.next_row(&mut self.reader),
+            Stand::AtLine | Stand::BehindRow => self.rows.next_row(&mut self.ctx, &mut self.reader),
         }
     }
 
@@ -335,14 +349,14 @@ impl<'a> RowReader<'a> {
     pub fn row(&self) -> &[u32]
         ensures { result.now ≡ changes self.now.row }
     {
-        self.rows.ctx.reference_row()
+        self.ctx.reference_row()
     }
 
     /// Returns the number of rows that were read.
     pub fn rows_read(&self) -> u64
         ensures { result ≡ self.now.taken }
     {
-        self.rows.ctx.decoded_rows()
+        self.ctx.decoded_rows()
     }
 
     /// Returns the offset in bits at which the line of the last row begins, after its EOL; in two-dimensional data of Group
@@ -366,7 +380,7 @@ impl<'a> RowReader<'a> {
     pub fn damaged_rows(&self) -> u64
         ensures { result ≡ sum_by length (take self.now.taken (repairs_by_line self.now.settings self.now.bits)) }
     {
-        self.rows.ctx.damaged_rows()
+        self.ctx.damaged_rows()
     }
 
     /// Returns the number of rows read after which the EOL was missed (T.4 section 4.1.2), as
@@ -375,7 +389,7 @@ impl<'a> RowReader<'a> {
     pub fn missed_eols(&self) -> u64
         ensures { result ≡ sum_by length (take (gaps_passed self.now) (misses_by_line self.now.settings self.now.bits)) }
     {
-        self.rows.ctx.missed_eols()
+        self.ctx.missed_eols()
     }
 
     /// Returns the offset in bits at which the last call of [`next_row`](RowReader::next_row) missed an EOL (T.4 section 4.1.2):

@@ -4,19 +4,18 @@ ghost use Rattle.std.specs.Prelude.{false, ◌≡◌, ◌≢◌, ◌<◌, ◌≤
 ghost use Rattle.std.specs.Prelude.{[], length, ◌^◌};
 ghost use Rattle.hayro_ccitt.specs.Answers.{IsRepairable, RepairStoresChange};
 ghost use Rattle.hayro_ccitt.specs.Bits.{here};
-ghost use Rattle.hayro_ccitt.specs.Context.{fresh, after_repair};
-ghost use Rattle.hayro_ccitt.specs.Decoding.{DecodesFrom, FailsFrom, ReadsLine, TakesOneRow, leaving, gap_said, repairs_behind};
-ghost use Rattle.hayro_ccitt.specs.Decoding.{with_row_taken};
+ghost use Rattle.hayro_ccitt.specs.Context.{after_repair};
+ghost use Rattle.hayro_ccitt.specs.Decoding.{ReadsLine, TakesOneRow, gap_said, repairs_behind, with_row_taken};
 ghost use Rattle.hayro_ccitt.specs.PlainReading.{eols_by, eols_here, is_end_of_block, is_over, gap_behind_row, row_of_line};
 ghost use Rattle.hayro_ccitt.specs.PlainReading.{behind_row, limit_met, line_here};
 ghost use Rattle.hayro_ccitt.specs.Rows.{changes};
 ghost use Rattle.hayro_ccitt.specs.Ticks.{looked, looked_ahead, tag_tests};
-ghost use Rattle.hayro_ccitt.specs.Work.{found_here, most_from_line};
+ghost use Rattle.hayro_ccitt.specs.Work.{found_here};
 
 use crate::bit_reader::BitReader;
 use crate::context::{DecoderContext, decode_1d_line, decode_2d_line};
 use crate::group3::recover;
-use crate::{DecodeError, Decoder, EncodingMode, Result};
+use crate::{DecodeError, EncodingMode, Result};
 
 /// Returns whether the row limit is met; a limit of 0 is no limit.
 fn limit_met(ctx: &DecoderContext) -> bool
@@ -36,71 +35,39 @@ fn align_row(ctx: &DecoderContext, reader: &mut BitReader<'_>)
     }
 }
 
-/// Passes a full row to the sink, and moves to where the next line, or its EOL, begins. The only error is `Refused`: then
-/// the context, the offset and the sink's meaning are as before.
+/// Makes the full row that was drawn the reference row, and moves to where the next line, or its EOL, begins.
 #[inline(always)]
-fn take_row<D: Decoder>(
-    ctx: &mut DecoderContext,
-    reader: &mut BitReader<'_>,
-    decoder: &mut D,
-) -> Result<()>
-    requires width { ctx.old.held.settings.columns ≤ D.width decoder.old }
+fn take_row(ctx: &mut DecoderContext, reader: &mut BitReader<'_>)
     requires full { ctx.old.held.settings.columns ≤ length ctx.old.held.front }
     requires rows { ctx.old.held.taken + 1 < 2 ^ 64 }
-    ensures width { D.width decoder.new ≡ D.width decoder.old }
-    ensures sink { OnOk result ((D.meaning decoder.new
-        ≡ D.step (D.width decoder.old) (D.meaning decoder.old) (changes ctx.old.held.front))
-        × (D.has_refused decoder.new ≡ D.has_refused decoder.old)) }
-    ensures taken { OnOk result (ctx.new.held ≡ with_row_taken ctx.old.held ctx.old.held.front) }
-    ensures rest { OnOk result (here reader.new
-        ≡ behind_row ctx.old.held.settings ctx.old.held.has_eols (here reader.old)) }
-    ensures unchanged { OnErr result ((ctx.new ≡ ctx.old) × (reader.new ≡ reader.old)
-        × (D.meaning decoder.new ≡ D.meaning decoder.old)) }
-    ensures refused { IfErr result (λ e. (e ≡ DecodeError.Refused) × (D.has_refused decoder.new ≡ true)
-        × (D.refuses decoder.new (changes ctx.old.held.front))) }
+    ensures taken { ctx.new.held ≡ with_row_taken ctx.old.held ctx.old.held.front }
+    ensures rest { here reader.new ≡ behind_row ctx.old.held.settings ctx.old.held.has_eols (here reader.old) }
     ensures same_bits { reader.new.bits ≡ reader.old.bits }
     ensures count { ctx.new.ticks ≡ ctx.old.ticks }
 {
-    ctx.next_line(decoder)?;
+    ctx.end_line();
     align_row(ctx, reader);
-    Ok(())
 }
 
-/// Passes the row of a line that was repaired after this fault to the sink, as `take_row` does, and counts it as damaged.
+/// Takes the row of a line that was repaired after this fault, as `take_row` does, and counts it as damaged.
 #[inline(never)]
-fn take_damaged_row<D: Decoder>(
-    ctx: &mut DecoderContext,
-    reader: &mut BitReader<'_>,
-    decoder: &mut D,
-    fault: DecodeError,
-) -> Result<()>
-    requires width { ctx.old.held.settings.columns ≤ D.width decoder.old }
+fn take_damaged_row(ctx: &mut DecoderContext, reader: &mut BitReader<'_>, fault: DecodeError)
     requires full { ctx.old.held.settings.columns ≤ length ctx.old.held.front }
     requires rows { ctx.old.held.taken + 1 < 2 ^ 64 }
     requires damaged { ctx.old.held.repairs.rows ≤ ctx.old.held.taken }
-    ensures width { D.width decoder.new ≡ D.width decoder.old }
-    ensures sink { OnOk result ((D.meaning decoder.new
-        ≡ D.step (D.width decoder.old) (D.meaning decoder.old) (changes ctx.old.held.front))
-        × (D.has_refused decoder.new ≡ D.has_refused decoder.old)) }
-    ensures taken { OnOk result (ctx.new.held ≡ record (with_row_taken ctx.old.held ctx.old.held.front) {
+    ensures taken { ctx.new.held ≡ record (with_row_taken ctx.old.held ctx.old.held.front) {
       repairs = record ctx.old.held.repairs {
         rows = ctx.old.held.repairs.rows + 1;
         fault = fault;
         last = ctx.old.held.taken + 1;
       };
-    }) }
-    ensures rest { OnOk result (here reader.new
-        ≡ behind_row ctx.old.held.settings ctx.old.held.has_eols (here reader.old)) }
-    ensures unchanged { OnErr result ((ctx.new ≡ ctx.old) × (reader.new ≡ reader.old)
-        × (D.meaning decoder.new ≡ D.meaning decoder.old)) }
-    ensures refused { IfErr result (λ e. (e ≡ DecodeError.Refused) × (D.has_refused decoder.new ≡ true)
-        × (D.refuses decoder.new (changes ctx.old.held.front))) }
+    } }
+    ensures rest { here reader.new ≡ behind_row ctx.old.held.settings ctx.old.held.has_eols (here reader.old) }
     ensures same_bits { reader.new.bits ≡ reader.old.bits }
     ensures count { ctx.new.ticks ≡ ctx.old.ticks }
 {
-    take_row(ctx, reader, decoder)?;
+    take_row(ctx, reader);
     ctx.count_damaged_row(fault);
-    Ok(())
 }
 
 /// Reads the EOLs of T.6 data here, with `end_of_block` at most the two of EOFB (T.6 section 2.4.1.1), and returns their
@@ -273,26 +240,16 @@ fn recover_from(
     recover(ctx, reader, start, error)
 }
 
-/// Reads a line, repairs it if it is damaged and may be repaired, and passes its row to the sink. The errors are those of a
-/// line that isn't repaired, `OutOfMemory` if a change can't be stored, and `Refused` if the sink refuses the row; after each
-/// the reader is at the line's start.
+/// Reads a line, and repairs it if it is damaged and may be repaired. Its row is the reference row then. The errors are those
+/// of a line that isn't repaired, and `OutOfMemory` if a change can't be stored; after each the reader is at the line's start.
 #[inline(always)]
-pub(crate) fn read_row<D: Decoder>(
-    ctx: &mut DecoderContext,
-    reader: &mut BitReader<'_>,
-    decoder: &mut D,
-) -> Result<()>
-    requires width { ctx.old.held.settings.columns ≤ D.width decoder.old }
+pub(crate) fn read_row(ctx: &mut DecoderContext, reader: &mut BitReader<'_>) -> Result<()>
     requires rows { ctx.old.held.taken ≤ length reader.old.bits + 1 }
     requires damaged { ctx.old.held.repairs.rows ≤ ctx.old.held.taken }
     requires begun { ctx.old.held.front ≡ [] }
-    ensures width { D.width decoder.new ≡ D.width decoder.old }
     ensures row { TakesOneRow (line_here ctx.old.held.settings ctx.old.held.reference (here reader.old))
         (row_of_line ctx.old.held.settings ctx.old.held.has_eols (here reader.old)
         (line_here ctx.old.held.settings ctx.old.held.reference (here reader.old)))
-        (D.step (D.width decoder.old))
-        (record { meaning = D.meaning decoder.old; refused = D.has_refused decoder.old; refuses = D.refuses decoder.old })
-        (record { meaning = D.meaning decoder.new; refused = D.has_refused decoder.new; refuses = D.refuses decoder.new })
         ctx.old.held ctx.new.held result (here reader.new) }
     ensures put_back { OnErr result (reader.new ≡ reader.old) }
     ensures same_bits { reader.new.bits ≡ reader.old.bits }
@@ -308,40 +265,9 @@ pub(crate) fn read_row<D: Decoder>(
     let line_start = reader.bit_pos();
     if let Err(error) = decode_line(ctx, reader) {
         recover_from(ctx, reader, line_start, error)?;
-        return take_damaged_row(ctx, reader, decoder, error);
+        take_damaged_row(ctx, reader, error);
+        return Ok(());
     }
-    if let Err(refusal) = take_row(ctx, reader, decoder) {
-        *reader = reader.at_bit(line_start);
-        return Err(refusal);
-    }
+    take_row(ctx, reader);
     Ok(())
-}
-
-/// Reads rows from a line on, in every encoding, until EOFB or RTC (with `end_of_block`), the row limit or the end of the
-/// data.
-pub(crate) fn read_rows<D: Decoder>(
-    ctx: &mut DecoderContext,
-    reader: &mut BitReader<'_>,
-    decoder: &mut D,
-) -> Result<()>
-    requires columns { 0 < ctx.old.held.settings.columns }
-    requires first { ctx.old.held ≡ record (fresh ctx.old.held.settings) { has_eols = ctx.old.held.has_eols } }
-    requires width { ctx.old.held.settings.columns ≤ D.width decoder.old }
-    ensures width { D.width decoder.new ≡ D.width decoder.old }
-    ensures rows { DecodesFrom reader.old.bits (record { rows = []; has_eols = ctx.old.held.has_eols; rest = here reader.old })
-        (most_from_line ctx.old.held.has_eols (length reader.old.bits)) (D.step (D.width decoder.old))
-        (record { meaning = D.meaning decoder.old; refused = D.has_refused decoder.old; refuses = D.refuses decoder.old })
-        (record { meaning = D.meaning decoder.new; refused = D.has_refused decoder.new; refuses = D.refuses decoder.new })
-        ctx.old ctx.new (leaving result (here reader.new)) }
-    ensures fails { OnErr result (FailsFrom ctx.old.held.settings reader.old.bits
-        (record { rows = []; has_eols = ctx.old.held.has_eols; rest = here reader.old }) ctx.new.held.taken (here reader.new)) }
-    ensures no_eols { ctx.old.held.has_eols ≡ false → ctx.new.held.has_eols ≡ false }
-    ensures same_bits { reader.new.bits ≡ reader.old.bits }
-{
-    'rows: loop {
-        read_row(ctx, reader, decoder)?;
-        if pass_gap(ctx, reader)? {
-            return Ok(());
-        }
-    }
 }

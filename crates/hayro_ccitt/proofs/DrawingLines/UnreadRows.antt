@@ -1,72 +1,39 @@
 -- A line that isn't read is no row.
-use Rattle.hayro_ccitt.proofs.Names.{◌≡◌, ◌≢◌, ℕ, Bool, true, false, not, ◌||◌, List, Result, Err, refl, sym, ap, subst, ◌∙◌}
+use Rattle.hayro_ccitt.proofs.Names.{◌≡◌, ◌≢◌, Bool, true, false, not, ◌||◌, Result, Err, refl, sym, ap, subst, ◌∙◌}
 use Rattle.hayro_ccitt.proofs.Names.{cond-true, or_from, or_parts, not-false, not_from_true, DecodeError, UnexpectedEof}
 use Rattle.hayro_ccitt.proofs.Names.{InvalidCode, Overflow, OutOfMemory, Refused, DrawsLine, IsFault, IsRepairable}
-use Rattle.hayro_ccitt.proofs.Names.{RepairStoresChange, HasBlack, front_of, Bits, Held, redrawn, SinkState, TakesOneRow, Line}
+use Rattle.hayro_ccitt.proofs.Names.{RepairStoresChange, HasBlack, front_of, Bits, Held, redrawn, TakesOneRow, Line}
 use Rattle.hayro_ccitt.proofs.Names.{Row, row_of_line}
 use Rattle.hayro_ccitt.proofs.DrawingLines.DrawnLines.{memory_has_black, last_black}
 
-module _ {M : Type 0} (line : Line) (row : Result (Row × Bits) DecodeError) (step : M → List ℕ → M) (sink : SinkState M)
-    (old new : Held) (held : new ≡ redrawn old new.front new.color) (rest : Bits) where
+module _ (line : Line) (row : Result (Row × Bits) DecodeError) (old new : Held) (held : new ≡ redrawn old new.front new.color)
+    (rest : Bits) where
   -- a fault of the data is the row's
   pub at_fault : (e : DecodeError) → row ≡ Err e → ◌≢◌ {A = Result (Unit {0}) DecodeError} (Err e) (Err OutOfMemory)
-      → ◌≢◌ {A = Result (Unit {0}) DecodeError} (Err e) (Err Refused) → TakesOneRow line row step sink sink old new (Err e) rest
+      → ◌≢◌ {A = Result (Unit {0}) DecodeError} (Err e) (Err Refused) → TakesOneRow line row old new (Err e) rest
   at_fault e is memory refused =
-      record {
-        taken = tt;
-        fault = λ f. is;
-        kept = refl;
-        held = held;
-        memory = λ k. absurd (memory k);
-        refused = λ k. absurd (refused k);
-        flag = λ k. absurd (refused k);
-        no_flag = λ k. refl;
-      }
+      record { taken = tt; fault = λ f. is; held = held; memory = λ k. absurd (memory k); not_refused = refused }
 
-  -- an allocation fails only if the line paints a black pixel
+  -- an allocation fails only if the line, or what is repaired of it, paints a black pixel
+  wants_rest : HasBlack (front_of line) → TakesOneRow line row old new (Err OutOfMemory) rest
+  wants_rest black = record { taken = tt; fault = λ f. absurd f; held = held; memory = λ k. black; not_refused = λ k. cc }
+
   pub unread_row_wants_memory : DrawsLine line (Err OutOfMemory) new.front rest
-      → TakesOneRow line row step sink sink old new (Err OutOfMemory) rest
-  unread_row_wants_memory draws =
-      record {
-        taken = tt;
-        fault = λ f. absurd f;
-        kept = refl;
-        held = held;
-        memory = λ k. memory_has_black line new.front rest draws;
-        refused = λ k. cc;
-        flag = λ k. cc;
-        no_flag = λ k. refl;
-      }
+      → TakesOneRow line row old new (Err OutOfMemory) rest
+  unread_row_wants_memory draws = wants_rest (memory_has_black line new.front rest draws)
 
   -- a line that isn't read, and whose fault is the row's
   pub is_unread : (e : DecodeError) → ((fault : DecodeError) → line ≡ Line.broken new.front fault → row ≡ Err fault)
-      → DrawsLine line (Err e) new.front rest → TakesOneRow line row step sink sink old new (Err e) rest
+      → DrawsLine line (Err e) new.front rest → TakesOneRow line row old new (Err e) rest
   is_unread UnexpectedEof fails draws = at_fault UnexpectedEof (fails UnexpectedEof draws) (λ k. cc) (λ k. cc)
   is_unread InvalidCode fails draws = at_fault InvalidCode (fails InvalidCode draws) (λ k. cc) (λ k. cc)
   is_unread Overflow fails draws = at_fault Overflow (fails Overflow draws) (λ k. cc) (λ k. cc)
   is_unread OutOfMemory fails draws = unread_row_wants_memory draws
   is_unread Refused fails draws = absurd draws
 
--- what a line that fails to allocate, or whose rest does, is taken for
-wants_rest : {M : Type 0} (line : Line) (row : Result (Row × Bits) DecodeError) (step : M → List ℕ → M)
-    (sink : SinkState M) (old new : Held) (rest : Bits) → new ≡ redrawn old new.front new.color → HasBlack (front_of line)
-    → TakesOneRow line row step sink sink old new (Err OutOfMemory) rest
-wants_rest line row step sink old new rest held black =
-    record {
-      taken = tt;
-      fault = λ f. absurd f;
-      kept = refl;
-      held = held;
-      memory = λ k. black;
-      refused = λ k. cc;
-      flag = λ k. cc;
-      no_flag = λ k. refl;
-    }
-
 -- ---- A line of Group 3 that isn't repaired
 
-module _ {M : Type 0} (line : Line) (start : Bits) (step : M → List ℕ → M) (sink : SinkState M) (old new : Held)
-    (held : new ≡ redrawn old new.front new.color) (rest : Bits) where
+module _ (line : Line) (start : Bits) (old new : Held) (held : new ≡ redrawn old new.front new.color) (rest : Bits) where
   abbrev row : Result (Row × Bits) DecodeError
   row = row_of_line old.settings old.has_eols start line
 
@@ -74,7 +41,7 @@ module _ {M : Type 0} (line : Line) (start : Bits) (step : M → List ℕ → M)
   pub isnt_repaired : (e answer : DecodeError) → DrawsLine line (Err e) new.front rest → (IsRepairable new e
       → answer ≡ OutOfMemory) → (IsRepairable new e → ◌≡◌ {A = Result (Unit {0}) DecodeError} (Err answer) (Err OutOfMemory)
       → RepairStoresChange new) → ((IsRepairable new e → ⊥) → ◌≡◌ {A = Result (Unit {0}) DecodeError} (Err answer) (Err e))
-      → TakesOneRow line row step sink sink old new (Err answer) rest
+      → TakesOneRow line row old new (Err answer) rest
   isnt_repaired e answer draws only_memory memory otherwise = by_strict (old.settings.strict || not old.has_eols) refl
     where
       same_strict : new.settings.strict ≡ old.settings.strict
@@ -85,20 +52,20 @@ module _ {M : Type 0} (line : Line) (start : Bits) (step : M → List ℕ → M)
 
       itself : (e : DecodeError) → DrawsLine line (Err e) new.front rest
           → ((fault : DecodeError) → line ≡ Line.broken new.front fault → row ≡ Err fault) → ◌≡◌
-          {A = Result (Unit {0}) DecodeError} (Err answer) (Err e) → TakesOneRow line row step sink sink old new (Err answer) rest
+          {A = Result (Unit {0}) DecodeError} (Err answer) (Err e) → TakesOneRow line row old new (Err answer) rest
       itself e draws fails is =
-          subst (λ (r : Result (Unit {0}) DecodeError). TakesOneRow line row step sink sink old new r rest) (sym is)
-          (is_unread line row step sink old new held rest e fails draws)
+          subst (λ (r : Result (Unit {0}) DecodeError). TakesOneRow line row old new r rest) (sym is)
+          (is_unread line row old new held rest e fails draws)
 
-      stores : line ≡ Line.broken new.front e → IsRepairable new e → TakesOneRow line row step sink sink old new (Err answer) rest
+      stores : line ≡ Line.broken new.front e → IsRepairable new e → TakesOneRow line row old new (Err answer) rest
       stores is repairable =
           let wants : ◌≡◌ {A = Result (Unit {0}) DecodeError} (Err answer) (Err OutOfMemory) =
           ap (λ (x : DecodeError). Err x) (only_memory repairable) in
           let change = memory repairable wants in
           let black : HasBlack new.front =
           last_black false new.front refl (λ none. absurd (let both : true ≡ false = sym change.1 ∙ none in cc)) in
-          subst (λ (r : Result (Unit {0}) DecodeError). TakesOneRow line row step sink sink old new r rest) (sym wants)
-          (wants_rest line row step sink old new rest held (subst (λ (l : Line). HasBlack (front_of l)) (sym is) black))
+          subst (λ (r : Result (Unit {0}) DecodeError). TakesOneRow line row old new r rest) (sym wants)
+          (wants_rest line row old new held rest (subst (λ (l : Line). HasBlack (front_of l)) (sym is) black))
 
       repairs : (e : DecodeError) → IsFault e → (old.settings.strict || not old.has_eols) ≡ false → IsRepairable new e
       repairs e fault is =
@@ -113,19 +80,19 @@ module _ {M : Type 0} (line : Line) (start : Bits) (step : M → List ℕ → M)
       broken Refused draws f = absurd f
 
       lenient : (e : DecodeError) → DrawsLine line (Err e) new.front rest → (old.settings.strict || not old.has_eols) ≡ false
-          → (IsRepairable new e → TakesOneRow line row step sink sink old new (Err answer) rest)
+          → (IsRepairable new e → TakesOneRow line row old new (Err answer) rest)
           → ((IsRepairable new e → ⊥) → ◌≡◌ {A = Result (Unit {0}) DecodeError} (Err answer) (Err e))
-          → TakesOneRow line row step sink sink old new (Err answer) rest
+          → TakesOneRow line row old new (Err answer) rest
       lenient UnexpectedEof draws is one two = one (repairs UnexpectedEof tt is)
       lenient InvalidCode draws is one two = one (repairs InvalidCode tt is)
       lenient Overflow draws is one two = one (repairs Overflow tt is)
       lenient OutOfMemory draws is one two =
-          subst (λ (r : Result (Unit {0}) DecodeError). TakesOneRow line row step sink sink old new r rest)
-          (sym (two (λ r. r.fault))) (unread_row_wants_memory line row step sink old new held rest draws)
+          subst (λ (r : Result (Unit {0}) DecodeError). TakesOneRow line row old new r rest)
+          (sym (two (λ r. r.fault))) (unread_row_wants_memory line row old new held rest draws)
       lenient Refused draws is one two = absurd draws
 
       by_strict : (b : Bool) → (old.settings.strict || not old.has_eols) ≡ b
-          → TakesOneRow line row step sink sink old new (Err answer) rest
+          → TakesOneRow line row old new (Err answer) rest
       by_strict true is =
           itself e draws (λ fault broken. ap (row_of_line old.settings old.has_eols start) broken ∙ cond-true (old.settings.strict
           || not old.has_eols) _ _ is) (otherwise (λ r. let both : true ≡ false = sym is ∙ or_from old.settings.strict

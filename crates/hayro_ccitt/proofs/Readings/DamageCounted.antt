@@ -1,15 +1,13 @@
 -- The damage that a run passes is counted: the rows that it repairs, and the EOLs that it misses.
-use Rattle.hayro_ccitt.proofs.Names.{◌≡◌, ◌+◌, ◌-◌, ◌<◌, ◌≤◌, ℕ, suc, Bool, true, false, cond, eqb, leb, not, ◌&&◌, ◌||◌, List}
-use Rattle.hayro_ccitt.proofs.Names.{[], ◌∷◌, ◌++◌, length, take, drop, Result, Ok, Err, refl, sym, ap, ◌∙◌, arith, sum_by}
-use Rattle.hayro_ccitt.proofs.Names.{cond-true, cond-false, eq-eqb, ne_eqb, lt-leb, length-append, sum_by-take-drop, DecodeError}
-use Rattle.hayro_ccitt.proofs.Names.{InvalidCode, DecodeSettings, IsFault, OnAnswer, Bits, Held, Repairs, fresh, no_repairs}
-use Rattle.hayro_ccitt.proofs.Names.{with_missed, Damaged, repaired_in, repaired_by_turn, missed_behind, missed_by_turn}
-use Rattle.hayro_ccitt.proofs.Names.{CountsDamage, repairs_with, repairs_behind, with_row_taken, Line, Progress, Ending, Move}
-use Rattle.hayro_ccitt.proofs.Names.{row_of_line, behind_row, with_row, misses_eol, move_on}
-use Rattle.hayro_ccitt.proofs.Names.{one_each, gathered_from, Turn, Row, missed_since, start_in, None, Some}
-use Rattle.hayro_ccitt.proofs.{Readings.Gathered.gathered_after, Readings.TurnsMoveOn.left_to_read, Work.RunsCount.sum_more}
+use Rattle.hayro_ccitt.proofs.Names.{◌≡◌, ◌+◌, ◌-◌, ◌<◌, ◌≤◌, ℕ, Bool, true, false, cond, eqb, leb, not, ◌&&◌, ◌||◌, List}
+use Rattle.hayro_ccitt.proofs.Names.{[], ◌∷◌, ◌++◌, length, Ok, Err, refl, sym, ap, ◌∙◌, arith}
+use Rattle.hayro_ccitt.proofs.Names.{cond-true, cond-false, eq-eqb, ne_eqb, lt-leb, length-append, DecodeError}
+use Rattle.hayro_ccitt.proofs.Names.{InvalidCode, DecodeSettings, Bits, Held, Repairs, fresh, no_repairs}
+use Rattle.hayro_ccitt.proofs.Names.{with_missed, Damaged, repaired_in, missed_behind}
+use Rattle.hayro_ccitt.proofs.Names.{repairs_with, repairs_behind, Line, Progress}
+use Rattle.hayro_ccitt.proofs.Names.{row_of_line, behind_row, with_row, misses_eol}
+use Rattle.hayro_ccitt.proofs.Names.{context_at, Row, missed_since, start_in, None, Some}
 use Rattle.hayro_ccitt.proofs.Readings.RowsAndGaps.{unmissed}
-use Rattle.hayro_ccitt.proofs.Readings.RunsOverRows.{RowByRow, Comes, comes_first, comes_next, held_between, lines, lines_on}
 
 -- ---- Rows that are repaired
 
@@ -42,14 +40,6 @@ repaired_none settings has_eols index offset start (Line.broken front fault) e i
     by_strict true none = cond-true {A = List Damaged} (settings.strict || not has_eols) []
         (record { row = index; start = offset; fault = fault } ∷ []) none
     by_strict false some = let never = sym (cond-false (settings.strict || not has_eols) _ _ some) ∙ is in cc
-
--- at most one more is repaired where one more is accepted
-pub few_repaired : (line : Line) (old new : Held) (row : Row) → new ≡ record (with_row_taken old row)
-    { repairs = repairs_with line old.taken old.repairs } → new.repairs.rows + old.taken ≤ new.taken + old.repairs.rows
-few_repaired (Line.whole pixels rest) old new row is =
-    omega (arith, ap (λ (h : Held). h.repairs.rows) is, ap (λ (h : Held). h.taken) is)
-few_repaired (Line.broken front fault) old new row is =
-    omega (arith, ap (λ (h : Held). h.repairs.rows) is, ap (λ (h : Held). h.taken) is)
 
 -- ---- EOLs that are missed
 
@@ -108,7 +98,7 @@ missed_same before taken last =
 -- the EOL behind one more row is counted, if it was missed and the row wasn't repaired
 pub missed_counts : (settings : DecodeSettings) (bits : Bits) (so_far : Progress) (line : Line) (row : Row) (rest : Bits)
     (before : Repairs) → row_of_line settings so_far.has_eols so_far.rest line ≡ Ok (row, rest) → before.last ≤ length so_far.rows
-    → before.missed ≤ length so_far.rows → (repairs_behind (held_between settings (with_row so_far row rest) (repairs_with line
+    → before.missed ≤ length so_far.rows → (repairs_behind (context_at settings (with_row so_far row rest) (repairs_with line
     (length so_far.rows) before)) rest).missed ≡ before.missed + length (missed_behind settings bits so_far line)
 missed_counts settings bits so_far (Line.whole pixels behind) row rest before is last few =
     let more : length (so_far.rows ++ row ∷ []) ≡ length so_far.rows + 1 = length-append so_far.rows (row ∷ []) in
@@ -191,95 +181,12 @@ last_with : (line : Line) (taken : ℕ) (before : Repairs) → before.last ≤ t
 last_with (Line.whole row rest) taken before within = omega (arith, within)
 last_with (Line.broken front fault) taken before within = omega arith
 
--- ---- Damage of either kind, over a run
-
-module _ (settings : DecodeSettings) (told : Progress → List Damaged) (start : Progress) where
-  -- the damage of each line from the start on
-  abbrev pub all_damage : List (List Damaged)
-  all_damage = gathered_from (move_on settings) (one_each told) start
-
-  -- Between two rows: how much damage the rows so far have.
-  pub record DamageCounted (so_far : Progress) (count : ℕ) : Type 0 where
-    pub comes : Comes (move_on settings) (one_each told) left_to_read start so_far
-    pub counted : count ≡ sum_by length (take (length so_far.rows) all_damage)
-
-module _ {settings : DecodeSettings} {told : Progress → List Damaged} {start : Progress}
-    (by_rows : RowByRow (move_on settings) left_to_read) (begins : start.rows ≡ []) where
-  -- before the first row there is none
-  pub none_counted : DamageCounted settings told start start 0
-  none_counted = record {
-    comes = comes_first by_rows begins;
-    counted = sym (ap (λ (rows : List Row). sum_by length (take (length rows) (all_damage settings told start))) begins);
-  }
-
-  module _ {so_far : Progress} {count : ℕ} (counted : DamageCounted settings told start so_far count) where
-    abbrev told_whole : List (List Damaged)
-    told_whole = all_damage settings told start
-
-    follow : drop (length so_far.rows) told_whole
-        ≡ told so_far ∷ gathered_after (lines (move_on settings) (one_each told) left_to_read) (move_on settings so_far)
-    follow = lines_on by_rows begins counted.comes (told so_far) refl
-
-    with_row_counted : (taken then : ℕ) → taken ≡ suc (length so_far.rows) → then ≡ count + length (told so_far)
-        → then ≡ sum_by length (take taken told_whole)
-    with_row_counted taken then more one = omega (
-      arith,
-      one,
-      counted.counted,
-      sum_more told_whole (length so_far.rows) (told so_far) _ follow,
-      ap (λ (k : ℕ). sum_by length (take k told_whole)) more,
-    )
-
-    -- one more row
-    pub damage_next : {after : Progress} {then : ℕ} → move_on settings so_far ≡ Turn.next after → length
-        after.rows ≡ suc (length so_far.rows) → then ≡ count + length (told so_far) → DamageCounted settings told start after then
-    damage_next {after} {then} goes more one = record {
-      comes = comes_next by_rows begins counted.comes (told so_far) refl goes more;
-      counted = with_row_counted (length after.rows) then more one;
-    }
-
-    -- all of it, where a turn is the last
-    all_counted : (end : Ending) → move_on settings so_far ≡ Turn.done end
-        → sum_by length told_whole ≡ count + length (told so_far)
-    all_counted end ends =
-        let last : drop (length so_far.rows) told_whole ≡ told so_far ∷ [] = follow
-        ∙ ap (λ (turn : Move). told so_far ∷ gathered_after (lines (move_on settings) (one_each told) left_to_read) turn) ends in
-        omega (arith, counted.counted, sum_by-take-drop length told_whole (length so_far.rows), ap (sum_by length) last)
-
-    -- a run that ends with one more row
-    pub damage_end_behind : {A : Type 0} {end : Ending} → move_on settings so_far ≡ Turn.done end
-        → {taken then : ℕ} {answer : Result A DecodeError} → taken ≡ suc (length so_far.rows)
-        → then ≡ count + length (told so_far) → CountsDamage told_whole taken then answer
-    damage_end_behind {A} {end} ends {taken} {then} {answer} more one =
-        record { of_taken = with_row_counted taken then more one; all = by_answer answer (one ∙ sym (all_counted end ends)) }
-      where
-        by_answer : {A : Type 0} (answer : Result A DecodeError) → then ≡ sum_by length told_whole
-            → OnAnswer answer (then ≡ sum_by length told_whole)
-        by_answer (Ok x) are = are
-        by_answer (Err e) are = λ fault. are
-
-    -- and one that ends with the same rows, where the line is no row or an allocation failed
-    pub damage_end : {A : Type 0} {e : DecodeError} {taken then : ℕ} → taken ≡ length so_far.rows
-        → then ≡ count → (IsFault e → (told so_far ≡ []) × (end : Ending) × (move_on settings so_far ≡ Turn.done end))
-        → CountsDamage {A = A} told_whole taken then (Err e)
-    damage_end same kept fails = record {
-      of_taken = omega (arith, kept, counted.counted, ap (λ (k : ℕ). sum_by length (take k told_whole)) same);
-      all = λ fault. let (none, end, ends) = fails fault in omega (arith, kept, all_counted end ends, ap length none);
-    }
-
--- Between two rows: both kinds of damage are counted, and an EOL was missed after each row at most once.
-pub record DamageTold (settings : DecodeSettings) (bits : Bits) (start so_far : Progress) (repairs : Repairs) : Type 0 where
-  pub repaired : DamageCounted settings (repaired_by_turn settings bits) start so_far repairs.rows
-  pub missed : DamageCounted settings (missed_by_turn settings bits) start so_far repairs.missed
-  pub few : repairs.missed ≤ length so_far.rows
-  pub last : repairs.last ≤ length so_far.rows
-
 module _ (settings : DecodeSettings) (bits : Bits) (so_far : Progress) (line : Line) (row : Row) (rest : Bits) (before : Repairs)
     (is : row_of_line settings so_far.has_eols so_far.rest line ≡ Ok (row, rest)) (last : before.last ≤ length so_far.rows)
     (few : before.missed ≤ length so_far.rows) where
   -- what is counted behind one more row
   abbrev then : Repairs
-  then = repairs_behind (held_between settings (with_row so_far row rest) (repairs_with line (length so_far.rows) before)) rest
+  then = repairs_behind (context_at settings (with_row so_far row rest) (repairs_with line (length so_far.rows) before)) rest
 
   pub few_behind : then.missed ≤ length so_far.rows + 1
   few_behind = omega (
@@ -294,6 +201,6 @@ module _ (settings : DecodeSettings) (bits : Bits) (so_far : Progress) (line : L
       omega (
         arith,
         (repaired_behind
-            (held_between settings (with_row so_far row rest) (repairs_with line (length so_far.rows) before)) rest).1,
+            (context_at settings (with_row so_far row rest) (repairs_with line (length so_far.rows) before)) rest).1,
         last_with line (length so_far.rows) before last,
       )

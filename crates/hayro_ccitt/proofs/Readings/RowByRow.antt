@@ -1,41 +1,57 @@
--- Rows one at a time: a reader of rows is where the run of a driver is whose sink keeps nothing.
+-- Rows one at a time: what is known of a reading between two rows, and what its calls leave.
 use Rattle.hayro_ccitt.proofs.Names.{◌≡◌, ◌+◌, ◌-◌, ◌<◌, ◌≤◌, ℕ, suc, Bool, true, false, eqb, List, [], ◌∷◌, ◌++◌, length, drop}
 use Rattle.hayro_ccitt.proofs.Names.{get_or, Some, Result, Ok, Err, refl, sym, ap, ◌∙◌, subst, arith, cond-true, cond-false}
 use Rattle.hayro_ccitt.proofs.Names.{eq-eqb, ne_eqb, false≢true, length-append, length-drop, cond, take, not, ◌||◌, None}
 use Rattle.hayro_ccitt.proofs.Names.{Option, OnErr, IfOk, IfErr, sum_by, slice_get, IsOkUnless, ◌≢◌, DecodeError, InvalidCode}
-use Rattle.hayro_ccitt.proofs.Names.{OutOfMemory, Refused, DecodeSettings, PaintsBlack, Bits, BitsAt, IsPrefix, here, Held}
+use Rattle.hayro_ccitt.proofs.Names.{OutOfMemory, Refused, DecodeSettings, Bits, BitsAt, IsPrefix, here, Held}
 use Rattle.hayro_ccitt.proofs.Names.{Repairs, fresh, no_repairs, Damaged, fault_in, repaired_in, repaired_by_turn}
-use Rattle.hayro_ccitt.proofs.Names.{repairs_by_line, missed_by_turn, misses_by_line, SinkState, TakesOneRow, repairs_with}
+use Rattle.hayro_ccitt.proofs.Names.{repairs_by_line, missed_by_turn, misses_by_line, TakesOneRow, repairs_with}
 use Rattle.hayro_ccitt.proofs.Names.{repairs_behind, gap_said, Line, Progress, Ending, Reading, Move, row_before, with_row}
 use Rattle.hayro_ccitt.proofs.Names.{at_gap, gap_behind_row, row_of_line, line_here, line_of_turn, move_on, first_gap, first_line}
 use Rattle.hayro_ccitt.proofs.Names.{at_front, ending_from, ending_behind, one_each, gathered_from, gathered_behind, gathered_of}
-use Rattle.hayro_ccitt.proofs.Names.{bytes_before, whole_reading, plain, lines_of, line_starts, start_of_turn, Gap, misses_eol}
+use Rattle.hayro_ccitt.proofs.Names.{whole_reading, plain, lines_of, line_starts, start_of_turn, Gap, misses_eol}
 use Rattle.hayro_ccitt.proofs.Names.{eols_here, is_over, row_ends, end_of_row, end_of_turn, failed_at, Turn}
 use Rattle.hayro_ccitt.proofs.Names.{Reaches, Row, found_here, words_of, words_of_turn, Stand, AtLine, BehindRow, AtEnd, AtFault}
 use Rattle.hayro_ccitt.proofs.Names.{EncodingMode, Group4, RowsRead, ReadsNext, damage_since, start_after}
 use Rattle.hayro_ccitt.proofs.Names.{ReachesNextLine, read_so_far, line_after, DamageIsCounted, MissesAreCounted, MissesBehindRow}
 use Rattle.hayro_ccitt.proofs.Names.{Misses, ReaderStands, ended, stand_after, is_at_line, StandsAtLine, StandsBehindRow}
+use Rattle.hayro_ccitt.proofs.Names.{zero, redrawn, White, sum_by-append, sum_by-take-drop, end_of, ends_with, add_row}
+use Rattle.hayro_ccitt.proofs.Names.{IsWhole, IsFault}
 use Rattle.hayro_ccitt.proofs.Names.{HasEnded, HasFailed, MissIsTold, context_at, missed_before, missed_since, start_in}
-use Rattle.hayro_ccitt.proofs.{Readings.GapsAndRows.first_gap_t4, Readings.Repeated.reaches_on, Work.RunsCount.sum_more}
-use Rattle.hayro_ccitt.proofs.Readings.DamageCounted.{repaired_counts, missed_counts, missed_starts, few_behind, last_behind}
+use Rattle.hayro_ccitt.proofs.{Readings.GapsAndRows.first_gap_t4, Readings.Gathered.gathered_after}
+use Rattle.hayro_ccitt.proofs.Readings.Repeated.{reaches_on}
+use Rattle.hayro_ccitt.proofs.Readings.DamageCounted.{repaired_counts, repaired_none, missed_counts, missed_none, missed_starts}
+use Rattle.hayro_ccitt.proofs.Readings.DamageCounted.{few_behind, last_behind}
 use Rattle.hayro_ccitt.proofs.Readings.PlainAnswers.{some_columns, bytes_before-place}
 use Rattle.hayro_ccitt.proofs.Readings.RowsAndGaps.{unmissed}
-use Rattle.hayro_ccitt.proofs.Readings.RowsTaken.{by_rows_left, row_of_turn, reads_row, turn_is}
-use Rattle.hayro_ccitt.proofs.Readings.RunsOverRows.{lines_on, Comes, Between, Leaves, held_between-more, comes_done, comes_more}
-use Rattle.hayro_ccitt.proofs.Readings.RunsOverRows.{comes_line, get_or-behind, row_fails}
+use Rattle.hayro_ccitt.proofs.Readings.RunsOverRows.{by_rows_left, row_of_turn, row_adds, turn_is, lines, lines_on, Comes}
+use Rattle.hayro_ccitt.proofs.Readings.RunsOverRows.{context_at-more, comes_done, comes_more, comes_line, get_or-behind}
 use Rattle.hayro_ccitt.proofs.Readings.RunsReach.{get_or-there, comes_there, value_is, no_value_behind}
 use Rattle.hayro_ccitt.proofs.Readings.TurnsAddRows.{Keeps, first_gap_keeps}
 use Rattle.hayro_ccitt.proofs.Readings.TurnsMoveOn.{left_to_read, left_below}
 
--- what a sink that keeps nothing, and refuses no row, means
-abbrev pub nothing_kept : SinkState (Unit {0})
-nothing_kept = record { meaning = tt; refused = false; refuses = λ row. ⊥ }
+-- what is counted of one line more
+sum_more : {A : Type 0} (words : List (List A)) (k : ℕ) (line : List A) (more : List (List A)) → drop k words ≡ line ∷ more
+    → sum_by length (take (suc k) words) ≡ sum_by length (take k words) + length line
+sum_more [] zero line more e = absurd cc
+sum_more [] (suc k) line more e = absurd cc
+sum_more (first ∷ words) zero line more e = let same : first ≡ line = cc in omega (arith, ap length same)
+sum_more (first ∷ words) (suc k) line more e =
+    omega (
+      arith,
+      sum_by-append length (first ∷ []) (take (suc k) words),
+      sum_by-append length (first ∷ []) (take k words),
+      sum_more words k line more e,
+    )
 
-abbrev pub no_step : Unit {0} → List ℕ → Unit {0}
-no_step before row = tt
-
-has_columns : (settings : DecodeSettings) → 0 < settings.columns → eqb settings.columns 0 ≡ false
+pub has_columns : (settings : DecodeSettings) → 0 < settings.columns → eqb settings.columns 0 ≡ false
 has_columns settings wide = some_columns settings.columns (λ none. absurd (omega (arith, wide, none)))
+
+-- the plain reading is that which ends so
+pub plain_whole : (settings : DecodeSettings) → 0 < settings.columns → (bits : Bits) → {end : Ending} → end_of settings bits ≡ end
+    → plain settings bits ≡ whole_reading bits end
+plain_whole settings wide bits is =
+    cond-false (eqb settings.columns 0) _ _ (has_columns settings wide) ∙ ap (whole_reading bits) is
 
 module _ (settings : DecodeSettings) (wide : 0 < settings.columns) (bits : Bits) {first : Progress}
     (begins : first_gap settings.encoding settings bits ≡ Turn.next first) where
@@ -43,11 +59,12 @@ module _ (settings : DecodeSettings) (wide : 0 < settings.columns) (bits : Bits)
   none_first : first.rows ≡ []
   none_first = subst (Keeps []) begins (first_gap_keeps settings settings.encoding bits)
 
-  -- the plain reading is that from the first line on
+  -- the reading ends as that from the first line on
+  end_is : end_of settings bits ≡ ending_from (move_on settings) first
+  end_is = ap (ending_behind settings) begins
+
   pub plain_is : plain settings bits ≡ whole_reading bits (ending_from (move_on settings) first)
-  plain_is =
-      cond-false (eqb settings.columns 0) _ _ (has_columns settings wide)
-      ∙ ap (λ (gap : Move). whole_reading bits (ending_behind settings gap)) begins
+  plain_is = plain_whole settings wide bits end_is
 
   gathered_is : {A : Type 0} (gives : Progress → A)
       → gathered_of settings gives bits ≡ gathered_from (move_on settings) (one_each gives) first
@@ -66,9 +83,9 @@ module _ (settings : DecodeSettings) (wide : 0 < settings.columns) (bits : Bits)
     few_rows room = omega (arith, (comes (line_of_turn settings)).room, left_below first, room)
 
     -- where a turn is the last, it is known how the reading ends
-    pub ends_with_turn : {end : Ending} → move_on settings so_far ≡ Turn.done end → plain settings bits ≡ whole_reading bits end
+    pub ends_with_turn : {end : Ending} → move_on settings so_far ≡ Turn.done end → end_of settings bits ≡ end
     ends_with_turn is =
-        plain_is ∙ ap (whole_reading bits) (comes_done (by_rows_left settings wide) none_first (comes (line_of_turn settings)) is)
+        end_is ∙ comes_done (by_rows_left settings wide) none_first (comes (line_of_turn settings)) is
 
     -- its line
     pub line_is : slice_get (lines_of settings bits) (length so_far.rows) ≡ Some (line_of_turn settings so_far)
@@ -106,7 +123,7 @@ module _ (settings : DecodeSettings) (wide : 0 < settings.columns) (bits : Bits)
       prefix : IsPrefix (so_far.rows ++ row ∷ []) (plain settings bits).rows
       prefix = subst (λ (rows : List Row). IsPrefix (so_far.rows ++ row ∷ []) rows)
           (sym (ap (λ (r : Reading). r.rows) plain_is)) (comes_more (by_rows_left settings wide)
-          none_first (comes (line_of_turn settings)) (so_far.rows ++ row ∷ []) ((reads_row settings so_far).adds row rest is))
+          none_first (comes (line_of_turn settings)) (so_far.rows ++ row ∷ []) (row_adds settings so_far row rest is))
 
       -- the row that is read is the next one of the plain reading
       pub row_is_next : get_or (plain settings bits).rows (length so_far.rows) [] ≡ row
@@ -138,15 +155,31 @@ module _ (settings : DecodeSettings) (wide : 0 < settings.columns) (bits : Bits)
           [] (ap (λ (n : ℕ). slice_get by_line n) taken ∙ ap (λ (xs : List (List Damaged)). slice_get xs (length so_far.rows))
           repairs_are ∙ comes_line (by_rows_left settings wide) none_first (comes (repaired_by_turn settings bits)) repaired refl)
 
+      -- what is gathered from its line on
+      gathered_there : {A : Type 0} (counted : List A) (gives : Progress → A)
+          → counted ≡ gathered_from (move_on settings) (one_each gives) first → drop rows counted
+          ≡ gives so_far ∷ gathered_after (lines (move_on settings) (one_each gives) left_to_read) (move_on settings so_far)
+      gathered_there {A = A} counted gives are =
+          ap (λ (n : ℕ). drop n counted) taken ∙ ap (λ (xs : List A). drop (length so_far.rows) xs) are
+          ∙ lines_on (by_rows_left settings wide) none_first (comes gives) (gives so_far) refl
+
       -- what is counted of each line, with that of its line
       gathered_more : {A : Type 0} (counted : List (List A)) (gives : Progress → List A)
           → counted ≡ gathered_from (move_on settings) (one_each gives) first
           → sum_by length (take (rows + 1) counted) ≡ sum_by length (take rows counted) + length (gives so_far)
-      gathered_more {A = A} counted gives are =
-          let on = ap (λ (n : ℕ). drop n counted) taken ∙ ap (λ (xs : List (List A)). drop (length so_far.rows) xs)
-          are ∙ lines_on (by_rows_left settings wide) none_first (comes gives) (gives so_far) refl in
+      gathered_more counted gives are =
           let next : rows + 1 ≡ suc rows = omega arith in
-          ap (λ (n : ℕ). sum_by length (take n counted)) next ∙ sum_more counted rows (gives so_far) _ on
+          ap (λ (n : ℕ). sum_by length (take n counted)) next
+          ∙ sum_more counted rows (gives so_far) _ (gathered_there counted gives are)
+
+      -- that is all of it, where its turn is the last
+      gathered_whole : {A : Type 0} (counted : List (List A)) (gives : Progress → List A)
+          → counted ≡ gathered_from (move_on settings) (one_each gives) first → {end : Ending} → move_on settings so_far
+          ≡ Turn.done end → sum_by length counted ≡ sum_by length (take rows counted) + length (gives so_far)
+      gathered_whole counted gives are ends =
+          let last : drop rows counted ≡ gives so_far ∷ [] = gathered_there counted gives are ∙ ap (λ (turn : Move). gives so_far
+          ∷ gathered_after (lines (move_on settings) (one_each gives) left_to_read) turn) ends in
+          omega (arith, sum_by-take-drop length counted rows, ap (sum_by length) last)
 
       -- with it one more line is counted
       pub repaired_more : sum_by length (take (rows + 1) by_line) ≡ sum_by length (take rows by_line) + length repaired
@@ -178,25 +211,46 @@ module _ (settings : DecodeSettings) (wide : 0 < settings.columns) (bits : Bits)
           ≡ sum_by length (take rows (words_of settings bits)) + length (words_of_turn settings so_far)
       words_more = gathered_more (words_of settings bits) (words_of_turn settings) words_are
 
-    -- a driver whose sink keeps nothing is there
-    abbrev pub between_of : (repairs : Repairs) → Between (move_on settings) (one_each (line_of_turn settings)) left_to_read first
-        settings no_step nothing_kept nothing_kept (context_at settings so_far repairs) so_far.rest
-    between_of repairs = record {
-      so_far = so_far;
-      comes = comes (line_of_turn settings);
-      held = refl;
-      here = refl;
-      meaning = refl;
-      refused = refl;
-    }
+    -- where its turn is the last, what is known of the whole reading: with its row
+    pub whole_behind : {end : Ending} → move_on settings so_far ≡ Turn.done end → (held : Held)
+        → held.taken ≡ length so_far.rows + 1 → length end.rows ≡ length so_far.rows + 1 → held.has_eols ≡ end.has_eols
+        → IsWhole settings bits held end.outcome
+    whole_behind ends held more rows eols =
+        let at = ap (λ (e : Ending). length e.rows) (ends_with_turn ends) in
+        let by_line = repairs_by_line settings bits in
+        let misses = misses_by_line settings bits in
+        record {
+          rows = more ∙ sym (at ∙ rows);
+          ends = ap (λ (e : Ending). e.outcome) (ends_with_turn ends);
+          has_eols = eols ∙ sym (ap (λ (e : Ending). e.has_eols) (ends_with_turn ends));
+          repaired = ap (λ (n : ℕ). sum_by length (take n by_line)) more ∙ repaired_more refl
+              ∙ sym (gathered_whole refl by_line (repaired_by_turn settings bits) (repairs_are refl) ends);
+          missed = ap (λ (n : ℕ). sum_by length (take n misses)) more ∙ missed_more refl
+              ∙ sym (gathered_whole refl misses (missed_by_turn settings bits) (misses_are refl) ends);
+        }
 
-    -- so where a row isn't read, the reading ends
-    pub row_not_read : (repairs : Repairs) {after : SinkState (Unit {0})} {new : Held} {left_over : Bits} {e : DecodeError}
-        → TakesOneRow (line_of_turn settings so_far) (row_of_turn settings so_far) no_step nothing_kept after
-        (context_at settings so_far repairs) new (Err e) left_over → Leaves (ending_from (move_on settings) first)
-        (gathered_from (move_on settings) (one_each (line_of_turn settings)) first) no_step nothing_kept after new (Err e)
-    row_not_read repairs {e = e} takes =
-        row_fails (by_rows_left settings wide) none_first (between_of repairs) (reads_row settings so_far) e takes
+    -- and if its line has no row
+    pub whole_at_fault : {e : DecodeError} → row_of_turn settings so_far ≡ Err e → (held : Held) → held.taken ≡ length so_far.rows
+        → held.has_eols ≡ so_far.has_eols → IsWhole settings bits held (Err e)
+    whole_at_fault {e} is held taken eols =
+        let ends : move_on settings so_far ≡ ends_with so_far (Err e) = ap (add_row settings so_far) is in
+        let line = line_of_turn settings so_far in
+        let offset = length bits - length so_far.rest in
+        record {
+          rows = taken ∙ sym (ap (λ (e : Ending). length e.rows) (ends_with_turn ends));
+          ends = ap (λ (e : Ending). e.outcome) (ends_with_turn ends);
+          has_eols = eols ∙ sym (ap (λ (e : Ending). e.has_eols) (ends_with_turn ends));
+          repaired = omega (
+            arith,
+            gathered_whole taken (repairs_by_line settings bits) (repaired_by_turn settings bits) (repairs_are taken) ends,
+            ap length (repaired_none settings so_far.has_eols (length so_far.rows) offset so_far.rest line e is),
+          );
+          missed = omega (
+            arith,
+            gathered_whole taken (misses_by_line settings bits) (missed_by_turn settings bits) (misses_are taken) ends,
+            ap length (missed_none settings bits so_far line e is),
+          );
+        }
 
 -- ---- A reader of rows at a line
 
@@ -214,18 +268,18 @@ module _ {settings : DecodeSettings} {bits : Bits} {held : Held} {here : Bits}
   -- the line here is that of the turn
   module _ {new : Held} {left_over : Bits} {answer : Result (Unit {0}) DecodeError}
       (takes : TakesOneRow (line_here held.settings held.reference here) (row_of_line held.settings held.has_eols here
-      (line_here held.settings held.reference here)) no_step nothing_kept nothing_kept held new answer left_over) where
-    takes_turn : TakesOneRow (line_of_turn settings so_far) (row_of_turn settings so_far) no_step nothing_kept nothing_kept
+      (line_here held.settings held.reference here)) held new answer left_over) where
+    takes_turn : TakesOneRow (line_of_turn settings so_far) (row_of_turn settings so_far)
         (context_at settings so_far held.repairs) new answer left_over
     takes_turn =
         let known : TakesOneRow (line_here settings (row_before settings.columns so_far.rows) here)
-        (row_of_line settings so_far.has_eols here (line_here settings (row_before settings.columns so_far.rows) here)) no_step
-        nothing_kept nothing_kept (context_at settings so_far held.repairs) new answer left_over =
+        (row_of_line settings so_far.has_eols here (line_here settings (row_before settings.columns so_far.rows) here))
+        (context_at settings so_far held.repairs) new answer left_over =
         subst (λ (h : Held). TakesOneRow (line_here h.settings h.reference here) (row_of_line h.settings h.has_eols here
-        (line_here h.settings h.reference here)) no_step nothing_kept nothing_kept h new answer left_over) stands.held_is takes in
+        (line_here h.settings h.reference here)) h new answer left_over) stands.held_is takes in
         subst (λ (x : Bits). TakesOneRow (line_here settings (row_before settings.columns so_far.rows) x)
-        (row_of_line settings so_far.has_eols x (line_here settings (row_before settings.columns so_far.rows) x)) no_step
-        nothing_kept nothing_kept (context_at settings so_far held.repairs) new answer left_over) stands.rest_is known
+        (row_of_line settings so_far.has_eols x (line_here settings (row_before settings.columns so_far.rows) x))
+        (context_at settings so_far held.repairs) new answer left_over) stands.rest_is known
 
 -- what is repaired of a line is reported
 repaired_told : (settings : DecodeSettings) (has_eols : Bool) (index offset : ℕ) (start : Bits) (line : Line)
@@ -273,8 +327,8 @@ pub record IsRead (settings : DecodeSettings) (bits : Bits) (held new : Held) (h
 
 pub is_read : {settings : DecodeSettings} {bits : Bits} {held : Held} {here : Bits} → StandsAtLine settings bits held here
     → {new : Held} {left_over : Bits} → TakesOneRow (line_here held.settings held.reference here)
-    (row_of_line held.settings held.has_eols here (line_here held.settings held.reference here)) no_step nothing_kept nothing_kept
-    held new (Ok tt) left_over → IsRead settings bits held new here left_over
+    (row_of_line held.settings held.has_eols here (line_here held.settings held.reference here)) held new (Ok tt) left_over
+    → IsRead settings bits held new here left_over
 is_read {settings} {bits} {held} {here} stands {new} {left_over} takes =
     let so_far = stands.so_far in
     let taken = (takes_turn stands takes).taken in
@@ -300,7 +354,7 @@ is_read {settings} {bits} {held} {here} stands {new} {left_over} takes =
         room = stands.room;
         reaches = stands.reaches;
         row_is = taken.is;
-        held_is = taken.held ∙ held_between-more settings so_far taken.taken left_over held.repairs with_line
+        held_is = taken.held ∙ context_at-more settings so_far taken.taken left_over held.repairs with_line
             ∙ ap (context_at settings (with_row so_far taken.taken left_over)) (sym repaired);
       };
       settings_are = ap (λ (h : Held). h.settings) taken.held;
@@ -355,19 +409,29 @@ reader_fails_at_line {settings} {bits} stands =
 -- no row was read there
 pub isnt_read : {settings : DecodeSettings} {bits : Bits} {held : Held} {here : Bits} → StandsAtLine settings bits held here
     → {new : Held} {left_over : Bits} {e : DecodeError} → TakesOneRow (line_here held.settings held.reference here)
-    (row_of_line held.settings held.has_eols here (line_here held.settings held.reference here)) no_step nothing_kept nothing_kept
-    held new (Err e) left_over → HasFailed settings bits new.taken e
-isnt_read {settings} {bits} {held} stands {new} takes =
-    let reading = plain_is settings stands.wide bits stands.begins in
-    let lines = lines_are settings stands.wide bits stands.begins in
-    let leaves = row_not_read settings stands.wide bits stands.begins stands.reaches held.repairs (takes_turn stands takes) in
-    record {
-      all = λ fault. leaves.0.all fault ∙ ap (λ (r : Reading). length r.rows) (sym reading);
-      fault = λ fault. ap (λ (r : Reading). r.outcome) reading ∙ ap (bytes_before bits) (leaves.0.fault fault);
-      memory = λ is. subst (λ (ls : List Line). PaintsBlack ls new.taken) (sym lines)
-          (leaves.1.memory (ap (λ (x : DecodeError). Err x) is));
-      not_refused = λ is. leaves.1.refused_row (ap (λ (x : DecodeError). Err x) is);
-    }
+    (row_of_line held.settings held.has_eols here (line_here held.settings held.reference here)) held new (Err e) left_over
+    → HasFailed settings bits new.taken e × (0 < settings.columns → IsFault e → IsWhole settings bits new (Err e))
+isnt_read {settings} {bits} {held} stands {new} {e = e} takes =
+    let so_far = stands.so_far in
+    let turn = takes_turn stands takes in
+    let taken : new.taken ≡ length so_far.rows = ap (λ (h : Held). h.taken) turn.held in
+    let whole = λ (fault : IsFault e). whole_at_fault settings stands.wide bits stands.begins stands.reaches (turn.fault fault)
+    new taken (ap (λ (h : Held). h.has_eols) turn.held) in
+    let reading = λ (fault : IsFault e). plain_whole settings stands.wide bits
+    (ends_with_turn settings stands.wide bits stands.begins stands.reaches (ap (add_row settings so_far) (turn.fault fault))) in (
+      record {
+        all = λ fault. taken ∙ ap (λ (r : Reading). length r.rows) (sym (reading fault));
+        fault = λ fault. ap (λ (r : Reading). r.outcome) (reading fault);
+        memory = λ is. (
+          line_of_turn settings so_far,
+          ap (slice_get (lines_of settings bits)) taken
+              ∙ line_is settings stands.wide bits stands.begins stands.reaches,
+          turn.memory (ap (λ (x : DecodeError). Err x) is),
+        );
+        not_refused = λ is. turn.not_refused (ap (λ (x : DecodeError). Err x) is);
+      },
+      λ wide fault. whole fault,
+    )
 
 -- if a line is here, the invariant says so
 pub at_line_stands : (stand : Stand) (settings : DecodeSettings) (bits : Bits) (held : Held) (place : ℕ) → is_at_line stand ≡ true
@@ -377,6 +441,11 @@ at_line_stands BehindRow settings bits held place is stands = absurd (false≢tr
 at_line_stands AtEnd settings bits held place is stands = absurd (false≢true is)
 at_line_stands (AtFault error) settings bits held place is stands = absurd (false≢true is)
 
+-- nothing is drawn there, so a line that is begun again is the same
+pub begun_is : {settings : DecodeSettings} {bits : Bits} {held : Held} {here : Bits} → StandsAtLine settings bits held here
+    → {begun : Held} → begun ≡ redrawn held [] White → begun ≡ held
+begun_is stands is = is ∙ ap (λ (h : Held). redrawn h [] White) stands.held_is ∙ sym stands.held_is
+
 -- so it does after a row
 pub behind_row_stands : (stand : Stand) (settings : DecodeSettings) (bits : Bits) (held : Held) (place : ℕ) → ended stand ≡ None →
     is_at_line stand ≡ false → ReaderStands stand settings bits held place → StandsBehindRow settings bits held (drop place bits)
@@ -384,6 +453,22 @@ behind_row_stands AtLine settings bits held place unended no_line stands = absur
 behind_row_stands BehindRow settings bits held place unended no_line stands = stands
 behind_row_stands AtEnd settings bits held place unended no_line stands = absurd cc
 behind_row_stands (AtFault error) settings bits held place unended no_line stands = absurd cc
+
+-- and after the end
+pub ended_stands : (stand : Stand) (settings : DecodeSettings) (bits : Bits) (held : Held) (place : ℕ)
+    → ended stand ≡ Some (Ok tt) → ReaderStands stand settings bits held place → ReaderStands AtEnd settings bits held place
+ended_stands AtLine settings bits held place is stands = absurd cc
+ended_stands BehindRow settings bits held place is stands = absurd cc
+ended_stands AtEnd settings bits held place is stands = stands
+ended_stands (AtFault error) settings bits held place is stands = absurd cc
+
+pub failed_stands : (stand : Stand) (settings : DecodeSettings) (bits : Bits) (held : Held) (place : ℕ) {e : DecodeError} → ended
+    stand ≡ Some (Err e) → ReaderStands stand settings bits held place → ReaderStands (AtFault e) settings bits held place
+failed_stands AtLine settings bits held place is stands = absurd cc
+failed_stands BehindRow settings bits held place is stands = absurd cc
+failed_stands AtEnd settings bits held place is stands = absurd cc
+failed_stands (AtFault error) settings bits held place {e} is stands =
+    let same : error ≡ e = cc in subst (λ (x : DecodeError). ReaderStands (AtFault x) settings bits held place) same stands
 
 -- ---- A gap is passed
 
@@ -399,20 +484,23 @@ code_failed settings bits taken e is all outcome =
     }
 
 -- if the gap before a turn ends the reading, it ends like this
-module _ (settings : DecodeSettings) (bits : Bits) (rows : List Row) (last : Held) (place : ℕ) (within : place ≤ length bits)
-    (taken : last.taken ≡ length rows) where
-  ended_well : (has_eols : Bool) → plain settings bits ≡ whole_reading bits
-      (record { rows = rows; has_eols = has_eols; outcome = Ok (drop place bits) }) → HasEnded settings bits last.taken place
-  ended_well has_eols is = record {
-    all = taken ∙ ap (λ (r : Reading). length r.rows) (sym is);
-    count = ap (λ (r : Reading). r.outcome) is ∙ bytes_before-place bits place within;
-  }
+module _ (settings : DecodeSettings) (wide : 0 < settings.columns) (bits : Bits) (rows : List Row) (last : Held) (place : ℕ)
+    (within : place ≤ length bits) (taken : last.taken ≡ length rows) (has_eols : Bool) where
+  ended_well : end_of settings bits ≡ record { rows = rows; has_eols = has_eols; outcome = Ok (drop place bits) }
+      → HasEnded settings bits last.taken place
+  ended_well is =
+      let reading = plain_whole settings wide bits is in
+      record {
+        all = taken ∙ ap (λ (r : Reading). length r.rows) (sym reading);
+        count = ap (λ (r : Reading). r.outcome) reading ∙ bytes_before-place bits place within;
+      }
 
-  ended_badly : (has_eols : Bool) (e : DecodeError) → e ≡ InvalidCode → plain settings bits
-      ≡ whole_reading bits (record { rows = rows; has_eols = has_eols; outcome = Err e }) → HasFailed settings bits last.taken e
-  ended_badly has_eols e code is =
-      code_failed settings bits last.taken e code (taken ∙ ap (λ (r : Reading). length r.rows) (sym is))
-      (ap (λ (r : Reading). r.outcome) is)
+  ended_badly : (e : DecodeError) → e ≡ InvalidCode → end_of settings bits
+      ≡ record { rows = rows; has_eols = has_eols; outcome = Err e } → HasFailed settings bits last.taken e
+  ended_badly e code is =
+      let reading = plain_whole settings wide bits is in
+      code_failed settings bits last.taken e code (taken ∙ ap (λ (r : Reading). length r.rows) (sym reading))
+      (ap (λ (r : Reading). r.outcome) reading)
 
 -- the gap after a row leads to a line, or to the end
 module _ (settings : DecodeSettings) (bits : Bits) (held : Held) (here_now : Bits)
@@ -446,13 +534,25 @@ module _ (settings : DecodeSettings) (bits : Bits) (held : Held) (here_now : Bit
   starts_behind (Ok over) said offset before is = tt
   starts_behind (Err e) said offset before is = is ∙ sym (fails_there e said)
 
+  -- if it is the end, that is all of the reading
+  whole : {outcome : Result Bits DecodeError} → move_on settings stands.so_far ≡ ends_with next outcome
+      → last.has_eols ≡ held.has_eols → IsWhole settings bits last outcome
+  whole ends kept =
+      let more = length-append stands.so_far.rows (stands.row ∷ []) in
+      whole_behind settings stands.wide bits stands.begins stands.reaches ends last (last_taken ∙ more) more
+      (kept ∙ ap (λ (h : Held). h.has_eols) stands.held_is)
+
   pub gap_stands : (answer : Result Bool DecodeError)
       → gap_behind_row held.settings held.taken held.has_eols here_now ≡ gap_said answer last.has_eols (drop place bits)
-      → IsOkUnless answer InvalidCode → ReaderStands (stand_after answer) settings bits last place
-  gap_stands (Ok true) said code =
-      ended_well settings bits next.rows last place within last_taken next.has_eols (ends_with_turn settings stands.wide bits
-      stands.begins stands.reaches (turn_said (Ok true) said))
-  gap_stands (Ok false) said code = record {
+      → IsOkUnless answer InvalidCode → IfOk answer (λ over. over ≡ true → last.has_eols ≡ held.has_eols)
+      → OnErr answer (last.has_eols ≡ held.has_eols) → ReaderStands (stand_after answer) settings bits last place
+  gap_stands (Ok true) said code kept same =
+      let ends = turn_said (Ok true) said in (
+        ended_well settings stands.wide bits next.rows last place within last_taken next.has_eols
+            (ends_with_turn settings stands.wide bits stands.begins stands.reaches ends),
+        λ wide. whole ends (kept refl),
+      )
+  gap_stands (Ok false) said code kept same = record {
     wide = stands.wide;
     first = stands.first;
     so_far = record next { has_eols = last.has_eols; rest = drop place bits };
@@ -463,9 +563,12 @@ module _ (settings : DecodeSettings) (bits : Bits) (held : Held) (here_now : Bit
     held_is = frame ∙ ap (λ (h : Held). record h { has_eols = last.has_eols; repairs = last.repairs }) stands.held_is;
     rest_is = refl;
   }
-  gap_stands (Err e) said code =
-      ended_badly settings bits next.rows last place within last_taken next.has_eols e code (ends_with_turn settings stands.wide
-      bits stands.begins stands.reaches (turn_said (Err e) said))
+  gap_stands (Err e) said code kept same =
+      let ends = turn_said (Err e) said in (
+        ended_badly settings stands.wide bits next.rows last place within last_taken next.has_eols e code
+            (ends_with_turn settings stands.wide bits stands.begins stands.reaches ends),
+        λ wide fault. whole ends same,
+      )
 
 -- the first gap of Group 4 does too
 module _ (settings : DecodeSettings) (wide : 0 < settings.columns) (bits : Bits) (is : settings.encoding ≡ Group4) (last : Held)
@@ -475,20 +578,41 @@ module _ (settings : DecodeSettings) (wide : 0 < settings.columns) (bits : Bits)
       → first_gap settings.encoding settings bits ≡ at_gap (at_front bits) (gap_said answer last.has_eols (drop place bits))
   first_said answer said = ap (λ (e : EncodingMode). first_gap e settings bits) is ∙ ap (at_gap (at_front bits)) said
 
-  first_ended : (end : Ending) → first_gap settings.encoding settings bits ≡ Turn.done end
-      → plain settings bits ≡ whole_reading bits end
-  first_ended end ends =
-      cond-false (eqb settings.columns 0) _ _ (has_columns settings wide)
-      ∙ ap (λ (gap : Move). whole_reading bits (ending_behind settings gap)) ends
+  first_ended : {end : Ending} → first_gap settings.encoding settings bits ≡ Turn.done end → end_of settings bits ≡ end
+  first_ended ends = ap (ending_behind settings) ends
 
   none : last.taken ≡ length (at_front bits).rows
   none = ap (λ (h : Held). h.taken) frame
 
+  -- without a line nothing is gathered
+  no_lines : {A : Type 0} {outcome : Result Bits DecodeError} (gives : Progress → List A)
+      → first_gap settings.encoding settings bits ≡ ends_with (at_front bits) outcome
+      → cond (eqb settings.columns 0) [] (gathered_of settings gives bits) ≡ []
+  no_lines gives ends =
+      cond-false (eqb settings.columns 0) _ _ (has_columns settings wide) ∙ ap (gathered_behind settings gives) ends
+
+  whole_front : {outcome : Result Bits DecodeError}
+      → first_gap settings.encoding settings bits ≡ ends_with (at_front bits) outcome
+      → last.has_eols ≡ false → IsWhole settings bits last outcome
+  whole_front ends unsought =
+      let repaired : repairs_by_line settings bits ≡ [] = no_lines (repaired_by_turn settings bits) ends in
+      let missed : misses_by_line settings bits ≡ [] = no_lines (missed_by_turn settings bits) ends in
+      record {
+        rows = none ∙ sym (ap (λ (e : Ending). length e.rows) (first_ended ends));
+        ends = ap (λ (e : Ending). e.outcome) (first_ended ends);
+        has_eols = unsought ∙ sym (ap (λ (e : Ending). e.has_eols) (first_ended ends));
+        repaired = ap (λ (n : ℕ). sum_by length (take n (repairs_by_line settings bits))) none
+            ∙ sym (ap (sum_by length) repaired);
+        missed = ap (λ (n : ℕ). sum_by length (take n (misses_by_line settings bits))) none ∙ sym (ap (sum_by length) missed);
+      }
+
   pub first_gap_stands : (answer : Result Bool DecodeError) → gap_behind_row settings 0 false bits ≡ gap_said answer last.has_eols
-      (drop place bits) → IsOkUnless answer InvalidCode → ReaderStands (stand_after answer) settings bits last place
-  first_gap_stands (Ok true) said code =
-      ended_well settings bits [] last place within none false (first_ended _ (first_said (Ok true) said))
-  first_gap_stands (Ok false) said code = record {
+      (drop place bits) → IsOkUnless answer InvalidCode → last.has_eols ≡ false
+      → ReaderStands (stand_after answer) settings bits last place
+  first_gap_stands (Ok true) said code unsought =
+      let ends = first_said (Ok true) said in
+      (ended_well settings wide bits [] last place within none false (first_ended ends), λ wide. whole_front ends unsought)
+  first_gap_stands (Ok false) said code unsought = record {
     wide = wide;
     first = record { rows = []; has_eols = last.has_eols; rest = drop place bits };
     so_far = record { rows = []; has_eols = last.has_eols; rest = drop place bits };
@@ -499,8 +623,11 @@ module _ (settings : DecodeSettings) (wide : 0 < settings.columns) (bits : Bits)
         (sym (ap (λ (h : Held). h.repairs) frame));
     rest_is = refl;
   }
-  first_gap_stands (Err e) said code =
-      ended_badly settings bits [] last place within none false e code (first_ended _ (first_said (Err e) said))
+  first_gap_stands (Err e) said code unsought =
+      let ends = first_said (Err e) said in (
+        ended_badly settings wide bits [] last place within none false e code (first_ended ends),
+        λ wide fault. whole_front ends unsought,
+      )
 
 -- where no EOLs are sought, no gap is faulty
 pub no_fault : (settings : DecodeSettings) (taken : ℕ) (here : Bits) (answer : Result Bool DecodeError) (has_eols : Bool)
@@ -534,7 +661,7 @@ first_line_stands settings wide bits other last rest frame is room = record {
 }
 
 -- a row adds no missed EOL
-repairs_with_missed : (line : Line) (taken : ℕ) (before : Repairs) → (repairs_with line taken before).missed ≡ before.missed
+pub repairs_with_missed : (line : Line) (taken : ℕ) (before : Repairs) → (repairs_with line taken before).missed ≡ before.missed
 repairs_with_missed (Line.whole row rest) taken before = refl
 repairs_with_missed (Line.broken front fault) taken before = refl
 
@@ -625,6 +752,13 @@ misses_at_line BehindRow settings bits held is misses = absurd (false≢true is)
 misses_at_line AtEnd settings bits held is misses = misses
 misses_at_line (AtFault error) settings bits held is misses = misses
 
+pub misses_ended : (stand : Stand) (settings : DecodeSettings) (bits : Bits) (held : Held) {end : Result (Unit {0}) DecodeError}
+    → ended stand ≡ Some end → Misses stand settings bits held → MissesAreCounted settings bits held.repairs held.taken
+misses_ended AtLine settings bits held is misses = misses
+misses_ended BehindRow settings bits held is misses = absurd cc
+misses_ended AtEnd settings bits held is misses = misses
+misses_ended (AtFault error) settings bits held is misses = misses
+
 pub misses_behind_row : (stand : Stand) (settings : DecodeSettings) (bits : Bits) (held : Held) → ended stand ≡ None
     → is_at_line stand ≡ false → Misses stand settings bits held → MissesBehindRow settings bits held
 misses_behind_row AtLine settings bits held unended no_line misses = absurd (false≢true (sym no_line))
@@ -702,7 +836,7 @@ comes_to_line old last ticks at n damage missed (Ok true) settings bits taken co
       taken = taken;
       line = λ e. cc;
       unended = λ e. cc;
-      end = λ e. (refl, stands);
+      end = λ e. (refl, stands.0);
       error = tt;
     }
 comes_to_line old last ticks at n damage missed (Ok false) settings bits taken counts row begun stands start told =
@@ -733,7 +867,7 @@ comes_to_line old last ticks at n damage missed (Err error) settings bits taken 
       line = λ e. cc;
       unended = λ e. cc;
       end = λ e. cc;
-      error = (refl, stands);
+      error = (refl, stands.0);
     }
 
 -- a fact of settings, bits and a number of rows, of others that are equal

@@ -1,11 +1,12 @@
 -- What is known of a state that a run over rows reaches: the values of its turn, and where the run is if it fails there.
-use Rattle.hayro_ccitt.proofs.Names.{◌≡◌, ◌+◌, ◌-◌, ◌<◌, ℕ, zero, suc, List, [], ◌∷◌, ◌++◌, length, drop, get_or, Some, Result}
-use Rattle.hayro_ccitt.proofs.Names.{Ok, Err, sym, ap, subst, ◌∙◌, refl, arith, slice_get, length-append, DecodeError}
-use Rattle.hayro_ccitt.proofs.Names.{DecodeSettings, Bits, FailsFrom, FailsHere, Progress, Ending, Move, Gap, with_row, at_gap}
-use Rattle.hayro_ccitt.proofs.Names.{gap_behind_row, add_row, move_on, one_each, gathered_from, gathered_behind, first_gap}
-use Rattle.hayro_ccitt.proofs.Names.{start_of_turn, end_of_row, end_of_turn, failing_at, Turn, Reaches, Row}
-use Rattle.hayro_ccitt.proofs.{Readings.Gathered.gathered_after, Readings.RowsTaken.by_rows_left, Readings.RowsTaken.row_of_turn}
-use Rattle.hayro_ccitt.proofs.Readings.RunsOverRows.{lines, lines_on, drop-suc_cons, Comes, comes_first, comes_next, comes_line}
+use Rattle.hayro_ccitt.proofs.Names.{◌≡◌, ◌+◌, ◌<◌, ℕ, zero, suc, List, [], ◌∷◌, ◌++◌, length, drop, get_or, Some, Result}
+use Rattle.hayro_ccitt.proofs.Names.{Ok, Err, ap, ◌∙◌, refl, arith, slice_get, length-append, DecodeError}
+use Rattle.hayro_ccitt.proofs.Names.{DecodeSettings, Bits, Progress, Ending, Move, Gap, with_row, at_gap}
+use Rattle.hayro_ccitt.proofs.Names.{gap_behind_row, add_row, move_on, one_each, gathered_from}
+use Rattle.hayro_ccitt.proofs.Names.{Turn, Reaches, Row}
+use Rattle.hayro_ccitt.proofs.Readings.Gathered.{gathered_after}
+use Rattle.hayro_ccitt.proofs.Readings.RunsOverRows.{by_rows_left, row_of_turn, lines, lines_on, drop-suc_cons, Comes}
+use Rattle.hayro_ccitt.proofs.Readings.RunsOverRows.{comes_first, comes_next, comes_line}
 use Rattle.hayro_ccitt.proofs.Readings.TurnsMoveOn.{left_to_read}
 use Rattle.hayro_ccitt.proofs.Readings.Repeated.{next_is, not_next}
 
@@ -69,40 +70,3 @@ module _ (settings : DecodeSettings) (wide : 0 < settings.columns) (first : Prog
           let next : length so_far.rows + 1 ≡ suc (length so_far.rows) = omega arith in
           ap (λ (n : ℕ). get_or (all_of gives) n other) next ∙ get_or-behind_all (all_of gives) (suc (length so_far.rows)) other
           (drop-suc_cons (all_of gives) (length so_far.rows) (gives so_far) [] last)
-
-    module _ (bits : Bits) where
-      -- a run that fails at the line of the turn is at the line's start
-      pub fails_at_line : {taken : ℕ} {rest : Bits} → taken ≡ length so_far.rows → rest ≡ so_far.rest
-          → length bits - length rest ≡ failing_at (all_of (start_of_turn bits)) (all_of (end_of_turn settings bits)) taken
-      fails_at_line {taken} same is =
-          let other = get_or (all_of (end_of_turn settings bits)) (taken - 1) 0 in
-          ap (λ (x : Bits). length bits - length x) is
-          ∙ sym (ap (λ (n : ℕ). get_or (all_of (start_of_turn bits)) n other) same ∙ value_is (start_of_turn bits) other)
-
-      -- and one that fails after its row is at the row's end
-      pub fails_behind_row : {row : Row} {behind rest : Bits} → row_of_turn settings so_far ≡ Ok (row, behind) → {end : Ending}
-          → move_on settings so_far ≡ Turn.done end → {taken : ℕ} → taken ≡ length so_far.rows + 1 → rest ≡ behind
-          → length bits - length rest ≡ failing_at (all_of (start_of_turn bits)) (all_of (end_of_turn settings bits)) taken
-      fails_behind_row read ends {taken} more is =
-          let other = get_or (all_of (end_of_turn settings bits)) (taken - 1) 0 in
-          let last : taken - 1 ≡ length so_far.rows = omega (arith, more) in
-          ap (λ (x : Bits). length bits - length x) is ∙ sym (ap (end_of_row bits so_far) read) ∙ sym (ap
-          (λ (n : ℕ). get_or (all_of (end_of_turn settings bits)) n 0) last ∙ value_is (end_of_turn settings bits) 0) ∙ sym (ap
-          (λ (n : ℕ). get_or (all_of (start_of_turn bits)) n other) more ∙ no_value_behind ends (start_of_turn bits) other)
-
--- if the first gap leads to a line, a run that fails from there fails where the whole reading does
-pub fails_whole : {settings given : DecodeSettings} {bits read : Bits} {first : Progress}
-    → given ≡ settings → read ≡ bits → first_gap settings.encoding settings bits ≡ Turn.next first → (taken : ℕ) (rest : Bits)
-    → FailsFrom given read first taken rest → FailsHere settings bits taken rest
-fails_whole {settings} {bits = bits} {read = read} {first = first} same are is taken rest fails =
-    let known : FailsFrom settings bits first taken rest = subst (λ (b : Bits). FailsFrom settings b first taken rest) are
-    (subst (λ (s : DecodeSettings). FailsFrom s read first taken rest) same fails) in
-    subst (λ (gap : Move). length bits - length rest ≡ failing_at (gathered_behind settings (start_of_turn bits) gap)
-    (gathered_behind settings (end_of_turn settings bits) gap) taken) (sym is) known
-
--- and if it is the end, one that fails there fails at the front of the data
-pub fails_at_front : (settings : DecodeSettings) (bits : Bits) (end : Ending) → first_gap settings.encoding settings bits
-    ≡ Turn.done end → (taken : ℕ) (rest : Bits) → rest ≡ bits → FailsHere settings bits taken rest
-fails_at_front settings bits end is taken rest front =
-    subst (λ (gap : Move). length bits - length rest ≡ failing_at (gathered_behind settings (start_of_turn bits) gap)
-    (gathered_behind settings (end_of_turn settings bits) gap) taken) (sym is) (omega (arith, ap length front))

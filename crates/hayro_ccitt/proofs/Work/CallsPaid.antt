@@ -5,17 +5,23 @@ use Rattle.hayro_ccitt.proofs.Names.{Stand, AtLine, BehindRow, AtEnd, AtFault, D
 use Rattle.hayro_ccitt.proofs.Names.{Group3_2D, Bits, Held, fresh, gap_said, Gap, gap_behind_row, changes, IsPaid, PaidAtLine}
 use Rattle.hayro_ccitt.proofs.Names.{PaidBehindRow, ReaderStands, WorkIsPaid, ended, is_at_line, stand_after, looked}
 use Rattle.hayro_ccitt.proofs.Names.{looked_ahead, tag_tests, CountsWork, found_here, most_counted, words_of}
-use Rattle.hayro_ccitt.proofs.{Readings.RowsTaken.most_counted_t4, Work.ChangesStored.changes_white}
+use Rattle.hayro_ccitt.proofs.Work.ChangesStored.{changes_white}
 use Rattle.hayro_ccitt.proofs.Work.EolsPassed.{few_tag_tests, line_has_bits, line_without_eols, looked_ahead_most, looked_most}
 use Rattle.hayro_ccitt.proofs.Work.TurnsPaid.{line_ends, missing_ends, gap_ends, turn_goes_on}
 
+-- the most that is counted in data of Group 3
+most_counted_t4 : (encoding : EncodingMode) (bits : ℕ) → encoding ≢ Group4 → most_counted encoding bits ≡ 36 * bits + 14
+most_counted_t4 Group4 bits other = absurd (other refl)
+most_counted_t4 Group3_1D bits other = refl
+most_counted_t4 Group3_2D bits other = refl
+
 -- ---- At a line, and after its row
 
-module _ (settings : DecodeSettings) (wide : 0 < settings.columns) (bits : Bits) (held : Held) (rest : Bits) (ticks : ℕ)
-    (at : PaidAtLine settings bits held rest ticks) where
+module _ (from : ℕ) (settings : DecodeSettings) (wide : 0 < settings.columns) (bits : Bits) (held : Held) (rest : Bits)
+    (ticks : ℕ) (at : PaidAtLine from settings bits held rest ticks) where
   -- there is enough for a line that fails
   pub failed_most : (now : ℕ) → now ≤ ticks + 4 * length (found_here settings held.reference rest) + 2
-      + length (changes held.reference) → now ≤ most_counted settings.encoding (length bits)
+      + length (changes held.reference) → now ≤ from + most_counted settings.encoding (length bits)
   failed_most now line =
       omega (
         arith,
@@ -25,35 +31,36 @@ module _ (settings : DecodeSettings) (wide : 0 < settings.columns) (bits : Bits)
       )
 
   -- so there is for what came before it
-  line_most : ticks ≤ most_counted settings.encoding (length bits)
+  line_most : ticks ≤ from + most_counted settings.encoding (length bits)
   line_most = failed_most ticks (omega arith)
 
-module _ (settings : DecodeSettings) (wide : 0 < settings.columns) (bits : Bits) (held : Held) (rest : Bits) (ticks : ℕ)
-    (behind : PaidBehindRow settings bits held rest ticks) where
-  row_most : ticks ≤ most_counted settings.encoding (length bits)
-  row_most = failed_most settings wide bits behind.before behind.start behind.ticks_before behind.at_line ticks behind.line
+module _ (from : ℕ) (settings : DecodeSettings) (wide : 0 < settings.columns) (bits : Bits) (held : Held) (rest : Bits)
+    (ticks : ℕ) (behind : PaidBehindRow from settings bits held rest ticks) where
+  row_most : ticks ≤ from + most_counted settings.encoding (length bits)
+  row_most = failed_most from settings wide bits behind.before behind.start behind.ticks_before behind.at_line ticks behind.line
 
 -- if a line is here, the account says so
-pub at_line_paid : (stand : Stand) (settings : DecodeSettings) (bits : Bits) (held : Held) (place ticks : ℕ) → is_at_line stand
-    ≡ true → IsPaid stand settings bits held place ticks → PaidAtLine settings bits held (drop place bits) ticks
-at_line_paid AtLine settings bits held place ticks is paid = paid
-at_line_paid BehindRow settings bits held place ticks is paid = absurd (false≢true is)
-at_line_paid AtEnd settings bits held place ticks is paid = absurd (false≢true is)
-at_line_paid (AtFault error) settings bits held place ticks is paid = absurd (false≢true is)
+pub at_line_paid : (from : ℕ) (stand : Stand) (settings : DecodeSettings) (bits : Bits) (held : Held) (place ticks : ℕ)
+    → is_at_line stand ≡ true → IsPaid from stand settings bits held place ticks
+    → PaidAtLine from settings bits held (drop place bits) ticks
+at_line_paid from AtLine settings bits held place ticks is paid = paid
+at_line_paid from BehindRow settings bits held place ticks is paid = absurd (false≢true is)
+at_line_paid from AtEnd settings bits held place ticks is paid = absurd (false≢true is)
+at_line_paid from (AtFault error) settings bits held place ticks is paid = absurd (false≢true is)
 
 -- so it does after a row
-pub behind_row_paid : (stand : Stand) (settings : DecodeSettings) (bits : Bits) (held : Held) (place ticks : ℕ)
-    → ended stand ≡ None → is_at_line stand ≡ false → IsPaid stand settings bits held place ticks
-    → PaidBehindRow settings bits held (drop place bits) ticks
-behind_row_paid AtLine settings bits held place ticks unended no_line paid = absurd (false≢true (sym no_line))
-behind_row_paid BehindRow settings bits held place ticks unended no_line paid = paid
-behind_row_paid AtEnd settings bits held place ticks unended no_line paid = absurd cc
-behind_row_paid (AtFault error) settings bits held place ticks unended no_line paid = absurd cc
+pub behind_row_paid : (from : ℕ) (stand : Stand) (settings : DecodeSettings) (bits : Bits) (held : Held) (place ticks : ℕ)
+    → ended stand ≡ None → is_at_line stand ≡ false → IsPaid from stand settings bits held place ticks
+    → PaidBehindRow from settings bits held (drop place bits) ticks
+behind_row_paid from AtLine settings bits held place ticks unended no_line paid = absurd (false≢true (sym no_line))
+behind_row_paid from BehindRow settings bits held place ticks unended no_line paid = paid
+behind_row_paid from AtEnd settings bits held place ticks unended no_line paid = absurd cc
+behind_row_paid from (AtFault error) settings bits held place ticks unended no_line paid = absurd cc
 
 -- ---- The gap after a row
 
-module _ (settings : DecodeSettings) (wide : 0 < settings.columns) (bits : Bits) (held : Held) (rest : Bits) (ticks : ℕ)
-    (behind : PaidBehindRow settings bits held rest ticks) (last : Held) (place now : ℕ)
+module _ (from : ℕ) (settings : DecodeSettings) (wide : 0 < settings.columns) (bits : Bits) (held : Held) (rest : Bits)
+    (ticks : ℕ) (behind : PaidBehindRow from settings bits held rest ticks) (last : Held) (place now : ℕ)
     (frame : last ≡ record held { has_eols = last.has_eols; repairs = last.repairs }) where
   abbrev next : Bits
   next = drop place bits
@@ -76,7 +83,7 @@ module _ (settings : DecodeSettings) (wide : 0 < settings.columns) (bits : Bits)
       → OnOk answer (last.has_eols ≡ held.has_eols
       → now + 4 * length next ≤ ticks + 4 * length rest + tag_tests settings.encoding + looked_ahead settings.encoding next)
       → OnOk answer (last.has_eols ≢ held.has_eols → now ≤ ticks + 2 * length rest) → OnErr answer (now ≡ ticks + looked rest)
-      → IsPaid (stand_after answer) settings bits last place now
+      → IsPaid from (stand_after answer) settings bits last place now
   gap_paid (Ok true) said over kept given_up refused =
       let at = behind.at_line in
       omega (
@@ -116,7 +123,7 @@ module _ (settings : DecodeSettings) (wide : 0 < settings.columns) (bits : Bits)
 -- ---- Before the first line
 
 -- in Group 4 a gap (T.6, 2.4.1.1)
-module _ (settings : DecodeSettings) (is : settings.encoding ≡ Group4) (bits : Bits) (last : Held) (place now : ℕ)
+module _ (from : ℕ) (settings : DecodeSettings) (is : settings.encoding ≡ Group4) (bits : Bits) (last : Held) (place now : ℕ)
     (frame : last ≡ record (fresh settings) { has_eols = last.has_eols }) where
   abbrev line : Bits
   line = drop place bits
@@ -128,8 +135,8 @@ module _ (settings : DecodeSettings) (is : settings.encoding ≡ Group4) (bits :
       ≡ gap_said answer last.has_eols line
       → IfOk answer (λ over. over ≡ true → last.has_eols ≡ false)
       → OnOk answer (last.has_eols ≡ false
-      → now + 4 * length line ≤ 4 * length bits + tag_tests settings.encoding + looked_ahead settings.encoding line)
-      → OnErr answer (now ≡ looked bits) → IsPaid (stand_after answer) settings bits last place now
+      → now + 4 * length line ≤ from + 4 * length bits + tag_tests settings.encoding + looked_ahead settings.encoding line)
+      → OnErr answer (now ≡ from + looked bits) → IsPaid from (stand_after answer) settings bits last place now
   first_gap_paid (Ok true) said over kept refused =
       omega (arith, most_t6, kept (over refl), ap tag_tests is, looked_ahead_most settings.encoding line)
   first_gap_paid (Ok false) said over kept refused =
@@ -160,10 +167,10 @@ module _ (settings : DecodeSettings) (is : settings.encoding ≡ Group4) (bits :
   first_gap_paid (Err e) said over kept refused = omega (arith, most_t6, refused, looked_most bits)
 
 -- in Group 3 the EOLs there (T.4, 4.1.2)
-pub first_line_paid : (settings : DecodeSettings) → settings.encoding ≢ Group4
+pub first_line_paid : (from : ℕ) (settings : DecodeSettings) → settings.encoding ≢ Group4
     → (bits : Bits) (last : Held) (rest : Bits) (now : ℕ) → length (changes last.reference) ≡ 0 → length rest ≤ length bits
-    → now + length rest ≤ length bits + looked rest → PaidAtLine settings bits last rest now
-first_line_paid settings other bits last rest now white within work = record {
+    → now + length rest ≤ from + length bits + looked rest → PaidAtLine from settings bits last rest now
+first_line_paid from settings other bits last rest now white within work = record {
   begun = now;
   giving_up = 8 * length bits + 8;
   enough = omega (arith, most_counted_t4 settings.encoding (length bits) other, work, looked_most rest);
@@ -179,27 +186,31 @@ most_below Group4 bits = omega arith
 most_below Group3_1D bits = omega arith
 most_below Group3_2D bits = omega arith
 
-within_most : (stand : Stand) (settings : DecodeSettings) (bits : Bits) (held : Held) (place ticks : ℕ)
-    → ReaderStands stand settings bits held place → IsPaid stand settings bits held place ticks
-    → ticks ≤ most_counted settings.encoding (length bits)
-within_most AtLine settings bits held place ticks stands paid = line_most settings stands.wide bits held (drop place bits)
-    ticks paid
-within_most BehindRow settings bits held place ticks stands paid = row_most settings stands.wide bits held (drop place bits)
-    ticks paid
-within_most AtEnd settings bits held place ticks stands paid = paid
-within_most (AtFault error) settings bits held place ticks stands paid = paid
+pub within_most : (from : ℕ) (stand : Stand) (settings : DecodeSettings) (bits : Bits) (held : Held) (place ticks : ℕ)
+    → ReaderStands stand settings bits held place → IsPaid from stand settings bits held place ticks
+    → ticks ≤ from + most_counted settings.encoding (length bits)
+within_most from AtLine settings bits held place ticks stands paid =
+    line_most from settings stands.wide bits held (drop place bits) ticks paid
+within_most from BehindRow settings bits held place ticks stands paid =
+    row_most from settings stands.wide bits held (drop place bits) ticks paid
+within_most from AtEnd settings bits held place ticks stands paid = paid
+within_most from (AtFault error) settings bits held place ticks stands paid = paid
 
 -- what is paid is within the bound
 pub work_is_counted : (stand : Stand) (settings : DecodeSettings) (bits : Bits) (held : Held) (place ticks : ℕ)
-    → ReaderStands stand settings bits held place → WorkIsPaid stand settings bits held place ticks
+    → ReaderStands stand settings bits held place → WorkIsPaid 0 stand settings bits held place ticks
     → CountsWork settings bits held.taken ticks
 work_is_counted stand settings bits held place ticks stands work =
-    let most = within_most stand settings bits held place ticks stands work.paid in
-    record { words = work.words; bound = omega (arith, most, most_below settings.encoding (length bits)); closer = most }
+    let most = within_most 0 stand settings bits held place ticks stands work.paid in
+    record {
+      words = omega (arith, work.words);
+      bound = omega (arith, most, most_below settings.encoding (length bits));
+      closer = omega (arith, most);
+    }
 
 -- so it is before the first row
 pub begun_is_counted : (stand : Stand) (settings : DecodeSettings) (bits : Bits) (held : Held) (place ticks : ℕ) → held.taken ≡ 0
-    → ReaderStands stand settings bits held place → IsPaid stand settings bits held place ticks
+    → ReaderStands stand settings bits held place → IsPaid 0 stand settings bits held place ticks
     → CountsWork settings bits held.taken ticks
 begun_is_counted stand settings bits held place ticks none stands paid =
     work_is_counted stand settings bits held place ticks stands (record {

@@ -4,7 +4,8 @@ use Rattle.hayro_ccitt.proofs.Names.{Option, Some, None, Result, Ok, Err, refl, 
 use Rattle.hayro_ccitt.proofs.Names.{false≢true, length-append, length-replicate, replicate-append-replicate, DecodeError}
 use Rattle.hayro_ccitt.proofs.Names.{InvalidCode, EncodingMode, Group4, Group3_1D, Group3_2D, DecodeSettings, Bits, after_eol}
 use Rattle.hayro_ccitt.proofs.Names.{next_eol, eols_with_tags, eols, is_over, misses_eol, Gap, at_end, limit_met, eols_by}
-use Rattle.hayro_ccitt.proofs.Names.{eols_here, behind_eols, from_next_eol, gap_behind_row, looked, looked_ahead, tag_tests}
+use Rattle.hayro_ccitt.proofs.Names.{eols_here, behind_eols, from_next_eol, gap_behind_row, gap_said, looked, looked_ahead}
+use Rattle.hayro_ccitt.proofs.Names.{tag_tests, IfOk, OnErr}
 use Rattle.hayro_ccitt.proofs.{BitReading.ZeroRuns.looked_eol, CodeWords.ReadRuns.chosen, DamagedLines.PastEol.eols_here-none}
 use Rattle.hayro_ccitt.proofs.DamagedLines.LineTails.{after_eol_is}
 use Rattle.hayro_ccitt.proofs.{Readings.RowsAndGaps.missed_sought, Readings.TurnsMoveOn.none_met}
@@ -217,6 +218,17 @@ line_without_eols settings taken k here rest e = (
   ],
   line_behind_shorter settings taken false k here rest e,
 )
+
+-- so none are sought after a gap, whatever it says
+pub unsought_after : (settings : DecodeSettings) (taken : ℕ) (before has_eols : Bool) (here rest : Bits)
+    (answer : Result Bool DecodeError) → before ≡ false
+    → gap_behind_row settings taken before here ≡ gap_said answer has_eols rest
+    → IfOk answer (λ over. over ≡ true → has_eols ≡ before) → OnErr answer (has_eols ≡ before) → has_eols ≡ false
+unsought_after settings taken before has_eols here rest (Ok true) unsought said given_up same = given_up refl ∙ unsought
+unsought_after settings taken before has_eols here rest (Ok false) unsought said given_up same =
+    (line_without_eols settings taken has_eols here rest (ap (λ (b : Bool). gap_behind_row settings taken b here) (sym unsought)
+    ∙ said)).0
+unsought_after settings taken before has_eols here rest (Err e) unsought said given_up same = same ∙ unsought
 
 -- if there is a line, bits are left
 pub line_has_bits : (settings : DecodeSettings) (taken : ℕ) (k : Bool) (here rest : Bits)

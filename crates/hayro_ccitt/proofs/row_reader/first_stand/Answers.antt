@@ -6,6 +6,7 @@ use Rattle.hayro_ccitt.proofs.Names.{looked_ahead}
 use Rattle.hayro_ccitt.proofs.{Readings.DamageCounted.first_gap_left, Work.ChangesStored.changes_white}
 use Rattle.hayro_ccitt.proofs.Readings.RowByRow.{none_damaged, misses_after, first_gap_stands, first_line_stands, no_fault}
 use Rattle.hayro_ccitt.proofs.Work.CallsPaid.{first_gap_paid, first_line_paid}
+use Rattle.hayro_ccitt.proofs.Work.EolsPassed.{unsought_after}
 use Rattle.hayro_ccitt.proofs.row_reader.first_stand.Goals as goal
 
 -- what the gap says
@@ -19,6 +20,15 @@ first_gap_said c =
     ∙ ap (λ (n : ℕ). gap_behind_row held.settings held.taken held.has_eols (drop n c.args.reader.now.bits)) (sym c.requires.start)
     ∙ c.pass_gap-over.ensures.gap ∙ ap (λ (b : Bits). gap_said c.pass_gap-over.result last.has_eols
     (drop c.pass_gap-over.new.reader.place b)) c.pass_gap-over.ensures.same_bits
+
+-- no EOLs are sought then
+unsought_there : (c : goal.After-stand_after_gap) → c.pass_gap-over.new.ctx.held.has_eols ≡ false
+unsought_there c =
+    let held = c.args.ctx.now.held in
+    unsought_after held.settings held.taken held.has_eols c.pass_gap-over.new.ctx.held.has_eols (here c.args.reader.now)
+    (here c.pass_gap-over.new.reader) c.pass_gap-over.result (ap (λ (h : Held). h.has_eols) c.requires.fresh)
+    c.pass_gap-over.ensures.gap c.pass_gap-over.ensures.given_up (on_err_weaker c.pass_gap-over.result
+    (λ kept. ap (λ (h : Held). h.has_eols) kept.0) c.pass_gap-over.ensures.unchanged)
 
 pub returns-in-Group4-clause-stands : goal.returns-in-Group4-clause-stands
 returns-in-Group4-clause-stands c =
@@ -35,7 +45,10 @@ returns-in-Group4-clause-stands c =
     settings wide bits (ap (λ (s : DecodeSettings). s.encoding) (sym c.settings-2.ensures.value) ∙ c.in-Group4.is) last at.place
     (omega (arith, c.bit_pos-place.ensures.place, c.bit_pos-place.ensures.within, ap length c.pass_gap-over.ensures.same_bits))
     frame c.pass_gap-over.result (first_gap_said c)
-    (IfErr-weaker c.pass_gap-over.result _ _ (λ error code. code.0) c.pass_gap-over.ensures.only_code))
+    (IfErr-weaker c.pass_gap-over.result _ _ (λ error code. code.0) c.pass_gap-over.ensures.only_code) (unsought_there c))
+
+pub returns-in-Group4-clause-no_eols : goal.returns-in-Group4-clause-no_eols
+returns-in-Group4-clause-no_eols c = λ is. unsought_there c
 
 pub returns-in-Group4-clause-damage : goal.returns-in-Group4-clause-damage
 returns-in-Group4-clause-damage c =
@@ -62,7 +75,7 @@ returns-in-Group4-clause-unfailed c error is =
     (ap ended (sym c.stand_after_gap.ensures) ∙ is)
 
 pub returns-in-Group4-clause-paid : goal.returns-in-Group4-clause-paid
-returns-in-Group4-clause-paid c =
+returns-in-Group4-clause-paid c from begun =
     let held = c.args.ctx.now.held in
     let settings = held.settings in
     let bits = c.args.reader.now.bits in
@@ -73,18 +86,18 @@ returns-in-Group4-clause-paid c =
     let unsought : held.has_eols ≡ false = ap (λ (h : Held). h.has_eols) c.requires.fresh in
     let frame = first_gap_left held last
     (here c.args.reader.now) c.requires.fresh c.pass_gap-over.ensures.held c.pass_gap-over.ensures.missed in
-    subst (λ (s : Stand). IsPaid s settings bits last at.place now) (sym c.stand_after_gap.ensures)
-    (first_gap_paid settings (ap (λ (s : DecodeSettings). s.encoding) (sym c.settings-2.ensures.value) ∙ c.in-Group4.is)
+    subst (λ (s : Stand). IsPaid from s settings bits last at.place now) (sym c.stand_after_gap.ensures)
+    (first_gap_paid from settings (ap (λ (s : DecodeSettings). s.encoding) (sym c.settings-2.ensures.value) ∙ c.in-Group4.is)
     bits last at.place now frame c.pass_gap-over.result (first_gap_said c) (IfOk-weaker c.pass_gap-over.result _ _ (λ over kept
     is. kept is ∙ unsought) c.pass_gap-over.ensures.given_up) (on_ok_weaker c.pass_gap-over.result (λ work unsought_on. omega (
       arith,
-      c.requires.uncounted,
+      begun,
       work (unsought_on ∙ sym unsought),
       ap length begins,
       ap (λ (b : Bits). length (drop at.place b)) c.pass_gap-over.ensures.same_bits,
       ap (λ (b : Bits). looked_ahead settings.encoding (drop at.place b)) c.pass_gap-over.ensures.same_bits,
     )) c.pass_gap-over.ensures.work)
-    (on_err_weaker c.pass_gap-over.result (λ refused. omega (arith, c.requires.uncounted, refused, ap looked begins))
+    (on_err_weaker c.pass_gap-over.result (λ refused. omega (arith, begun, refused, ap looked begins))
     c.pass_gap-over.ensures.work_refused))
 
 pub returns-in-Group3_1D : goal.returns-in-Group3_1D
@@ -117,14 +130,16 @@ returns-in-Group3_1D c =
       stands = first_line_stands settings wide bits other last (drop at.place bits) frame rest
           (omega (arith, length-drop at.place bits));
       unfailed = λ error is. cc;
-      paid = first_line_paid settings other bits last (drop at.place bits) c.read_leading_eols.new.ctx.ticks
+      paid = λ from begun. first_line_paid from settings other bits last (drop at.place bits) c.read_leading_eols.new.ctx.ticks
           (ap (λ (h : Held). length (changes h.reference)) frame ∙ changes_white settings.columns)
           (omega (arith, length-drop at.place bits)) (omega (
             arith,
-            c.requires.uncounted,
+            begun,
             c.read_leading_eols.ensures.work,
             ap length begins,
             ap (λ (b : Bits). length (drop at.place b)) c.read_leading_eols.ensures.same_bits,
             ap (λ (b : Bits). looked (drop at.place b)) c.read_leading_eols.ensures.same_bits,
           ));
+      counts = c.read_leading_eols.ensures.counts;
+      no_eols = λ is. absurd (other is);
     }

@@ -13,4 +13,4 @@ returns-clause-work c =
     (subst (λ (s : DecodeSettings). CountsWork s bits held.taken ticks)
     (ap (λ (x : Context). x.held.settings) c.in_ok-ctx.ensures.made)
     (begun_is_counted first.result c.in_ok-ctx.ctx.held.settings bits held first.new.reader.place ticks first.ensures.none_taken
-    first.ensures.stands first.ensures.paid))
+    first.ensures.stands (first.ensures.paid 0 (ap (λ (x : Context). x.ticks) c.in_ok-ctx.ensures.made))))

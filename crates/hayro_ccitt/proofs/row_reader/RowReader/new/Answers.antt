@@ -1,4 +1,4 @@
-use Rattle.hayro_ccitt.proofs.Names.{rules, sym, subst, DecodeSettings, Bits, CountsWork}
+use Rattle.hayro_ccitt.proofs.Names.{rules, ap, Context, sym, subst, DecodeSettings, Bits, CountsWork}
 use Rattle.hayro_ccitt.proofs.Work.CallsPaid.{begun_is_counted}
 use Rattle.hayro_ccitt.proofs.row_reader.RowReader.new.Goals as goal
 
@@ -13,7 +13,7 @@ returns-clause-work c =
     subst (λ (s : DecodeSettings). CountsWork s first.new.reader.bits held.taken ticks) (sym first.ensures.settings)
     (subst (λ (b : Bits). CountsWork settings b held.taken ticks) (sym first.ensures.same_bits)
     (begun_is_counted first.result settings bits held first.new.reader.place ticks first.ensures.none_taken
-    first.ensures.stands first.ensures.paid))
+    first.ensures.stands (first.ensures.paid 0 (ap (λ (x : Context). x.ticks) c.in_ok-ctx.ensures.made))))
 
 pub returns-clause-bits : goal.returns-clause-bits
 returns-clause-bits c = search rules

@@ -6,9 +6,10 @@ use Rattle.hayro_ccitt.proofs.row_reader.RowReader.next_row.Goals as goal
 pub returns-in-AtLine-clause-work : goal.returns-in-AtLine-clause-work
 returns-in-AtLine-clause-work c =
     let rows = c.next_row.new.self in
+    let ctx = c.next_row.new.ctx in
     let reader = c.next_row.new.reader in
     let stands = c.next_row.ensures.stands c.self.invariant in
-    work_is_counted rows.stand rows.ctx.held.settings reader.bits rows.ctx.held reader.place rows.ctx.ticks stands.0 stands.2
+    work_is_counted rows.stand ctx.held.settings reader.bits ctx.held reader.place ctx.ticks stands.0 stands.2
 
 pub returns-in-AtFault-clause-ended : goal.returns-in-AtFault-clause-ended
 returns-in-AtFault-clause-ended c = search rules

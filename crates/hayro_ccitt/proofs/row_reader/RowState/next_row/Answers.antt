@@ -1,6 +1,10 @@
-use Rattle.hayro_ccitt.proofs.Names.{◌≡◌, ◌∙◌, Bool, Result, Ok, true, sym, subst, ap, false≢true, DecodeError}
-use Rattle.hayro_ccitt.proofs.Names.{ReachesNextLine, seen}
-use Rattle.hayro_ccitt.proofs.Readings.RowByRow.{at_line_stands, few, reads_on}
+use Rattle.hayro_ccitt.proofs.Names.{◌≡◌, ◌∙◌, Bool, Result, Ok, true, refl, sym, subst, ap, false≢true, DecodeError, Context}
+use Rattle.hayro_ccitt.proofs.Names.{Held}
+use Rattle.hayro_ccitt.proofs.Names.{err_from_is_err_and, ReachesNextLine, ReadsNext, IsStanding, IsStandingAtLine}
+use Rattle.hayro_ccitt.proofs.Names.{is_at_line, seen}
+use Rattle.hayro_ccitt.proofs.Names.{row_came}
+use Rattle.hayro_ccitt.proofs.Readings.RowByRow.{at_line_stands, few, reads_on, begun_is}
+use Rattle.hayro_ccitt.proofs.row_reader.RowState.next_row.Goals.{After-read_line}
 use Rattle.hayro_ccitt.proofs.row_reader.RowState.next_row.Goals as goal
 
 -- if there is a line, there is room for its row
@@ -8,20 +12,64 @@ pub returns-then-not-has_room-clause-reads : goal.returns-then-not-has_room-clau
 returns-then-not-has_room-clause-reads c stands =
     let rows = c.come_to_line.new.self in
     let reader = c.come_to_line.new.reader in
-    let held = rows.ctx.held in
+    let held = c.come_to_line.new.ctx.held in
     let line : c.come_to_line.result ≡ Ok true = c.in_ok-come_to_line.was ∙ ap (λ (b : Bool). Ok b) c.if-not-branch.false in
-    let still = c.come_to_line.ensures.stands stands in
+    let still = c.come_to_line.ensures.stands 0 stands in
     let at_line = at_line_stands rows.stand held.settings reader.bits held reader.place
-    ((c.come_to_line.ensures.comes stands).line line) still.0 in
+    ((c.come_to_line.ensures.comes 0 stands).line line) still.0 in
     absurd (false≢true (sym c.if-not-has_room.true ∙ c.has_room.ensures.room (few at_line) still.1.few))
+
+-- the reading is at that line when it is begun
+record Begun (c : After-read_line) (ctx : Context) : Type 0 where
+  stands : IsStandingAtLine 0 c.come_to_line.new.self ctx c.come_to_line.new.reader
+  comes : ReachesNextLine (seen c.args.self.now c.args.ctx.now c.args.reader.now)
+      (seen c.come_to_line.new.self ctx c.come_to_line.new.reader) (Ok true)
+
+begun : (c : After-read_line) → IsStanding 0 c.args.self.now c.args.ctx.now c.args.reader.now
+    → Begun c c.begin_line.new.self
+begun c stands =
+    let rows = c.come_to_line.new.self in
+    let reader = c.come_to_line.new.reader in
+    let ctx = c.come_to_line.new.ctx in
+    let line : c.come_to_line.result ≡ Ok true = c.in_ok-come_to_line.was ∙ ap (λ (b : Bool). Ok b) c.if-not-branch.false in
+    let comes = subst (λ (r : Result Bool DecodeError). ReachesNextLine (seen c.args.self.now c.args.ctx.now c.args.reader.now)
+    (seen rows ctx reader) r) line (c.come_to_line.ensures.comes 0 stands) in
+    let still = c.come_to_line.ensures.stands 0 stands in
+    let at : is_at_line rows.stand ≡ true = comes.line refl in
+    let same = begun_is (at_line_stands rows.stand ctx.held.settings reader.bits ctx.held reader.place at still.0)
+    (ap (λ (x : Context). x.held) c.begin_line.ensures.frame) in
+    let known : Begun c (record { held = ctx.held; passed = 0; ticks = ctx.ticks }) =
+    record { stands = (at, still); comes = comes } in
+    subst (Begun c) (sym (c.begin_line.ensures.frame ∙ ap (λ (h : Held). record { held = h; passed = 0; ticks = ctx.ticks })
+    (sym (ap (λ (x : Context). x.held) c.begin_line.ensures.frame) ∙ same))) known
+
+reads_there : (c : After-read_line) → IsStanding 0 c.args.self.now c.args.ctx.now c.args.reader.now → ReadsNext
+    (seen c.args.self.now c.args.ctx.now c.args.reader.now) (seen c.read_line.new.self c.read_line.new.ctx c.read_line.new.reader)
+    (row_came c.read_line.result)
+reads_there c stands =
+    let at = begun c stands in
+    reads_on (seen c.args.self.now c.args.ctx.now c.args.reader.now)
+    (seen c.come_to_line.new.self c.begin_line.new.self c.come_to_line.new.reader)
+    (seen c.read_line.new.self c.read_line.new.ctx c.read_line.new.reader) (row_came c.read_line.result) at.comes
+    (c.read_line.ensures.reads 0 at.stands)
+
+pub returns-in_err-read_line-clause-reads : goal.returns-in_err-read_line-clause-reads
+returns-in_err-read_line-clause-reads c stands =
+    let answer = err_from_is_err_and c.from_residual-in_err-read_line.result c.from_residual-in_err-read_line.ensures.1 in
+    rw (answer.1, answer.2) (subst (λ (r : Result (Unit {0}) DecodeError). ReadsNext (seen c.args.self.now c.args.ctx.now
+    c.args.reader.now) (seen c.read_line.new.self c.read_line.new.ctx c.read_line.new.reader) (row_came r)) c.in_err-read_line.was
+    (reads_there (goal.at.returns-in_err-read_line-clause-reads c).After-read_line stands))
 
 pub returns-clause-reads : goal.returns-clause-reads
 returns-clause-reads c stands =
-    let line : c.come_to_line.result ≡ Ok true = c.in_ok-come_to_line.was ∙ ap (λ (b : Bool). Ok b) c.if-not-branch.false in
-    let comes = c.come_to_line.ensures.comes stands in
-    let still = c.come_to_line.ensures.stands stands in
-    reads_on (seen c.args.self.now c.args.reader.now) (seen c.come_to_line.new.self c.come_to_line.new.reader)
-    (seen c.read_line.new.self c.read_line.new.reader) c.read_line.result
-    (subst (λ (r : Result Bool DecodeError). ReachesNextLine (seen c.args.self.now c.args.reader.now)
-    (seen c.come_to_line.new.self c.come_to_line.new.reader) r) line comes)
-    (c.read_line.ensures.reads (comes.line line, still))
+    subst (λ (r : Result (Unit {0}) DecodeError). ReadsNext (seen c.args.self.now c.args.ctx.now c.args.reader.now)
+    (seen c.read_line.new.self c.read_line.new.ctx c.read_line.new.reader) (row_came r)) c.in_ok-read_line.was
+    (reads_there (goal.at.returns-clause-reads c).After-read_line stands)
+
+pub returns-in_err-read_line-clause-stands : goal.returns-in_err-read_line-clause-stands
+returns-in_err-read_line-clause-stands c stands =
+    c.read_line.ensures.stands 0 (begun (goal.at.returns-in_err-read_line-clause-stands c).After-read_line stands).stands
+
+pub returns-clause-stands : goal.returns-clause-stands
+returns-clause-stands c stands =
+    c.read_line.ensures.stands 0 (begun (goal.at.returns-clause-stands c).After-read_line stands).stands

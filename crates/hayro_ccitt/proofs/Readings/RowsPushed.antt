@@ -1,0 +1,204 @@
+-- A run over rows that are passed to a sink: what it leaves, from where the reading of rows is.
+use Rattle.hayro_ccitt.proofs.Names.{◌≡◌, ◌≢◌, ◌<◌, ◌≤◌, ◌+◌, ◌-◌, ℕ, true, List, [], length, take}
+use Rattle.hayro_ccitt.proofs.Names.{get_or, sum_by, None, Some, Result, Ok, Err, IfOk, IfErr, refl, sym, ap}
+use Rattle.hayro_ccitt.proofs.Names.{◌∙◌, subst, arith, cond-false, DecodeError, OutOfMemory, Refused, DecodeSettings, IsFault}
+use Rattle.hayro_ccitt.proofs.Names.{OnAnswer, meaning_after, Bits, BitsAt, here, Context, Held, Repairs, SinkState, StopsShort}
+use Rattle.hayro_ccitt.proofs.Names.{DecodesRows, leaving, Line, plain, lines_of, line_of_turn, end_of}
+use Rattle.hayro_ccitt.proofs.Names.{gathered_of, repaired_by_turn, missed_by_turn, repairs_by_line, misses_by_line, words_of}
+use Rattle.hayro_ccitt.proofs.Names.{words_of_turn, most_counted, Row, changes, is_some, ReadsNext}
+use Rattle.hayro_ccitt.proofs.Names.{IsStanding, IsWhole, Misses, MissesBehindRow, MissIsTold, Stand, AtLine, BehindRow}
+use Rattle.hayro_ccitt.proofs.Names.{AtEnd, AtFault, ended, missed_before, seen, Reading, Damaged}
+use Rattle.hayro_ccitt.specs.declared.row_reader.RowState.{RowState}
+use Rattle.hayro_ccitt.proofs.DrawingLines.CountedLines.{on_answer_weaker}
+use Rattle.hayro_ccitt.proofs.Readings.RowByRow.{has_columns, plain_whole, ended_stands, failed_stands, misses_ended}
+use Rattle.hayro_ccitt.proofs.Readings.RowByRow.{repairs_with_missed}
+use Rattle.hayro_ccitt.proofs.Work.CallsPaid.{within_most}
+
+-- What is known of a run over the rows of some bits: the sink means the rows that it accepted, and all damage and work is
+-- counted.
+pub record HasRun {M : Type 0} (settings : DecodeSettings) (bits : Bits) (from : ℕ) (step : M → List ℕ → M)
+    (before after : SinkState M) (held : Held) (ticks : ℕ) (answer : Result Bits DecodeError) : Type 0 where
+  pub few : held.taken ≤ length (plain settings bits).rows
+  pub meaning : after.meaning ≡ meaning_after step before.meaning (take held.taken (plain settings bits).rows)
+  pub short : StopsShort (plain settings bits).rows (lines_of settings bits) before after held answer
+  pub whole : OnAnswer answer (IsWhole settings bits held answer)
+  pub repaired : held.repairs.rows ≡ sum_by length (take held.taken (repairs_by_line settings bits))
+  pub missed : held.repairs.missed ≡ sum_by length (take held.taken (misses_by_line settings bits))
+  pub words : from + sum_by length (take held.taken (words_of settings bits)) ≤ ticks
+  pub most : ticks ≤ from + most_counted settings.encoding (length bits)
+
+-- what is known of settings and bits is known of equal ones
+pub of_same : (P : DecodeSettings → Bits → Type 0) {s t : DecodeSettings} {b c : Bits} → s ≡ t → b ≡ c → P s b → P t c
+of_same P {s} {t} {b} {c} settings bits given = subst (P t) bits (subst (λ (x : DecodeSettings). P x b) settings given)
+
+-- how a whole reading ended
+ends_so : (settings : DecodeSettings) (bits : Bits) (held : Held) (answer : Result Bits DecodeError)
+    → OnAnswer answer (IsWhole settings bits held answer) → IfOk answer (λ a. (end_of settings bits).outcome ≡ Ok a)
+    × IfErr answer (λ e. IsFault e → (end_of settings bits).outcome ≡ Err e)
+ends_so settings bits held (Ok rest) whole = (whole.ends, tt)
+ends_so settings bits held (Err e) whole = (tt, λ fault. (whole fault).ends)
+
+-- that is what the drivers promise
+pub decodes_rows : {M : Type 0} (bits : Bits) (step : M → List ℕ → M) (before after : SinkState M) (old new : Context)
+    (answer : Result Bits DecodeError) → 0 < old.held.settings.columns → new.held.settings ≡ old.held.settings
+    → HasRun old.held.settings bits old.ticks step before after new.held new.ticks answer
+    → DecodesRows bits step before after old new answer
+decodes_rows bits step before after old new answer wide same run =
+    let settings = old.held.settings in
+    let taken = new.held.taken in
+    let some = has_columns settings wide in
+    let rows : (plain settings bits).rows ≡ (end_of settings bits).rows =
+    ap (λ (r : Reading). r.rows) (plain_whole settings wide bits refl) in
+    let lines : lines_of settings bits ≡ gathered_of settings (line_of_turn settings) bits = cond-false _ _ _ some in
+    let repairs : repairs_by_line settings bits ≡ gathered_of settings (repaired_by_turn settings bits) bits
+    = cond-false _ _ _ some in
+    let misses : misses_by_line settings bits ≡ gathered_of settings (missed_by_turn settings bits) bits
+    = cond-false _ _ _ some in
+    let words : words_of settings bits ≡ gathered_of settings (words_of_turn settings) bits = cond-false _ _ _ some in
+    record {
+      settings = same;
+      reading = record {
+        taken = omega (arith, run.few, ap length rows);
+        meaning = run.meaning ∙ ap (λ (r : List Row). meaning_after step before.meaning (take taken r)) rows;
+        all = on_answer_weaker answer (λ w. w.rows) run.whole;
+        ok = (ends_so settings bits new.held answer run.whole).0;
+        fault = (ends_so settings bits new.held answer run.whole).1;
+        has_eols = on_answer_weaker answer (λ w. w.has_eols) run.whole;
+      };
+      short = subst (λ (r : List Row). StopsShort r (gathered_of settings (line_of_turn settings) bits) before after new.held
+          answer) rows (subst (λ (ls : List Line). StopsShort (plain settings bits).rows ls before after new.held answer) lines
+          run.short);
+      repaired = record {
+        of_taken = run.repaired ∙ ap (λ (xs : List (List Damaged)). sum_by length (take taken xs)) repairs;
+        all = on_answer_weaker answer (λ w. run.repaired ∙ w.repaired ∙ ap (sum_by length) repairs) run.whole;
+      };
+      missed = record {
+        of_taken = run.missed ∙ ap (λ (xs : List (List Damaged)). sum_by length (take taken xs)) misses;
+        all = on_answer_weaker answer (λ w. run.missed ∙ w.missed ∙ ap (sum_by length) misses) run.whole;
+      };
+      work = record {
+        at_least = omega (arith, run.words, ap (λ (xs : List (List Bits)). sum_by length (take taken xs)) words);
+        at_most = run.most;
+      };
+    }
+
+-- ---- Before the first row
+
+-- a reading that has ended, and has not failed, has ended well
+pub ends_unfailed : (stand : Stand) → ((error : DecodeError) → ended stand ≢ Some (Err error)) → is_some (ended stand) ≡ true
+    → ended stand ≡ Some (Ok tt)
+ends_unfailed AtLine unfailed is = cc
+ends_unfailed BehindRow unfailed is = cc
+ends_unfailed AtEnd unfailed is = refl
+ends_unfailed (AtFault error) unfailed is = absurd (unfailed error refl)
+
+-- no EOL was missed
+pub none_missed : (stand : Stand) (settings : DecodeSettings) (bits : Bits) {taken : ℕ} → taken ≡ 0
+    → MissIsTold stand settings bits taken None
+none_missed AtLine settings bits none = sym (ap (missed_before settings bits) none)
+none_missed BehindRow settings bits none = tt
+none_missed AtEnd settings bits none = sym (ap (missed_before settings bits) none)
+none_missed (AtFault error) settings bits none = sym (ap (missed_before settings bits) none)
+
+-- ---- The end of a run
+
+module _ {M : Type 0} {step : M → List ℕ → M} {before after : SinkState M} {from : ℕ} where
+  -- where the reading has ended
+  run_ended : (rows : RowState) (ctx : Context) (reader : BitsAt) → IsStanding from rows ctx reader
+      → 0 < ctx.held.settings.columns → ctx.held.taken ≤ length (plain ctx.held.settings reader.bits).rows → after.meaning
+      ≡ meaning_after step before.meaning (take ctx.held.taken (plain ctx.held.settings reader.bits).rows)
+      → after.refused ≡ before.refused → (answer : Result (Unit {0}) DecodeError) → ended rows.stand ≡ Some answer
+      → HasRun ctx.held.settings reader.bits from step before after ctx.held ctx.ticks (leaving answer (here reader))
+  run_ended rows ctx reader stands wide few means unrefused (Ok x) is =
+      let settings = ctx.held.settings in
+      let bits = reader.bits in
+      let at = ended_stands rows.stand settings bits ctx.held reader.place is stands.0 in
+      record {
+        few = few;
+        meaning = means;
+        short = record { memory = λ e. cc; refused = λ e. cc; refused_row = λ e. cc; flag = λ e. cc; no_flag = λ e. unrefused };
+        whole = at.1 wide;
+        repaired = stands.1.counted;
+        missed = (misses_ended rows.stand settings bits ctx.held is stands.1.misses).counted;
+        words = stands.2.words;
+        most = within_most from rows.stand settings bits ctx.held reader.place ctx.ticks stands.0 stands.2.paid;
+      }
+  run_ended rows ctx reader stands wide few means unrefused (Err e) is =
+      let settings = ctx.held.settings in
+      let bits = reader.bits in
+      let at = failed_stands rows.stand settings bits ctx.held reader.place is stands.0 in
+      let error = λ (f : DecodeError) (same : ◌≡◌ {A = Result Bits DecodeError} (Err e) (Err f)).
+      (let it : e ≡ f = cc in it) in
+      record {
+        few = few;
+        meaning = means;
+        short = record {
+          memory = λ f. at.0.memory (error OutOfMemory f);
+          refused = λ f. absurd (at.0.not_refused (error Refused f));
+          refused_row = λ f. absurd (at.0.not_refused (error Refused f));
+          flag = λ f. absurd (at.0.not_refused (error Refused f));
+          no_flag = λ f. unrefused;
+        };
+        whole = at.1 wide;
+        repaired = stands.1.counted;
+        missed = (misses_ended rows.stand settings bits ctx.held is stands.1.misses).counted;
+        words = stands.2.words;
+        most = within_most from rows.stand settings bits ctx.held reader.place ctx.ticks stands.0 stands.2.paid;
+      }
+
+  pub run_is_over : (rows : RowState) (ctx : Context) (reader : BitsAt) → IsStanding from rows ctx reader
+      → {settings : DecodeSettings} {bits : Bits} → ctx.held.settings ≡ settings → reader.bits ≡ bits → 0 < settings.columns
+      → ctx.held.taken ≤ length (plain settings bits).rows
+      → after.meaning ≡ meaning_after step before.meaning (take ctx.held.taken (plain settings bits).rows)
+      → after.refused ≡ before.refused → (answer : Result (Unit {0}) DecodeError) → ended rows.stand ≡ Some answer
+      → HasRun settings bits from step before after ctx.held ctx.ticks (leaving answer (here reader))
+  run_is_over rows ctx reader stands same are wide few means unrefused answer is =
+      of_same (λ s b. HasRun s b from step before after ctx.held ctx.ticks (leaving answer (here reader))) same are
+      (run_ended rows ctx reader stands (of_same (λ s b. 0 < s.columns) (sym same) (sym are) wide)
+      (of_same (λ s b. ctx.held.taken ≤ length (plain s b).rows) (sym same) (sym are) few) (of_same (λ s b. after.meaning
+      ≡ meaning_after step before.meaning (take ctx.held.taken (plain s b).rows)) (sym same) (sym are) means) unrefused answer is)
+
+  -- where a row was refused, and taken back
+  pub run_refused : (rows read : RowState) (ctx new : Context) (reader behind : BitsAt) → IsStanding from rows ctx reader
+      → IsStanding from read new behind → read.stand ≡ BehindRow
+      → ReadsNext (seen rows ctx reader) (seen read new behind) (Ok true) → (last : Held)
+      → last ≡ record new.held { taken = new.held.taken - 1; repairs = record new.held.repairs { rows = ctx.held.repairs.rows } }
+      → after.meaning ≡ meaning_after step before.meaning (take ctx.held.taken (plain ctx.held.settings reader.bits).rows)
+      → after.refused ≡ true → after.refuses (changes new.held.reference)
+      → HasRun ctx.held.settings reader.bits from step before after last new.ticks (Err Refused)
+  run_refused rows read ctx new reader behind stands still is reads last back means refused row =
+      let settings = ctx.held.settings in
+      let bits = reader.bits in
+      let (unended, more, within) = reads.more refl in
+      let index : last.taken ≡ ctx.held.taken = omega (arith, ap (λ (h : Held). h.taken) back, more) in
+      let misses : MissesBehindRow settings bits new.held = subst (λ (b : Bits). MissesBehindRow settings b new.held) reads.bits
+      (subst (λ (s : DecodeSettings). MissesBehindRow s behind.bits new.held) reads.settings
+      (subst (λ (s : Stand). Misses s new.held.settings behind.bits new.held) is still.1.misses)) in
+      let there : new.held.taken - 1 ≡ ctx.held.taken = omega (arith, more) in
+      record {
+        few = omega (arith, index, more, within);
+        meaning = means ∙ ap (λ (n : ℕ). meaning_after step before.meaning (take n (plain settings bits).rows)) (sym index);
+        short = record {
+          memory = λ e. cc;
+          refused = λ e. omega (arith, index, more, within);
+          refused_row = λ e. subst (λ (r : Row). after.refuses (changes r))
+              (reads.row refl ∙ ap (λ (n : ℕ). get_or (plain settings bits).rows n []) (sym index)) row;
+          flag = λ e. refused;
+          no_flag = λ e. absurd (e refl);
+        };
+        whole = λ fault. absurd fault;
+        repaired = ap (λ (h : Held). h.repairs.rows) back ∙ stands.1.counted
+            ∙ ap (λ (n : ℕ). sum_by length (take n (repairs_by_line settings bits))) (sym index);
+        missed = ap (λ (h : Held). h.repairs.missed) back ∙ ap (λ (r : Repairs). r.missed) misses.repairs_are
+            ∙ repairs_with_missed misses.line (new.held.taken - 1) misses.before ∙ misses.counted.counted
+            ∙ ap (λ (n : ℕ). sum_by length (take n (misses_by_line settings bits))) (there ∙ sym index);
+        words = omega (
+          arith,
+          stands.2.words,
+          reads.counts,
+          ap (λ (n : ℕ). sum_by length (take n (words_of settings bits))) index,
+        );
+        most = subst (λ (b : Bits). new.ticks ≤ from + most_counted settings.encoding (length b)) reads.bits
+            (subst (λ (s : DecodeSettings). new.ticks ≤ from + most_counted s.encoding (length behind.bits)) reads.settings
+            (within_most from read.stand new.held.settings behind.bits new.held behind.place new.ticks still.0 still.2.paid));
+      }

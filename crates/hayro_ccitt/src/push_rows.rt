@@ -1,0 +1,51 @@
+//! Decoding into a sink: the rows of a reading one at a time, each passed to the sink.
+
+ghost use Rattle.std.specs.Prelude.{◌≡◌, ◌<◌, ◌≤◌, OnErr, false};
+ghost use Rattle.hayro_ccitt.specs.Bits.{here};
+ghost use Rattle.hayro_ccitt.specs.Context.{fresh};
+ghost use Rattle.hayro_ccitt.specs.Decoding.{DecodesRows, FailsHere, leaving};
+
+use crate::bit_reader::BitReader;
+use crate::context::DecoderContext;
+use crate::row_reader::{RowState, first_stand, has_ended};
+use crate::{Decoder, EncodingMode, Result};
+
+/// Reads the rows of an image and passes each to the sink, in every encoding, until EOFB or RTC (with `end_of_block`), the row
+/// limit or the end of the data. The errors are those of a line that isn't repaired, `InvalidCode` if strict data misses an
+/// EOL, and `Refused` if the sink refuses a row; the reader is then where the line begins that has no row, or where the EOL is
+/// missing.
+pub(crate) fn push_rows<D: Decoder>(
+    ctx: &mut DecoderContext,
+    reader: &mut BitReader<'_>,
+    decoder: &mut D,
+) -> Result<()>
+    requires columns { 0 < ctx.old.held.settings.columns }
+    requires fresh { ctx.old.held ≡ fresh ctx.old.held.settings }
+    requires start { reader.old.place ≡ 0 }
+    requires width { ctx.old.held.settings.columns ≤ D.width decoder.old }
+    ensures width { D.width decoder.new ≡ D.width decoder.old }
+    ensures rows { DecodesRows reader.old.bits (D.step (D.width decoder.old))
+        (record { meaning = D.meaning decoder.old; refused = D.has_refused decoder.old; refuses = D.refuses decoder.old })
+        (record { meaning = D.meaning decoder.new; refused = D.has_refused decoder.new; refuses = D.refuses decoder.new })
+        ctx.old ctx.new (leaving result (here reader.new)) }
+    ensures fails { OnErr result (FailsHere ctx.old.held.settings reader.old.bits ctx.new.held.taken (here reader.new)) }
+    ensures no_eols { ctx.old.held.settings.encoding ≡ EncodingMode.Group4 → ctx.new.held.has_eols ≡ false }
+    ensures same_bits { reader.new.bits ≡ reader.old.bits }
+{
+    let mut rows = RowState::new(first_stand(ctx, reader));
+    if has_ended(rows.stand) {
+        return Ok(());
+    }
+    'rows: loop {
+        if !rows.come_to_line(ctx, reader)? {
+            return Ok(());
+        }
+        let damaged_rows = ctx.damaged_rows();
+        rows.read_line(ctx, reader)?;
+        if let Err(refusal) = decoder.push_row(ctx.reference_row()) {
+            ctx.take_back_row(damaged_rows);
+            *reader = reader.at_bit(rows.started_at);
+            return Err(refusal);
+        }
+    }
+}
