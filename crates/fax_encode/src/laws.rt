@@ -58,9 +58,9 @@ pub fn rows_are_chosen()
     ensures { RowsAreChosen }
 {}
 
-/// In two-dimensional Group 3 with EOLs and RTC, as it is encoded, damage within one line, tag and body, that leaves no EOL there
-/// changes at most `k` rows for a lenient reading: that of the line, and those of the two-dimensional lines up to the next
-/// one-dimensional one (T.4 section 4.2.1).
+/// In two-dimensional Group 3 with EOLs and RTC, as it is encoded, damage within one line, tag and body, that leaves no EOL there,
+/// and a line that is broken or ends before its EOL as it is read, changes at most `k` rows for a lenient reading: that of the
+/// line, and those of the two-dimensional lines up to the next one-dimensional one (T.4 section 4.2.1).
 pub fn damage_reaches_k_rows()
     ensures { DamageReachesKRows }
 {}

@@ -56,7 +56,8 @@ pub use Rattle.hayro_ccitt.specs.RowCursors.{Paused}
 pub use Rattle.hayro_ccitt.specs.Rows.{AreChanges, AscendFrom, HaveWidth, Row, a1, a2, b1, b2, changes, is_black, is_change}
 pub use Rattle.hayro_ccitt.specs.Rows.{last_pixel, least_below, opposite, paint, pixel, pixel_before, pixels, pixels_from}
 pub use Rattle.hayro_ccitt.specs.Rows.{repaired, right_of, white_row}
-pub use Rattle.hayro_ccitt.specs.RowsKept.{ReadsUpTo, RowsBefore, RowsBeforeStay}
+pub use Rattle.hayro_ccitt.specs.RowsKept.{AreAlikeBehind, AreInStep, ComesTo, MakesNoRtc, PutsInStep, ReadsUpTo, RowsBefore}
+pub use Rattle.hayro_ccitt.specs.RowsKept.{RowsBeforeStay, RowsBehind, RowsBehindStay}
 pub use Rattle.hayro_ccitt.specs.RowsRead.{DamageIsCounted, HasEnded, HasFailed, IsPaid, IsStanding, IsStandingAtLine, Misses}
 pub use Rattle.hayro_ccitt.specs.RowsRead.{MissesAreCounted, MissesBehindRow, PaidAtLine, PaidBehindRow, ReachesNextLine}
 pub use Rattle.hayro_ccitt.specs.RowsRead.{ReaderStands, ReadsNext, RowsRead, StandsAtLine, StandsBehindRow, WorkIsPaid}
