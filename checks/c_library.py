@@ -61,7 +61,9 @@ def build():
         if is_newest(library, "hayro_ccitt_c") and os.path.getmtime(library) > max(map(os.path.getmtime, own)):
             continue
         linked = [word for word in flags if word.startswith("-fsanitize")]
-        words = [f"BUILD=build/checked/{name}", f"PREFIX={INSTALLED[name]}", f"CFLAGS={' '.join(flags)}", f"LDFLAGS={' '.join(linked)}"]
+        # what is proved is built once
+        proved = ["-o", "prove-library", "-o", "prove-programs"] if name != "plain" else []
+        words = [*proved, f"BUILD=build/checked/{name}", f"PREFIX={INSTALLED[name]}", f"CFLAGS={' '.join(flags)}", f"LDFLAGS={' '.join(linked)}"]
         for target in ("all", "install"):
             done = subprocess.run(["make", *words, target], capture_output=True, text=True, check=False)
             assert done.returncode == 0, done.stdout[-2000:] + done.stderr[-2000:]
@@ -118,10 +120,11 @@ def example_on_strips():
 
 
 def loaded(folder, heap=None):
-    """The shared library in this process, with its own allocator or with that of a file."""
-    if heap:
-        ctypes.CDLL(compiled(f"{folder}/heap.so", "-shared", "-fPIC", heap), mode=ctypes.RTLD_GLOBAL)
-    return ctypes.CDLL(SHARED)
+    """The shared library in this process, with its own allocator or with that of a file, which replaces it."""
+    if not heap:
+        return ctypes.CDLL(SHARED)
+    linked = ["-Wl,--no-as-needed", f"-Wl,-rpath,{os.path.dirname(SHARED)}", f"-L{os.path.dirname(SHARED)}", "-lhayro_ccitt"]
+    return ctypes.CDLL(compiled(f"{folder}/heap.so", "-shared", "-fPIC", heap, *linked), mode=ctypes.RTLD_GLOBAL)
 
 
 def called(call, data, settings, *memory):

@@ -7,6 +7,7 @@
     python3 checks/edits.py --show             also prints what refused each edit
     python3 checks/edits.py --keep FOLDER      writes what each check printed into this folder
     python3 checks/edits.py --write            writes into the edits what refused them: see below
+    python3 checks/edits.py --twins            tries which written answers `search rules` replaces, and writes their lines into the edits
     python3 checks/edits.py --anew             also those that an earlier run on this machine refused: see below
     python3 checks/edits.py --ci FOLDER        takes from an `rt ci` that runs beside what it makes: see below
     python3 checks/edits.py --beside N         as many checks in parallel as other programs leave processors, at least N
@@ -19,8 +20,10 @@ clause. FUNCTION is its name as a check prints it, without the crate's: group3::
 An edit is refused for its reason if that goal stays open: a search for it ended without a proof, values were found at which it
 is false, or its written proof no longer fits. A search that gave up at its limits, a name that a proof file lost, and a
 function that only calls one that isn't proved, show nothing. If the check's own searches gave up at the goal, it is tried once
-more by `search rules` alone, which ends. A line 'search: GOAL' in the edit names a goal of the function that stays open and has no
-written answer: it is tried by `search rules` from the start, which takes half the time, since the check then prints no help.
+more by `search rules` alone, which ends. A line 'search: GOAL' in the edit names a goal of the function that stays open: it is tried by
+`search rules` from the start, which takes half the time, since the check then prints no help. If it has a written answer, that is
+left out, and the unedited body must be proved by the same search: so the edit isn't refused for its form. An edit whose clause has a
+written answer and no such line is refused because that answer no longer fits: the last lines say how many these are.
 
 Edits of different functions are checked together, each batch on a copy of the crate and of what a check without edits stored, of
 the functions that the edits change alone. A goal of a function isn't searched for while one that it calls isn't proved. So an edit
@@ -181,6 +184,7 @@ class Edit:
         found = re.search(r"^breaks: ([\w:]+): (\S+)$", self.text, re.MULTILINE)
         self.function, self.clause = (found[1], found[2]) if found else ("", "")
         self.goals = re.findall(r"^search: (\S+)$", self.text, re.MULTILINE)
+        self.written = [goal for goal in written_answers(crate_folder(file), self.function) if names(goal, self.clause)]
         path = re.search(r"^file: (\S+)$", self.text, re.MULTILINE)
         self.path = path[1] if path else ""
         olds = re.findall(r"^old: (.*)$", self.text, re.MULTILINE)
@@ -190,6 +194,16 @@ class Edit:
         self.touched = {*self.changed, *source.named(self.function)}
         self.made = set(re.findall(r"\bfn (\w+)", "\n".join(re.findall(r"^new:(.*)$", self.text, re.MULTILINE))))
         self.reaches = set().union(*[source.below[item] for item in self.touched]) if self.touched else set()
+
+    @property
+    def twins(self):
+        """The goals of its clause with a written answer that the search replaces."""
+        return [goal for goal in self.goals if goal in self.written]
+
+    @property
+    def is_by_form(self):
+        """Whether nothing but a written answer that no longer fits can refuse it."""
+        return bool(self.written) and not any(names(goal, self.clause) for goal in self.goals)
 
     @property
     def label(self):
@@ -204,6 +218,26 @@ class Edit:
     def meets(self, other):
         """Whether they overlap, or one changes a function that the other reaches."""
         return self.overlaps(other) or bool(self.touched & other.reaches or other.touched & self.reaches)
+
+
+def crate_folder(file):
+    return os.path.dirname(os.path.dirname(file))
+
+
+def answers_of(folder, function):
+    """The path of a function's written answers."""
+    return f"{folder}/proofs/{function.replace('::', '/')}/Answers.antt"
+
+
+@functools.cache
+def written_answers(folder, function):
+    """The goals of a function that have a written answer, other than a search alone."""
+    path = answers_of(folder, function)
+    if not os.path.exists(path):
+        return []
+    with open(path, encoding="utf-8") as file:
+        text = file.read()
+    return [goal for goal in re.findall(r"^pub (\S+) :", text, re.MULTILINE) if not re.search(rf"^{re.escape(goal)}( \w+)* = search rules$", text, re.MULTILINE)]
 
 
 def edits_in(folder, crate, source, only=()):
@@ -461,7 +495,9 @@ class Lane:
 
     def check(self, crate, edits, store):
         """Checks the functions that these edits are to break, in the copy and over a store, and returns what the check says."""
-        flags = ["--jobs", "1", *[word for edit in edits for word in ("--only", edit.function)]]
+        return self.call(crate, ["--jobs", "1", *[word for edit in edits for word in ("--only", edit.function)]], store)
+
+    def call(self, crate, flags, store):
         words = [self.rt.rtlib.RATTLE, "check", *crate.words(flags, keeps=False), "--incremental", store]
         how = {"cwd": f"{self.folder}/room", "stdin": subprocess.DEVNULL, "stdout": subprocess.PIPE, "stderr": subprocess.STDOUT}
         return subprocess.run([*self.rt.rtlib.guarded(), *words], **how, errors="replace", check=False).stdout
@@ -472,8 +508,8 @@ class Lane:
         The functions of a mixed batch may call one another. An edit that is tried alone has no goal answered before its check.
         """
         bad = self.apply(crate, edits)
-        for edit in edits if not is_alone else []:
-            answer_named(crate.name, f"{self.folder}/room", edit)
+        for edit in edits:
+            answer_named(crate.name, f"{self.folder}/room", edit.function, edit.twins if is_alone else edit.goals, edit.clause)
         found = {edit: (False, f"it cannot be applied: {why}") for edit, why in bad.items()}
         edits, store = [edit for edit in edits if edit not in bad], self.store(crate)
         output = self.check(crate, edits, store)
@@ -491,6 +527,18 @@ class Lane:
         return found, output
 
 
+    def searched(self, crate, goals):
+        """Which of these goals, as pairs of a function and a goal, are proved by `search rules` for the unedited body."""
+        self.apply(crate, [])
+        for function in {function for function, _ in goals}:
+            answer_named(crate.name, f"{self.folder}/room", function, [goal for its, goal in goals if its == function])
+        flags = ["--jobs", "1", *[word for function in sorted({function for function, _ in goals}) for word in ("--only", function)]]
+        output = self.call(crate, flags, self.store(crate))
+        said = read(output, crate.name)
+        missed = {(name, goal) for name, it in said.items() for goal, _ in [*it.open, *it.weak]}
+        return {(function, goal) for function, goal in goals if function in said and (function, goal) not in missed}, output
+
+
 USE = re.compile(r"^use [^\n]*(?:\n[ }][^\n]*)*", re.MULTILINE)
 
 
@@ -506,14 +554,29 @@ def answer(output, room, functions):
             write_answers(room, found[1], [line for line in lines if line.startswith("use ")], goals)
 
 
-def answer_named(crate, room, edit):
-    """Answers the goals that the edit names: by `search rules` if they are of its clause; by holes, which cost no search, if they are of
-    others, since these don't count."""
-    if edit.goals:
-        uses = ["use Rattle.std.proofs.Common.{rules}", f"use Rattle.{crate}.proofs.{edit.function.replace('::', '.')}.Goals as goal"]
-        answers = {goal: "search rules" if names(goal, edit.clause) else "?" for goal in edit.goals}
-        lines = [f"pub {goal} : goal.{goal}\n{goal} c = {by}\n" for goal, by in answers.items()]
-        write_answers(room, edit.function.replace("::", "/"), uses, lines)
+DECLARED = re.compile(r"^(?=(?:(?:pub|abbrev|unfoldable) )*[^\s:()]+ :(?:\s|$)|--|use |pub use |module |record |pub record )", re.MULTILINE)
+
+
+def answer_named(crate, room, function, goals, clause=None):
+    """Answers these goals of a function: by `search rules` if they are of the clause, or whatever they are of if none is given; by holes,
+    which cost no search, if they are of others, since these don't count. A written answer is left out."""
+    if not goals:
+        return
+    path, before = answers_of(room, function), {goal: "c" for goal in goals}
+    if os.path.exists(path):
+        with open(path, encoding="utf-8") as file:
+            blocks = DECLARED.split(file.read())
+        for goal in goals:
+            for block in [block for block in blocks if block.startswith(f"pub {goal} :")]:
+                blocks.remove(block)
+                if re.search(rf"^{re.escape(goal)} g\b", block, re.MULTILINE):  # of a function with type parameters
+                    before[goal] = "g c"
+        with open(path, "w", encoding="utf-8") as file:
+            file.write("".join(blocks))
+    uses = ["use Rattle.std.proofs.Common.{rules}", f"use Rattle.{crate}.proofs.{function.replace('::', '.')}.Goals as goal"]
+    answers = {goal: "search rules" if clause is None or names(goal, clause) else "?" for goal in goals}
+    lines = [f"pub {goal} : goal.{goal}\n{goal} {before[goal]} = {by}\n" for goal, by in answers.items()]
+    write_answers(room, function.replace("::", "/"), uses, lines)
 
 
 def write_answers(room, folder, uses, goals):
@@ -632,6 +695,7 @@ def main():
     words.add_argument("--show", action="store_true", help="print what refused each edit")
     words.add_argument("--keep", default="", help="a folder for what each check printed")
     words.add_argument("--write", action="store_true", help="write into the edits what refused them")
+    words.add_argument("--twins", action="store_true", help="write into the edits which written answers the search replaces")
     words.add_argument("--anew", action="store_true", help="try also the edits that an earlier run on this machine refused")
     words.add_argument("--ci", default="", help="a folder of an `rt ci` that runs beside")
     words.add_argument("--beside", type=int, default=0, help="how many checks run in parallel at least, while other programs run too; without it, no fewer")
@@ -654,7 +718,7 @@ def main():
         sys.exit("\n".join(lacking))
     beside = Beside(words.ci) if words.ci else None
     before = RefusedBefore([os.path.abspath(__file__)])
-    known = {edit: before.reason(edit) for edit in edits if not words.anew and not words.write}
+    known = {edit: before.reason(edit) for edit in edits if not (words.anew or words.write or words.twins)}
     results = {edit: (True, reason) for edit, reason in known.items() if reason is not None}
     changed = {crate: sorted({edit.function for edit in edits if edit.crate is crate and edit not in results}) for crate in crates}
     changed = {crate: functions for crate, functions in changed.items() if functions}
@@ -695,7 +759,31 @@ def main():
                     last = edit.function.rpartition("::")[2]
                     near = sorted(name for name in whole.functions[crate] if name.rpartition("::")[2] == last)
                     results[edit] = False, f"a check names no function {edit.function}: is it {' or '.join(near) or 'another'}?"
-            attempt([edit for edit in own if edit not in results])
+            left = [edit for edit in own if edit not in results]
+            goals = {(edit.function, goal) for edit in left for goal in (edit.written if words.twins else edit.twins)}
+            proved = threads.submit(1, search, crate, goals).result() if goals else set()
+            if words.twins:
+                results.update({edit: (True, write_twins(edit, proved)) for edit in left})
+                return
+            for edit in left:
+                if any((edit.function, goal) not in proved for goal in edit.twins):
+                    results[edit] = False, f"the unedited body isn't proved by `search rules`: {', '.join(edit.twins)}"
+            attempt([edit for edit in left if edit not in results])
+
+        def search(crate, goals):
+            """Which goals of the unedited crate `search rules` proves."""
+            lane = lanes.get()
+            try:
+                start = time.time()
+                proved, output = lane.searched(crate, goals)
+                if words.keep:
+                    os.makedirs(words.keep, exist_ok=True)
+                    with open(f"{words.keep}/{crate.name}-twins.txt", "w", encoding="utf-8") as file:
+                        file.write(output)
+                print(f"{crate.name}: {len(proved)} of {len(goals)} written answers replaced by a search in {time.time() - start:.0f} s", flush=True)
+                return proved
+            finally:
+                lanes.put(lane)
 
         def attempt(own):
             """Tries edits of one crate."""
@@ -746,8 +834,23 @@ def main():
         print(f"{sum(reason is not None for reason in known.values())} were refused by earlier runs on this machine", end=", ")
     print(f"{sum(numbers)} batches, {used.ru_utime + used.ru_stime:.0f} s of processor", end=", ")
     print(f"{time.time() - began:.0f} s")
+    by_form = sum(edit.is_by_form for edit in edits)
+    if by_form:
+        print(f"{by_form} are refused only because a written answer of their clause no longer fits")
     print(f"{len(edits) - len(failed)} refused, {len(failed)} not")
     sys.exit(1 if failed else 0)
+
+
+def write_twins(edit, proved):
+    """Writes the goals of an edit's clause whose written answers the search replaces, if it replaces all."""
+    is_proved = bool(edit.written) and all((edit.function, goal) in proved for goal in edit.written)
+    goals = sorted({*(goal for goal in edit.goals if goal not in edit.written), *(edit.written if is_proved else ())})
+    text = re.sub(r"^search: .*\n", "", edit.text if edit.text.endswith("\n") else f"{edit.text}\n", flags=re.MULTILINE)
+    text += "".join(f"search: {goal}\n" for goal in goals)
+    if text != edit.text:
+        with open(edit.file, "w", encoding="utf-8") as file:
+            file.write(text)
+    return "its written answers are replaced by a search" if is_proved else "as it was"
 
 
 def write(edit, refused):
