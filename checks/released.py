@@ -15,6 +15,7 @@ import subprocess
 import sys
 import tempfile
 from concurrent.futures import ThreadPoolExecutor
+from pathlib import Path
 
 import c_library
 from installed import first_program
@@ -123,6 +124,16 @@ def installed(name, packages, folder, environment):
     is_the_page(f"{here}/page.pbm", name)
 
 
+def compiled_as_the_tarball_says(folder, environment):
+    """The header's first program is compiled by the lines of the tarball's README, with each of the libraries, and runs."""
+    with open(next(Path(folder).glob("tarball/*/README")), encoding="utf-8") as file:
+        static, *shared = [line.strip() for line in file if line.startswith("    ")]
+    with open(f"{folder}/tarball/first.c", "w", encoding="utf-8") as file:
+        file.write(first_program())
+    for lines in ([static], shared) if shutil.which("pkg-config") else ([static],):
+        assert run("\n".join([*lines, "./a.out"]), cwd=f"{folder}/tarball", env=environment) == "18\n", lines
+
+
 def package_of_cargo(folder, environment):
     """`cargo check`, `doc`, `clippy` and `package` work in the unpacked package, without a network."""
     words = [["check"], ["doc"], ["clippy", "--all-targets", "--", "-D", "warnings"], ["package", "--allow-dirty"]]
@@ -154,6 +165,7 @@ def packages_where_the_kit_is_not():
         same_object(f"{folder}/one")
         for done in [pool.submit(installed, name, packages, folder, environment) for name in chosen]:
             done.result()
+        compiled_as_the_tarball_says(folder, environment)
         if "crate" in chosen:
             package_of_cargo(folder, {**environment, "HOME": f"{folder}/home"})
         refused_without_its_changes(f"{folder}/another/folder")

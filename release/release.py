@@ -277,8 +277,10 @@ def wheel(build, version, told, epoch):
     library = f"{build}/libhayro_ccitt.so.{version}"
     if newest_libc([library]) > MANYLINUX:
         fail(f"the library needs a newer C library than {MANYLINUX}, which the wheel's name says")
-    if f'__version__ = "{version}"' not in read("python/hayro_ccitt/__init__.py").decode():
-        fail(f"python/hayro_ccitt/__init__.py isn't of version {version}")
+    interface = version.rpartition(".")[0]
+    for name, line in (("__init__", f'__version__ = "{version}"'), ("_library", f'SONAME = "libhayro_ccitt.so.{interface}"')):
+        if line not in read(f"python/hayro_ccitt/{name}.py").decode():
+            fail(f"python/hayro_ccitt/{name}.py isn't of version {version}")
     tag = f"py3-none-manylinux_{MANYLINUX[0]}_{MANYLINUX[1]}_x86_64"
     about = f"hayro_ccitt-{version}.dist-info"
     metadata = f"Metadata-Version: 2.1\nName: hayro_ccitt\nVersion: {version}\nSummary: A {DESCRIPTION}\nRequires-Python: >=3.9\n"

@@ -9,12 +9,14 @@ from __future__ import annotations
 
 import struct
 import sys
-from typing import Any, Iterator
+from typing import Any, Iterator, Union
 
 from . import DecodeError, NotFax, decode, from_pdf, from_tiff
+from .decoding import Data
 
 # An image: the data of its strips, each with the arguments of `decode`; or why it isn't decoded.
-Image = "list[tuple[bytes, dict[str, Any]]] | NotFax"
+Strips = list[tuple[Data, dict[str, Any]]]
+Image = Union[Strips, NotFax]
 KINDS = {1: "B", 3: "H", 4: "I", 16: "Q"}  # BYTE, SHORT, LONG, LONG8
 STRIP_OFFSETS, STRIP_BYTE_COUNTS, TILE_WIDTH = 273, 279, 322
 
@@ -43,7 +45,8 @@ def strips_of(file: bytes, tags: dict[int, tuple[int, ...]]) -> Image:
         if TILE_WIDTH in tags:
             raise NotFax("it has tiles")
         places = zip(tags.get(STRIP_OFFSETS, ()), tags.get(STRIP_BYTE_COUNTS, (len(file),)))
-        return [(file[start : start + length], from_tiff(tags, strip)) for strip, (start, length) in enumerate(places)]
+        lent = memoryview(file)
+        return [(lent[start : start + length], from_tiff(tags, strip)) for strip, (start, length) in enumerate(places)]
     except NotFax as why:
         return why
 
@@ -59,6 +62,16 @@ def tiff_images(file: bytes) -> Iterator[Image]:
 
 
 def pdf_images(path: str) -> Iterator[Image]:
+    """The images of a PDF file. What pikepdf or pypdf raises for a damaged file is theirs."""
+    try:
+        yield from images_by_others(path)
+    except (ImportError, MemoryError):
+        raise
+    except Exception as error:
+        raise NotFax(f"not readable: {error}") from error
+
+
+def images_by_others(path: str) -> Iterator[Image]:
     try:
         import pikepdf
 
@@ -82,9 +95,9 @@ def pdf_images(path: str) -> Iterator[Image]:
             yield why
 
 
-def decoded(strips: list[tuple[bytes, dict[str, Any]]]) -> tuple[str, bytes]:
-    """The result and the picture of an image. Rows that are missing are white, unless the data can't have as many."""
-    result, rows, bits = "ok", 0, b""
+def decoded(strips: Strips) -> tuple[str, int, bytearray]:
+    """The result, the number of rows, and the rows. Those that are missing are white, unless the data can't have as many."""
+    result, rows, bits = "ok", 0, bytearray()
     for data, keys in strips:
         try:
             picture = decode(data, **keys)
@@ -98,7 +111,7 @@ def decoded(strips: list[tuple[bytes, dict[str, Any]]]) -> tuple[str, bytes]:
         height = max(picture.rows, min(keys["rows"], 8 * len(data)))  # a row takes at least one bit
         rows += height
         bits += picture.black(height)
-    return result, b"P4\n%d %d\n" % (strips[0][1]["columns"], rows) + bits
+    return result, rows, bits
 
 
 def main(path: str, name: str = "") -> int:
@@ -117,13 +130,13 @@ def main(path: str, name: str = "") -> int:
             status = 1
             continue
         seen += 1
-        result, picture = decoded(strips)
-        _, columns, rows, _ = picture.split(maxsplit=3)
-        print(f"image {number}: {columns.decode()} x {rows.decode()}: {result}")
+        columns = strips[0][1]["columns"]
+        result, rows, bits = decoded(strips)
+        print(f"image {number}: {columns} x {rows}: {result}")
         status = status if result == "ok" else 1
         if name:
             with open(f"{name}-{number}.pbm", "wb") as out:
-                out.write(picture)
+                out.write(b"P4\n%d %d\n" % (columns, rows) + bits)
     return status if seen else 1
 
 
@@ -133,6 +146,6 @@ if __name__ == "__main__":
         sys.exit(0 if sys.argv[1:2] in (["-h"], ["--help"]) else 2)
     try:
         sys.exit(main(*sys.argv[1:]))
-    except (OSError, NotFax, struct.error, ImportError, MemoryError) as error:
+    except (OSError, NotFax, struct.error, OverflowError, ImportError, MemoryError) as error:
         print(f"hayro_ccitt: {sys.argv[1]}: {error or 'out of memory'}", file=sys.stderr)
         sys.exit(2)
