@@ -259,6 +259,8 @@ int open_pdf(pdf_pages *it, span file, allowance *left, const char **why)
         if (!it->seen[i] && pdf_is_name(pdf_key(it->objects, object, "Subtype"), "Image") && is_fax(it->objects, object))
             add_image(it, object, nothing, no_data, 0);
     }
+    if (pdf_unread(it->objects))
+        snprintf(it->unread, sizeof it->unread, "objects can't be read: %s", pdf_unread(it->objects));
     if (!left->left)
         snprintf(it->unread, sizeof it->unread, "its objects hold each other too often");
     return 1;
