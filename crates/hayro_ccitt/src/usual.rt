@@ -17,6 +17,7 @@ use crate::codes::{Color, Ticks};
 use crate::pairs::pairs_of;
 use crate::settings::DecodeSettings;
 use crate::tables::{LOOKUP_INVALID, Tables};
+use std::mem;
 
 /// Returns the run and the number of bits of the code word at an offset in the window; the run is `LOOKUP_INVALID` if there
 /// is none.
@@ -325,7 +326,7 @@ pub(crate) fn draw_two_runs(
 /// Draws runs in pairs while they are of the usual kind. Returns how far the row reaches then, and the colour in which it
 /// continues.
 #[inline(always)]
-pub(crate) fn draw_runs(
+fn draw_pairs(
     hand: &mut BitsAtHand<'_>,
     row: &mut Vec<u32>,
     painted: u32,
@@ -360,6 +361,31 @@ pub(crate) fn draw_runs(
             }
         }
     }
+}
+
+/// The same with a list of its own meanwhile, so that the list's fields are values of this call.
+#[inline(always)]
+pub(crate) fn draw_runs(
+    hand: &mut BitsAtHand<'_>,
+    row: &mut Vec<u32>,
+    painted: u32,
+    settings: DecodeSettings,
+    tables: &Tables,
+    ticks: &mut Ticks,
+) -> (u32, Color)
+    requires open { IsOpen settings.columns painted row.old.items }
+    ensures drawn { GoesOn settings.strict settings.columns (pen_at painted row.old.items Color.White hand.old.at)
+        (pen_at result.0 row.new.items result.1 hand.new.at) ticks.old ticks.new }
+    ensures reached { IsReached settings.columns result.0 result.1 row.new.items }
+    ensures forward { painted ≤ result.0 }
+    ensures same_bits { hand.new.at.bits ≡ hand.old.at.bits }
+    ensures onward { hand.old.at.place ≤ hand.new.at.place }
+{
+    let mut own = Vec::new(*row.allocator());
+    mem::swap(row, &mut own);
+    let reached = draw_pairs(hand, &mut own, painted, settings, tables, ticks);
+    mem::swap(row, &mut own);
+    reached
 }
 
 /// Fills the window if it has fewer than 28 bits; returns false if it can't be filled.

@@ -1,5 +1,5 @@
 use Rattle.hayro_ccitt.proofs.Names.{◌≡◌, ◌-◌, ◌≤◌, White, GoesOn, IsOpen, pen_at}
-use Rattle.hayro_ccitt.proofs.usual.draw_runs.Given as goal
+use Rattle.hayro_ccitt.proofs.usual.draw_pairs.Given as goal
 
 -- what is drawn so far, and that the row isn't full
 abbrev pub invariant-runs : goal.invariant-runs

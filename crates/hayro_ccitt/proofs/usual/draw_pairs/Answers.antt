@@ -1,7 +1,7 @@
 use Rattle.hayro_ccitt.proofs.Names.{ap, ◌∙◌, arith, White, BitsAt, GoesOn, pen_at}
 use Rattle.hayro_ccitt.proofs.DrawingLines.UsualStrokes.{goes_on_twice, reached_open}
-use Rattle.hayro_ccitt.proofs.usual.draw_runs.Goals.{After-has_two_runs}
-use Rattle.hayro_ccitt.proofs.usual.draw_runs.Goals as goal
+use Rattle.hayro_ccitt.proofs.usual.draw_pairs.Goals.{After-has_two_runs}
+use Rattle.hayro_ccitt.proofs.usual.draw_pairs.Goals as goal
 
 -- what is drawn before two runs of any length
 so_far : (c : After-has_two_runs) → GoesOn c.args.settings.strict c.args.settings.columns
