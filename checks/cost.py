@@ -29,7 +29,7 @@ MOST = 4.5
 # by what factor a shape may exceed its measured instructions a byte
 SLACK = 1.5
 # how many seconds a run under callgrind may take
-LIMIT = 120
+LIMIT = 300
 
 EOL = "000000000001"
 HORIZONTAL, PASS, V0 = "001", "0001", "1"

@@ -11,7 +11,7 @@ import program
 from left_out import leave_out
 
 # of how many cases one is decoded under valgrind, by the library and by the program
-IN_LIBRARY, IN_PROGRAM = 5, 180
+IN_LIBRARY, IN_PROGRAM = 15, 180
 VALGRIND = ["valgrind", "-q", "--error-exitcode=99", "--leak-check=full", "--show-leak-kinds=all", "--errors-for-leak-kinds=all"]
 
 

@@ -1,5 +1,6 @@
 """Checks of what `make install` installs: the headers by C89 and C++98, both libraries by hayro_ccitt.pc, null pointers of
 length 0, a program's own allocator, the manual pages and the version."""
+import filecmp
 import os
 import re
 import shutil
@@ -191,6 +192,7 @@ def installed():
         static = [word for word in shared if not word.startswith("-l")] + [f"{library}/libhayro_ccitt.a"]
         version = run("pkg-config", "--modversion", "hayro_ccitt", env=find).strip()
         versions_agree(version)
+        files_are_right(f"{folder}/prefix", version)
         texts = [("first", first_program(), "18\n"), ("null", NULL_POINTERS, None), ("own", OWN_HEAP, "own\n"), ("headers", HEADERS, "")]
         for name, text, printed in texts:
             for compiler, flags, ending in (("gcc", C89, "c"), ("g++", CXX98, "cc"), ("gcc", ["-std=c11", "-Wall", "-Werror"], "c")):
@@ -208,6 +210,16 @@ def installed():
         left = [name for _, _, names in os.walk(f"{folder}/prefix") for name in names]
         assert not left, left
     print(f"  version {version}; {runs} programs, by C89, C11 and C++98, with both libraries")
+
+
+def files_are_right(prefix, version):
+    """The manual pages and headers are those of the repository, and the shared library's name has two numbers of the version."""
+    pages = [(f"man/{name}", f"{prefix}/share/man/man{name[-1]}/{name}") for name in sorted(os.listdir("man"))]
+    headers = [(f"c/{name}", f"{prefix}/include/{name}") for name in sorted(os.listdir("c")) if name.endswith(".h")]
+    for own, there in [*pages, *headers]:
+        assert filecmp.cmp(own, there, shallow=False), f"{there} isn't {own}"
+    soname = re.search(r"^ *SONAME +(\S+)$", run("objdump", "-p", f"{prefix}/lib/libhayro_ccitt.so"), re.MULTILINE)[1]
+    assert soname == f"libhayro_ccitt.so.{'.'.join(version.split('.')[:2])}", soname
 
 
 def versions_agree(version):

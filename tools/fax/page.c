@@ -3,8 +3,9 @@
 #include <stdlib.h>
 #include <string.h>
 
-/* A picture of more bytes, of which rows are missing, has a false size rather than missing rows. */
-enum { LARGE = 1 << 26 };
+/* A picture of more bytes, of which rows are missing, has a false height; and one of more columns, which isn't whole, a false
+ * width. */
+enum { LARGE = 1 << 26, WIDEST = 1 << 20 };
 
 void allow(allowance *it, uint64_t bytes)
 {
@@ -128,7 +129,7 @@ static uint64_t decode_part(const page *it, const part *from, uint8_t *rows, siz
     found->unread += status == HAYRO_CCITT_OK ? from->data.length - outcome.bytes_read : 0;
     if (status != HAYRO_CCITT_OK || (from->settings.rows && outcome.rows < from->settings.rows)) {
         note_strict(found, it, from, status, &outcome);
-        if (status != HAYRO_CCITT_OK && status != HAYRO_CCITT_OUT_OF_MEMORY) {
+        if (status != HAYRO_CCITT_OK && status != HAYRO_CCITT_OUT_OF_MEMORY && it->columns <= WIDEST) {
             status = decode_rows(it, from, flags, rows, length, &outcome);
             if ((outcome.damaged_rows || outcome.missed_eols) && !it->rows_are_words)
                 list_damage(from, flags, found);
@@ -266,10 +267,13 @@ int decode_page(page *it, allowance *left, picture *into, damage *found)
         refuse(it, "out of memory");
     else if (!left->left)
         refuse(it, "its %ss lie over each other", it->kind);
+    else if (!found->is_strict && it->columns > WIDEST)
+        refuse(it, "its rows don't have %lu columns: %s in row %lu", (unsigned long)it->columns, meaning(found->why),
+               (unsigned long)found->row);
     else if (!end)
         refuse(it, "no row can be decoded: %s", found->is_strict ? "there is no data" : meaning(found->why));
-    int has_false_size = rows < it->rows || (found->missing.count && into->width * rows > LARGE);
-    if (has_false_size) /* the picture has only the rows that were decoded */
+    int has_false_height = rows < it->rows || (found->missing.count && into->width * rows > LARGE);
+    if (has_false_height) /* the picture has only the rows that were decoded */
         into->rows = (uint32_t)end;
     if (it->refused[0]) {
         free(into->bytes);

@@ -89,16 +89,21 @@ static void show(pdf_pages *to, pdf_value object, pdf_value resources, unsigned 
     }
 }
 
-static int is_end_of_image(const uint8_t *at, const uint8_t *start, const uint8_t *end)
+static int is_text(const uint8_t *at, const uint8_t *end)
 {
-    if (end - at < 2 || memcmp(at, "EI", 2) || (at > start && !pdf_is_space(at[-1]) && at[-1] != '>'))
-        return 0;
-    if (end - at > 2 && !pdf_is_space(at[2]))
-        return 0;
-    for (int i = 2; i < 16 && at + i < end; i++) /* text follows, rather than data */
-        if (at[i] > 126 || (at[i] < 32 && !pdf_is_space(at[i])) || !at[i])
+    for (; at < end; at++)
+        if (*at > 126 || (*at < 32 && !pdf_is_space(*at)) || !*at)
             return 0;
     return 1;
+}
+
+/* Whether the data of an image ends there: `EI`, which text follows, and a space or data that is no text precedes. */
+static int is_end_of_image(const uint8_t *at, const uint8_t *start, const uint8_t *end)
+{
+    if (end - at < 2 || memcmp(at, "EI", 2) || (end - at > 2 && !pdf_is_space(at[2])))
+        return 0;
+    int is_apart = at == start || pdf_is_space(at[-1]) || at[-1] == '>';
+    return is_text(at + 2, end - at > 16 ? at + 16 : end) && (is_apart || !is_text(at - start > 16 ? at - 16 : start, at));
 }
 
 /* Reads an image in a page's content, after `BI`. Returns what follows it. */
@@ -254,6 +259,8 @@ int open_pdf(pdf_pages *it, span file, allowance *left, const char **why)
         if (!it->seen[i] && pdf_is_name(pdf_key(it->objects, object, "Subtype"), "Image") && is_fax(it->objects, object))
             add_image(it, object, nothing, no_data, 0);
     }
+    if (pdf_unread(it->objects))
+        snprintf(it->unread, sizeof it->unread, "objects can't be read: %s", pdf_unread(it->objects));
     if (!left->left)
         snprintf(it->unread, sizeof it->unread, "its objects hold each other too often");
     return 1;

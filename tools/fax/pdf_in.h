@@ -22,7 +22,7 @@ typedef struct {
     size_t content_count;
     unsigned pages;
     unsigned others;     /* images that aren't fax */
-    char unread[160];    /* why a page's content couldn't be read, or empty */
+    char unread[160];    /* why objects, or a page's content, can't be read, or empty */
 } pdf_pages;
 
 /* Finds the images. Returns 0, and why, if the file can't be read. */

@@ -21,6 +21,7 @@ int is_pdf(span file);
 pdf *pdf_open(span file, allowance *left, const char **why);
 void pdf_close(pdf *it);
 
+const char *pdf_unread(const pdf *in); /* why objects that are in streams can't be read, or null */
 size_t pdf_count(const pdf *in);
 pdf_value pdf_object(const pdf *in, size_t index);
 pdf_value pdf_root(pdf *in);
