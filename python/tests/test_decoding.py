@@ -34,6 +34,14 @@ def test_strips_are_their_pictures():
     assert seen > 500
 
 
+def test_a_picture_has_zeros_after_its_rows():
+    for black_is_1, row in ((False, b"\x18\x00"), (True, b"\xe7\x80")):
+        data = hayro_ccitt.encode(b"\x18\x00", 9, k=-1, black_is_1=True)
+        picture = hayro_ccitt.decode(data, 9, k=-1, black_is_1=black_is_1)
+        assert picture.pbm() == b"P4\n9 1\n" + row
+        assert picture.pbm(3) == b"P4\n9 3\n" + row + bytes(4)
+
+
 def test_whole_as_in_c(answers):
     results = set()
     for words, data, lines in answers:

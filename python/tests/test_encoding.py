@@ -34,6 +34,18 @@ def test_every_setting_decodes_to_the_bitmap():
     assert (encoded, refused) == (4 * (4 + 3 * (4 + 2)), 4 * 64 - 4 * 22)
 
 
+def test_k_says_how_many_lines_are_two_dimensional():
+    rows = len(SMALL) // 5
+    found = []
+    for k in (1, 2, 4):
+        data = hayro_ccitt.encode(SMALL, 33, k=k, end_of_line=True, end_of_block=False)
+        bits = "".join(f"{byte:08b}" for byte in data)
+        assert bits.count("0" * 11 + "1") == rows  # EOLs
+        found.append(bits.count("0" * 11 + "11"))  # and the tag of a one-dimensional line
+        assert found[-1] >= -(-rows // k)
+    assert found[0] == rows > found[1] > found[2]
+
+
 def test_a_page_is_as_small_as_by_other_encoders():
     strip = (ROOT / "corpus/strips/page/gs-g4").read_bytes()
     assert len(hayro_ccitt.encode(PAGE, 1240, k=-1, black_is_1=True, end_of_block=False)) <= len(strip)
