@@ -6,8 +6,9 @@ use Rattle.fax_encode.proofs.Names.{cases_lt, length-append, Color, White, Black
 use Rattle.fax_encode.proofs.Names.{word_of_length, chosen_rest, first_makeup, shortest_words, shortest_run, ShortestRuns}
 use Rattle.fax_encode.proofs.ChosenWords.{makeup_word, rest_spelled}
 use Rattle.std.proofs.lemmas.Bool.{agree_below, lt-leb, ne_eqb}
-use Rattle.fax_encode.proofs.Names.{chosen_run, ◌⊎◌, append_assoc, flat_map, ltb-true, replicate}
+use Rattle.fax_encode.proofs.Names.{chosen_run, ◌⊎◌, ltb-true}
 use Rattle.fax_encode.proofs.RunLengths.{run_parts}
+use Rattle.fax_encode.proofs.RunsWritten.{run_more, run_rest}
 use Rattle.std.proofs.lemmas.Bool.{or_cases}
 
 -- ---- Bits of make-up words, in times of 64 pixels.
@@ -366,25 +367,6 @@ dearer Black times many = elim (cases_lt times 124) [
   | inr late ↦ inl (first_late Black times late)
 ]
 
--- a run of 2560 pixels and more begins with their word
-chosen_longer : (color : Color) (n : ℕ) → 2560 ≤ n
-    → chosen_run color n ≡ word_of_length color 2560 ++ chosen_run color (n - 2560)
-chosen_longer color n many =
-    let word : Bits = word_of_length color 2560 in
-    let times : n / 2560 ≡ suc ((n - 2560) / 2560) = omega arith in
-    let same : n % 2560 ≡ (n - 2560) % 2560 = omega arith in
-    let words : Bits = flat_map (λ word. word) (replicate ((n - 2560) / 2560) word) in
-    ap (λ (m : ℕ). flat_map (λ word. word) (replicate m word) ++ chosen_rest color (n % 2560)) times
-    ∙ (ap (λ (m : ℕ). (word ++ words) ++ chosen_rest color m) same
-    ∙ append_assoc word words (chosen_rest color ((n - 2560) % 2560)))
-
-chosen_short : (color : Color) (n : ℕ) → n < 2560 → chosen_run color n ≡ chosen_rest color n
-chosen_short color n few =
-    let none : n / 2560 ≡ 0 = omega arith in
-    let same : n % 2560 ≡ n = omega arith in
-    ap (λ (m : ℕ). flat_map (λ word. word) (replicate m (word_of_length color 2560)) ++ chosen_rest color (n % 2560)) none
-    ∙ ap (chosen_rest color) same
-
 -- a word of 2560 pixels and a terminating word
 chosen_seam : (color : Color) (n : ℕ) → 2560 ≤ n → n < 2624 → chosen_rest color n ≡ chosen_run color n
 chosen_seam color n many few =
@@ -397,17 +379,17 @@ chosen_seam color n many few =
     let mine : chosen_rest color n ≡ word_of_length color 2560 ++ word_of_length color last
     = rw (e, word, same) refl in
     let behind : chosen_rest color last ≡ word_of_length color last = rw (f, kept) refl in
-    mine ∙ (ap (λ (b : Bits). word_of_length color 2560 ++ b) (sym (chosen_short color last (omega arith) ∙ behind))
-    ∙ sym (chosen_longer color n many))
+    mine ∙ (ap (λ (b : Bits). word_of_length color 2560 ++ b) (sym (run_rest color last (omega arith) ∙ behind))
+    ∙ sym (run_more color n many))
 
 usual_kept : (color : Color) (words n : ℕ) → n < 1664 * suc words
     → length (chosen_run color n) ≤ length (shortest_words color words n) → shortest_words color words n ≡ chosen_run color n
-usual_kept color zero n lt le = sym (chosen_short color n (omega arith))
+usual_kept color zero n lt le = sym (run_rest color n (omega arith))
 usual_kept color (suc words) n lt le = elim (cases_lt n 2624) [
   | inl few ↦
       let e : ltb n 2624 ≡ true = lt-ltb n 2624 few in
       rw e (elim (cases_lt n 2560) [
-        | inl short ↦ sym (chosen_short color n short)
+        | inl short ↦ sym (run_rest color n short)
         | inr seam ↦ chosen_seam color n seam few
       ])
   | inr many ↦
@@ -417,7 +399,7 @@ usual_kept color (suc words) n lt le = elim (cases_lt n 2624) [
             let left : ℕ = n - 2560 in
             let front : Bits = word_of_length color 2560 in
             let mine : shortest_words color (suc words) n ≡ front ++ shortest_words color words left = rw (e, same) refl in
-            let other = chosen_longer color n (omega arith) in
+            let other = run_more color n (omega arith) in
             let on = usual_kept color words left (omega (arith, lt)) (omega (
               arith,
               le,
