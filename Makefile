@@ -4,6 +4,7 @@
 #   make check                runs what was built on the first program of hayro_ccitt.h and on a picture
 #   make install PREFIX=DIR   headers, libraries, hayro_ccitt.pc, manual pages and programs; DESTDIR is respected
 #   make uninstall PREFIX=DIR
+#   make dist                 the packages of a release, in build/dist
 #   make clean                removes build/; the results of proofs in crates/*/out stay
 #
 # `rt`, of the Rattle kit, proves and compiles the crates first. JOBS=1 runs it with one job at a time.
@@ -35,7 +36,12 @@ HEADERS = c/hayro_ccitt.h c/fax_encode.h c/hayro_ccitt_heap.h
 CALLS = hayro_ccitt_measure hayro_ccitt_decode_packed hayro_ccitt_decode_changes \
 	hayro_ccitt_open hayro_ccitt_next_changes hayro_ccitt_next_packed hayro_ccitt_close fax_encode_bitmap \
 	fax_encode_open fax_encode_row_packed fax_encode_row_changes fax_encode_finish fax_encode_close
-EXAMPLES = strip_to_pbm pbm_to_strip fax2pbm rows_to_pbm rows_to_strip
+EXAMPLES = strip_to_pbm pbm_to_strip rows_to_pbm rows_to_strip
+# fax writes PNG and reads compressed PDF by zlib, where pkg-config finds it; WITH_ZLIB= builds it without.
+WITH_ZLIB ?= $(shell pkg-config --exists zlib 2>/dev/null && echo zlib)
+ZLIB_FLAGS = $(if $(WITH_ZLIB),-DFAX_HAVE_ZLIB $(shell pkg-config --cflags zlib))
+ZLIB_LIBS = $(if $(WITH_ZLIB),$(shell pkg-config --libs zlib))
+COMPLETIONS ?= $(PREFIX)/share/bash-completion/completions
 
 SHARED = libhayro_ccitt.so.$(VERSION)
 SONAME = libhayro_ccitt.so.$(INTERFACE)
@@ -45,7 +51,7 @@ OBJECTS = $(BUILD)/proved.o $(BUILD)/calls.o $(BUILD)/heap.o
 
 all: library programs
 library: $(BUILD)/libhayro_ccitt.a $(BUILD)/libhayro_ccitt.so $(BUILD)/hayro_ccitt.pc
-programs: prove-programs $(BUILD)/faxrows $(BUILD)/faxpack $(EXAMPLES:%=$(BUILD)/%)
+programs: prove-programs $(BUILD)/faxrows $(BUILD)/faxpack $(BUILD)/fax2pbm $(EXAMPLES:%=$(BUILD)/%)
 
 # rt itself rebuilds what has changed, and what depends on it.
 prove-library:
@@ -81,6 +87,10 @@ $(BUILD)/faxrows: $(FAXROWS) | $(BUILD)
 	cp $< $@
 $(BUILD)/faxpack: $(FAXPACK) | $(BUILD)
 	cp $< $@
+$(BUILD)/fax: $(wildcard tools/fax/*.[ch]) $(HEADERS) $(BUILD)/libhayro_ccitt.a
+	$(CC) $(CFLAGS) $(WARNINGS) -std=c99 -Ic $(ZLIB_FLAGS) $(LDFLAGS) -o $@ $(filter %.c,$^) $(BUILD)/libhayro_ccitt.a $(ZLIB_LIBS)
+$(BUILD)/fax2pbm: $(BUILD)/fax
+	cp $< $@
 $(BUILD)/%: examples/%.c $(HEADERS) $(BUILD)/libhayro_ccitt.a
 	$(CC) $(CFLAGS) $(WARNINGS) -std=c99 -Ic $(LDFLAGS) -o $@ $< $(BUILD)/libhayro_ccitt.a
 
@@ -93,7 +103,8 @@ check: all
 	@echo "the first program and a picture: as they should be"
 
 install: $(if $(wildcard $(BUILD)/faxrows),,all)
-	$(INSTALL) -d $(DESTDIR)$(BINDIR) $(DESTDIR)$(LIBDIR)/pkgconfig $(DESTDIR)$(INCLUDEDIR) $(DESTDIR)$(MANDIR)/man1 $(DESTDIR)$(MANDIR)/man3
+	$(INSTALL) -d $(DESTDIR)$(BINDIR) $(DESTDIR)$(LIBDIR)/pkgconfig $(DESTDIR)$(INCLUDEDIR) $(DESTDIR)$(MANDIR)/man1 $(DESTDIR)$(MANDIR)/man3 \
+		$(DESTDIR)$(COMPLETIONS)
 	rm -f $(BUILD)/hayro_ccitt.pc
 	$(MAKE) --no-print-directory $(BUILD)/hayro_ccitt.pc
 	$(INSTALL) -m 644 $(HEADERS) $(DESTDIR)$(INCLUDEDIR)
@@ -102,15 +113,20 @@ install: $(if $(wildcard $(BUILD)/faxrows),,all)
 	ln -sf $(SHARED) $(DESTDIR)$(LIBDIR)/$(SONAME)
 	ln -sf $(SONAME) $(DESTDIR)$(LIBDIR)/libhayro_ccitt.so
 	$(INSTALL) -m 644 $(BUILD)/hayro_ccitt.pc $(DESTDIR)$(LIBDIR)/pkgconfig
-	$(INSTALL) -m 755 $(BUILD)/faxrows $(BUILD)/faxpack $(BUILD)/fax2pbm $(DESTDIR)$(BINDIR)
-	$(INSTALL) -m 644 man/faxrows.1 man/faxpack.1 $(DESTDIR)$(MANDIR)/man1
+	$(INSTALL) -m 755 $(BUILD)/faxrows $(BUILD)/faxpack $(BUILD)/fax $(DESTDIR)$(BINDIR)
+	ln -sf fax $(DESTDIR)$(BINDIR)/fax2pbm
+	$(INSTALL) -m 644 tools/fax/fax.bash $(DESTDIR)$(COMPLETIONS)/fax
+	$(INSTALL) -m 644 man/faxrows.1 man/faxpack.1 man/fax.1 man/fax2pbm.1 $(DESTDIR)$(MANDIR)/man1
 	$(INSTALL) -m 644 man/hayro_ccitt.3 $(DESTDIR)$(MANDIR)/man3
 
 uninstall:
 	cd $(DESTDIR)$(INCLUDEDIR) && rm -f $(notdir $(HEADERS))
 	cd $(DESTDIR)$(LIBDIR) && rm -f libhayro_ccitt.a $(SHARED) $(SONAME) libhayro_ccitt.so pkgconfig/hayro_ccitt.pc
-	cd $(DESTDIR)$(BINDIR) && rm -f faxrows faxpack fax2pbm
-	cd $(DESTDIR)$(MANDIR) && rm -f man1/faxrows.1 man1/faxpack.1 man3/hayro_ccitt.3
+	cd $(DESTDIR)$(BINDIR) && rm -f faxrows faxpack fax fax2pbm
+	cd $(DESTDIR)$(COMPLETIONS) && rm -f fax
+	cd $(DESTDIR)$(MANDIR) && rm -f man1/faxrows.1 man1/faxpack.1 man1/fax.1 man1/fax2pbm.1 man3/hayro_ccitt.3
 
 clean:
 	rm -rf $(BUILD)
+
+include dist.mk

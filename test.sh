@@ -1,6 +1,6 @@
 #!/usr/bin/env bash
 # All tests, in three parts that run in parallel. `rt ci` proves every crate from scratch, here. On a copy of the repository run
-# the edits (checks/edits.py), with what `rt ci` builds and stores, and, once all is built, the repository's other checks
+# the edits (checks/edits.py), over the libraries that `rt ci` builds, and, once all is built, the repository's other checks
 # (checks/run.py), except those of the test programs, which follow `rt ci`. The output of each part is printed when it has ended. The
 # exit status is 0 if all passed.
 cd "$(dirname "$0")" || exit 1
@@ -52,14 +52,13 @@ built_tests() {
     done
     python3 checks/run.py built_tests
 }
-# All processors but one for `rt ci`, if there is memory: a task takes up to 4 GB. Without RT_JOBS it counts more for the library, and
-# so tries the library's edits last, alone. checks/edits.py has what the other parts leave, and at least one processor.
+# All processors for `rt ci`, if there is memory: a task takes up to 4 GB. Without RT_JOBS it counts more for the library, and so
+# tries the library's edits last, alone. checks/edits.py has what the other parts leave, and at least one processor.
 available=$(awk '/^MemAvailable/ { print $2 }' /proc/meminfo)
 jobs=
-[ "${available:-0}" -ge 16000000 ] && jobs=$(($(nproc) > 1 ? $(nproc) - 1 : 1))
-# What `rt ci` runs as nobody lies among its temporary files.
-mkdir "$said/temporary" && chmod 711 "$said" "$said/temporary" && pwd >"$said/checkout" || exit 1
-part ci env TMPDIR="$said/temporary" RT_JOBS="$jobs" rt ci &
+[ "${available:-0}" -ge 16000000 ] && jobs=$(nproc)
+pwd >"$said/checkout" || exit 1
+part ci env RT_JOBS="$jobs" rt ci &
 ci=$!
 part edits python3 "$copy/checks/edits.py" --ready "$said/ready" --ci "$said" --beside 1 &
 edits=$!

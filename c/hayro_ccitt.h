@@ -104,7 +104,7 @@ uint32_t hayro_ccitt_decode_packed(const uint8_t *data, size_t data_length, cons
 uint32_t hayro_ccitt_decode_changes(const uint8_t *data, size_t data_length, const hayro_ccitt_settings *settings,
                                     uint32_t *lists, size_t lists_length, hayro_ccitt_outcome *outcome);
 
-/* Rows one at a time, in memory for two rows and the lookup tables, however long the data is: open a reader, read
+/* Rows one at a time, in memory for two rows, however long the data is: open a reader, read
  * rows until the status isn't HAYRO_CCITT_OK, and close the reader. The rows, the last status and bytes_read are those of
  * hayro_ccitt_decode_changes, except that HAYRO_CCITT_NO_ROW says what HAYRO_CCITT_OK says there. examples/rows_to_pbm.c is a
  * program that does so.

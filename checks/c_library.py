@@ -1,4 +1,5 @@
-"""Checks of the library for C: the example on real strips, and each call on cases with known results."""
+"""Checks of the library for C, as `make install` lays it down: the examples on real strips, and each call on cases with known
+results, of the static library and of the shared one, plain and with tools for memory."""
 import ctypes
 import os
 import random
@@ -8,8 +9,13 @@ import tempfile
 import program
 from built import is_newest
 
-CRATE = "crates/hayro_ccitt_c"
-LIBRARY = f"{CRATE}/out/libhayro_ccitt_c.a"
+# The library as `make` builds it, and with its C compiled for AddressSanitizer, UndefinedBehaviorSanitizer and LeakSanitizer. What is
+# proved is the same in both: its accesses are watched by pages around the caller's memory (lent.h).
+SANITIZED = ["-g", "-fsanitize=address,undefined", "-fno-sanitize-recover=all"]
+BUILDS = {"plain": ["-O2"], "sanitized": ["-O1", *SANITIZED]}
+INSTALLED = {name: os.path.abspath(f"build/checked/{name}/installed") for name in BUILDS}
+LIBRARY = f"{INSTALLED['plain']}/lib/libhayro_ccitt.a"
+SHARED = f"{INSTALLED['plain']}/lib/libhayro_ccitt.so"
 MODES = ["g4", "1d", "2d"]
 LETTERS = "blasr"
 # each byte with its bits in the other order
@@ -48,17 +54,41 @@ def settings_of(mode, columns, rows, flags):
 
 
 def build():
-    """The static library: it is proved and built here if a file is newer."""
-    if is_newest(LIBRARY, "hayro_ccitt_c"):
-        return
-    done = subprocess.run(["rt", "lib"], cwd=CRATE, capture_output=True, text=True, check=False)
-    assert done.returncode == 0 and os.path.exists(LIBRARY), done.stdout[-2000:] + done.stderr[-2000:]
+    """Each build of the library, installed: it is proved and built here if a file is newer."""
+    for name, flags in BUILDS.items():
+        library = f"{INSTALLED[name]}/lib/libhayro_ccitt.a"
+        own = ["Makefile", *(f"c/{file}" for file in os.listdir("c"))]
+        if is_newest(library, "hayro_ccitt_c") and os.path.getmtime(library) > max(map(os.path.getmtime, own)):
+            continue
+        linked = [word for word in flags if word.startswith("-fsanitize")]
+        # what is proved is built once
+        proved = ["-o", "prove-library", "-o", "prove-programs"] if name != "plain" else []
+        words = [*proved, f"BUILD=build/checked/{name}", f"PREFIX={INSTALLED[name]}", f"CFLAGS={' '.join(flags)}", f"LDFLAGS={' '.join(linked)}"]
+        for target in ("all", "install"):
+            done = subprocess.run(["make", *words, target], capture_output=True, text=True, check=False)
+            assert done.returncode == 0, done.stdout[-2000:] + done.stderr[-2000:]
 
 
-def compiled(out, *words):
-    command = ["gcc", "-O2", "-Wall", "-Wextra", "-Werror", "-std=c11", "-Ic", "-o", out, *words]
+def compiled(out, *words, build="plain"):
+    """A program, over the headers of an installed library."""
+    command = ["gcc", *BUILDS[build], "-Wall", "-Wextra", "-Werror", "-std=gnu11", f"-I{INSTALLED[build]}/include", "-o", out, *words]
     subprocess.run(command, check=True)
     return out
+
+
+def by_each_library(driver, text):
+    """What a driver of this folder prints for its input, over each installed library: static, with the caller's memory before a page
+    that may not be touched, and shared, with the memory behind one."""
+    printed = set()
+    with tempfile.TemporaryDirectory() as folder:
+        for build, installed in INSTALLED.items():
+            library = f"{installed}/lib"
+            for link, front in ([f"{library}/libhayro_ccitt.a"], {}), ([f"-L{library}", "-lhayro_ccitt"], {"FRONT": "1", "LD_LIBRARY_PATH": library}):
+                path = compiled(f"{folder}/driver", f"checks/{driver}.c", *link, build=build)
+                done = subprocess.run([path], input=text, capture_output=True, text=True, check=False, timeout=600, env={**os.environ, **front})
+                assert (done.returncode, done.stderr) == (0, ""), (driver, build, link, done.returncode, done.stdout[-500:] + done.stderr[-2000:])
+                printed.add(done.stdout)
+    return printed
 
 
 def example_on_strips():
@@ -66,10 +96,8 @@ def example_on_strips():
     build()
     strips = runs = size = 0
     with tempfile.TemporaryDirectory() as folder:
-        example = compiled(f"{folder}/strip_to_pbm", "examples/strip_to_pbm.c", "c/heap.c", LIBRARY)
-        with open("corpus/manifest.tsv", encoding="utf-8") as file:
-            lines = [line.rstrip("\n").split("\t") for line in file if not line.startswith("#")]
-        for name, strip, mode, columns, rows, settings, picture, first, *_ in lines:
+        example = compiled(f"{folder}/strip_to_pbm", "examples/strip_to_pbm.c", LIBRARY)
+        for name, strip, mode, columns, rows, settings, picture, first, *_ in manifest():
             width = (int(columns) + 7) // 8
             with open(f"corpus/{strip}", "rb") as file:
                 data = file.read()
@@ -91,10 +119,12 @@ def example_on_strips():
     print(f"  {strips} strips, {runs} runs, {size} bytes of pictures compared")
 
 
-def loaded(folder, heap="c/heap.c"):
-    """The library in this process, with this memory."""
-    path = compiled(f"{folder}/library.so", "-shared", "-fPIC", heap, "-Wl,--whole-archive", LIBRARY, "-Wl,--no-whole-archive")
-    return ctypes.CDLL(path)
+def loaded(folder, heap=None):
+    """The shared library in this process, with its own allocator or with that of a file, which replaces it."""
+    if not heap:
+        return ctypes.CDLL(SHARED)
+    linked = ["-Wl,--no-as-needed", f"-Wl,-rpath,{os.path.dirname(SHARED)}", f"-L{os.path.dirname(SHARED)}", "-lhayro_ccitt"]
+    return ctypes.CDLL(compiled(f"{folder}/heap.so", "-shared", "-fPIC", heap, *linked), mode=ctypes.RTLD_GLOBAL)
 
 
 def called(call, data, settings, *memory):
@@ -124,63 +154,64 @@ def packed_row(columns, changes):
     return bits.to_bytes(width, "big")
 
 
+def joined(*numbers):
+    return " ".join(map(str, numbers))
+
+
+def known_cases():
+    """Each case as a line that `known_calls.c` reads, in either order of bits; and settings that aren't taken."""
+    with open("corpus/cases.tsv", encoding="utf-8") as file:
+        lines = [line.rstrip("\n").split("\t") for line in file if not line.startswith("#")]
+    for words, text, expected in lines:
+        data, settings = program.bytes_of(text), settings_of(*words.split())
+        *rows, last = expected.split("/")
+        rows = [[int(number) for number in row.split()[1:]] for row in rows]
+        answer, lists = ANSWERS.get(last, 0), [number for row in rows for number in (len(row), *row)]
+        told = joined(answer, len(rows), len(lists) - len(rows), 0 if answer else int(last.split()[1]), len(lists), *lists)
+        for flags, turned in ((settings.flags, data), (settings.flags ^ 16, data.translate(MIRRORED))):
+            yield f"d {joined(settings.encoding, settings.columns, settings.rows, flags)} {turned.hex() or '-'} {told}\n"
+    for encoding, flags in ((3, 0), (0, 32), (2, 1 << 31)):
+        yield f"d {encoding} 8 0 {flags} 80 6 0 0 0 0\n"
+
+
 def calls_on_known_cases():
-    """Each call on each case: its status, its outcome, what it writes, and that it writes nothing else; then with one byte or
-    number less than the rows need."""
+    """Each call on each case: its status, its outcome, what it writes, and that it writes nothing else, nor holds a block; with exactly
+    enough room, with more, with less, and with none."""
     build()
-    cases = seen = refused = 0
-    with tempfile.TemporaryDirectory() as folder:
-        library = loaded(folder)
-        with open("corpus/cases.tsv", encoding="utf-8") as file:
-            lines = [line.rstrip("\n").split("\t") for line in file if not line.startswith("#")]
-        for words, text, expected in lines:
-            data, settings = program.bytes_of(text), settings_of(*words.split())
-            *rows, last = expected.split("/")
-            rows = [[int(number) for number in row.split()[1:]] for row in rows]
-            changes = sum(map(len, rows))
-            answer = ANSWERS.get(last, 0)
-            told = (len(rows), changes, 0 if answer else int(last.split()[1]))
-            assert called(library.hayro_ccitt_measure, data, settings) == (answer, told), words + text
-            mirrored, low_first = data.translate(MIRRORED), settings_of(*words.split())
-            low_first.flags ^= 16
-            assert called(library.hayro_ccitt_measure, mirrored, low_first) == (answer, told), words + text
-            cases += 1
-            lists = [number for row in rows for number in (len(row), *row)]
-            memory = numbers_lent(len(lists))
-            assert called(library.hayro_ccitt_decode_changes, data, settings, memory) == (answer, told), words + text
-            assert list(memory) == lists + [0xA5A5A5A5] * GUARD, words + text
-            memory = numbers_lent(len(lists))
-            assert called(library.hayro_ccitt_decode_changes, mirrored, low_first, memory) == (answer, told), words + text
-            assert list(memory) == lists + [0xA5A5A5A5] * GUARD, words + text
-            seen += 2
-            width = (settings.columns + 7) // 8
-            if width * len(rows) < 1 << 20:
-                picture = b"".join(packed_row(settings.columns, row) for row in rows)
-                memory = bytes_lent(len(picture))
-                assert called(library.hayro_ccitt_decode_packed, data, settings, memory) == (answer, told), words + text
-                assert bytes(memory) == picture + b"\xa5" * GUARD, words + text
-                seen += 1
-                if picture:
-                    memory = bytes_lent(len(picture) - 1)
-                    less = (len(rows) - 1, changes - len(rows[-1]), 0)
-                    assert called(library.hayro_ccitt_decode_packed, data, settings, memory) == (5, less), words + text
-                    assert bytes(memory) == picture[: width * less[0]] + b"\xa5" * (width - 1 + GUARD), words + text
-                    refused += 1
-            if lists:
-                memory = numbers_lent(len(lists) - 1)
-                less = (len(rows) - 1, changes - len(rows[-1]), 0)
-                kept = len(lists) - 1 - len(rows[-1])
-                assert called(library.hayro_ccitt_decode_changes, data, settings, memory) == (5, less), words + text
-                assert list(memory) == lists[:kept] + [0xA5A5A5A5] * (len(rows[-1]) + GUARD), words + text
-                refused += 1
-        for settings in [Settings(8, 0, 3, 0), Settings(8, 0, 0, 32), Settings(8, 0, 2, 1 << 31)]:
-            memory = bytes_lent(8)
-            assert called(library.hayro_ccitt_measure, b"\x80", settings) == (6, (0, 0, 0))
-            assert called(library.hayro_ccitt_decode_packed, b"\x80", settings, memory) == (6, (0, 0, 0))
-            assert called(library.hayro_ccitt_decode_changes, b"\x80", settings, numbers_lent(8)) == (6, (0, 0, 0))
-            assert set(memory) == {0xA5}
-    assert cases > 0 and seen > cases
-    print(f"  {cases} cases measured, {seen} calls that write, {refused} with too little room")
+    print(*(f"  {line}" for line in by_each_library("known_calls", "".join(known_cases()))), sep="", end="")
+
+
+def manifest():
+    with open("corpus/manifest.tsv", encoding="utf-8") as file:
+        return [line.rstrip("\n").split("\t") for line in file if not line.startswith("#")]
+
+
+def examples_by_rows():
+    """rows_to_pbm and rows_to_strip, as `make` builds them, on each strip of Group 4 with EOFB: its rows, and a strip of them with the
+    same rows."""
+    build()
+    seen = 0
+    for name, strip, mode, columns, rows, settings, picture, first, *_ in manifest():
+        if mode == "g4" and "0:b" in settings.split(","):
+            width = (int(columns) + 7) // 8
+            with open(f"corpus/{picture}", "rb") as file:
+                packed = file.read()[int(first) * width : (int(first) + int(rows)) * width]
+            for built in (f"build/checked/{kind}" for kind in BUILDS):
+                with tempfile.NamedTemporaryFile() as again:
+                    again.write(ran(packed, f"{built}/rows_to_strip", columns))
+                    again.flush()
+                    for file in (f"corpus/{strip}", again.name):
+                        assert ran(b"", f"{built}/rows_to_pbm", file, columns) == packed, (name, built)
+            seen += 1
+    assert seen > 0
+    print(f"  {seen} strips")
+
+
+def ran(data, *words):
+    """What a command writes."""
+    done = subprocess.run(words, input=data, capture_output=True, check=False, timeout=60)
+    assert (done.returncode, done.stderr) == (0, b""), (words, done.returncode, done.stderr[-2000:])
+    return done.stdout
 
 
 def missed_eols_are_told():
@@ -200,9 +231,7 @@ def flips_are_told():
     """A bit of a large strip of Group 3 with EOLs is flipped, at 400 places. Where a strict run ends well, a lenient one repairs no
     row and misses no EOL. How often either tells of a picture that differs is printed."""
     build()
-    with open("corpus/manifest.tsv", encoding="utf-8") as file:
-        lines = [line.rstrip("\n").split("\t") for line in file if not line.startswith("#")]
-    strips = {line[1]: line[2:5] for line in lines if line[2] == "1d" and f"{line[4]}:l" in line[5].split(",")}
+    strips = {line[1]: line[2:5] for line in manifest() if line[2] == "1d" and f"{line[4]}:l" in line[5].split(",")}
     largest = sorted(strips, key=lambda name: (os.path.getsize(f"corpus/{name}"), name))[-4:]
     changed = strictly = repaired = told = 0
     chosen = random.Random(4)
@@ -241,7 +270,7 @@ def example_without_memory():
     whole = (0, b"P4\n8 2\n\x18\x18", b"")
     ended = [(2, picture, b"strip_to_pbm: out of memory\n") for picture in (b"", b"P4\n8 0\n", b"P4\n8 1\n\x18")]
     with tempfile.TemporaryDirectory() as folder:
-        example = compiled(f"{folder}/strip_to_pbm", "examples/strip_to_pbm.c", "c/heap.c", LIBRARY)
+        example = compiled(f"{folder}/strip_to_pbm", "examples/strip_to_pbm.c", LIBRARY)
         shim = f"{folder}/refuse.so"
         subprocess.run(["gcc", "-shared", "-fPIC", "-o", shim, "checks/refuse.c", "-ldl"], check=True)
         for number in range(1, 100):
@@ -259,4 +288,4 @@ def example_without_memory():
     print(f"  {seen} allocations refused in turn")
 
 
-CHECKS = [example_on_strips, calls_on_known_cases, missed_eols_are_told, flips_are_told, example_without_memory]
+CHECKS = [example_on_strips, examples_by_rows, calls_on_known_cases, missed_eols_are_told, flips_are_told, example_without_memory]

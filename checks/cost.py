@@ -1,6 +1,9 @@
 """Checks of what decoding and encoding cost: data that is made to be slow costs in proportion to its length, and no more
-instructions a byte than are listed here, nor than the Rust crate. The results are compared with known ones, which follow by
-rule."""
+instructions a byte than are listed here, nor than the Rust crate; real pages cost what cost.tsv says. The results are compared with
+known ones, which follow by rule.
+
+    python3 checks/cost.py --write    measures the pages, and writes cost.tsv anew
+"""
 import collections
 import os
 import re
@@ -10,6 +13,7 @@ import sys
 import tempfile
 
 import c_library
+import packing
 import program
 from left_out import leave_out
 
@@ -25,7 +29,7 @@ MOST = 4.5
 # by what factor a shape may exceed its measured instructions a byte
 SLACK = 1.5
 # how many seconds a run under callgrind may take
-LIMIT = 120
+LIMIT = 300
 
 EOL = "000000000001"
 HORIZONTAL, PASS, V0 = "001", "0001", "1"
@@ -255,7 +259,7 @@ def slow_shapes():
     c_library.build()
     worse = []
     with tempfile.TemporaryDirectory() as folder:
-        driver = c_library.compiled(f"{folder}/driver", "bench/driver.c", "c/heap.c", c_library.LIBRARY)
+        driver = c_library.compiled(f"{folder}/driver", "bench/driver.c", c_library.LIBRARY)
         for shape, encoding, flags, of_size, measured, of_crate in SHAPES:
             costs = []
             for size in SIZES:
@@ -275,31 +279,33 @@ def slow_shapes():
     print(f"  {len(SHAPES)} shapes")
 
 
-# An encoding, how many bits a row of a number of alternate pixels has with what is around it, and the measured instructions a
-# byte. In Group 4 the last four pixels are vertical modes, since b1 is the row's end: 7, 6, 3 and 1 bits.
+# An encoding, a number of equal rows, how many bits rows of a number of alternate pixels have with what is around them, and the
+# measured instructions a byte. In Group 4 the last four pixels of the first row are vertical modes, since b1 is the row's end: 7, 6,
+# 3 and 1 bits; a row below it has one bit for each change and for its end.
 DENSE_ROWS = [
-    ("Group 4", GROUP_4, lambda columns: 12 * (columns - 4) // 2 + 17 + 24, 575),
-    ("Group 3", ONE_DIMENSIONAL, lambda columns: 12 + 9 * columns // 2 + 72, 300),
+    ("Group 4", GROUP_4, 1, lambda columns: 12 * (columns - 4) // 2 + 17 + 24, 575),
+    ("Group 4", GROUP_4, 3, lambda columns: 12 * (columns - 4) // 2 + 17 + 2 * columns + 24, 435),
+    ("Group 3", ONE_DIMENSIONAL, 1, lambda columns: 12 + 9 * columns // 2 + 72, 300),
 ]
 WIDTHS = (1 << 15, 1 << 17)
 
 
 def encoding_dense_rows():
-    """The encoder's work on one row is in proportion to its changes."""
+    """The encoder's work on a row is in proportion to its changes, and to those of the row above."""
     if not shutil.which("valgrind"):
         leave_out("the cost of encoding", "valgrind")
         return
     c_library.build()
     worse = []
     with tempfile.TemporaryDirectory() as folder:
-        driver = c_library.compiled(f"{folder}/driver", "checks/measured_encoding.c", "c/heap.c", c_library.LIBRARY)
-        for shape, encoding, bits, measured in DENSE_ROWS:
+        driver = c_library.compiled(f"{folder}/driver", "checks/measured_encoding.c", c_library.LIBRARY)
+        for shape, encoding, rows, bits, measured in DENSE_ROWS:
             costs = []
             for columns in WIDTHS:
-                cost, printed = instructions(folder, [driver, str(encoding), str(columns)])
-                assert printed == f"0 1 {(bits(columns) + 7) // 8}\n".encode(), (shape, columns, printed)
+                cost, printed = instructions(folder, [driver, str(encoding), str(columns), str(rows)])
+                assert printed == f"0 {rows} {(bits(columns) + 7) // 8}\n".encode(), (shape, columns, printed)
                 costs.append(cost)
-            too_slow(f"a dense row by {shape}", costs, [columns // 8 for columns in WIDTHS], measured, worse)
+            too_slow(f"{rows} dense rows by {shape}", costs, [rows * columns // 8 for columns in WIDTHS], measured, worse)
     assert not worse, worse
 
 
@@ -330,4 +336,89 @@ def runs_of_the_program():
     assert not worse, worse
 
 
-CHECKS = [slow_shapes, encoding_dense_rows, runs_of_the_program]
+# A page of a scanner in each kind of picture, the ways that measured_pages.c measures, in its order, and those of the programs.
+PAGE, COLUMNS, ROWS = "corpus/pictures/page", 1240, 1754
+PAGES = ["text", "scan", "halftone", "dither"]
+WAYS = ["encode", "measure", "packed", "changes", "next_packed", "next_changes", "row_packed", "row_changes"]
+PROGRAM_WAYS = {"faxrows": [""], "faxrows -o": ["-o"], "faxrows -i": ["-i"], "faxrows -d": ["-d"]}
+PICTURES = [("g4", "b"), ("1d", "lb"), ("2d", "lb")]
+TABLE = "checks/cost.tsv"
+# by what factor a page may cost more than the table says, or less before the table is written anew
+NEAR = 1.1
+
+
+def costs_of_pages():
+    """The instructions a change of each way on each page, in each encoding: a page has a row limit, as a strip of a TIFF has one; the
+    programs read the page of text to its end."""
+    with tempfile.TemporaryDirectory() as folder:
+        driver = c_library.compiled(f"{folder}/driver", "checks/measured_pages.c", c_library.LIBRARY)
+        for page in PAGES:
+            for encoding, (mode, _) in enumerate(PICTURES):
+                words = [driver, page, str(encoding), str(COLUMNS), str(ROWS), *([PAGE] if page in ("text", "scan") else [])]
+                counts, printed = instructions_of_each(folder, words)
+                assert len(counts) == len(WAYS), (page, mode, counts)
+                for way, count in zip(WAYS, counts):
+                    yield page, mode, way, count / int(printed)
+                changes = int(printed) if page == PAGES[0] else changes
+        with open(PAGE, "rb") as file:
+            bitmap = file.read()
+        for mode, flags in PICTURES:
+            words = ["-o", mode, str(COLUMNS), str(ROWS), flags]
+            with open(PAGE, "rb") as stdin:
+                cost, strip = instructions(folder, [packing.PROGRAM, *words], whole=True, stdin=stdin)
+            yield PAGES[0], mode, "faxpack", cost / changes
+            with open(f"{folder}/strip", "wb") as file:
+                file.write(strip)
+            for way, first in PROGRAM_WAYS.items():
+                with open(f"{folder}/strip", "rb") as stdin:
+                    cost, written = instructions(folder, [program.PROGRAM, *filter(None, first), mode, str(COLUMNS), "0", flags], whole=True, stdin=stdin)
+                assert first != ["-o"] or written == bitmap, (mode, way)
+                yield PAGES[0], mode, way, cost / changes
+
+
+def instructions_of_each(folder, command):
+    """What each call `measured` of a command costs, and what the command prints."""
+    out = f"{folder}/callgrind"
+    words = ["valgrind", "--tool=callgrind", f"--callgrind-out-file={out}", "--toggle-collect=measured", "--dump-after=measured", *command]
+    done = subprocess.run(words, capture_output=True, check=True, timeout=LIMIT)
+    counts = []
+    while os.path.exists(f"{out}.{len(counts) + 1}"):
+        with open(f"{out}.{len(counts) + 1}", encoding="utf-8", errors="replace") as file:
+            counts.append(int(re.search(r"^(?:summary|totals): (\d+)", file.read(), re.MULTILINE)[1]))
+    for number in range(len(counts)):
+        os.remove(f"{out}.{number + 1}")
+    return counts, done.stdout
+
+
+def real_pages():
+    """Each way on each page costs what the table says, or at most a tenth more; and if it costs much less, the table is old."""
+    if not shutil.which("valgrind"):
+        leave_out("the cost of pages", "valgrind")
+        return
+    c_library.build()
+    with open(TABLE, encoding="utf-8") as file:
+        known = {tuple(line.split("\t")[:3]): float(line.split("\t")[3]) for line in file if not line.startswith("#")}
+    found = {(page, mode, way): cost for page, mode, way, cost in costs_of_pages()}
+    assert found.keys() == known.keys(), found.keys() ^ known.keys()
+    slower = [f"{' '.join(key)}: {cost:.1f} instructions a change, not {known[key]}" for key, cost in found.items() if cost > NEAR * known[key]]
+    assert not slower, "\n".join(slower)
+    faster = [f"{' '.join(key)}: {cost:.1f} instructions a change, not {known[key]}" for key, cost in found.items() if NEAR * cost < known[key]]
+    assert not faster, "\n".join(["faster now: python3 checks/cost.py --write", *faster])
+    print(f"  {len(found)} ways on pages")
+
+
+def write_table():
+    c_library.build()
+    with open(TABLE, "w", encoding="utf-8") as file:
+        file.write("# page, encoding, way, instructions a change: python3 checks/cost.py --write\n")
+        for page, mode, way, cost in costs_of_pages():
+            file.write(f"{page}\t{mode}\t{way}\t{cost:.1f}\n")
+
+
+CHECKS = [slow_shapes, encoding_dense_rows, real_pages, runs_of_the_program]
+
+if __name__ == "__main__":
+    if sys.argv[1:] != ["--write"]:
+        sys.exit(__doc__)
+    os.chdir(os.path.join(os.path.dirname(os.path.abspath(__file__)), ".."))
+    write_table()

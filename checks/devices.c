@@ -1,6 +1,7 @@
 /* Loaded before a program, this changes how standard input and output behave. With READ_BYTES or WRITE_BYTES a call reads or
    writes at most that many bytes; with READ_FAILS or WRITE_FAILS the call with that number fails; with WRITE_TAKES_NONE the call
-   with that number writes nothing. A device that is called again after that says so on standard error. */
+   with that number writes nothing. A device that is called again after that says so on standard error. With INTERRUPTED a signal
+   interrupts that many calls before each other one. */
 #define _GNU_SOURCE
 #include <dlfcn.h>
 #include <errno.h>
@@ -8,7 +9,7 @@
 #include <unistd.h>
 
 typedef struct {
-    long calls;
+    long calls, interrupted;
     int has_failed;
 } device;
 
@@ -37,6 +38,15 @@ static int is_named(device *device, const char *name) {
     return 1;
 }
 
+static int is_interrupted(device *device) {
+    if (device->interrupted++ < number("INTERRUPTED")) {
+        errno = EINTR;
+        return 1;
+    }
+    device->interrupted = 0;
+    return 0;
+}
+
 static void count_call(device *device) {
     device->calls++;
     if (device->has_failed && real_write(2, "asked again\n", 12) < 0) _exit(99);
@@ -46,6 +56,7 @@ ssize_t read(int file, void *bytes, size_t count) {
     static ssize_t (*real)(int, void *, size_t);
     if (!real) real = (ssize_t (*)(int, void *, size_t))dlsym(RTLD_NEXT, "read");
     if (file != 0) return real(file, bytes, count);
+    if (is_interrupted(&input)) return -1;
     count_call(&input);
     if (is_named(&input, "READ_FAILS")) {
         errno = EIO;
@@ -56,6 +67,7 @@ ssize_t read(int file, void *bytes, size_t count) {
 
 ssize_t write(int file, const void *bytes, size_t count) {
     if (file != 1) return real_write(file, bytes, count);
+    if (is_interrupted(&output)) return -1;
     count_call(&output);
     if (is_named(&output, "WRITE_FAILS")) {
         errno = EIO;

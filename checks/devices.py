@@ -11,7 +11,8 @@ CANNOT_READ, CANNOT_WRITE = b"faxrows: cannot read\n", b"faxrows: cannot write\n
 
 def each_read_and_write():
     """A reader of one byte at a time, and one that fails at each of its reads; writers that write one byte or three at a time, that
-    fail at each write, and that write nothing there. None is called again after it failed."""
+    fail at each write, and that write nothing there. None is called again after it failed; one that a signal interrupts is, up to a
+    thousand times."""
     readers = writers = 0
     with tempfile.TemporaryDirectory() as folder:
         devices = refusals.shim(folder, "devices")
@@ -28,6 +29,9 @@ def each_read_and_write():
                 whole, all_words = (0, text, b""), first + words
                 assert run(all_words, data) == whole, all_words
                 assert run(all_words, data, READ_BYTES=1) == whole, all_words
+                for times in (1, 1000):
+                    assert run(all_words, data, READ_BYTES=3, WRITE_BYTES=3, INTERRUPTED=times) == whole, (all_words, times)
+                assert run(all_words, data, INTERRUPTED=1001) == (3, b"", CANNOT_READ), all_words
                 for number in range(1, len(data) + 2):
                     assert run(all_words, data, READ_BYTES=1, READ_FAILS=number) == (3, b"", CANNOT_READ), (all_words, number)
                     readers += 1

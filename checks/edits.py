@@ -7,6 +7,7 @@
     python3 checks/edits.py --show             also prints what refused each edit
     python3 checks/edits.py --keep FOLDER      writes what each check printed into this folder
     python3 checks/edits.py --write            writes into the edits what refused them: see below
+    python3 checks/edits.py --twins            tries which written answers `search rules` replaces, and writes their lines into the edits
     python3 checks/edits.py --anew             also those that an earlier run on this machine refused: see below
     python3 checks/edits.py --ci FOLDER        takes from an `rt ci` that runs beside what it makes: see below
     python3 checks/edits.py --beside N         as many checks in parallel as other programs leave processors, at least N
@@ -19,26 +20,23 @@ clause. FUNCTION is its name as a check prints it, without the crate's: group3::
 An edit is refused for its reason if that goal stays open: a search for it ended without a proof, values were found at which it
 is false, or its written proof no longer fits. A search that gave up at its limits, a name that a proof file lost, and a
 function that only calls one that isn't proved, show nothing. If the check's own searches gave up at the goal, it is tried once
-more by `search rules` alone, which ends. A line 'search: GOAL' in the edit names a goal of the function that stays open and has no
-written answer: it is tried by `search rules` from the start, which takes half the time, since the check then prints no help.
+more by `search rules` alone, which ends. A line 'search: GOAL' in the edit names a goal of the function that stays open: it is tried by
+`search rules` from the start, which takes half the time, since the check then prints no help. If it has a written answer, that is
+left out, and the unedited body must be proved by the same search: so the edit isn't refused for its form. An edit whose clause has a
+written answer and no such line is refused because that answer no longer fits: the last lines say how many these are.
 
-Edits of different functions are checked together, each batch on a copy of the crate and of what a check of the crate without
-edits stored. They start when all crates are checked so, since other checks wait for that. A goal of a function isn't
-searched for while one that it calls isn't proved. So an edit that such a batch doesn't refuse for its reason is tried with
-functions that don't call one another, and then alone.
+Edits of different functions are checked together, each batch on a copy of the crate and of what a check without edits stored, of
+the functions that the edits change alone. A goal of a function isn't searched for while one that it calls isn't proved. So an edit
+that such a batch doesn't refuse for its reason is tried with functions that don't call one another, and then alone.
 With --write an edit that another clause of its function refuses gets that clause's name, and each refused one its lines 'search:
 GOAL'. Look at what was written: a clause that has nothing to do with what the edit breaks means that the edit is a bad one.
 
 An edit that was refused is not tried again on this machine while its text, the crate, the crates below, the kit and this file stay
 the same.
 
-With --ci an `rt ci` runs beside, on a checkout with the same files: the folder has what it prints, in the file `ci`, its temporary
-files, in the folder `temporary`, the path of its checkout, in the file `checkout`, and once it has ended the file `ci.end`. What it
-proves isn't proved again here: libraries and programs are copied once they are built, and so is what its check of a crate stored for
-the edits in must-fail/, if it made one. The other crates are checked here, and so is a crate that depends on no other: until
-`rt ci` has proved it, nothing else can be checked, and processors are idle. `rt ci` tries the edits in must-fail/ itself, and prints
-the first line of what refused each. These are judged by that line, once it has ended; only where it doesn't show that the clause
-refuses the edit is it tried here. A line 'first: another clause' in an edit says that it doesn't: this one is tried with the others.
+With --ci an `rt ci` runs beside, on a checkout with the same files: the folder has what it prints, in the file `ci`, the path of its
+checkout, in the file `checkout`, and once it has ended the file `ci.end`. Libraries and programs are copied from it once they are
+built.
 The last line is 'N refused, M not'.
 """
 import argparse
@@ -61,7 +59,7 @@ from concurrent.futures import Future, ThreadPoolExecutor
 
 sys.dont_write_bytecode = True
 
-from beside import Beside, is_stored  # noqa: E402
+from beside import Beside  # noqa: E402
 from refused_before import RefusedBefore  # noqa: E402
 
 ROOT = os.path.realpath(os.path.join(os.path.dirname(os.path.abspath(__file__)), ".."))
@@ -157,11 +155,6 @@ class Source:
         inside = [item for item in self.items if item.path == path and item.begin <= place < item.end]
         return max(inside, key=lambda item: item.begin, default=None)
 
-    def item_from(self, path, place):
-        """The item at this place, or else the next one: an item's attributes stand above it."""
-        behind = [item for item in self.items if item.path == path and item.begin >= place]
-        return self.item_at(path, place) or min(behind, key=lambda item: item.begin, default=None)
-
     def public(self):
         """The functions that another crate can name, and the sinks' `push_row`."""
         root = self.texts.get("src/lib.rt") or self.texts.get("src/main.rt", "")
@@ -191,8 +184,7 @@ class Edit:
         found = re.search(r"^breaks: ([\w:]+): (\S+)$", self.text, re.MULTILINE)
         self.function, self.clause = (found[1], found[2]) if found else ("", "")
         self.goals = re.findall(r"^search: (\S+)$", self.text, re.MULTILINE)
-        # rt ci tries it, and its line may show that the clause refuses it
-        self.is_told = os.path.basename(os.path.dirname(file)) == "must-fail" and not re.search(r"^first: another clause$", self.text, re.MULTILINE)
+        self.written = [goal for goal in written_answers(crate_folder(file), self.function) if names(goal, self.clause)]
         path = re.search(r"^file: (\S+)$", self.text, re.MULTILINE)
         self.path = path[1] if path else ""
         olds = re.findall(r"^old: (.*)$", self.text, re.MULTILINE)
@@ -202,6 +194,16 @@ class Edit:
         self.touched = {*self.changed, *source.named(self.function)}
         self.made = set(re.findall(r"\bfn (\w+)", "\n".join(re.findall(r"^new:(.*)$", self.text, re.MULTILINE))))
         self.reaches = set().union(*[source.below[item] for item in self.touched]) if self.touched else set()
+
+    @property
+    def twins(self):
+        """The goals of its clause with a written answer that the search replaces."""
+        return [goal for goal in self.goals if goal in self.written]
+
+    @property
+    def is_by_form(self):
+        """Whether nothing but a written answer that no longer fits can refuse it."""
+        return bool(self.written) and not any(names(goal, self.clause) for goal in self.goals)
 
     @property
     def label(self):
@@ -216,6 +218,26 @@ class Edit:
     def meets(self, other):
         """Whether they overlap, or one changes a function that the other reaches."""
         return self.overlaps(other) or bool(self.touched & other.reaches or other.touched & self.reaches)
+
+
+def crate_folder(file):
+    return os.path.dirname(os.path.dirname(file))
+
+
+def answers_of(folder, function):
+    """The path of a function's written answers."""
+    return f"{folder}/proofs/{function.replace('::', '/')}/Answers.antt"
+
+
+@functools.cache
+def written_answers(folder, function):
+    """The goals of a function that have a written answer, other than a search alone."""
+    path = answers_of(folder, function)
+    if not os.path.exists(path):
+        return []
+    with open(path, encoding="utf-8") as file:
+        text = file.read()
+    return [goal for goal in re.findall(r"^pub (\S+) :", text, re.MULTILINE) if not re.search(rf"^{re.escape(goal)}( \w+)* = search rules$", text, re.MULTILINE)]
 
 
 def edits_in(folder, crate, source, only=()):
@@ -360,28 +382,6 @@ def judged(edit, said, output):
     return False, f"no goal of {edit.function} that names `{edit.clause}` is refused by a value; {'; '.join([*others, *weak]) or it.line[:200]}"
 
 
-TOLD = re.compile(r"^rt: must-fail (\w+)/(\S+)\.edit: refused, as it must be: (.*)$", re.MULTILINE)
-
-
-def told_by_ci(beside):
-    """Waits until rt ci has ended, and returns the line that it prints of each edit, by the names of crate and edit."""
-    while not beside.has_ended():
-        time.sleep(1)
-    return {(crate, name): told for crate, name, told in TOLD.findall(beside.said())}
-
-
-def judged_by_line(edit, told, source):
-    """Whether one line of a check shows that the edit is refused for its reason, and what to print."""
-    place = re.match(r"note: (src/\S+?):(\d+):", told)
-    if place and place[1] in source.texts:  # the line of a function or of an attribute of it; the check names the function later
-        lines = source.texts[place[1]].splitlines(keepends=True)
-        item = source.item_from(place[1], len("".join(lines[: int(place[2]) - 1])))
-        if item:
-            name = edit.function if item in source.named(edit.function) else item.name
-            told += f"\nfn {edit.crate.name}::{name}: not proved"
-    return judged(edit, read(told, edit.crate.name), told)
-
-
 def processors_beside(seconds=3, looks=6):
     """How many processors the processes want that this one didn't start, as seen for some seconds: those that wait for one too."""
     seen = 0
@@ -424,20 +424,15 @@ class Lanes:
 
     def __init__(self, count, most):
         self.count, self.waiting, self.numbers, self.is_closed = count, queue.PriorityQueue(), itertools.count(), False
-        self.most, self.running, self.left = most, 0, 0
+        self.most, self.running = most, 0
         self.turn, self.counting = threading.Lock(), threading.Lock()
         for _ in range(count):
             threading.Thread(target=self.run, daemon=True).start()
 
     def submit(self, rank, call, *given):
         future = Future()
-        self.add(0, 1)
         self.waiting.put((rank, next(self.numbers), future, functools.partial(call, *given)))
         return future
-
-    def is_idle(self):
-        """Whether no call runs, and none waits."""
-        return self.left == 0
 
     def run(self):
         while True:
@@ -445,19 +440,18 @@ class Lanes:
                 _, _, future, call = self.waiting.get()
                 while self.running >= self.most():
                     time.sleep(1)
-                self.add(1, 0)
+                self.add(1)
             try:
                 if self.is_closed:
                     raise RuntimeError("a crate isn't proved without edits")
                 future.set_result(call())
             except BaseException as error:  # who waits for the result gets it
                 future.set_exception(error)
-            self.add(-1, -1)
+            self.add(-1)
 
-    def add(self, running, left):
+    def add(self, running):
         with self.counting:
             self.running += running
-            self.left += left
 
 
 class Lane:
@@ -501,7 +495,9 @@ class Lane:
 
     def check(self, crate, edits, store):
         """Checks the functions that these edits are to break, in the copy and over a store, and returns what the check says."""
-        flags = ["--jobs", "1", *[word for edit in edits for word in ("--only", edit.function)]]
+        return self.call(crate, ["--jobs", "1", *[word for edit in edits for word in ("--only", edit.function)]], store)
+
+    def call(self, crate, flags, store):
         words = [self.rt.rtlib.RATTLE, "check", *crate.words(flags, keeps=False), "--incremental", store]
         how = {"cwd": f"{self.folder}/room", "stdin": subprocess.DEVNULL, "stdout": subprocess.PIPE, "stderr": subprocess.STDOUT}
         return subprocess.run([*self.rt.rtlib.guarded(), *words], **how, errors="replace", check=False).stdout
@@ -512,8 +508,8 @@ class Lane:
         The functions of a mixed batch may call one another. An edit that is tried alone has no goal answered before its check.
         """
         bad = self.apply(crate, edits)
-        for edit in edits if not is_alone else []:
-            answer_named(crate.name, f"{self.folder}/room", edit)
+        for edit in edits:
+            answer_named(crate.name, f"{self.folder}/room", edit.function, edit.twins if is_alone else edit.goals, edit.clause)
         found = {edit: (False, f"it cannot be applied: {why}") for edit, why in bad.items()}
         edits, store = [edit for edit in edits if edit not in bad], self.store(crate)
         output = self.check(crate, edits, store)
@@ -531,6 +527,18 @@ class Lane:
         return found, output
 
 
+    def searched(self, crate, goals):
+        """Which of these goals, as pairs of a function and a goal, are proved by `search rules` for the unedited body."""
+        self.apply(crate, [])
+        for function in {function for function, _ in goals}:
+            answer_named(crate.name, f"{self.folder}/room", function, [goal for its, goal in goals if its == function])
+        flags = ["--jobs", "1", *[word for function in sorted({function for function, _ in goals}) for word in ("--only", function)]]
+        output = self.call(crate, flags, self.store(crate))
+        said = read(output, crate.name)
+        missed = {(name, goal) for name, it in said.items() for goal, _ in [*it.open, *it.weak]}
+        return {(function, goal) for function, goal in goals if function in said and (function, goal) not in missed}, output
+
+
 USE = re.compile(r"^use [^\n]*(?:\n[ }][^\n]*)*", re.MULTILINE)
 
 
@@ -546,14 +554,29 @@ def answer(output, room, functions):
             write_answers(room, found[1], [line for line in lines if line.startswith("use ")], goals)
 
 
-def answer_named(crate, room, edit):
-    """Answers the goals that the edit names: by `search rules` if they are of its clause; by holes, which cost no search, if they are of
-    others, since these don't count."""
-    if edit.goals:
-        uses = ["use Rattle.std.proofs.Common.{rules}", f"use Rattle.{crate}.proofs.{edit.function.replace('::', '.')}.Goals as goal"]
-        answers = {goal: "search rules" if names(goal, edit.clause) else "?" for goal in edit.goals}
-        lines = [f"pub {goal} : goal.{goal}\n{goal} c = {by}\n" for goal, by in answers.items()]
-        write_answers(room, edit.function.replace("::", "/"), uses, lines)
+DECLARED = re.compile(r"^(?=(?:(?:pub|abbrev|unfoldable) )*[^\s:()]+ :(?:\s|$)|--|use |pub use |module |record |pub record )", re.MULTILINE)
+
+
+def answer_named(crate, room, function, goals, clause=None):
+    """Answers these goals of a function: by `search rules` if they are of the clause, or whatever they are of if none is given; by holes,
+    which cost no search, if they are of others, since these don't count. A written answer is left out."""
+    if not goals:
+        return
+    path, before = answers_of(room, function), {goal: "c" for goal in goals}
+    if os.path.exists(path):
+        with open(path, encoding="utf-8") as file:
+            blocks = DECLARED.split(file.read())
+        for goal in goals:
+            for block in [block for block in blocks if block.startswith(f"pub {goal} :")]:
+                blocks.remove(block)
+                if re.search(rf"^{re.escape(goal)} g\b", block, re.MULTILINE):  # of a function with type parameters
+                    before[goal] = "g c"
+        with open(path, "w", encoding="utf-8") as file:
+            file.write("".join(blocks))
+    uses = ["use Rattle.std.proofs.Common.{rules}", f"use Rattle.{crate}.proofs.{function.replace('::', '.')}.Goals as goal"]
+    answers = {goal: "search rules" if clause is None or names(goal, clause) else "?" for goal in goals}
+    lines = [f"pub {goal} : goal.{goal}\n{goal} {before[goal]} = {by}\n" for goal, by in answers.items()]
+    write_answers(room, function.replace("::", "/"), uses, lines)
 
 
 def write_answers(room, folder, uses, goals):
@@ -587,18 +610,19 @@ def stamps(folder):
 
 
 class Whole:
-    """What crates without edits are built to, and what checks of them store: made by the `rt ci` that runs beside, or here.
+    """What crates without edits are built to, by the `rt ci` that runs beside or here, and what checks of them store.
 
-    Those to try are the crates whose edits are tried.
+    The changed functions are those of each crate whose edits are tried.
     """
 
-    def __init__(self, rt, crates, to_try, kept, lanes, beside):
-        self.rt, self.to_try, self.kept, self.lanes, self.beside = rt, to_try, kept, lanes, beside
+    def __init__(self, rt, crates, changed, kept, lanes, beside):
+        self.rt, self.changed, self.kept, self.lanes, self.beside = rt, changed, kept, lanes, beside
+        to_try = self.to_try = list(changed)
         self.used = {below for crate in to_try for below in crate.below()}
         self.crates = crates if beside else [crate for crate in crates if crate in to_try or crate in self.used]
         self.is_built = {crate: Future() for crate in self.crates}
         self.is_stored = {crate: Future() for crate in to_try}
-        self.functions = {}  # those that a check printed: none, if rt ci kept what an earlier run proved
+        self.functions = {}  # those that a check named
 
     def have(self, futures, make, crate):
         """Waits for the libraries below a crate, makes what is wanted of it, and lets whoever waits for it go on."""
@@ -628,44 +652,23 @@ class Whole:
             self.lanes.submit(0, self.run, crate, failure, lambda it: it.build_rlib(["--jobs", "1"], anew=False)).result()
 
     def store(self, crate):
-        """Takes what `rt ci` stores of a crate for its edits, or checks the crate here: one that is no library, since others build it
-        over what is stored here; and one that `rt ci` begins with, if processors are idle until it is proved."""
-        is_taken = self.beside and self.beside.has_store(crate) and crate.makes_rlib() and self.idle_jobs(crate) < 2
-        store = self.awaited_store(crate) if is_taken else None
-        if not store:
-            self.lanes.submit(0, self.prove, crate).result()
-            return
-        self.rt.linked(store, f"{self.kept}/{crate.name}")
-        self.functions[crate] = functions_in(self.beside.said(), crate)
-        print(f"{crate.name} without edits: checked by rt ci", flush=True)
-
-    def awaited_store(self, crate, patience=60):
-        """The folder of what `rt ci` stores of a crate, once it is complete; or None, if for some seconds there was none and no edit to
-        try either."""
-        idle = 0
-        while idle < patience and not self.beside.has_ended():
-            store = self.beside.store(crate)
-            if store and is_stored(store):
-                return store
-            idle = 0 if store or not self.lanes.is_idle() else idle + 2
-            time.sleep(2)
-        return None
+        """Checks the functions of a crate that its edits change, and keeps what the check stored."""
+        self.lanes.submit(0, self.prove, crate).result()
 
     def idle_jobs(self, crate):
-        """How many jobs a check of a crate may have, on processors that no other check could use. An `rt ci` beside checks a crate twice,
-        each time with one job, before it can check those above."""
+        """How many jobs a check of a crate may have, on processors that no other check could use: an `rt ci` beside begins with one job,
+        the proof of the crate that depends on no other."""
         if self.beside:
-            return max(self.lanes.count - 2, 1) if not crate.below() and self.rt.free() > ROOM else 1
+            return max(self.lanes.count - 1, 1) if not crate.below() and self.rt.free() > ROOM else 1
         is_alone = all(it is crate or crate in it.below() or it in crate.below() for it in self.to_try)
         return self.lanes.count if is_alone else 1
 
     def prove(self, crate):
-        """Checks a crate, and keeps what the check stored."""
         began = time.time()
-        flags = ["--jobs", str(self.idle_jobs(crate))]
+        flags = ["--jobs", str(self.idle_jobs(crate)), *[word for name in self.changed[crate] for word in ("--only", name)]]
         words = [self.rt.rtlib.RATTLE, "check", *crate.words(flags, keeps=False), "--incremental", "out/incremental"]
         output = self.run(crate, f"{crate.name} isn't proved without edits", lambda it: it.call(*words))
-        self.functions[crate] = functions_in(output, crate)
+        self.functions[crate] = set(re.findall(rf"^fn {crate.name}::(\S+): ", output, re.MULTILINE))
         self.rt.linked(f"{crate.folder}/out/incremental", f"{self.kept}/{crate.name}")
         print(f"{crate.name} without edits: {time.time() - began:.0f} s", flush=True)
 
@@ -683,11 +686,6 @@ class Whole:
         return output
 
 
-def functions_in(output, crate):
-    """The functions of a crate that a check names."""
-    return set(re.findall(rf"^fn {crate.name}::(\S+): ", output, re.MULTILINE))
-
-
 def main():
     words = argparse.ArgumentParser(description=__doc__, formatter_class=argparse.RawDescriptionHelpFormatter)
     words.add_argument("--only", action="append", help="a word of the names of the edits to run; may be given several times")
@@ -697,6 +695,7 @@ def main():
     words.add_argument("--show", action="store_true", help="print what refused each edit")
     words.add_argument("--keep", default="", help="a folder for what each check printed")
     words.add_argument("--write", action="store_true", help="write into the edits what refused them")
+    words.add_argument("--twins", action="store_true", help="write into the edits which written answers the search replaces")
     words.add_argument("--anew", action="store_true", help="try also the edits that an earlier run on this machine refused")
     words.add_argument("--ci", default="", help="a folder of an `rt ci` that runs beside")
     words.add_argument("--beside", type=int, default=0, help="how many checks run in parallel at least, while other programs run too; without it, no fewer")
@@ -714,11 +713,15 @@ def main():
     ]
     if not edits:
         sys.exit("no edit has such a name")
+    lacking = [f"{it.label}: add a line 'breaks: {it.changed[0].name if it.changed else 'FUNCTION'}: CLAUSE'" for it in edits if not it.function]
+    if lacking:
+        sys.exit("\n".join(lacking))
     beside = Beside(words.ci) if words.ci else None
     before = RefusedBefore([os.path.abspath(__file__)])
-    known = {edit: before.reason(edit) for edit in edits if not words.anew and not words.write}
+    known = {edit: before.reason(edit) for edit in edits if not (words.anew or words.write or words.twins)}
     results = {edit: (True, reason) for edit, reason in known.items() if reason is not None}
-    to_try = [crate for crate in crates if any(edit.crate is crate and edit not in results for edit in edits)]
+    changed = {crate: sorted({edit.function for edit in edits if edit.crate is crate and edit not in results}) for crate in crates}
+    changed = {crate: functions for crate, functions in changed.items() if functions}
 
     def most():
         """How many checks may run now."""
@@ -728,7 +731,7 @@ def main():
     with tempfile.TemporaryDirectory(prefix="edits-") as room, ThreadPoolExecutor(3 * len(crates)) as each:
         os.mkdir(f"{room}/kept")
         held = rt.rtlib.lock(crates)
-        whole = Whole(rt, crates, to_try, f"{room}/kept", threads, beside)
+        whole = Whole(rt, crates, changed, f"{room}/kept", threads, beside)
         lanes = queue.SimpleQueue()
         for number in range(words.lanes):
             lanes.put(Lane(f"{room}/{number}", rt, f"{room}/kept"))
@@ -752,21 +755,35 @@ def main():
             whole.is_stored[crate].result()
             own = [edit for edit in edits if edit.crate is crate and edit not in results]
             for edit in own:
-                if not edit.function:
-                    guess = edit.changed[0].name if edit.changed else "FUNCTION"
-                    results[edit] = False, f"it doesn't say what it breaks: add a line 'breaks: {guess}: CLAUSE'"
-                elif whole.functions[crate] and edit.function not in whole.functions[crate]:
+                if edit.function not in whole.functions[crate]:
                     last = edit.function.rpartition("::")[2]
                     near = sorted(name for name in whole.functions[crate] if name.rpartition("::")[2] == last)
                     results[edit] = False, f"a check names no function {edit.function}: is it {' or '.join(near) or 'another'}?"
-            told = {edit for edit in own if edit in results}
-            later = [edit for edit in own if beside and edit.is_told]
-            attempt([edit for edit in own if edit not in told and edit not in later])
-            if later:
-                said, source = told_by_ci(beside), Source(crate.folder)
-                lines = {edit: said.get((crate.name, edit.name), "") for edit in later if edit not in told}
-                results.update({edit: judged_by_line(edit, line, source) for edit, line in lines.items()})
-                attempt([edit for edit in lines if not results[edit][0]])
+            left = [edit for edit in own if edit not in results]
+            goals = {(edit.function, goal) for edit in left for goal in (edit.written if words.twins else edit.twins)}
+            proved = threads.submit(1, search, crate, goals).result() if goals else set()
+            if words.twins:
+                results.update({edit: (True, write_twins(edit, proved)) for edit in left})
+                return
+            for edit in left:
+                if any((edit.function, goal) not in proved for goal in edit.twins):
+                    results[edit] = False, f"the unedited body isn't proved by `search rules`: {', '.join(edit.twins)}"
+            attempt([edit for edit in left if edit not in results])
+
+        def search(crate, goals):
+            """Which goals of the unedited crate `search rules` proves."""
+            lane = lanes.get()
+            try:
+                start = time.time()
+                proved, output = lane.searched(crate, goals)
+                if words.keep:
+                    os.makedirs(words.keep, exist_ok=True)
+                    with open(f"{words.keep}/{crate.name}-twins.txt", "w", encoding="utf-8") as file:
+                        file.write(output)
+                print(f"{crate.name}: {len(proved)} of {len(goals)} written answers replaced by a search in {time.time() - start:.0f} s", flush=True)
+                return proved
+            finally:
+                lanes.put(lane)
 
         def attempt(own):
             """Tries edits of one crate."""
@@ -786,8 +803,8 @@ def main():
 
         try:
             built = [each.submit(whole.have_built, crate) for crate in whole.crates]
-            stored = {crate: each.submit(whole.have_stored, crate) for crate in to_try}
-            judged_all = [each.submit(judge, crate) for crate in to_try]
+            stored = {crate: each.submit(whole.have_stored, crate) for crate in changed}
+            judged_all = [each.submit(judge, crate) for crate in changed]
             # Others build the crates here: over these libraries, and those that are no libraries over what is stored of them.
             for it in [*built, *(it for crate, it in stored.items() if not (beside and crate.makes_rlib()))]:
                 it.result()
@@ -817,8 +834,23 @@ def main():
         print(f"{sum(reason is not None for reason in known.values())} were refused by earlier runs on this machine", end=", ")
     print(f"{sum(numbers)} batches, {used.ru_utime + used.ru_stime:.0f} s of processor", end=", ")
     print(f"{time.time() - began:.0f} s")
+    by_form = sum(edit.is_by_form for edit in edits)
+    if by_form:
+        print(f"{by_form} are refused only because a written answer of their clause no longer fits")
     print(f"{len(edits) - len(failed)} refused, {len(failed)} not")
     sys.exit(1 if failed else 0)
+
+
+def write_twins(edit, proved):
+    """Writes the goals of an edit's clause whose written answers the search replaces, if it replaces all."""
+    is_proved = bool(edit.written) and all((edit.function, goal) in proved for goal in edit.written)
+    goals = sorted({*(goal for goal in edit.goals if goal not in edit.written), *(edit.written if is_proved else ())})
+    text = re.sub(r"^search: .*\n", "", edit.text if edit.text.endswith("\n") else f"{edit.text}\n", flags=re.MULTILINE)
+    text += "".join(f"search: {goal}\n" for goal in goals)
+    if text != edit.text:
+        with open(edit.file, "w", encoding="utf-8") as file:
+            file.write(text)
+    return "its written answers are replaced by a search" if is_proved else "as it was"
 
 
 def write(edit, refused):

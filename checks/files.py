@@ -1,4 +1,4 @@
-"""Checks of fax2pbm and of the Python examples on files that other programs make of a page, as far as they are installed: each file
+"""Checks of fax, by its name fax2pbm, and of the Python examples on files that other programs make of a page, as far as they are installed: each file
 is decoded to the page, or refused by a line that says why; so are files that are cut, damaged, or no fax at all."""
 import os
 import re
@@ -65,9 +65,8 @@ def pictures_of(folder, name, picture):
     here = os.path.abspath("examples")
     example = "pdf_pages.py" if name.endswith(".pdf") else "tiff_strips.py"
     found = []
-    if name.endswith(".tif"):
-        done = ran(folder, os.path.abspath("build/fax2pbm"), name)
-        found.append((done.returncode, done.stdout, done.stderr))
+    done = ran(folder, os.path.abspath("build/fax2pbm"), name)
+    found.append((done.returncode, done.stdout, done.stderr))
     done = ran(folder, "python3", f"{here}/{example}", name, picture)
     data = b""
     if os.path.exists(f"{folder}/{picture}-0.pbm"):
@@ -132,7 +131,7 @@ def files_by_other_programs():
                 if ending == "pdf" and not shutil.which("pdfimages"):
                     continue
                 for answer in pictures_of(folder, f"cut{number}.{ending}", "cut"):
-                    assert says_why(answer) or (ending == "tif" and not data.startswith(b"II*")), f"cut{number}.{ending}: {answer}"
+                    assert says_why(answer) or data == page, f"cut{number}.{ending}: {answer}"
                     refused += 1
     print(f"  {right} pictures of files by {len(tools)} programs; {refused} files not decoded, each with a line that says why")
 

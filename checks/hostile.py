@@ -11,7 +11,7 @@ import program
 from left_out import leave_out
 
 # of how many cases one is decoded under valgrind, by the library and by the program
-IN_LIBRARY, IN_PROGRAM = 5, 180
+IN_LIBRARY, IN_PROGRAM = 15, 180
 VALGRIND = ["valgrind", "-q", "--error-exitcode=99", "--leak-check=full", "--show-leak-kinds=all", "--errors-for-leak-kinds=all"]
 
 
@@ -56,7 +56,7 @@ def without_errors_of_memory():
     c_library.build()
     cases = [case[1:] for case in called.lines_of("hostile.tsv") if "*" not in case[2]]
     with tempfile.TemporaryDirectory() as folder:
-        driver = c_library.compiled(f"{folder}/each_call", "checks/each_call.c", "c/heap.c", c_library.LIBRARY)
+        driver = c_library.compiled(f"{folder}/each_call", "-DUNCOUNTED", "checks/each_call.c", c_library.LIBRARY)
         chosen = cases[::IN_LIBRARY]
         lines = "".join(numbered(words, text) for words, text, _ in chosen)
         done = subprocess.run([*VALGRIND, driver], input=lines, capture_output=True, text=True, check=False, timeout=600)
@@ -77,4 +77,14 @@ def without_errors_of_memory():
     print(f"  {len(chosen)} cases by each call of the library, {runs} runs of the program")
 
 
-CHECKS = [hostile_cases, without_errors_of_memory]
+def by_each_library():
+    """Each case by each call of the installed libraries, on the caller's memory between pages that may not be touched."""
+    c_library.build()
+    cases = [case[1:] for case in called.lines_of("hostile.tsv") if "*" not in case[2]]
+    lines = "".join(numbered(words, text) for words, text, _ in cases)
+    for printed in c_library.by_each_library("each_call", lines):
+        assert [answer_of(line) for line in printed.splitlines()] == [expected for _, _, expected in cases], "other answers"
+    print(f"  {len(cases)} cases")
+
+
+CHECKS = [hostile_cases, by_each_library, without_errors_of_memory]

@@ -1,5 +1,6 @@
 """Checks of what `make install` installs: the headers by C89 and C++98, both libraries by hayro_ccitt.pc, null pointers of
 length 0, a program's own allocator, the manual pages and the version."""
+import filecmp
 import os
 import re
 import shutil
@@ -182,7 +183,7 @@ def installed():
         run("make", *words, f"DESTDIR={folder}/staged", "install")
         run("make", *words, "install")
         for root in (f"{folder}/prefix", f"{folder}/staged{folder}/prefix"):
-            for name in ("bin/faxrows", "bin/faxpack", "bin/fax2pbm", "lib/libhayro_ccitt.a", "lib/libhayro_ccitt.so", "include/hayro_ccitt_heap.h",
+            for name in ("bin/faxrows", "bin/faxpack", "bin/fax", "bin/fax2pbm", "share/man/man1/fax.1", "share/bash-completion/completions/fax", "lib/libhayro_ccitt.a", "lib/libhayro_ccitt.so", "include/hayro_ccitt_heap.h",
                          "share/man/man1/faxrows.1", "share/man/man1/faxpack.1", "share/man/man3/hayro_ccitt.3", "lib/pkgconfig/hayro_ccitt.pc"):
                 assert os.path.exists(f"{root}/{name}"), f"{root}/{name}"
         library = f"{folder}/prefix/lib"
@@ -191,6 +192,7 @@ def installed():
         static = [word for word in shared if not word.startswith("-l")] + [f"{library}/libhayro_ccitt.a"]
         version = run("pkg-config", "--modversion", "hayro_ccitt", env=find).strip()
         versions_agree(version)
+        files_are_right(f"{folder}/prefix", version)
         texts = [("first", first_program(), "18\n"), ("null", NULL_POINTERS, None), ("own", OWN_HEAP, "own\n"), ("headers", HEADERS, "")]
         for name, text, printed in texts:
             for compiler, flags, ending in (("gcc", C89, "c"), ("g++", CXX98, "cc"), ("gcc", ["-std=c11", "-Wall", "-Werror"], "c")):
@@ -210,6 +212,16 @@ def installed():
     print(f"  version {version}; {runs} programs, by C89, C11 and C++98, with both libraries")
 
 
+def files_are_right(prefix, version):
+    """The manual pages and headers are those of the repository, and the shared library's name has two numbers of the version."""
+    pages = [(f"man/{name}", f"{prefix}/share/man/man{name[-1]}/{name}") for name in sorted(os.listdir("man"))]
+    headers = [(f"c/{name}", f"{prefix}/include/{name}") for name in sorted(os.listdir("c")) if name.endswith(".h")]
+    for own, there in [*pages, *headers]:
+        assert filecmp.cmp(own, there, shallow=False), f"{there} isn't {own}"
+    soname = re.search(r"^ *SONAME +(\S+)$", run("objdump", "-p", f"{prefix}/lib/libhayro_ccitt.so"), re.MULTILINE)[1]
+    assert soname == f"libhayro_ccitt.so.{'.'.join(version.split('.')[:2])}", soname
+
+
 def versions_agree(version):
     """One version: of the header, hayro_ccitt.pc, `faxrows --version`, the manual pages and CHANGELOG.md."""
     with open("c/hayro_ccitt.h", encoding="utf-8") as file:
@@ -224,7 +236,7 @@ def versions_agree(version):
     for program in ("faxrows", "faxpack"):
         with open(f"crates/{program}/src/main.rt", encoding="utf-8") as file:
             assert f'const VERSION: &str = "{program} {version}";\n' in file.read(), version
-    for name in ("man/faxrows.1", "man/faxpack.1", "man/hayro_ccitt.3"):
+    for name in ("man/faxrows.1", "man/faxpack.1", "man/fax.1", "man/hayro_ccitt.3"):
         with open(name, encoding="utf-8") as file:
             assert f'"hayro_ccitt {version}"' in file.read(), name
 

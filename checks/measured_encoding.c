@@ -1,13 +1,14 @@
-/* One encoding of a bitmap of one row of alternate pixels, for callgrind to count its instructions:
+/* One encoding of a bitmap of equal rows of alternate pixels, for callgrind to count its instructions:
  *
- *   measured_encoding ENCODING COLUMNS
+ *   measured_encoding ENCODING COLUMNS ROWS
  *
- * ENCODING is 0 for Group 4 with EOFB, 1 for one-dimensional Group 3 with EOLs and RTC. It prints the status, the rows and the bytes. Callgrind is given --toggle-collect=measured. */
+ * ENCODING is 0 for Group 4 with EOFB, 1 for one-dimensional Group 3 with EOLs and RTC. It prints the status, the rows and the bytes.
+ * Callgrind is given --toggle-collect=measured. */
 #include <stdio.h>
 #include <stdlib.h>
 #include <string.h>
 
-#include "../c/fax_encode.h"
+#include <fax_encode.h>
 
 static fax_encode_settings settings;
 static fax_encode_outcome outcome;
@@ -21,12 +22,12 @@ __attribute__((noinline)) static uint32_t measured(void)
 
 int main(int count, char **words)
 {
-    if (count != 3)
+    if (count != 4)
         return 2;
     settings = (fax_encode_settings){strtoul(words[2], NULL, 10), strtoul(words[1], NULL, 10), FAX_ENCODE_END_OF_BLOCK, 0};
     if (settings.encoding == FAX_ENCODE_GROUP_3_1D)
         settings.flags += FAX_ENCODE_END_OF_LINE;
-    length = ((size_t)settings.columns + 7) / 8;
+    length = ((size_t)settings.columns + 7) / 8 * strtoul(words[3], NULL, 10);
     room = 8 * length + 64;
     bitmap = malloc(length);
     data = malloc(room);

@@ -5,6 +5,7 @@ import re
 import subprocess
 
 import edits
+import places
 
 
 def tracked():
@@ -356,6 +357,7 @@ CHECKS = [
     readme_names_the_kit,
     no_proof_has_a_hole,
     no_work_is_thrown_away,
+    *places.CHECKS,
     each_lemma_is_cited,
     no_name_stands_twice,
     one_line_is_unsafe,

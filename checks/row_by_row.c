@@ -3,51 +3,9 @@
    hayro_ccitt_decode_changes; two readers run at a time, one a row ahead, on blocks that are exactly as long as they have to be.
    Each row is refused first where there is one number less room. Then every allocation is refused in turn. The last line counts
    cases, rows, refused rows and refused allocations. */
-#include <stdio.h>
-#include <stdlib.h>
-#include <string.h>
+#include "lent.h"
 
-#include "../c/hayro_ccitt.h"
-#include "../c/hayro_ccitt_heap.h"
-
-static long live, asked, refused_at;
-
-static int refuses(void) { return ++asked == refused_at; }
-
-rattle_tried rattle_alloc(size_t size, size_t align) {
-    rattle_tried tried = {0, &live};
-    if (refuses()) return tried;
-    tried.block = malloc(size ? size : align);
-    tried.ok = 1;
-    live++;
-    return tried;
-}
-
-rattle_tried rattle_realloc(void *old, size_t kept, size_t size, size_t align) {
-    rattle_tried tried = {0, old};
-    (void)kept;
-    if (refuses()) return tried;
-    tried.block = realloc(old, size ? size : align);
-    tried.ok = 1;
-    return tried;
-}
-
-void rattle_dealloc(void *old) {
-    live--;
-    free(old);
-}
-
-static void must(int holds, const char *what) {
-    if (holds) return;
-    printf("not so: %s\n", what);
-    exit(1);
-}
-
-static void *block(size_t size) {
-    void *made = malloc(size ? size : 1);
-    must(made != NULL, "memory");
-    return made;
-}
+#include <hayro_ccitt.h>
 
 static unsigned long cases, rows_read, rows_refused, refusals;
 
@@ -58,7 +16,7 @@ static void next_is(hayro_ccitt_reader *reader, const uint8_t *data, size_t leng
     uint32_t count = list[0];
     size_t width = (columns + 7ULL) / 8;
     if (is_packed) {
-        uint8_t *packed = block(width);
+        uint8_t *packed = lend(width);
         if (width > 0) {
             must(hayro_ccitt_next_packed(data, length, reader, packed, width - 1, &row) == HAYRO_CCITT_REFUSED, "packed refused");
             rows_refused++;
@@ -68,17 +26,17 @@ static void next_is(hayro_ccitt_reader *reader, const uint8_t *data, size_t leng
             while (k <= count && list[k] == place) black ^= 1, k++;
             must((packed[place / 8] >> (7 - place % 8) & 1) == black, "pixel");
         }
-        free(packed);
+        take_back(packed);
     } else {
-        uint32_t *changes = block(4ULL * count);
+        uint32_t *changes = lend(4ULL * count);
         if (count > 0) {
             must(hayro_ccitt_next_changes(data, length, reader, changes, count - 1, &row) == HAYRO_CCITT_REFUSED, "changes refused");
             must(row.changes == count && row.rows == index + 1, "what a refused row needs");
             rows_refused++;
         }
         must(hayro_ccitt_next_changes(data, length, reader, changes, count, &row) == HAYRO_CCITT_OK, "changes");
-        must(memcmp(changes, list + 1, 4ULL * count) == 0, "the changes of a row");
-        free(changes);
+        must(are_same(changes, list + 1, 4ULL * count), "the changes of a row");
+        take_back(changes);
     }
     must(row.rows == index + 1 && row.changes == count, "what is told of a row");
     must(row.line_start <= 8 * length && row.bytes_read <= length && !row.reserved, "fields of a row");
@@ -91,10 +49,10 @@ static void each_case(const uint8_t *data, size_t length, const hayro_ccitt_sett
     hayro_ccitt_row row;
     uint32_t status = hayro_ccitt_measure(data, length, settings, &listed), none = 0, last;
     size_t numbers = listed.rows + listed.changes;
-    uint32_t *lists = block(4 * numbers);
+    uint32_t *lists = lend(4 * numbers);
     if (status == HAYRO_CCITT_NOT_TAKEN) {
         must(hayro_ccitt_open(data, length, settings, &first) == HAYRO_CCITT_NOT_TAKEN && !first.is_open, "settings");
-        free(lists);
+        take_back(lists);
         return;
     }
     must(hayro_ccitt_decode_changes(data, length, settings, lists, numbers, &listed) == status, "the same twice");
@@ -114,21 +72,29 @@ static void each_case(const uint8_t *data, size_t length, const hayro_ccitt_sett
         must(row.rows == listed.rows && row.damaged_rows == listed.damaged_rows && row.missed_eols == listed.missed_eols, "what is told at the end");
         must(status ? row.line_start == listed.fault_start : row.bytes_read == listed.bytes_read, "the bytes, or the fault");
     }
-    must(live > 0 && hayro_ccitt_close(&first) == HAYRO_CCITT_OK && hayro_ccitt_close(&second) == HAYRO_CCITT_OK, "close");
-    must(hayro_ccitt_close(&second) == HAYRO_CCITT_NOT_TAKEN && live == 0, "all is freed");
+    must(live > held && hayro_ccitt_close(&first) == HAYRO_CCITT_OK && hayro_ccitt_close(&second) == HAYRO_CCITT_OK, "close");
+    must(hayro_ccitt_close(&second) == HAYRO_CCITT_NOT_TAKEN && is_freed(), "all is freed");
     /* With other data the calls return, and write nothing else. */
     must(hayro_ccitt_open(data, length, settings, &first) == HAYRO_CCITT_OK, "open again");
     for (size_t k = 0; k < length + 2; k++) {
-        uint8_t *other = block(length - length / 2);
-        memset(other, (int)(k * 37), length - length / 2);
+        uint8_t *other = lend(length - length / 2);
+        for (size_t place = 0; place < length - length / 2; place++) other[place] = (uint8_t)(k * 37);
         must(hayro_ccitt_next_changes(other, length - length / 2, &first, lists, numbers, &row) <= HAYRO_CCITT_NO_ROW, "other data");
-        free(other);
+        take_back(other);
     }
-    must(hayro_ccitt_close(&first) == HAYRO_CCITT_OK && live == 0, "close after other data");
+    must(hayro_ccitt_close(&first) == HAYRO_CCITT_OK && is_freed(), "close after other data");
+    /* Closed early, and twice. */
+    for (uint64_t stop = 0; stop <= listed.rows; stop += 1 + listed.rows / 3) {
+        must(hayro_ccitt_open(data, length, settings, &first) == HAYRO_CCITT_OK, "open to close early");
+        for (uint64_t index = 0; index < stop; index++)
+            must(hayro_ccitt_next_changes(data, length, &first, lists, numbers, &row) == HAYRO_CCITT_OK, "a row before an early close");
+        must(hayro_ccitt_close(&first) == HAYRO_CCITT_OK && is_freed(), "an early close");
+        must(hayro_ccitt_close(&first) == HAYRO_CCITT_NOT_TAKEN && !first.is_open, "closed twice");
+    }
     for (refused_at = 1;; refused_at++) {
         asked = 0;
         uint32_t opened = hayro_ccitt_open(data, length, settings, &first);
-        uint32_t *changes = block(4ULL * (listed.changes + 1));
+        uint32_t *changes = lend(4ULL * (listed.changes + 1));
         uint64_t index = 0;
         last = opened;
         while (last == HAYRO_CCITT_OK && (last = hayro_ccitt_next_changes(data, length, &first, changes, listed.changes, &row)) == HAYRO_CCITT_OK) index++;
@@ -140,31 +106,25 @@ static void each_case(const uint8_t *data, size_t length, const hayro_ccitt_sett
         else
             must(index == listed.rows && last == (status ? status : HAYRO_CCITT_NO_ROW), "rows in spite of a refusal");
         hayro_ccitt_close(&first);
-        must(live == 0, "all is freed without memory");
-        free(changes);
+        must(is_freed(), "all is freed without memory");
+        take_back(changes);
         refusals += is_refused;
         if (!is_refused) break;
     }
     refused_at = 0;
-    free(lists);
+    take_back(lists);
     cases++;
 }
 
 int main(void) {
     static char text[1 << 22];
-    static uint8_t bytes[1 << 21];
     hayro_ccitt_settings settings;
     while (scanf("%u %u %u %u %4194303s", &settings.encoding, &settings.columns, &settings.rows, &settings.flags, text) == 5) {
-        size_t length = text[0] == '-' ? 0 : strlen(text) / 2;
-        for (size_t k = 0; k < length; k++) {
-            unsigned byte;
-            sscanf(text + 2 * k, "%2x", &byte);
-            bytes[k] = (uint8_t)byte;
-        }
-        uint8_t *data = block(length);
-        memcpy(data, bytes, length);
+        size_t length;
+        uint8_t *data = lend_bytes(text, &length);
+        held = live;
         each_case(data, length, &settings);
-        free(data);
+        take_back(data);
     }
     printf("%lu cases, %lu rows, %lu refused rows, %lu refused allocations\n", cases, rows_read, rows_refused, refusals);
     return 0;

@@ -1,9 +1,6 @@
 """Checks of the calls that read or write one row: each case of the corpus by readers, against hayro_ccitt_decode_changes, and
 pictures by writers, against fax_encode_bitmap."""
 import itertools
-import os
-import subprocess
-import tempfile
 
 import c_library
 import encoder
@@ -35,26 +32,20 @@ def pictures():
             yield columns, kind, flags, k, "00" * size or "-"
 
 
-def compared(program_of, lines):
-    """Runs a program of this folder on lines, with a tool for memory and without, and prints what it counts."""
+def compared(driver, lines):
+    """Runs a driver on lines over each installed library, and prints what it counts."""
     c_library.build()
-    with tempfile.TemporaryDirectory() as folder:
-        text = "".join(" ".join(map(str, line)) + "\n" for line in lines)
-        for words in (["-fsanitize=address,undefined", "-g"], []):
-            path = c_library.compiled(f"{folder}/{program_of}", *words, f"checks/{program_of}.c", c_library.LIBRARY)
-            environment = {**os.environ, "ASAN_OPTIONS": "detect_leaks=0"}
-            done = subprocess.run([path], input=text, capture_output=True, text=True, check=False, timeout=600, env=environment)
-            assert done.returncode == 0, done.stdout[-500:] + done.stderr[-2000:]
-    print(f"  {done.stdout.strip()}")
+    text = "".join(" ".join(map(str, line)) + "\n" for line in lines)
+    print(*(f"  {printed}" for printed in sorted(c_library.by_each_library(driver, text))), sep="", end="")
 
 
 def rows_one_at_a_time():
-    """The rows of readers are those of the whole call, and every refused allocation is reported; with a tool for memory."""
+    """The rows of readers are those of the whole call, and every refused allocation is reported."""
     compared("row_by_row", cases())
 
 
 def strips_by_rows():
-    """The strips of writers are those of the whole call, and every refused allocation is reported; with a tool for memory."""
+    """The strips of writers are those of the whole call, and every refused allocation is reported."""
     compared("strip_by_rows", pictures())
 
 

@@ -17,11 +17,13 @@ sys.dont_write_bytecode = True
 
 import built_tests  # noqa: E402
 import c_library  # noqa: E402
+import clients  # noqa: E402
 import cost  # noqa: E402
 import cuts  # noqa: E402
 import damage_by_k  # noqa: E402
 import devices  # noqa: E402
 import encoder  # noqa: E402
+import fax  # noqa: E402
 import files  # noqa: E402
 import hostile  # noqa: E402
 import installed  # noqa: E402
@@ -30,6 +32,7 @@ import memory  # noqa: E402
 import packing  # noqa: E402
 import program  # noqa: E402
 import refusals  # noqa: E402
+import released  # noqa: E402
 import repository  # noqa: E402
 import row_by_row  # noqa: E402
 import users  # noqa: E402
@@ -54,13 +57,13 @@ def build(name, path):
 
 
 FILES = [
-    repository, program, built_tests, packing, c_library, row_by_row, encoder, refusals, devices, cuts, damage_by_k, hostile, memory, large, installed, users, files, cost,
+    repository, program, built_tests, packing, c_library, row_by_row, encoder, refusals, devices, cuts, damage_by_k, hostile, memory, large, installed, users, files, fax, released, clients, cost,
 ]
 # those that run beside the build of the library for C
 WITHOUT_LIBRARY = [repository, program, built_tests, packing, devices]
 # those that call `make`, which run in turn, and those that take longest
-MAKE = [installed, users, files]
-LONG = [cost, large, memory, hostile]
+MAKE = [installed, users, files, fax]
+LONG = [cost, large, memory, hostile, released]
 
 
 def names_of(file):

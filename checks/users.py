@@ -14,6 +14,8 @@ PAGES = ["README.md", "docs/USING.md"]
 # Tools that a command may need and that need not be installed.
 TOOLS = ["cargo", "ppm2tiff", "tiffcp", "tiffdump", "gs", "img2pdf", "pdfimages", "strings"]
 PACKAGE = "bindings/rust"
+# What `installed` and `released` run: the commands that make and install, and what is compiled by hayro_ccitt.pc.
+ELSEWHERE = ("make ", "tar xzf ", "apt-get ", "python3 -m pip ", "export ", "cc first.c ")
 
 
 def make():
@@ -56,8 +58,8 @@ def outcomes(page):
         files_of_users(folder)
         lost = []  # files, and fronts of the names of several
         for command, text in commands(page):
-            if command.startswith("make "):
-                continue  # `installed` makes and installs
+            if command.startswith(ELSEWHERE):
+                continue
             files = re.findall(r"out/[\w.-]+|FILE\.\w+", command)
             absent = [name for name in files if not os.path.exists(f"{folder}/{name}")]
             missing = [tool for tool in TOOLS if re.search(rf"(^|[|;&(]|&&) *{tool} ", command) and not shutil.which(tool)]
@@ -120,7 +122,7 @@ def the_cargo_package():
             done = subprocess.run(["cargo", *words], cwd=PACKAGE, env=cargo, capture_output=True, text=True, check=False)
             assert done.returncode == 0, done.stdout[-2000:] + done.stderr[-2000:]
         example = f"{folder}/target/release/examples/strip_to_pbm"
-        in_c = c_library.compiled(f"{folder}/strip_to_pbm", "examples/strip_to_pbm.c", "c/heap.c", c_library.LIBRARY)
+        in_c = c_library.compiled(f"{folder}/strip_to_pbm", "examples/strip_to_pbm.c", c_library.LIBRARY)
         for name, strip, mode, columns, _, settings, *_ in manifest():
             with open(f"corpus/{strip}", "rb") as file:
                 data = file.read()

@@ -52,7 +52,7 @@ class Tiff:
             if length > struct.calcsize("<" + word):
                 (start,) = self.read(word, start)
             if start + length <= len(self.file) and number:
-                tags[tag] = self.read(f"{number}{SIZES[kind]}", start)
+                tags.setdefault(tag, self.read(f"{number}{SIZES[kind]}", start))  # the first one counts, as in libtiff
         (following,) = self.read(word, first + size * count)
         return tags, following
 

@@ -1,4 +1,6 @@
-//! Links with the static library, and with `c/heap.c`, its allocator. The environment's `CC`, `CFLAGS` and `AR` are respected.
+//! Links with the proved static library, and with its allocator `heap.c`: those in `proved/`, which a released package carries, or else
+//! those of the repository. Where neither is there, `cargo check` and `cargo doc` work, and a build says what is missing. The
+//! environment's `CC`, `CFLAGS` and `AR` are respected.
 
 use std::env;
 use std::path::Path;
@@ -17,32 +19,41 @@ fn run(variable: &str, usual: &str, words: &[&str]) {
     );
 }
 
-fn main() {
-    let root = Path::new(&env::var("CARGO_MANIFEST_DIR").unwrap()).join("../..");
-    let built = root.join("crates/hayro_ccitt_c/out");
-    let library = built.join("libhayro_ccitt_c.a");
-    let heap = root.join("c/heap.c");
-    println!("cargo:rerun-if-changed={}", library.display());
-    println!("cargo:rerun-if-changed={}", heap.display());
-    assert!(
-        library.exists(),
-        "no {}: run `make`, or `rt lib` in crates/hayro_ccitt_c",
-        library.display()
-    );
-
-    let out = env::var("OUT_DIR").unwrap();
-    let (object, archive) = (
-        format!("{out}/heap.o"),
-        format!("{out}/libhayro_ccitt_heap.a"),
-    );
+/// Compiles the allocator into a library in the folder.
+fn compile_heap(heap: &Path, folder: &str) {
+    let object = format!("{folder}/heap.o");
+    let archive = format!("{folder}/libhayro_ccitt_heap.a");
     println!("cargo:rerun-if-env-changed=CFLAGS");
     let flags = env::var("CFLAGS").unwrap_or_default();
     let mut words: Vec<&str> = flags.split_whitespace().collect();
     words.extend(["-O2", "-fPIC", "-c", heap.to_str().unwrap(), "-o", &object]);
     run("CC", "cc", &words);
     run("AR", "ar", &["crs", &archive, &object]);
+}
+
+fn main() {
+    let package = Path::new(&env::var("CARGO_MANIFEST_DIR").unwrap()).to_path_buf();
+    let (carried, repository) = (package.join("proved"), package.join("../.."));
+    let (built, heap) = if carried.exists() {
+        (carried.clone(), carried.join("heap.c"))
+    } else {
+        let built = repository.join("crates/hayro_ccitt_c/out");
+        (built, repository.join("c/heap.c"))
+    };
+    let library = built.join("libhayro_ccitt_c.a");
+    let out = env::var("OUT_DIR").unwrap();
+    println!("cargo:rerun-if-changed={}", library.display());
+    println!("cargo:rerun-if-changed={}", heap.display());
     println!("cargo:rustc-link-search=native={}", built.display());
     println!("cargo:rustc-link-search=native={out}");
     println!("cargo:rustc-link-lib=static=hayro_ccitt_c");
     println!("cargo:rustc-link-lib=static=hayro_ccitt_heap");
+    if library.exists() {
+        compile_heap(&heap, &out);
+    } else {
+        println!(
+            "cargo:warning=a build needs {}: run `make`, or take a released package",
+            library.display()
+        );
+    }
 }

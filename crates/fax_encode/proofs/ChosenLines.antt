@@ -53,11 +53,11 @@ line_1d_encodes row some = subst (λ (r : Row). EncodesLine1D White r (chosen_li
 
 -- ---- Two-dimensional lines.
 -- a vertical mode of at most three positions has a word, and names a1
-record IsVertical (start to : ℕ) : Type 0 where
-  k : ℤ
-  mode : vertical_mode start to ≡ Vertical k
-  word : Has mode_codes (Vertical k) (word_of_mode (Vertical k))
-  names : pos to ≡ pos start +ℤ k
+pub record IsVertical (start to : ℕ) : Type 0 where
+  pub k : ℤ
+  pub mode : vertical_mode start to ≡ Vertical k
+  pub word : Has mode_codes (Vertical k) (word_of_mode (Vertical k))
+  pub names : pos to ≡ pos start +ℤ k
 
 to_the_right : (start n : ℕ) → n < 4 → (Has mode_codes (Vertical (pos n)) (word_of_mode (Vertical (pos n))))
     × (pos (start + n) ≡ pos start +ℤ pos n)
@@ -74,7 +74,7 @@ to_the_left to (suc zero) lt = (inr (inr (inr (inr (inr (inr (inr (inl (refl, re
 to_the_left to (suc (suc zero)) lt = (inr (inr (inr (inr (inr (inr (inr (inr (inl (refl, refl))))))))), omega (arith, ints))
 to_the_left to (suc (suc (suc n))) lt = absurd (omega arith)
 
-is_vertical : (start to : ℕ) → is_near start to ≡ true → IsVertical start to
+pub is_vertical : (start to : ℕ) → is_near start to ≡ true → IsVertical start to
 is_vertical start to near =
     let parts = and_parts (leb to (start + 3)) (leb start (to + 3)) near in
     let right : to ≤ start + 3 = leb-true to (start + 3) parts.0 in
@@ -198,7 +198,7 @@ module _ (reference row : Row) (same : length reference ≡ length row) where
   encodes_over at e = subst (λ (b : Bits). EncodesLine2D reference row at.from at.color b) (sym (chosen_over at (omega arith)))
       (subst (λ (n : ℕ). EncodesLine2D reference row n at.color []) (sym e) EncodesLine2D.over)
 
-  encodes_from : (turns : ℕ) (at : Place) → at.from ≤ suc (length row) → suc (length row) ≤ at.from + turns
+  pub encodes_from : (turns : ℕ) (at : Place) → at.from ≤ suc (length row) → suc (length row) ≤ at.from + turns
       → EncodesLine2D reference row at.from at.color (chosen_from reference row at)
   encodes_from zero at le enough = encodes_over at (omega arith)
   encodes_from (suc turns) at le enough = elim (cases_lt (length row) at.from) [

@@ -42,8 +42,8 @@ makeup_word color n low high whole =
     subst (λ (m : ℕ). Has (codes_of color) m (word_of_length color m)) (let e : 64 * (n / 64 - 1) + 64 ≡ n = omega arith in e)
     (makeup_times color (n / 64 - 1) (omega arith))
 
--- less than 2560 pixels are spelled
-rest_by : (color : Color) (n : ℕ) (below : Bool) → ltb n 64 ≡ below → n < 2560
+-- up to 2623 pixels are spelled by a make-up word and a terminating word
+rest_by : (color : Color) (n : ℕ) (below : Bool) → ltb n 64 ≡ below → n < 2624
     → Spells color n ((cond below [] (word_of_length color (n - n % 64))) ++ word_of_length color (n % 64))
 rest_by color n true is lt =
     let below : n < 64 = ltb-true n 64 is in
@@ -58,7 +58,7 @@ rest_by color n false is lt = elim (cases_lt n 64) [
       (word_of_length color (n % 64)) (terminating_word color (n % 64) (omega arith)) (omega arith)))
 ]
 
-rest_spelled : (color : Color) (n : ℕ) → n < 2560 → Spells color n (chosen_rest color n)
+pub rest_spelled : (color : Color) (n : ℕ) → n < 2624 → Spells color n (chosen_rest color n)
 rest_spelled color n lt = rest_by color n (ltb n 64) refl lt
 
 -- words of 2560 before what is spelled

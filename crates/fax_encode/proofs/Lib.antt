@@ -1,4 +1,5 @@
 pub mod BitmapRoundTrip
+pub mod BlackRuns
 pub mod BytesOfBits
 pub mod ChosenBySettings
 pub mod ChosenLines
@@ -22,6 +23,9 @@ pub mod RunLengths
 pub mod RunsWritten
 pub mod ScannedRows
 pub mod ScannedWords
+pub mod ShortestLines
+pub mod ShortestPictures
+pub mod ShortestRuns
 pub mod StepsToB1
 pub mod StoredWords
 pub mod TurnedBits

@@ -9,7 +9,7 @@ pub use Rattle.fax_encode.specs.Laws.{ChosenIsAnEncoding, ChosenIsRead, ChosenLi
 pub use Rattle.fax_encode.specs.Laws.{GivesAll, NeverLonger, PackedIsShown, ReadToTheEnd, RoundTripT4, RoundTripT6, RowsAreChosen}
 pub use Rattle.fax_encode.specs.Laws.{RowsArePacked, lenient_settings_for, line_end, tag_after}
 pub use Rattle.fax_encode.specs.Packed.{Bitmap, bytes_of_row, packed, rows_shown, shown, with_packed_row}
-pub use Rattle.fax_encode.specs.Painting.{StandsAt, under}
+pub use Rattle.fax_encode.specs.Painting.{StandsAt, then_white, under}
 pub use Rattle.fax_encode.specs.Refusals.{AreRows}
 pub use Rattle.fax_encode.specs.RowByRow.{RowsEncoded, no_rows, with_row, with_rows}
 pub use Rattle.fax_encode.specs.Scanning.{differences, ones_from}
@@ -86,6 +86,7 @@ pub use Rattle.std.proofs.Common.{below_more, cond, drop, eqb, false, get_or, in
 pub use Rattle.std.proofs.Common.{replicate, rules, set, subst, suc, sym, take, take_all, true, zero, ℕ, ◌%◌, ◌&&◌, ◌*◌, ◌++◌}
 pub use Rattle.std.proofs.Common.{◌+◌, ◌-◌, ◌/◌, ◌<◌, ◌==◌, ◌^◌, ◌||◌, ◌↔◌, ◌∙◌, ◌∷◌, ◌≡◌, ◌≢◌, ◌≤◌, ◌⊎◌}
 pub use Rattle.std.proofs.Math.Nat.{div-eq-sub-div, div-eq_of_lt, div-mul-le_self, mul-mod_left, pow-suc}
+pub use Rattle.std.proofs.Math.Seq.{drop-append-add}
 pub use Rattle.std.proofs.Math.Seq.{drop-append_seam, take-add, take-append-add, take-append_seam, take-length}
 pub use Rattle.std.proofs.lemmas.Bool.{agree_below_at, and_parts, cases_eq, cases_lt, eqb-true, false≢true, le-leb, le-ltb}
 pub use Rattle.std.proofs.lemmas.Bool.{leb-true, lt-ltb, ltb-true}
@@ -94,6 +95,7 @@ pub use Rattle.std.proofs.lemmas.Int.{ints}
 pub use Rattle.std.proofs.lemmas.List.{append-nil, drop-drop, drop_all, get_or-map, get_or-set_other, get_or-set_same}
 pub use Rattle.std.proofs.lemmas.List.{get_or_default, get_or_past, length-append, length-drop, length-map, length-replicate}
 pub use Rattle.std.proofs.lemmas.List.{length-set, length-take, map-append, nil_from_length, replicate-append-replicate}
+pub use Rattle.std.proofs.lemmas.List.{drop-append-le, drop-replicate, length-take-le}
 pub use Rattle.std.proofs.lemmas.List.{take-append-drop, take-append-le, take-replicate, take_rest}
 pub use Rattle.std.proofs.lemmas.List.Edits.{fill_by_more}
 pub use Rattle.std.proofs.lemmas.List.Elements.{All-cons, All-head, All-nil, All-push, All-tail}
@@ -113,3 +115,7 @@ pub use Rattle.std.specs.Prelude.{All, Ok, Vec, flat_map, negsuc, pos, ℤ, ◌+
 pub use borrow.Rule.Slice.PartMut.{put_mid}
 pub use lib.Count.{count_leading_zeros}
 pub use mathlib.Core.Bool.{beq}
+pub use Rattle.fax_encode.specs.Shortest.{ShortestLines, ShortestPicturesT6, ShortestRuns, first_makeup, other_modes, shorter}
+pub use Rattle.fax_encode.specs.Shortest.{shortest_from}
+pub use Rattle.fax_encode.specs.Shortest.{shortest_line_2d, shortest_lines_2d, shortest_of, shortest_run, shortest_runs_of_mode}
+pub use Rattle.fax_encode.specs.Shortest.{shortest_words}

@@ -246,7 +246,7 @@ last_word_written start row row' bytes word within last eight spelled put =
     (bits_of head) (low_bits 64 word) (8 * count)) ∙ sym (ap (λ (n : ℕ). take n (bits_of head ++ low_bits 64 word)) split)
 
 -- bytes of one colour
-bits_of_plain : (byte n : ℕ) (color : Bool) → bits_of_byte HighestFirst byte ≡ replicate 8 color
+pub bits_of_plain : (byte n : ℕ) (color : Bool) → bits_of_byte HighestFirst byte ≡ replicate 8 color
     → bits_of (replicate n byte) ≡ replicate (8 * n) color
 bits_of_plain byte zero color plain = refl
 bits_of_plain byte (suc n) color plain =

@@ -1,6 +1,7 @@
 -- Words of pixels: their bits, their bytes, and turning the colour within one.
 use Rattle.fax_encode.proofs.Names.{◌≡◌, ℕ, zero, suc, ◌+◌, ◌-◌, ◌*◌, ◌/◌, ◌%◌, ◌^◌, ◌<◌, ◌≤◌, Bool, not, List, [], ◌∷◌, ◌++◌}
-use Rattle.fax_encode.proofs.Names.{length, take, replicate, eqb, refl, sym, ap, ◌∙◌, arith, bit_at, to_be_bytes, w64, bit_xor}
+use Rattle.fax_encode.proofs.Names.{length, take, drop, replicate, eqb, refl, sym, ap, ◌∙◌, arith, bit_at, to_be_bytes, w64}
+use Rattle.fax_encode.proofs.Names.{bit_xor}
 use Rattle.fax_encode.proofs.Names.{bit_at_xor, bit_at_ones, bit_at_ones_above, bit_at-lt, HighestFirst, Bits, bit_of, bits_of}
 use Rattle.fax_encode.proofs.Names.{bits_of_byte, low_bits, low_bits-append}
 use Rattle.fax_encode.proofs.WrittenBits.{low_bits_mod}
@@ -33,6 +34,10 @@ take_none : (n : ℕ) → take {A = Bool} n [] ≡ []
 take_none zero = refl
 take_none (suc n) = refl
 
+drop_none : (n : ℕ) → drop {A = Bool} n [] ≡ []
+drop_none zero = refl
+drop_none (suc n) = refl
+
 -- the first bytes are the first bits
 pub bits_of-take : (k : ℕ) (bytes : List ℕ) → bits_of (take k bytes) ≡ take (8 * k) (bits_of bytes)
 bits_of-take zero bytes = refl
@@ -41,6 +46,13 @@ bits_of-take (suc k) (byte ∷ bytes) =
     let n : 8 * suc k ≡ suc (suc (suc (suc (suc (suc (suc (suc (8 * k)))))))) = omega arith in
     ap (λ (b : Bits). bits_of_byte HighestFirst byte ++ b) (bits_of-take k bytes)
     ∙ sym (ap (λ (m : ℕ). take m (bits_of (byte ∷ bytes))) n)
+
+pub bits_of-drop : (k : ℕ) (bytes : List ℕ) → bits_of (drop k bytes) ≡ drop (8 * k) (bits_of bytes)
+bits_of-drop zero bytes = refl
+bits_of-drop (suc k) [] = sym (drop_none (8 * suc k))
+bits_of-drop (suc k) (byte ∷ bytes) =
+    let n : 8 * suc k ≡ suc (suc (suc (suc (suc (suc (suc (suc (8 * k)))))))) = omega arith in
+    bits_of-drop k bytes ∙ sym (ap (λ (m : ℕ). drop m (bits_of (byte ∷ bytes))) n)
 
 -- ---- turning the colour
 -- a bit that is turned

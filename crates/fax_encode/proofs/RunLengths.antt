@@ -25,7 +25,7 @@ long_words color (suc times) =
     )
 
 -- the words of 2560 pixels and the rest
-run_parts : (color : Color) (n : ℕ) → length (chosen_run color n) ≡ n / 2560 * 12 + length (chosen_rest color (n % 2560))
+pub run_parts : (color : Color) (n : ℕ) → length (chosen_run color n) ≡ n / 2560 * 12 + length (chosen_rest color (n % 2560))
 run_parts color n =
     omega (
       arith,

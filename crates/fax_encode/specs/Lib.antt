@@ -7,4 +7,5 @@ pub mod Refusals
 pub mod RowByRow
 pub mod Scanning
 pub mod Settings
+pub mod Shortest
 pub mod Writing

@@ -9,7 +9,7 @@ ghost use Rattle.fax_encode.specs.Packed.{bytes_of_row, shown};
 ghost use Rattle.fax_encode.specs.Refusals.{AreRows};
 ghost use Rattle.fax_encode.specs.Scanning.{differences, ones_from};
 
-use crate::painting::plain_word;
+use crate::pixel_words::{first_pixels, plain_word};
 use std::alloc::{AllocError, Global};
 
 /// Returns the byte at an index, 0 past the end.
@@ -17,17 +17,6 @@ fn byte_or_white(bytes: &[u8], index: usize) -> u8
     ensures { result ≡ slice_index bytes.now index }
 {
     bytes.get(index).copied().unwrap_or(0)
-}
-
-/// Returns the first 64 pixels of eight bytes or more, the leftmost in the highest bit.
-#[inline(always)]
-fn first_pixels(bytes: &[u8]) -> u64
-    requires { 8 ≤ length bytes.now }
-    ensures { low_bits 64 result ≡ take 64 (bits_of bytes.now ++ replicate 64 false) }
-{
-    u64::from_be_bytes([
-        bytes[0], bytes[1], bytes[2], bytes[3], bytes[4], bytes[5], bytes[6], bytes[7],
-    ])
 }
 
 /// Returns the first 64 pixels of bytes, the leftmost in the highest bit, and white ones if there are fewer.

@@ -45,7 +45,7 @@ struct Above {
     b1: u32,
 }
 
-/// Finds b1 of a reference row (T.4, section 4.2.1.1), in steps of two changes.
+/// Finds b1 of a reference row (T.4, section 4.2.1.1), in steps of two changes from the index that was reached before.
 #[inline(always)]
 fn find_above(columns: u32, reference: &[u32], at: Coding) -> Above
     requires lawful { AreChanges columns reference.now }
@@ -56,6 +56,7 @@ fn find_above(columns: u32, reference: &[u32], at: Coding) -> Above
     ensures first { result.b1 ≡ get_or reference.now result.index columns }
     ensures near { IsNear columns reference.now (place_of at) result.index }
     ensures within { result.index ≤ length reference.now + 1 }
+    ensures onward { at.above ≤ result.index }
 {
     let from = at.from as u32;
     let mut index = at.above;

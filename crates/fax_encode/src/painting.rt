@@ -7,6 +7,9 @@ ghost use Rattle.hayro_ccitt.specs.Rows.{AreChanges, pixels};
 ghost use Rattle.fax_encode.specs.Chosen.{filled_up};
 ghost use Rattle.fax_encode.specs.Painting.{under, StandsAt};
 
+use crate::black_runs::paint_by_runs;
+use crate::pixel_words::plain_word;
+
 /// How far a row is painted.
 #[derive(Copy, Clone)]
 struct Brush {
@@ -16,22 +19,6 @@ struct Brush {
     word: u64,
     /// Whether that colour is black.
     is_black: bool,
-}
-
-/// Returns a word of pixels of one colour.
-#[inline(always)]
-pub fn plain_word(is_black: bool) -> u64
-    ensures { low_bits 64 result ≡ replicate 64 is_black }
-{
-    if is_black { u64::MAX } else { 0 }
-}
-
-/// Returns a byte of pixels of one colour.
-#[inline(always)]
-fn plain_byte(is_black: bool) -> u8
-    ensures { bits_of_byte HighestFirst result ≡ replicate 8 is_black }
-{
-    if is_black { 255 } else { 0 }
 }
 
 /// Writes the word, and begins the next one.
@@ -100,7 +87,7 @@ fn finish(row: &mut [u8], brush: Brush)
     row[brush.start..].copy_from_slice(&brush.word.to_be_bytes()[..length]);
 }
 
-/// Paints a row by its changes, a word at a time.
+/// Paints a row by its changes, a word at a time, from the left to the right. That is fast where changes are many.
 #[inline(never)]
 fn paint_changes(row: &mut [u8], columns: u32, changes: &[u32])
     requires changes { AreChanges columns changes.now }
@@ -145,7 +132,9 @@ pub fn paint_row(row: &mut [u8], columns: u32, changes: &[u32])
 {
     if changes.is_empty() {
         row.fill(0);
-    } else {
+    } else if row.len() < 8 || row.len() <= changes.len() {
         paint_changes(row, columns, changes);
+    } else {
+        paint_by_runs(row, columns, changes);
     }
 }

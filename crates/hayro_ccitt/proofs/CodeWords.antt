@@ -2,6 +2,7 @@ pub mod CodeReadings
 pub mod LookedUp
 pub mod LookedUpModes
 pub mod LooksAhead
+pub mod PairsOfRuns
 pub mod ReadCodes
 pub mod ReadRuns
 pub mod RunWords

@@ -3,12 +3,14 @@ use Rattle.hayro_ccitt.proofs.Names.{◌≡◌, ◌⊎◌, ℕ, Bool, List, take
 use Rattle.hayro_ccitt.proofs.Names.{sym, ap, subst, ◌∙◌, arith, IsOk, OnErr, OnOk, length-flat_map, DecodeError, DecodeSettings}
 use Rattle.hayro_ccitt.proofs.Names.{Group4, OnAnswer, meaning_after, Bits, AreWholeBytes, Held, Decodes, Damaged}
 use Rattle.hayro_ccitt.proofs.Names.{repairs_by_line, misses_by_line, SinkState, TakesRows, StopsShort, CountsDamage, Line, plain}
-use Rattle.hayro_ccitt.proofs.Names.{lines_of, failed_at, Row, AreSettings, CountsWork}
+use Rattle.hayro_ccitt.proofs.Names.{lines_of, failed_at, Row, AreSettings, CountsWork, RowsBeforeStay, RowsBehindStay}
 use Rattle.hayro_ccitt.proofs.{DamagedLines.Damage.damage_stays_in_row, Readings.PlainAnswers.LeavesRows}
 use Rattle.hayro_ccitt.proofs.Readings.RowWidths.{plain_width}
 use Rattle.hayro_ccitt.proofs.DamagedLines.DamageByK.{damage_ends}
 use Rattle.hayro_ccitt.proofs.DrawingLines.CountedLines.{on_answer_weaker}
 use Rattle.hayro_ccitt.proofs.EncodedPictures.PicturesOfEachKind.{closed_pictures, limited_pictures}
+use Rattle.hayro_ccitt.proofs.KeptRows.RowsBeforeDamage.{rows_before}
+use Rattle.hayro_ccitt.proofs.KeptRows.RowsBehindDamage.{rows_behind}
 use Rattle.hayro_ccitt.proofs.Readings.Undamaged.{no_row_repaired, no_misses, closed_strict, limited_strict}
 
 -- unless an allocation failure or the sink ended it, all rows were accepted, and the result is that of the reading
@@ -92,6 +94,12 @@ decodes settings bits step before after held place ticks answer are whole
           (λ e. damage_stays_in_row settings bits (take held.taken (plain settings bits).rows) answer are whole e.0 e.1) end;
       damage_by_k = on_answer_weaker answer (λ e. damage_ends settings bits
           (take held.taken (plain settings bits).rows) answer are whole e.0 e.1) end;
+      before_damage = on_answer_weaker answer
+          (λ e. subst (RowsBeforeStay settings bits) (sym e.0) (rows_before settings bits whole)) end;
+      behind_damage = on_answer_weaker answer
+          (λ e. subst (RowsBehindStay settings bits (take held.taken (plain settings bits).rows)) (sym e.1)
+          (subst (λ (rows : List Row). RowsBehindStay settings bits rows (plain settings bits).outcome) (sym e.0)
+          (rows_behind settings bits whole))) end;
     }
   where
     unrepaired : IsOk (plain (record settings { strict = true }) bits).outcome → held.repairs.rows ≡ 0

@@ -4,6 +4,7 @@ pub mod DamagedLines
 pub mod Decoded
 pub mod DrawingLines
 pub mod EncodedPictures
+pub mod KeptRows
 pub mod Names
 pub mod PixelRows
 pub mod Readings

@@ -38,6 +38,7 @@ pub use Rattle.hayro_ccitt.specs.Locality.{StartsAre, StaysBefore, begins_line, 
 pub use Rattle.hayro_ccitt.specs.LocalityByK.{ComeBefore1D, ComesBefore1D, DamageEndsAt1D, EncodedLinesAreBodies, IsFollowedBy}
 pub use Rattle.hayro_ccitt.specs.LocalityByK.{IsLine2D, IsTagOfLine, IsTaggedBody, LocalityByK, ReadsModes, RowsDiffer}
 pub use Rattle.hayro_ccitt.specs.LocalityByK.{behind_first_run, behind_mode, behind_read, behind_second_run, behind_word}
+pub use Rattle.hayro_ccitt.specs.LookUps.{ArePairs, is_short, pair_entry}
 pub use Rattle.hayro_ccitt.specs.LookUps.{AreEntries, AreOfColors, ColorEntries, entries_of, entry_of, is_row, longest_agreement}
 pub use Rattle.hayro_ccitt.specs.LookUps.{mode_told, padded, run_or_none, telling_bits, thirteen_bits, with_table_row}
 pub use Rattle.hayro_ccitt.specs.LookUps.{with_table_rows}
@@ -55,6 +56,8 @@ pub use Rattle.hayro_ccitt.specs.RowCursors.{Paused}
 pub use Rattle.hayro_ccitt.specs.Rows.{AreChanges, AscendFrom, HaveWidth, Row, a1, a2, b1, b2, changes, is_black, is_change}
 pub use Rattle.hayro_ccitt.specs.Rows.{last_pixel, least_below, opposite, paint, pixel, pixel_before, pixels, pixels_from}
 pub use Rattle.hayro_ccitt.specs.Rows.{repaired, right_of, white_row}
+pub use Rattle.hayro_ccitt.specs.RowsKept.{AreAlikeBehind, AreInStep, ComesTo, MakesNoRtc, PutsInStep, ReadsUpTo, RowsBefore}
+pub use Rattle.hayro_ccitt.specs.RowsKept.{RowsBeforeStay, RowsBehind, RowsBehindStay}
 pub use Rattle.hayro_ccitt.specs.RowsRead.{DamageIsCounted, HasEnded, HasFailed, IsPaid, IsStanding, IsStandingAtLine, Misses}
 pub use Rattle.hayro_ccitt.specs.RowsRead.{MissesAreCounted, MissesBehindRow, PaidAtLine, PaidBehindRow, ReachesNextLine}
 pub use Rattle.hayro_ccitt.specs.RowsRead.{ReaderStands, ReadsNext, RowsRead, StandsAtLine, StandsBehindRow, WorkIsPaid}
@@ -63,9 +66,10 @@ pub use Rattle.hayro_ccitt.specs.RowsRead.{IsWhole, MissIsTold, missed_since, ro
 pub use Rattle.hayro_ccitt.specs.Runs.{codes_of, read_run, run_from, run_of_word, run_turn}
 pub use Rattle.hayro_ccitt.specs.Settings.{AreSettings}
 pub use Rattle.hayro_ccitt.specs.Ticks.{looked, looked_ahead, looked_at_tag, missed, run_found, run_gives, tag_tests, word_found}
-pub use Rattle.hayro_ccitt.specs.UsualModes.{AreEnded, AreRunsHere, GoesOn2d, IsB1, IsNear, IsStroke, TurnsFrom, changes_in}
+pub use Rattle.hayro_ccitt.specs.UsualModes.{AreEnded, GoesOn2d, IsB1, IsNear, IsStroke, TurnsFrom, changes_in}
 pub use Rattle.hayro_ccitt.specs.UsualModes.{row_in}
-pub use Rattle.hayro_ccitt.specs.UsualRuns.{GoesOn, IsReached, IsRunHere, IsWordHere, RunGoesOn, pen_at}
+pub use Rattle.hayro_ccitt.specs.UsualRuns.{AreTwoRunsHere, CanFollow, GoesOn, IsOpen, IsReached, IsRunHere, IsShort, IsWordHere}
+pub use Rattle.hayro_ccitt.specs.UsualRuns.{RunGoesOn, pen_at}
 pub use Rattle.hayro_ccitt.specs.Window.{AtHand, IsFilled, moved, place_in_word}
 pub use Rattle.hayro_ccitt.specs.Work.{CountsRun, CountsWork, IsPaidUpTo, found_here, mode_found, most_counted, most_for_lines}
 pub use Rattle.hayro_ccitt.specs.Work.{runs_found, runs_found_behind, second_run_found, words_of}
@@ -79,6 +83,7 @@ pub use Rattle.hayro_ccitt.specs.declared.codes.Color.TheVariants.{Black, White}
 pub use Rattle.hayro_ccitt.specs.declared.codes.Mode.{Mode}
 pub use Rattle.hayro_ccitt.specs.declared.codes.Mode.TheVariants.{Horizontal, Pass, Vertical}
 pub use Rattle.hayro_ccitt.specs.declared.entries.TheConstants.{BLACK_ENTRIES, WHITE_ENTRIES}
+pub use Rattle.hayro_ccitt.specs.declared.pairs.TheConstants.{BLACK_PAIRS, WHITE_PAIRS}
 pub use Rattle.hayro_ccitt.specs.declared.error.DecodeError.{DecodeError}
 pub use Rattle.hayro_ccitt.specs.declared.error.DecodeError.TheVariants.{InvalidCode, OutOfMemory, Overflow, Refused}
 pub use Rattle.hayro_ccitt.specs.declared.error.DecodeError.TheVariants.{UnexpectedEof}
@@ -89,6 +94,7 @@ pub use Rattle.hayro_ccitt.specs.declared.settings.EncodingMode.{EncodingMode}
 pub use Rattle.hayro_ccitt.specs.declared.settings.EncodingMode.TheVariants.{Group3_1D, Group3_2D, Group4}
 pub use Rattle.hayro_ccitt.specs.declared.tables.TheConstants.{BLACK_MAKEUP, BLACK_TERMINATING, COMMON_MAKEUP, WHITE_MAKEUP}
 pub use Rattle.hayro_ccitt.specs.declared.tables.TheConstants.{WHITE_TERMINATING}
+pub use Rattle.hayro_ccitt.specs.declared.usual.TwoRuns.{TwoRuns}
 pub use Rattle.std.proofs.Common.{Bool, Err, IfOk, IsTrue, List, None, Ok, Option, Result, SFits, Some, [], add-one, add_assoc}
 pub use Rattle.std.proofs.Common.{ap, append-nil, append_assoc, arith, bit_and, bit_or, cond, drop, eqb, false, get_or}
 pub use Rattle.std.proofs.Common.{if◌then◌else◌, inl, inr, is_some, leb, length, length-append, length-drop, ltb, map, max, min}

@@ -13,6 +13,7 @@ use Rattle.hayro_ccitt.specs.LocalityByK.{DamageEndsAt1D}
 use Rattle.hayro_ccitt.specs.Pictures.{IsClosedPicture, IsLimitedPicture}
 use Rattle.hayro_ccitt.specs.PlainReading.{plain, lines_of, failed_at}
 use Rattle.hayro_ccitt.specs.Rows.{Row, HaveWidth}
+use Rattle.hayro_ccitt.specs.RowsKept.{RowsBeforeStay, RowsBehindStay}
 use Rattle.hayro_ccitt.specs.Work.{CountsWork}
 
 -- What decoding leaves in a sink of this step, in the context, in the count of work and as its result, for data with
@@ -70,3 +71,8 @@ pub record Decodes {M : Type 0} (settings : DecodeSettings) (bits : Bits) (step 
   -- In two-dimensional ones a change inside one line changes no row from the next one-dimensional line on, if the lines in
   -- between are those of an encoding (T.4, 4.1.2 and 4.2).
   pub damage_by_k : OnAnswer answer (DamageEndsAt1D settings bits (take held.taken (plain settings bits).rows) answer)
+  -- Whatever other data begin with the same bits up to a line have the same rows before that line (T.4, 4.1; T.6, 2.2).
+  pub before_damage : OnAnswer answer (RowsBeforeStay settings bits (take held.taken (plain settings bits).rows))
+  -- In lenient data of Group 3 with EOLs, whatever is before an EOL, the rows are the same again behind the next one, if the
+  -- line in between ends before it (T.4, 4.1.2).
+  pub behind_damage : OnAnswer answer (RowsBehindStay settings bits (take held.taken (plain settings bits).rows) answer)

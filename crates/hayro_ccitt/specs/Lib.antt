@@ -20,6 +20,7 @@ pub mod PlainReading
 pub mod Repetition
 pub mod RowCursors
 pub mod Rows
+pub mod RowsKept
 pub mod RowsRead
 pub mod Runs
 pub mod Settings

@@ -6,6 +6,7 @@ use Rattle.hayro_ccitt.specs.CodeLists.{Code, mode_codes}
 use Rattle.hayro_ccitt.specs.declared.codes.Mode.{Mode}
 use Rattle.hayro_ccitt.specs.declared.codes.Color.{Color}
 use Rattle.hayro_ccitt.specs.declared.codes.Color.TheVariants.{White, Black}
+use Rattle.hayro_ccitt.specs.Rows.{opposite}
 use Rattle.hayro_ccitt.specs.Runs.{codes_of}
 use Rattle.hayro_ccitt.specs.CodeReading.{agreement, word_at, is_prefix}
 
@@ -47,6 +48,32 @@ thirteen_bits index = low_bits 13 index
 pub record AreEntries (list : List (Code ℕ)) (entries : List ℕ) : Type 0 where
   pub count : length entries ≡ 8192
   pub each : (index : ℕ) → index < 8192 → get_or entries index 0 ≡ entry_of list (thirteen_bits index)
+
+-- auxiliary: the twelve bits of an index, the highest first
+unfoldable pub twelve_bits : ℕ → Bits
+twelve_bits index = low_bits 12 index
+
+-- a run that isn't empty and has one word (T.4, 4.1.1)
+abbrev pub is_short : ℕ → Bool
+is_short run = nat_lt 0 run && nat_lt run 64
+
+-- The entry of a table of pairs for these bits: if they begin with the words of two short runs, the first of this colour, it is
+-- the number of bits of both words, the second run and the first one, in four, six and six bits; otherwise 0 (T.4, 4.1.1).
+abbrev pub pair_entry : Color → Bits → ℕ
+pair_entry color here = elim (word_at (codes_of color) here) [
+  | Some first ↦ elim (word_at (codes_of (opposite color)) first.1) [
+    | Some second ↦ if is_short first.0 && is_short second.0
+        then (length here - length second.1) * 4096 + second.0 * 64 + first.0
+        else 0
+    | None ↦ 0
+  ]
+  | None ↦ 0
+]
+
+-- the entries of pairs that begin with a run of a colour, one for each value of twelve bits (T.4, 4.1.1)
+pub record ArePairs (color : Color) (entries : List ℕ) : Type 0 where
+  pub count : length entries ≡ 4096
+  pub each : (index : ℕ) → index < 4096 → get_or entries index 0 ≡ pair_entry color (twelve_bits index)
 
 -- auxiliary: the seven bits of a number, the highest first
 unfoldable pub seven_bits : ℕ → Bits

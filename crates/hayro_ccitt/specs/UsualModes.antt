@@ -3,11 +3,8 @@
 use Rattle.std.specs.Prelude.{◌≡◌, ◌+◌, ◌-◌, ◌*◌, ◌%◌, ◌<◌, ◌≤◌, ◌++◌, ◌∷◌, [], Bool, ℕ, List, length, take, get_or}
 use Rattle.hayro_ccitt.specs.declared.codes.Color.{Color}
 use Rattle.hayro_ccitt.specs.declared.codes.Color.TheVariants.{White, Black}
-use Rattle.hayro_ccitt.specs.Bits.{BitsAt}
 use Rattle.hayro_ccitt.specs.Lines.{Pen, draw_2d, drawn, words_drawn}
-use Rattle.hayro_ccitt.specs.Rows.{Row, AreChanges, opposite, pixels}
-use Rattle.hayro_ccitt.specs.UsualRuns.{IsRunHere}
-use Rattle.hayro_ccitt.specs.Window.{moved}
+use Rattle.hayro_ccitt.specs.Rows.{Row, AreChanges, pixels}
 
 -- Places are the changes of a row, and twice its end behind them, so that b1 is always among them: the changes
 abbrev pub changes_in : List ℕ → List ℕ
@@ -60,8 +57,3 @@ pub record IsStroke (columns : ℕ) (places : List ℕ) (place index : ℕ) (col
   pub colored : place < columns → TurnsFrom (length row) color
   pub at : place < columns → IsB1 columns places place index color
   pub whole : columns ≤ place → AreChanges place row
-
--- two runs are here, of the two colours, each with its number of bits and of words
-pub record AreRunsHere (color : Color) (at : BitsAt) (run width words run2 width2 words2 : ℕ) : Type 0 where
-  pub first : IsRunHere color at run width words
-  pub second : IsRunHere (opposite color) (moved width at) run2 width2 words2

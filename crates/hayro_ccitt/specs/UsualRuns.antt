@@ -1,11 +1,13 @@
 -- Runs that are drawn with bits at hand. This is not part of the trusted specification: no contract of a public call cites it.
-use Rattle.std.specs.Prelude.{◌≡◌, ◌+◌, ◌%◌, ◌<◌, ◌≤◌, Bool, ℕ, List, Ok, length}
+use Rattle.std.specs.Prelude.{◌≡◌, ◌⊎◌, ◌+◌, ◌-◌, ◌%◌, ◌^◌, ◌<◌, ◌≤◌, Bool, false, ℕ, List, [], Ok, length}
 use Rattle.hayro_ccitt.specs.declared.codes.Color.{Color}
 use Rattle.hayro_ccitt.specs.declared.codes.Color.TheVariants.{White}
+use Rattle.hayro_ccitt.specs.declared.settings.DecodeSettings.{DecodeSettings}
+use Rattle.hayro_ccitt.specs.declared.usual.TwoRuns.{TwoRuns}
 use Rattle.hayro_ccitt.specs.Bits.{Bits, BitsAt, here}
 use Rattle.hayro_ccitt.specs.CodeReading.{read_code}
 use Rattle.hayro_ccitt.specs.Lines.{Pen, draw_1d, drawn, words_drawn}
-use Rattle.hayro_ccitt.specs.Rows.{AreChanges, pixels}
+use Rattle.hayro_ccitt.specs.Rows.{AreChanges, opposite, pixels}
 use Rattle.hayro_ccitt.specs.Runs.{codes_of, read_run, run_from}
 use Rattle.hayro_ccitt.specs.Ticks.{run_found}
 use Rattle.hayro_ccitt.specs.Window.{moved}
@@ -20,6 +22,22 @@ pub record IsRunHere (color : Color) (at : BitsAt) (run width words : ℕ) : Typ
   pub read : read_run color (here at) ≡ Ok (run, here (moved width at))
   pub found : length (run_found color (0, here at)) ≡ words
   pub few : width ≤ 26
+
+-- two runs are here, of a colour and of the other one, with this many bits and words in all
+pub record AreTwoRunsHere (color : Color) (at : BitsAt) (runs : TwoRuns) : Type 0 where
+  pub width : ℕ
+  pub width2 : ℕ
+  pub words : ℕ
+  pub words2 : ℕ
+  pub first : IsRunHere color at runs.first width words
+  pub second : IsRunHere (opposite color) (moved width at) runs.second width2 words2
+  pub bits : runs.width ≡ width + width2
+  pub count : runs.words ≡ words + words2
+
+-- a run that isn't empty and has one word (T.4, 4.1.1)
+pub record IsShort (run : ℕ) : Type 0 where
+  pub some : 0 < run
+  pub below : run < 64
 
 -- A run goes on after make-up words: it is the same, and the words between were counted.
 pub record RunGoesOn (color : Color) (before : ℕ) (from : Bits) (after : ℕ) (to : Bits) (ticks now : ℕ) : Type 0 where
@@ -37,6 +55,21 @@ pub record GoesOn (strict : Bool) (columns : ℕ) (before after : Pen) (ticks no
   pub counts : ticks ≤ now
   pub counted : now + length (words_drawn (draw_1d strict columns) after) ≡ ticks
       + length (words_drawn (draw_1d strict columns) before)
+
+-- A row of changes isn't full, and continues in white; its last change may equal the position.
+pub record IsOpen (columns place : ℕ) (row : List ℕ) : Type 0 where
+  pub inside : place < columns
+  pub lawful : AreChanges (place + 1) row
+  pub even : length row % 2 ≡ 0
+
+-- Such a row goes on with a white run that ends before the row does, and a black one.
+pub record CanFollow (settings : DecodeSettings) (place : ℕ) (row : List ℕ) (runs : TwoRuns) : Type 0 where
+  pub row_is_open : IsOpen settings.columns place row
+  pub right : (0 < runs.first) ⊎ (row ≡ [])
+  pub inside : runs.first < settings.columns - place
+  pub some : 0 < runs.second
+  pub fits : (runs.second ≤ settings.columns - (place + runs.first)) ⊎ (settings.strict ≡ false)
+  pub small : runs.first + runs.second < 2 ^ 32
 
 -- A row of changes reaches a position: if it isn't full it continues in white, and its last change may equal the
 -- position.

@@ -5,7 +5,7 @@ ghost use Rattle.std.specs.Prelude.{slice_get, slice_index, get_or, Some, IfSome
 ghost use Rattle.hayro_ccitt.specs.Bits.{AreWholeBytes, BitsAt, BitsFit, bits_of, low_first_bits_of, bits_in, bit_of, here};
 ghost use Rattle.hayro_ccitt.specs.PlainReading.{at_end, aligned};
 ghost use Rattle.hayro_ccitt.specs.Window.{place_in_word, AtHand, moved};
-ghost use Rattle.hayro_ccitt.specs.LookUps.{padded, seven_bits, thirteen_bits};
+ghost use Rattle.hayro_ccitt.specs.LookUps.{padded, seven_bits, thirteen_bits, twelve_bits};
 
 use crate::{DecodeError, Result};
 use std::marker::Model;
@@ -490,6 +490,17 @@ impl<'a> BitsAtHand<'a> {
         ensures bits { thirteen_bits result ≡ padded 13 (here (moved skip self.now.at)) }
     {
         (self.window << skip >> 51) as usize
+    }
+
+    /// Returns the twelve bits after the next `skip`, as a number.
+    #[inline(always)]
+    pub(crate) fn twelve(&self, skip: usize) -> usize
+        requires within { skip + 12 ≤ self.now.left }
+        ensures few { result < 4096 }
+        ensures there { self.now.at.place + self.now.left ≤ length self.now.at.bits }
+        ensures bits { twelve_bits result ≡ padded 12 (here (moved skip self.now.at)) }
+    {
+        (self.window << skip >> 52) as usize
     }
 
     /// Returns a copy.

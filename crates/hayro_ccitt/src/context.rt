@@ -23,7 +23,7 @@ use crate::modes::{
 };
 use crate::settings::DecodeSettings;
 use crate::tables::Tables;
-use crate::usual::{draw_runs, draw_runs_in_window, lay_down, pass_white_row, take_up};
+use crate::usual::{draw_runs, draw_two_runs, lay_down, pass_white_row, take_up};
 use crate::{DecodeError, Decoder, Result};
 use std::alloc::Global;
 use std::marker::Model;
@@ -594,10 +594,8 @@ impl DecoderContext {
             hand,
             &mut self.coding_changes,
             self.pixels_decoded,
-            self.settings.columns,
-            self.settings.strict,
-            self.tables.lookup(Color::White),
-            self.tables.lookup(Color::Black),
+            self.settings,
+            &self.tables,
             ticks,
         );
         lay_down(&mut self.coding_changes, place);
@@ -688,14 +686,12 @@ impl DecoderContext {
             return false;
         }
         let ticks = &mut self.ticks;
-        let reached = draw_runs_in_window(
+        let reached = draw_two_runs(
             hand,
             &mut self.coding_changes,
             self.pixels_decoded,
-            self.settings.columns,
-            self.settings.strict,
-            self.tables.lookup(Color::White),
-            self.tables.lookup(Color::Black),
+            self.settings,
+            &self.tables,
             ticks,
         );
         match reached {

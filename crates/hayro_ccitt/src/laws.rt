@@ -14,6 +14,7 @@ ghost use Rattle.hayro_ccitt.specs.Laws.{EveryPictureHasAnEncoding, BytesBeginWi
 ghost use Rattle.hayro_ccitt.specs.Laws.{RowsOfChanges, ChangesOfRows, StepsOnRows};
 ghost use Rattle.hayro_ccitt.specs.Locality.{LinesByEols, StartsAre, Locality, LocalByTests};
 ghost use Rattle.hayro_ccitt.specs.LocalityByK.{LocalityByK, EncodedLinesAreBodies};
+ghost use Rattle.hayro_ccitt.specs.RowsKept.{RowsBefore, RowsBehind};
 
 use crate::Decoder;
 
@@ -122,6 +123,21 @@ pub fn locality()
 pub fn locality_by_k()
     ensures rows { LocalityByK }
     ensures bodies { EncodedLinesAreBodies }
+{}
+
+/// Damage changes no row before it, in any encoding: if two data begin with the same bits up to the start of a line of the
+/// one, the rows before that line are the same in both. The line is one that the reading reaches without having given up
+/// EOLs, which it does where it misses one and there is none in the rest of the data (T.4 section 4.1.2).
+pub fn rows_before()
+    ensures { RowsBefore }
+{}
+
+/// Whatever damage there is between two EOLs of lenient Group 3 data, bits that are changed, lost or added, the rows are the
+/// same again behind the next EOL. The line between that EOL and the damage is broken or ends before the last twelve bits of
+/// the EOL, whatever row it is read against; the damage makes no RTC; and in two-dimensional data a one-dimensional line
+/// follows the EOL. The readings have no row limit, seek EOLs, and end alike (T.4 section 4.1.2).
+pub fn rows_behind()
+    ensures { RowsBehind }
 {}
 
 /// Lawful lists of changes and rows of pixels correspond one to one (T.4 section 4.2.1.1).

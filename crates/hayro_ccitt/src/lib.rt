@@ -31,6 +31,7 @@ pub mod group4;
 pub mod laws;
 mod locality;
 mod modes;
+mod pairs;
 mod push_rows;
 mod reach;
 mod row_cursor;

@@ -9,16 +9,16 @@ ghost use Rattle.hayro_ccitt.specs.CodeReading.{read_code};
 ghost use Rattle.hayro_ccitt.specs.LookUps.{AreEntries};
 ghost use Rattle.hayro_ccitt.specs.Rows.{AreChanges, pixels, opposite};
 ghost use Rattle.hayro_ccitt.specs.Runs.{codes_of};
-ghost use Rattle.hayro_ccitt.specs.UsualModes.{AreEnded, changes_in, row_in, IsB1, IsStroke, AreRunsHere, GoesOn2d};
-ghost use Rattle.hayro_ccitt.specs.UsualRuns.{pen_at};
+ghost use Rattle.hayro_ccitt.specs.UsualModes.{AreEnded, changes_in, row_in, IsB1, IsStroke, GoesOn2d};
+ghost use Rattle.hayro_ccitt.specs.UsualRuns.{AreTwoRunsHere, pen_at};
 ghost use Rattle.hayro_ccitt.specs.Window.{moved};
 
 use crate::bit_reader::BitsAtHand;
 use crate::changes::change_or_end;
 use crate::codes::{Color, Mode, Ticks, mode_of};
 use crate::usual::{
-    b1_after_left, change_at, has_room, is_next, lay_down, run_at_hand, seek_b1, turn_at,
-    word_at_hand,
+    TwoRuns, b1_after_left, change_at, has_room, is_next, lay_down, pair_at_hand, run_at_hand,
+    seek_b1, turn_at,
 };
 
 /// Asks for room for as many changes as the window has bits, and returns whether there is.
@@ -353,8 +353,8 @@ fn has_long_runs(hand: &mut BitsAtHand<'_>, row: &Vec<u32>) -> bool
     hand.refill() && has_room_for_window(row)
 }
 
-/// Returns the two runs after a horizontal mode: for each its pixels, its bits and its number of code words. Returns `None`
-/// if one of them is neither a terminating word nor a make-up word and a terminating word.
+/// Returns the two runs after a horizontal mode. Returns `None` if one of them is neither a terminating word nor a make-up word
+/// and a terminating word.
 #[inline(always)]
 fn runs_at_hand(
     hand: &mut BitsAtHand<'_>,
@@ -362,28 +362,30 @@ fn runs_at_hand(
     color: Color,
     own: &[u16],
     other: &[u16],
-) -> Option<(u32, usize, usize, u32, usize, usize)>
+) -> Option<TwoRuns>
     requires enough { 32 ≤ hand.old.left }
     requires room { vec_len row.now + hand.old.left ≤ vec_capacity row.now }
     requires own { AreEntries (codes_of color) own.now }
     requires other { AreEntries (codes_of (opposite color)) other.now }
     ensures same { hand.new.at ≡ hand.old.at }
-    ensures room { IfSome result (λ two. vec_len row.now + hand.new.left ≤ vec_capacity row.now) }
-    ensures runs { IfSome result (λ two. AreRunsHere color (moved 3 hand.old.at) two.0 two.1 two.2 two.3 two.4 two.5) }
-    ensures below { IfSome result (λ two. (two.0 ≤ 4158) × (two.3 ≤ 4158)) }
-    ensures enough { IfSome result (λ two. 3 + two.1 + two.4 ≤ hand.new.left) }
+    ensures room { IfSome result (λ runs. vec_len row.now + hand.new.left ≤ vec_capacity row.now) }
+    ensures runs { IfSome result (λ runs. AreTwoRunsHere color (moved 3 hand.old.at) runs) }
+    ensures few { IfSome result (λ runs. (runs.first ≤ 4158) × (runs.second ≤ 4158) × (3 + runs.width ≤ hand.new.left)) }
 {
-    let (run, width) = word_at_hand(hand, 3, color, own);
-    let (run2, width2) = word_at_hand(hand, 3 + width, color.opposite(), other);
-    if run < 64 && run2 < 64 {
-        return Some((run, width, 1, run2, width2, 1));
+    if let Some(runs) = pair_at_hand(hand, 3, color) {
+        return Some(runs);
     }
     if !has_long_runs(hand, row) {
         return None;
     }
-    let (run, width, words) = run_at_hand(hand, 3, color, own)?;
-    let (run2, width2, words2) = run_at_hand(hand, 3 + width, color.opposite(), other)?;
-    Some((run, width, words, run2, width2, words2))
+    let (first, width, words) = run_at_hand(hand, 3, color, own)?;
+    let (second, width2, words2) = run_at_hand(hand, 3 + width, color.opposite(), other)?;
+    Some(TwoRuns {
+        first,
+        second,
+        width: width + width2,
+        words: words + words2,
+    })
 }
 
 /// Draws two runs. Returns `None`, and draws nothing, if they aren't of the usual kind.
@@ -417,28 +419,26 @@ fn draw_horizontal(
         × (vec_len row.new + hand.new.left ≤ vec_capacity row.new)) }
     ensures left { IfNone result ((hand.new.at ≡ hand.old.at) × (row.new.items ≡ row.old.items) × (ticks.new ≡ ticks.old)) }
 {
-    let (run, width, words, run2, width2, words2) = runs_at_hand(hand, row, color, own, other)?;
-    if !is_next(row, run) {
+    let runs = runs_at_hand(hand, row, color, own, other)?;
+    if !is_next(row, runs.first) {
         return None;
     }
-    if run2 == 0 {
+    if runs.second == 0 {
         return None;
     }
     let room = columns - painted;
-    if run + run2 > room {
+    if runs.first + runs.second > room {
         return None;
     }
     hand.pass(3);
-    hand.pass(width);
-    hand.pass(width2);
+    hand.pass(runs.width);
     ticks.tick();
-    ticks.tick_times(words);
-    ticks.tick_times(words2);
-    turn_at(row, painted + run);
-    if run + run2 == room {
+    ticks.tick_times(runs.words);
+    turn_at(row, painted + runs.first);
+    if runs.first + runs.second == room {
         return Some((columns, index, color));
     }
-    let place = painted + run + run2;
+    let place = painted + runs.first + runs.second;
     turn_at(row, place);
     let next = seek_b1(places, place, columns, index, ticks);
     Some((place, next, color))

@@ -16,7 +16,7 @@ use std::alloc::Global;
 use std::marker::Model;
 
 /// Reads the rows of an image one at a time, as [`RowReader`](crate::RowReader) does, but holds no reference to the data:
-/// it is passed to each call again. It holds two rows in memory and the lookup tables of the code words.
+/// it is passed to each call again. It holds two rows in memory.
 ///
 /// Pass the same data each time. With other data the rows and errors mean nothing, but each call returns, and reads nothing
 /// outside of the data.
@@ -41,7 +41,7 @@ impl RowCursor {
     ///
     /// # Errors
     ///
-    /// `OutOfMemory` if the lookup tables can't be allocated.
+    /// `OutOfMemory` is the only one. Today nothing is allocated here.
     pub fn new(
         alloc: Global,
         data: &[u8],

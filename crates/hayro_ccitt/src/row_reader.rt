@@ -256,8 +256,7 @@ impl RowState {
     }
 }
 
-/// Reads the rows of an image one at a time. It holds two rows in memory and the lookup tables of the code words, however
-/// long the image is.
+/// Reads the rows of an image one at a time. It holds two rows in memory, however long the image is.
 ///
 /// [`decode`](crate::decode) reads the same rows, and passes each to a sink.
 ///
@@ -296,7 +295,7 @@ impl<'a> RowReader<'a> {
     ///
     /// # Errors
     ///
-    /// `OutOfMemory` if the lookup tables can't be allocated.
+    /// `OutOfMemory` is the only one. Today nothing is allocated here.
     pub fn new(
         alloc: Global,
         data: &'a [u8],

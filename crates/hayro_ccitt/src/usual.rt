@@ -2,18 +2,22 @@
 //! others.
 
 ghost use Rattle.std.specs.Prelude.{vec_len, vec_capacity, get_or, ◌≡◌, ◌≢◌, ◌+◌, ◌-◌, ◌%◌, ◌<◌, ◌≤◌, ◌⊎◌, ℕ, IfSome, IfNone};
-ghost use Rattle.std.specs.Prelude.{true, false, length, ◌++◌, ◌∷◌, []};
+ghost use Rattle.std.specs.Prelude.{min, true, false, length, ◌++◌, ◌∷◌, []};
 ghost use Rattle.hayro_ccitt.specs.Bits.{here};
 ghost use Rattle.hayro_ccitt.specs.LookUps.{AreEntries};
 ghost use Rattle.hayro_ccitt.specs.Rows.{AreChanges, pixels, opposite};
 ghost use Rattle.hayro_ccitt.specs.UsualModes.{AreEnded, changes_in, IsNear, IsB1};
 ghost use Rattle.hayro_ccitt.specs.Runs.{codes_of};
-ghost use Rattle.hayro_ccitt.specs.UsualRuns.{IsWordHere, IsRunHere, IsReached, GoesOn, RunGoesOn, pen_at};
+ghost use Rattle.hayro_ccitt.specs.UsualRuns.{IsWordHere, IsRunHere, IsShort, AreTwoRunsHere, IsOpen, CanFollow, IsReached};
+ghost use Rattle.hayro_ccitt.specs.UsualRuns.{GoesOn, RunGoesOn, pen_at};
 ghost use Rattle.hayro_ccitt.specs.Window.{moved};
 
 use crate::bit_reader::BitsAtHand;
 use crate::codes::{Color, Ticks};
-use crate::tables::LOOKUP_INVALID;
+use crate::pairs::pairs_of;
+use crate::settings::DecodeSettings;
+use crate::tables::{LOOKUP_INVALID, Tables};
+use std::mem;
 
 /// Returns the run and the number of bits of the code word at an offset in the window; the run is `LOOKUP_INVALID` if there
 /// is none.
@@ -47,7 +51,7 @@ pub(crate) fn run_at_hand(
     requires near { skip ≤ 29 }
     requires entries { AreEntries (codes_of color) words.now }
     ensures run { IfSome result (λ run. IsRunHere color (moved skip hand.now.at) run.0 run.1 run.2) }
-    ensures below { IfSome result (λ run. run.0 ≤ 4158) }
+    ensures below { IfSome result (λ run. (run.0 ≤ 4158) × (run.2 ≤ 2)) }
 {
     let (run, width) = word_at_hand(hand, skip, color, words);
     if run < 64 {
@@ -119,78 +123,269 @@ fn fits(run: u32, room: u32, strict: bool) -> bool
     run <= room || !strict
 }
 
-/// Draws a white run and a black one, or a white one up to the row's end. Returns how far the row reaches then, and the
-/// colour in which it would continue; or `None`, drawing nothing, if they aren't of the usual kind.
+/// Fills the window if it has fewer than twelve bits; returns false if it can't be filled.
 #[inline(always)]
-fn draw_two_runs(
+fn has_pair(hand: &mut BitsAtHand<'_>) -> bool
+    ensures same { hand.new.at ≡ hand.old.at }
+    ensures enough { result ≡ true → 12 ≤ hand.new.left }
+{
+    if hand.left() >= 12 {
+        return true;
+    }
+    hand.refill()
+}
+
+/// Two runs that were read, of a colour and of the other one.
+#[derive(Copy, Clone)]
+pub(crate) struct TwoRuns {
+    /// The pixels of the first run.
+    pub(crate) first: u32,
+    /// The pixels of the second run.
+    pub(crate) second: u32,
+    /// The number of bits of all their code words.
+    pub(crate) width: usize,
+    /// The number of their code words.
+    pub(crate) words: usize,
+}
+
+/// Returns two runs of one code word each at an offset in the window, the first of this colour. Returns `None` if they have more
+/// than twelve bits, or one of them is empty.
+#[inline(always)]
+pub(crate) fn pair_at_hand(hand: &BitsAtHand<'_>, skip: usize, color: Color) -> Option<TwoRuns>
+    requires within { skip + 12 ≤ hand.now.left }
+    ensures runs { IfSome result (λ runs. AreTwoRunsHere color (moved skip hand.now.at) runs) }
+    ensures short { IfSome result (λ runs. IsShort runs.first × IsShort runs.second) }
+    ensures narrow { IfSome result (λ runs. runs.width ≤ 12) }
+{
+    let entry = pairs_of(color)[hand.twelve(skip)];
+    if entry == 0 {
+        return None;
+    }
+    Some(TwoRuns {
+        first: u32::from(entry & 63),
+        second: u32::from(entry >> 6 & 63),
+        width: usize::from(entry >> 12),
+        words: 2,
+    })
+}
+
+/// Returns the run at an offset in the window: its pixels, its bits and its number of code words. Returns `None` if it is
+/// neither a terminating word nor a make-up word and a terminating word, or the window doesn't reach as far.
+#[inline(always)]
+fn run_in_window(
+    hand: &BitsAtHand<'_>,
+    skip: usize,
+    color: Color,
+    words: &[u16],
+) -> Option<(u32, usize, usize)>
+    requires near { skip ≤ 29 }
+    requires entries { AreEntries (codes_of color) words.now }
+    ensures run { IfSome result (λ run. IsRunHere color (moved skip hand.now.at) run.0 run.1 run.2) }
+    ensures below { IfSome result (λ run. (run.0 ≤ 4158) × (run.2 ≤ 2)) }
+    ensures within { IfSome result (λ run. skip + run.1 ≤ hand.now.left) }
+{
+    if skip + 26 <= hand.left() {
+        return run_at_hand(hand, skip, color, words);
+    }
+    if skip + 13 > hand.left() {
+        return None;
+    }
+    let (run, width) = word_at_hand(hand, skip, color, words);
+    if run < 64 {
+        Some((run, width, 1))
+    } else {
+        None
+    }
+}
+
+/// Draws a white run that ends before the row does, and a black one after it. Returns how far the row reaches then, and the
+/// colour in which it would continue.
+#[inline(always)]
+fn draw_both(
     hand: &mut BitsAtHand<'_>,
     row: &mut Vec<u32>,
     painted: u32,
-    columns: u32,
-    strict: bool,
-    white: &[u16],
-    black: &[u16],
+    settings: DecodeSettings,
+    runs: TwoRuns,
     ticks: &mut Ticks,
-) -> Option<(u32, Color)>
-    requires open { painted < columns }
-    requires lawful { AreChanges (painted + 1) row.old.items }
-    requires even { length row.old.items % 2 ≡ 0 }
-    requires white { AreEntries (codes_of Color.White) white.now }
-    requires black { AreEntries (codes_of Color.Black) black.now }
-    ensures drawn { IfSome result (λ reached. GoesOn strict columns (pen_at painted row.old.items Color.White hand.old.at)
-        (pen_at reached.0 row.new.items reached.1 hand.new.at) ticks.old ticks.new) }
-    ensures taken { IfSome result (λ reached. IsReached columns reached.0 reached.1 row.new.items) }
-    ensures forward { IfSome result (λ reached. painted < reached.0) }
+) -> (u32, Color)
+    requires runs { AreTwoRunsHere Color.White hand.old.at runs }
+    requires within { runs.width ≤ hand.old.left }
+    requires follow { CanFollow settings painted row.old.items runs }
+    requires room { vec_len row.old + 2 ≤ vec_capacity row.old }
+    ensures drawn { GoesOn settings.strict settings.columns (pen_at painted row.old.items Color.White hand.old.at)
+        (pen_at result.0 row.new.items result.1 hand.new.at) ticks.old ticks.new }
+    ensures taken { IsReached settings.columns result.0 result.1 row.new.items }
+    ensures place { result.0 ≡ painted + runs.first + min runs.second (settings.columns - (painted + runs.first)) }
+    ensures moved { hand.new.at ≡ moved runs.width hand.old.at }
+{
+    let place = painted + runs.first;
+    hand.pass(runs.width);
+    ticks.tick_times(runs.words);
+    turn_at(row, place);
+    if runs.first + runs.second >= settings.columns - painted {
+        return (settings.columns, Color::White);
+    }
+    turn_at(row, place + runs.second);
+    (place + runs.second, Color::White)
+}
+
+/// Draws a white run and a black one of one code word each that end before the row does: the most frequent case. Returns how far
+/// the row reaches then; or `None`, drawing nothing, if they aren't of that kind.
+#[inline(always)]
+fn draw_pair(
+    hand: &mut BitsAtHand<'_>,
+    row: &mut Vec<u32>,
+    painted: u32,
+    settings: DecodeSettings,
+    ticks: &mut Ticks,
+) -> Option<u32>
+    requires open { IsOpen settings.columns painted row.old.items }
+    ensures drawn { IfSome result (λ place. GoesOn settings.strict settings.columns
+        (pen_at painted row.old.items Color.White hand.old.at)
+        (pen_at place row.new.items Color.White hand.new.at) ticks.old ticks.new) }
+    ensures open { IfSome result (λ place. IsOpen settings.columns place row.new.items) }
+    ensures forward { IfSome result (λ place. painted < place) }
     ensures same_bits { hand.new.at.bits ≡ hand.old.at.bits }
     ensures onward { hand.old.at.place ≤ hand.new.at.place }
     ensures left { IfNone result ((hand.new.at ≡ hand.old.at) × (row.new.items ≡ row.old.items) × (ticks.new ≡ ticks.old)) }
 {
-    if !has_two_runs(hand) {
+    if !has_pair(hand) {
         return None;
     }
-    let (run, width, words) = run_at_hand(hand, 0, Color::White, white)?;
-    let room = columns - painted;
-    if !fits(run, room, strict) {
-        return None;
-    }
-    if run >= room {
-        hand.pass(width);
-        ticks.tick_times(words);
-        return Some((columns, Color::Black));
-    }
-    if !is_next(row, run) {
+    let runs = pair_at_hand(hand, 0, Color::White)?;
+    if runs.first + runs.second >= settings.columns - painted {
         return None;
     }
     if !has_room_for_pair(row) {
         return None;
     }
-    let place = painted + run;
-    let (run2, width2, words2) = run_at_hand(hand, width, Color::Black, black)?;
-    let room2 = columns - place;
-    if run2 == 0 {
-        return None;
-    }
-    if !fits(run2, room2, strict) {
-        return None;
-    }
-    hand.pass(width);
-    hand.pass(width2);
-    ticks.tick_times(words);
-    ticks.tick_times(words2);
-    turn_at(row, place);
-    if run2 >= room2 {
-        return Some((columns, Color::White));
-    }
-    turn_at(row, place + run2);
-    Some((place + run2, Color::White))
+    let (place, _color) = draw_both(hand, row, painted, settings, runs, ticks);
+    Some(place)
 }
 
-/// Returns whether a run is one terminating word, and not empty.
+/// Draws a white run and a black one, or a white one up to the row's end, as far as they are in the window. Returns how far the
+/// row reaches then, and the colour in which it would continue; or `None`, drawing nothing, if they aren't of the usual kind.
 #[inline(always)]
-fn is_short(run: u32) -> bool
-    ensures { result ≡ true → (0 < run) × (run < 64) }
+pub(crate) fn draw_two_runs(
+    hand: &mut BitsAtHand<'_>,
+    row: &mut Vec<u32>,
+    painted: u32,
+    settings: DecodeSettings,
+    tables: &Tables,
+    ticks: &mut Ticks,
+) -> Option<(u32, Color)>
+    requires within { 26 ≤ hand.old.left }
+    requires open { IsOpen settings.columns painted row.old.items }
+    ensures drawn { IfSome result (λ reached. GoesOn settings.strict settings.columns
+        (pen_at painted row.old.items Color.White hand.old.at)
+        (pen_at reached.0 row.new.items reached.1 hand.new.at) ticks.old ticks.new) }
+    ensures taken { IfSome result (λ reached. IsReached settings.columns reached.0 reached.1 row.new.items) }
+    ensures forward { IfSome result (λ reached. painted < reached.0) }
+    ensures same_bits { hand.new.at.bits ≡ hand.old.at.bits }
+    ensures onward { hand.old.at.place ≤ hand.new.at.place }
+    ensures left { IfNone result ((hand.new.at ≡ hand.old.at) × (row.new.items ≡ row.old.items) × (ticks.new ≡ ticks.old)) }
 {
-    run > 0 && run < 64
+    let (first, width, words) = run_at_hand(hand, 0, Color::White, tables.lookup(Color::White))?;
+    let room = settings.columns - painted;
+    if !fits(first, room, settings.strict) {
+        return None;
+    }
+    if first >= room {
+        hand.pass(width);
+        ticks.tick_times(words);
+        return Some((settings.columns, Color::Black));
+    }
+    if !is_next(row, first) {
+        return None;
+    }
+    if !has_room_for_pair(row) {
+        return None;
+    }
+    let (second, width2, words2) = run_in_window(
+        hand,
+        width,
+        Color::Black,
+        tables.lookup(Color::Black),
+    )?;
+    if second == 0 {
+        return None;
+    }
+    if !fits(second, room - first, settings.strict) {
+        return None;
+    }
+    let runs = TwoRuns {
+        first,
+        second,
+        width: width + width2,
+        words: words + words2,
+    };
+    Some(draw_both(hand, row, painted, settings, runs, ticks))
+}
+
+/// Draws runs in pairs while they are of the usual kind. Returns how far the row reaches then, and the colour in which it
+/// continues.
+#[inline(always)]
+fn draw_pairs(
+    hand: &mut BitsAtHand<'_>,
+    row: &mut Vec<u32>,
+    painted: u32,
+    settings: DecodeSettings,
+    tables: &Tables,
+    ticks: &mut Ticks,
+) -> (u32, Color)
+    requires open { IsOpen settings.columns painted row.old.items }
+    ensures drawn { GoesOn settings.strict settings.columns (pen_at painted row.old.items Color.White hand.old.at)
+        (pen_at result.0 row.new.items result.1 hand.new.at) ticks.old ticks.new }
+    ensures reached { IsReached settings.columns result.0 result.1 row.new.items }
+    ensures forward { painted ≤ result.0 }
+    ensures same_bits { hand.new.at.bits ≡ hand.old.at.bits }
+    ensures onward { hand.old.at.place ≤ hand.new.at.place }
+{
+    let mut place = painted;
+    'runs: loop {
+        if let Some(next) = draw_pair(hand, row, place, settings, ticks) {
+            place = next;
+        } else {
+            if !has_two_runs(hand) {
+                return (place, Color::White);
+            }
+            match draw_two_runs(hand, row, place, settings, tables, ticks) {
+                None => return (place, Color::White),
+                Some((next, color)) => {
+                    if next == settings.columns {
+                        return (next, color);
+                    }
+                    place = next;
+                }
+            }
+        }
+    }
+}
+
+/// The same with a list of its own meanwhile, so that the list's fields are values of this call.
+#[inline(always)]
+pub(crate) fn draw_runs(
+    hand: &mut BitsAtHand<'_>,
+    row: &mut Vec<u32>,
+    painted: u32,
+    settings: DecodeSettings,
+    tables: &Tables,
+    ticks: &mut Ticks,
+) -> (u32, Color)
+    requires open { IsOpen settings.columns painted row.old.items }
+    ensures drawn { GoesOn settings.strict settings.columns (pen_at painted row.old.items Color.White hand.old.at)
+        (pen_at result.0 row.new.items result.1 hand.new.at) ticks.old ticks.new }
+    ensures reached { IsReached settings.columns result.0 result.1 row.new.items }
+    ensures forward { painted ≤ result.0 }
+    ensures same_bits { hand.new.at.bits ≡ hand.old.at.bits }
+    ensures onward { hand.old.at.place ≤ hand.new.at.place }
+{
+    let mut own = Vec::new(*row.allocator());
+    mem::swap(row, &mut own);
+    let reached = draw_pairs(hand, &mut own, painted, settings, tables, ticks);
+    mem::swap(row, &mut own);
+    reached
 }
 
 /// Fills the window if it has fewer than 28 bits; returns false if it can't be filled.
@@ -261,125 +456,6 @@ pub(crate) fn pass_makeup_words(
     }
 }
 
-/// Draws a white run and a black one of one code word each that end before the row does: the most frequent case.
-#[inline(always)]
-fn draw_short_runs(
-    hand: &mut BitsAtHand<'_>,
-    row: &mut Vec<u32>,
-    painted: u32,
-    columns: u32,
-    _strict: bool,
-    white: &[u16],
-    black: &[u16],
-    ticks: &mut Ticks,
-) -> Option<u32>
-    requires open { painted < columns }
-    requires lawful { AreChanges (painted + 1) row.old.items }
-    requires even { length row.old.items % 2 ≡ 0 }
-    requires white { AreEntries (codes_of Color.White) white.now }
-    requires black { AreEntries (codes_of Color.Black) black.now }
-    ensures drawn { IfSome result (λ place. GoesOn _strict columns (pen_at painted row.old.items Color.White hand.old.at)
-        (pen_at place row.new.items Color.White hand.new.at) ticks.old ticks.new) }
-    ensures reached { IfSome result (λ place. IsReached columns place Color.White row.new.items) }
-    ensures forward { IfSome result (λ place. painted < place) }
-    ensures same_bits { hand.new.at.bits ≡ hand.old.at.bits }
-    ensures onward { hand.old.at.place ≤ hand.new.at.place }
-    ensures left { IfNone result ((hand.new.at ≡ hand.old.at) × (row.new.items ≡ row.old.items) × (ticks.new ≡ ticks.old)) }
-{
-    if !has_two_words(hand) {
-        return None;
-    }
-    let (run, width) = word_at_hand(hand, 0, Color::White, white);
-    let (run2, width2) = word_at_hand(hand, width, Color::Black, black);
-    if !is_short(run) {
-        return None;
-    }
-    if !is_short(run2) {
-        return None;
-    }
-    if run + run2 >= columns - painted {
-        return None;
-    }
-    if !has_room_for_pair(row) {
-        return None;
-    }
-    hand.pass(width);
-    hand.pass(width2);
-    ticks.tick_times(1);
-    ticks.tick_times(1);
-    turn_at(row, painted + run);
-    turn_at(row, painted + run + run2);
-    Some(painted + run + run2)
-}
-
-/// Draws a white run and a black one of one code word, or a white one up to the row's end, without filling the window. Returns
-/// how far the row reaches then, and the colour in which it would continue; or `None`, drawing nothing, if they aren't of that
-/// kind.
-#[inline(always)]
-pub(crate) fn draw_runs_in_window(
-    hand: &mut BitsAtHand<'_>,
-    row: &mut Vec<u32>,
-    painted: u32,
-    columns: u32,
-    strict: bool,
-    white: &[u16],
-    black: &[u16],
-    ticks: &mut Ticks,
-) -> Option<(u32, Color)>
-    requires open { painted < columns }
-    requires within { 32 ≤ hand.old.left }
-    requires lawful { AreChanges (painted + 1) row.old.items }
-    requires even { length row.old.items % 2 ≡ 0 }
-    requires white { AreEntries (codes_of Color.White) white.now }
-    requires black { AreEntries (codes_of Color.Black) black.now }
-    ensures drawn { IfSome result (λ reached. GoesOn strict columns (pen_at painted row.old.items Color.White hand.old.at)
-        (pen_at reached.0 row.new.items reached.1 hand.new.at) ticks.old ticks.new) }
-    ensures taken { IfSome result (λ reached. IsReached columns reached.0 reached.1 row.new.items) }
-    ensures forward { IfSome result (λ reached. painted < reached.0) }
-    ensures same_bits { hand.new.at.bits ≡ hand.old.at.bits }
-    ensures onward { hand.old.at.place ≤ hand.new.at.place }
-    ensures left { IfNone result ((hand.new.at ≡ hand.old.at) × (row.new.items ≡ row.old.items) × (ticks.new ≡ ticks.old)) }
-{
-    let (run, width, words) = run_at_hand(hand, 0, Color::White, white)?;
-    let room = columns - painted;
-    if !fits(run, room, strict) {
-        return None;
-    }
-    if run >= room {
-        hand.pass(width);
-        ticks.tick_times(words);
-        return Some((columns, Color::Black));
-    }
-    if !is_next(row, run) {
-        return None;
-    }
-    if !has_room_for_pair(row) {
-        return None;
-    }
-    if width > 19 {
-        return None;
-    }
-    let (run2, width2) = word_at_hand(hand, width, Color::Black, black);
-    if !is_short(run2) {
-        return None;
-    }
-    let turn = painted + run;
-    let room2 = columns - turn;
-    if !fits(run2, room2, strict) {
-        return None;
-    }
-    hand.pass(width);
-    hand.pass(width2);
-    ticks.tick_times(words);
-    ticks.tick_times(1);
-    turn_at(row, turn);
-    if run2 >= room2 {
-        return Some((columns, Color::White));
-    }
-    turn_at(row, turn + run2);
-    Some((turn + run2, Color::White))
-}
-
 /// Passes a white row: one run as long as the row. Returns whether there is one in the window; otherwise nothing changes.
 #[inline(always)]
 pub(crate) fn pass_white_row(
@@ -409,76 +485,6 @@ pub(crate) fn pass_white_row(
     hand.pass(width);
     ticks.tick_times(words);
     true
-}
-
-/// Draws a white run and a black one, trying the most frequent case first.
-#[inline(always)]
-fn draw_pair(
-    hand: &mut BitsAtHand<'_>,
-    row: &mut Vec<u32>,
-    painted: u32,
-    columns: u32,
-    strict: bool,
-    white: &[u16],
-    black: &[u16],
-    ticks: &mut Ticks,
-) -> Option<(u32, Color)>
-    requires open { painted < columns }
-    requires lawful { AreChanges (painted + 1) row.old.items }
-    requires even { length row.old.items % 2 ≡ 0 }
-    requires white { AreEntries (codes_of Color.White) white.now }
-    requires black { AreEntries (codes_of Color.Black) black.now }
-    ensures drawn { IfSome result (λ reached. GoesOn strict columns (pen_at painted row.old.items Color.White hand.old.at)
-        (pen_at reached.0 row.new.items reached.1 hand.new.at) ticks.old ticks.new) }
-    ensures taken { IfSome result (λ reached. IsReached columns reached.0 reached.1 row.new.items) }
-    ensures forward { IfSome result (λ reached. painted < reached.0) }
-    ensures same_bits { hand.new.at.bits ≡ hand.old.at.bits }
-    ensures onward { hand.old.at.place ≤ hand.new.at.place }
-    ensures left { IfNone result ((hand.new.at ≡ hand.old.at) × (row.new.items ≡ row.old.items) × (ticks.new ≡ ticks.old)) }
-{
-    match draw_short_runs(hand, row, painted, columns, strict, white, black, ticks) {
-        Some(place) => Some((place, Color::White)),
-        None => draw_two_runs(hand, row, painted, columns, strict, white, black, ticks),
-    }
-}
-
-/// Draws runs in pairs while they are of the usual kind. Returns how far the row reaches then, and the colour in which it
-/// continues.
-#[inline(always)]
-pub(crate) fn draw_runs(
-    hand: &mut BitsAtHand<'_>,
-    row: &mut Vec<u32>,
-    painted: u32,
-    columns: u32,
-    strict: bool,
-    white: &[u16],
-    black: &[u16],
-    ticks: &mut Ticks,
-) -> (u32, Color)
-    requires open { painted < columns }
-    requires lawful { AreChanges (painted + 1) row.old.items }
-    requires even { length row.old.items % 2 ≡ 0 }
-    requires white { AreEntries (codes_of Color.White) white.now }
-    requires black { AreEntries (codes_of Color.Black) black.now }
-    ensures drawn { GoesOn strict columns (pen_at painted row.old.items Color.White hand.old.at)
-        (pen_at result.0 row.new.items result.1 hand.new.at) ticks.old ticks.new }
-    ensures reached { IsReached columns result.0 result.1 row.new.items }
-    ensures forward { painted ≤ result.0 }
-    ensures same_bits { hand.new.at.bits ≡ hand.old.at.bits }
-    ensures onward { hand.old.at.place ≤ hand.new.at.place }
-{
-    let mut place = painted;
-    'runs: loop {
-        match draw_pair(hand, row, place, columns, strict, white, black, ticks) {
-            None => return (place, Color::White),
-            Some((next, color)) => {
-                if next == columns {
-                    return (next, color);
-                }
-                place = next;
-            }
-        }
-    }
 }
 
 /// Prepares a front for drawing in pairs, white next: if it ends in black, a change is stored at its end. Returns false,

@@ -177,7 +177,7 @@ pub extern "C" fn hayro_ccitt_open(
         OnReading reader.new.handle.value (IsOpened s bits (order_of settings.now))) }
     ensures is_open { result ≡ 0 → reader.new.is_open ≡ true }
     ensures unchanged { result ≢ 0 → reader.new ≡ reader.old }
-    ensures untaken { (settings_of settings.now ≡ None) ⊎ ((¬ (BitsFit «data».now)) ⊎ (reader.old.is_open ≡ true)) → result ≡ 6 }
+    ensures untaken { (result ≡ 6) ↔ ((settings_of settings.now ≡ None) ⊎ ((¬ (BitsFit «data».now)) ⊎ (reader.old.is_open ≡ true))) }
 {
     if reader.is_open {
         return 6;

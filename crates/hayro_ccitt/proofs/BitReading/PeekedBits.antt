@@ -1,7 +1,7 @@
 -- The highest bits of a word that contains the bits from here on.
 use Rattle.hayro_ccitt.proofs.Names.{◌≡◌, ℕ, zero, suc, ◌+◌, ◌-◌, ◌/◌, ◌^◌, ◌<◌, ◌≤◌, false, [], ◌∷◌, get_or, refl, sym, ap, ◌∙◌}
 use Rattle.hayro_ccitt.proofs.Names.{arith, get_or-drop, shr-shr, Bits, BitsAt, bit_of, low_bits, here, padded, common_steps}
-use Rattle.hayro_ccitt.specs.LookUps.{seven_bits, thirteen_bits}
+use Rattle.hayro_ccitt.specs.LookUps.{seven_bits, thirteen_bits, twelve_bits}
 
 -- the low bits of a number, if they are the first ones here
 low_bits-padded : (n x : ℕ) (here : Bits) → ((k : ℕ) → k < n → bit_of x (n - 1 - k) ≡ get_or here k false)
@@ -49,3 +49,8 @@ pub first_seven : (at : BitsAt) (word : ℕ) → ((k : ℕ) → k < 7 → bit_of
     → seven_bits (word / 144115188075855872) ≡ padded 7 (here at)
 unfolding seven_bits
 first_seven at word h = highest_bits 64 at word 7 (omega arith) h
+
+pub first_twelve : (at : BitsAt) (word : ℕ) → ((k : ℕ) → k < 12 → bit_of word (63 - k) ≡ get_or at.bits (at.place + k) false)
+    → twelve_bits (word / 4503599627370496) ≡ padded 12 (here at)
+unfolding twelve_bits
+first_twelve at word h = highest_bits 64 at word 12 (omega arith) h

@@ -1,6 +1,6 @@
 -- A run of one word or of two, which are known one by one.
 use Rattle.hayro_ccitt.proofs.Names.{◌≡◌, ℕ, ◌+◌, ◌<◌, ◌≤◌, length, subst, arith, Color, Bits, BitsAt, here}
-use Rattle.hayro_ccitt.proofs.Names.{IsWordHere, IsRunHere, RunGoesOn, codes_of, common_steps, moved}
+use Rattle.hayro_ccitt.proofs.Names.{TwoRuns, AreTwoRunsHere, IsWordHere, IsRunHere, RunGoesOn, codes_of, common_steps, moved}
 use Rattle.hayro_ccitt.proofs.CodeWords.ReadRuns.{read_code_shorter, words_not_empty, run_ends, run_goes_on}
 use Rattle.hayro_ccitt.proofs.CodeWords.RunWords.{run_found_ends, run_found_on}
 
@@ -22,6 +22,13 @@ pub run_here_too : (color : Color) (at : BitsAt) (run width words : ℕ) → IsR
 run_here_too color at run width words there =
     let none : at.place + 0 ≡ at.place = omega arith in
     subst (λ (p : ℕ). IsRunHere color (record { bits = at.bits; place = p }) run width words) none there
+
+-- two runs after no bits are here
+pub two_here_too : (color : Color) (at : BitsAt) (runs : TwoRuns) → AreTwoRunsHere color (moved 0 at) runs
+    → AreTwoRunsHere color at runs
+two_here_too color at runs there =
+    let none : at.place + 0 ≡ at.place = omega arith in
+    subst (λ (p : ℕ). AreTwoRunsHere color (record { bits = at.bits; place = p }) runs) none there
 
 -- a word after no bits is here
 word_here_too : (color : Color) (at : BitsAt) (run width : ℕ) → IsWordHere color (moved 0 at) run width

@@ -133,7 +133,7 @@ drop_past (suc n) (a ∷ front) rest le =
     let less : n - length front ≡ suc n - suc (length front) = omega arith in
     drop_past n front rest (omega arith) ∙ ap (λ (m : ℕ). drop m rest) less
 
-take_front : {A : Type 0} (front rest : List A) → take (length front) (front ++ rest) ≡ front
+pub take_front : {A : Type 0} (front rest : List A) → take (length front) (front ++ rest) ≡ front
 take_front [] rest = refl
 take_front {A} (a ∷ front) rest = ap (λ (l : List A). a ∷ l) (take_front front rest)
 

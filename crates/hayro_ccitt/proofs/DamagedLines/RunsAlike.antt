@@ -112,7 +112,7 @@ abbrev pub IsGroup3 : EncodingMode → Type 0
 IsGroup3 encoding = (encoding ≡ Group3_1D) ⊎ (encoding ≡ Group3_2D)
 
 -- behind the first of bits that end with the zeros of an EOL there are enough zeros left
-closes_tail : (tag : Bool) (bits : Bits) → Closes (tag ∷ bits) → Inside bits
+pub closes_tail : (tag : Bool) (bits : Bits) → Closes (tag ∷ bits) → Inside bits
 closes_tail tag bits ([], e) =
     let ten : bits ≡ replicate 10 false = cc in
     record { holds = ap (scan 3) ten; last = (tag ∷ [], [], e) }

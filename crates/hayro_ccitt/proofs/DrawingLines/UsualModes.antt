@@ -6,7 +6,8 @@ use Rattle.hayro_ccitt.proofs.Names.{ints, cases_lt, length-append, get_or_defau
 use Rattle.hayro_ccitt.proofs.Names.{Horizontal, Vertical, Step, pen_of, words_from_2d, Bits, BitsAt, here, mode_codes, read_code}
 use Rattle.hayro_ccitt.proofs.Names.{Context, ArePassed, redrawn, Pen, start, draw_run, draw_mode, turn_behind, words_behind}
 use Rattle.hayro_ccitt.proofs.Names.{Turn, Row, AreChanges, pixels, is_black, opposite, paint, right_of, b1, b2, changes}
-use Rattle.hayro_ccitt.proofs.Names.{TurnsFrom, IsNear, IsB1, GoesOn2d, IsStroke, AreRunsHere, IsRunHere, pen_at, moved}
+use Rattle.hayro_ccitt.proofs.Names.{TurnsFrom, IsNear, IsB1, GoesOn2d, IsStroke, TwoRuns, AreTwoRunsHere, IsRunHere, pen_at}
+use Rattle.hayro_ccitt.proofs.Names.{moved}
 use Rattle.hayro_ccitt.proofs.{PixelRows.ReferencePlaces.end_within, Readings.Repeated.after_turn}
 use Rattle.hayro_ccitt.proofs.DrawingLines.CountedLines.{IsCountedSoFar, found_2d_from, found_after, found_2d_on, words_run}
 use Rattle.hayro_ccitt.proofs.DrawingLines.Drawings.{drawn_by, step_2d}
@@ -276,13 +277,14 @@ module _ {columns : ℕ} {places : List ℕ} {painted index : ℕ} {color : Colo
   first_lawful : (run : ℕ) → (0 < run) ⊎ (row ≡ []) → AreChanges (painted + run) row
   first_lawful run next = next_lawful painted run row stroke.lawful next
 
-  pub horizontal_on : {strict : Bool}
+  horizontal_by : {strict : Bool}
       (at : BitsAt) (later : ℕ) {run width words run2 width2 words2 ticks now : ℕ} → read_code mode_codes (here at) ≡ Ok
-      (Horizontal, here (moved 3 at)) → AreRunsHere color (moved 3 at) run width words run2 width2 words2 → (0 < run) ⊎ (row ≡ [])
+      (Horizontal, here (moved 3 at)) → IsRunHere color (moved 3 at) run width words
+      → IsRunHere (opposite color) (moved width (moved 3 at)) run2 width2 words2 → (0 < run) ⊎ (row ≡ [])
       → painted + run + run2 ≤ columns → ticks + 1 + (words + words2) ≤ now → now + (index - 1) ≤ ticks + 4 + 4 * (words + words2)
       + (later - 1) → GoesOn2d strict columns (pixels columns places) (pen_at painted row color at) (pen_at (painted + run + run2)
       (row ++ (painted + run) ∷ []) color (moved width2 (moved width (moved 3 at)))) ticks now (index - 1) (later - 1)
-  horizontal_on {strict} at later {run} {width} {words} {run2} {width2} {words2} reads two some within least most =
+  horizontal_by {strict} at later {run} {width} {words} {run2} {width2} {words2} reads one_here two_here some within least most =
       let reference : Row = pixels columns places in
       let between : ℕ = painted + run in
       let place : ℕ = painted + run + run2 in
@@ -291,10 +293,10 @@ module _ {columns : ℕ} {places : List ℕ} {painted index : ℕ} {color : Colo
       let colored : TurnsFrom (length row) color = stroke.colored open_row in
       let last : Pen = pen_at place one color (moved width2 (moved width (moved 3 at))) in
       let middle : Pen = pen_at between row (opposite color) (moved width (moved 3 at)) in
-      let first = run_draws strict columns painted row lawful colored refl (omega (arith, within)) two.first in
+      let first = run_draws strict columns painted row lawful colored refl (omega (arith, within)) one_here in
       let lawful_one : AreChanges (suc between) one = AreChanges-wider
       (between + 1) (suc between) one (omega arith) (AreChanges-push between 1 row (omega arith) (first_lawful run some)) in
-      let second = run_draws strict columns between one lawful_one (one_turn row between color colored) refl within two.second in
+      let second = run_draws strict columns between one lawful_one (one_turn row between color colored) refl within two_here in
       let turn2 : behind middle ≡ Turn.next last = subst (λ (front : Row).
       behind (record { front = front; color = opposite color; rest = here (moved width (moved 3 at)) }) ≡ Turn.next last)
       (pixels-pending between row) (subst (λ (c : Color). behind (pen_at between one (opposite color) (moved width (moved 3 at)))
@@ -310,6 +312,17 @@ module _ {columns : ℕ} {places : List ℕ} {painted index : ℕ} {color : Colo
       ap (λ (s : Step). length (first_words ++ words_behind s (λ p. (draw_run strict columns p).words))) first.0
       ∙ omega (arith, length-append first_words (draw_run strict columns middle).words, first.1, words_second) in
       mode_on (pen_at painted row color at) last (words + words2) open_front reads turns counted least most
+
+  pub horizontal_on : {strict : Bool} (at : BitsAt) (later : ℕ) {runs : TwoRuns} {ticks now : ℕ}
+      → read_code mode_codes (here at) ≡ Ok (Horizontal, here (moved 3 at)) → AreTwoRunsHere color (moved 3 at) runs
+      → (0 < runs.first) ⊎ (row ≡ []) → painted + runs.first + runs.second ≤ columns → ticks + 1 + runs.words ≤ now
+      → now + (index - 1) ≤ ticks + 4 + 4 * runs.words + (later - 1) → GoesOn2d strict columns (pixels columns places)
+      (pen_at painted row color at) (pen_at (painted + runs.first + runs.second) (row ++ (painted + runs.first) ∷ []) color
+      (moved runs.width (moved 3 at))) ticks now (index - 1) (later - 1)
+  horizontal_on at later {runs} reads two some within least most =
+      let sum : at.place + 3 + runs.width ≡ at.place + 3 + two.width + two.width2 = omega (arith, two.bits) in
+      rw sum (horizontal_by at later reads two.first two.second some within (omega (arith, least, two.count))
+      (omega (arith, most, two.count)))
 
   pub first_stroke : (run run2 : ℕ) {new : List ℕ} → (0 < run) ⊎ (row ≡ []) → 0 < run2 → painted + run + run2 ≡ columns
       → new ≡ row ++ (painted + run) ∷ [] → IsStroke columns places columns index color new

@@ -4,7 +4,7 @@ use Rattle.hayro_ccitt.proofs.Names.{[], ◌∷◌, ◌++◌, length, replicate,
 use Rattle.hayro_ccitt.proofs.Names.{length-append, length-drop, length-replicate, append-nil, Color, White, Black, Step, pen_of}
 use Rattle.hayro_ccitt.proofs.Names.{words_from_1d, Bits, BitsAt, here, Context, Held, redrawn, DecodeSettings, Pen, draw_run}
 use Rattle.hayro_ccitt.proofs.Names.{Turn, Row, AscendFrom, AreChanges, pixels, is_black, opposite, paint, run_from, run_found}
-use Rattle.hayro_ccitt.proofs.Names.{IsRunHere, IsReached, GoesOn, pen_at, moved}
+use Rattle.hayro_ccitt.proofs.Names.{TwoRuns, AreTwoRunsHere, CanFollow, IsOpen, IsRunHere, IsReached, GoesOn, pen_at, moved}
 use Rattle.hayro_ccitt.proofs.{CodeWords.UsualRuns.run_here_too, Readings.Repeated.after_turn}
 use Rattle.hayro_ccitt.proofs.DrawingLines.CountedLines.{found_1d_from, found_after, found_1d_on, words_run}
 use Rattle.hayro_ccitt.proofs.DrawingLines.Drawings.{drawn_by, step_1d, run_then}
@@ -134,27 +134,44 @@ white_ends strict columns painted row at first next run width words ticks now op
     (omega (arith, open_row, far)))
 
 -- a white run, and a black one after it
-pub two_runs : (strict : Bool) (columns painted place : ℕ) (row : List ℕ) (at first next last : BitsAt) (run width words
-    run2 width2 words2 ticks between now : ℕ) → painted < columns → AreChanges (painted + 1) row → length row % 2 ≡ 0 → first ≡ at
-    → IsRunHere White (moved 0 first) run width words → run < columns - painted → IsRunHere Black (moved width first) run2 width2
-    words2 → (run2 ≤ columns - (painted + run)) ⊎ (strict ≡ false) → place ≡ painted + run + min run2 (columns - (painted + run))
-    → next ≡ moved width first → last ≡ moved width2 next → between ≡ ticks + words → now ≡ between + words2
-    → GoesOn strict columns (pen_at painted row White at) (pen_at place (row ++ (painted + run) ∷ []) White last) ticks now
-two_runs strict columns painted place row at first next last run width words run2 width2 words2 ticks between now open_row lawful
-    even same there short second fits reach on on2 counts counts2 =
-    rw (on2, on, counts2, counts, ← same)
-    (goes_on_twice strict columns (pen_at painted row White first) (pen_at (painted + run) row Black (moved width first)) (pen_at
-    place (row ++ (painted + run) ∷ []) White (moved width2 (moved width first))) ticks (ticks + words) (ticks + words + words2)
-    (white_on strict columns painted (painted + run) row first run width words ticks (wider_by_one painted row lawful) even
-    open_row (run_here_too White first run width words there) (inl (omega (arith, short))) (omega (arith, short)))
-    (black_on strict columns (painted + run) place row (moved width first) run2 width2 words2 (ticks + words) (AreChanges-wider
-    (painted + 1) (suc (painted + run)) row (omega arith) lawful) even (omega (arith, short)) second fits reach))
+pub two_runs : (settings : DecodeSettings) (painted place : ℕ) (row : List ℕ) (at last : BitsAt) (runs : TwoRuns) (ticks now : ℕ)
+    → AreTwoRunsHere White at runs → CanFollow settings painted row runs
+    → place ≡ painted + runs.first + min runs.second (settings.columns - (painted + runs.first)) → last ≡ moved runs.width at
+    → now ≡ ticks + runs.words → GoesOn settings.strict settings.columns (pen_at painted row White at)
+    (pen_at place (row ++ (painted + runs.first) ∷ []) White last) ticks now
+two_runs settings painted place row at last runs ticks now there follow reach on counts =
+    let columns = settings.columns in
+    let between : BitsAt = moved there.width at in
+    let turn : ℕ = painted + runs.first in
+    let sum : at.place + runs.width ≡ at.place + there.width + there.width2 = omega (arith, there.bits) in
+    let end : last ≡ moved there.width2 between = on ∙ ap (λ (p : ℕ). record { bits = at.bits; place = p }) sum in
+    let work : now ≡ ticks + there.words + there.words2 = omega (arith, counts, there.count) in
+    let lawful = follow.row_is_open.lawful in
+    let even = follow.row_is_open.even in
+    let short : runs.first < columns - painted = follow.inside in
+    rw (end, work) (goes_on_twice settings.strict columns (pen_at painted row White at) (pen_at turn row Black between)
+    (pen_at place (row ++ turn ∷ []) White (moved there.width2 between)) ticks (ticks + there.words)
+    (ticks + there.words + there.words2)
+    (white_on settings.strict columns painted turn row at runs.first there.width there.words ticks
+    (wider_by_one painted row lawful) even follow.row_is_open.inside there.first (inl (omega (arith, short)))
+    (omega (arith, short)))
+    (black_on settings.strict columns turn place row between runs.second there.width2 there.words2 (ticks + there.words)
+    (AreChanges-wider (painted + 1) (suc turn) row (omega arith) lawful) even (omega (arith, short)) there.second follow.fits
+    reach))
 
 -- the row is lawful up to the next change
 pub next_lawful : (painted run : ℕ) (row : List ℕ) → AreChanges (painted + 1) row → (0 < run) ⊎ (row ≡ [])
     → AreChanges (painted + run) row
 next_lawful painted run row lawful (inl some) = AreChanges-wider (painted + 1) (painted + run) row (omega (arith, some)) lawful
 next_lawful painted run row lawful (inr none) = rw none tt
+
+-- a row that reaches less than its end isn't full
+pub reached_open : (columns place : ℕ) (color : Color) (row : List ℕ) → IsReached columns place color row → place ≢ columns
+    → IsOpen columns place row × (color ≡ White)
+reached_open columns place color row reached other =
+    let inside : place < columns = omega (arith, reached.within, other) in
+    let even = reached.even inside in
+    (record { inside = inside; lawful = reached.lawful; even = even.0 }, even.1)
 
 pub reached_white : (columns painted : ℕ) (row : List ℕ) → painted < columns → AreChanges (painted + 1) row
     → IsReached columns columns Black row

@@ -65,7 +65,7 @@ abbrev pub Carries : (Pen → Step) → Type 0
 Carries f = (pen t : Pen) → f pen ≡ Turn.next t → (w : Bits) × (pen.rest ≡ w ++ t.rest)
     × ((more : Bits) → f (record pen { rest = w ++ more }) ≡ Turn.next (record t { rest = more }))
 
-next_carries : Carries Turn.next
+pub next_carries : Carries Turn.next
 next_carries pen t e =
     let same = next_is pen t e in
     ([], ap (λ (p : Pen). p.rest) same, λ more. ap (λ (p : Pen). Turn.next (record p { rest = more })) same)
@@ -75,7 +75,7 @@ keeps_carries : (f : Pen → Step) → ((pen t : Pen) → f pen ≡ Turn.next t 
     × ((more : Bits) → f (record pen { rest = more }) ≡ Turn.next (record t { rest = more }))) → Carries f
 keeps_carries f keeps pen t e = let k = keeps pen t e in ([], k.0, k.1)
 
-draw_run_carries : (strict : Bool) (columns : ℕ) (g : Pen → Step) → Carries g → Carries (λ pen. run_then strict columns pen g)
+pub draw_run_carries : (strict : Bool) (columns : ℕ) (g : Pen → Step) → Carries g → Carries (λ pen. run_then strict columns pen g)
 draw_run_carries strict columns g carries pen t e =
     let a = try_next pen.front (run_from pen.color (0, pen.rest))
     (λ run. try pen.front (paint strict columns pen.front pen.color run.0)

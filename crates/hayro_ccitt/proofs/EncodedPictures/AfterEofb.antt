@@ -66,7 +66,7 @@ eols_are_found (suc most) here =
     by_after_eol (after_eol 0 here) refl
 
 -- ---- Alignment: only how many bits follow, modulo eight, matters.
-aligned_split : (b : Bool) (j : Bits) → (pad : Bits) × (j ≡ pad ++ cond b (aligned j) j)
+pub aligned_split : (b : Bool) (j : Bits) → (pad : Bits) × (j ≡ pad ++ cond b (aligned j) j)
     × ((more : Bits) → length more % 8 ≡ length (cond b (aligned j) j) % 8 → cond b (aligned (pad ++ more)) (pad ++ more) ≡ more)
 aligned_split false j = ([], refl, λ more e. refl)
 aligned_split true j =

@@ -31,14 +31,14 @@ gap_unsought settings run unsought =
 
 module _ (settings : DecodeSettings) (wide : 0 < settings.columns) where
   -- the result of turns that never end, which never comes
-  abbrev late : Ending
+  abbrev pub late : Ending
   late = record { rows = []; has_eols = false; outcome = Err UnexpectedEof }
 
   -- how turns end from a line on
-  abbrev goes : Progress → Ending
+  abbrev pub goes : Progress → Ending
   goes run = repeated (move_on settings) late (suc (left_to_read run)) run
 
-  ending_goes : (run : Progress) → ending_from (move_on settings) run ≡ goes run
+  pub ending_goes : (run : Progress) → ending_from (move_on settings) run ≡ goes run
   ending_goes run =
       repeated_follows (move_on settings) (record { rows = run.rows; has_eols = run.has_eols; outcome = Err UnexpectedEof })
       left_to_read (move_shrinks settings wide) (move_on settings) late left_to_read (move_shrinks settings wide) (λ s t. s ≡ t)

@@ -6,6 +6,7 @@ pub twos-preserved : goal.twos-preserved
 twos-preserved c = record {
   near = near_up c.args.columns c.args.reference.now c.requires.lawful (place_of c.args.at) c.twos.index c.twos.invariant.near
       (omega (arith, c.twos-test.true, c.twos.invariant.here));
+  onward = omega (arith, c.twos.invariant.onward);
   here = c.change_or_end-b1-in-twos.ensures;
 }
 

@@ -1,9 +1,10 @@
-use Rattle.fax_encode.proofs.Names.{◌≡◌, ◌+◌, ◌-◌, length, get_or, IsNear, place_of}
+use Rattle.fax_encode.proofs.Names.{◌≡◌, ◌+◌, ◌-◌, ◌≤◌, length, get_or, IsNear, place_of}
 use Rattle.fax_encode.proofs.group4.find_above.Given as goal
 
 abbrev pub invariant-twos : goal.invariant-twos
 invariant-twos l = record {
   near : IsNear l.columns l.reference (place_of l.fn.at) l.index;
+  onward : l.fn.at.above ≤ l.index;
   here : l.b1 ≡ get_or l.reference l.index l.columns;
 }
 

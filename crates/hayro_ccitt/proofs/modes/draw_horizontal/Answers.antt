@@ -5,38 +5,37 @@ use Rattle.hayro_ccitt.proofs.modes.draw_horizontal.Goals as goal
 
 pub seek_b1-next-requires-clause-near : goal.seek_b1-next-requires-clause-near
 seek_b1-next-requires-clause-near c =
-    horizontal_near
-    c.requires.ended.lawful c.requires.open c.requires.stroke (c.args.painted + c.in_ok-run.run' + c.in_ok-run.run2) (omega arith)
+    let runs = c.in_ok-runs.runs in
+    horizontal_near c.requires.ended.lawful c.requires.open c.requires.stroke (c.args.painted + runs.first + runs.second)
+    (omega arith)
 
-pub returns-then-run-run2-2-clause-drawn : goal.returns-then-run-run2-2-clause-drawn
-returns-then-run-run2-2-clause-drawn c =
+pub returns-then-runs-room-2-clause-drawn : goal.returns-then-runs-room-2-clause-drawn
+returns-then-runs-room-2-clause-drawn c =
     let a = c.args in
-    let two = c.in_ok-run in
-    let end : a.painted + two.run' + two.run2 ≡ a.columns = omega (arith, c.if-run-run2-2.true, c.requires.open) in
+    let runs = c.in_ok-runs.runs in
+    let end : a.painted + runs.first + runs.second ≡ a.columns = omega (arith, c.if-runs-room-2.true, c.requires.open) in
     rw (
-      c.pass-3.ensures.moved,
       c.pass-2.ensures.moved,
       c.pass.ensures.moved,
       c.runs_at_hand.ensures.same,
       c.turn_at.ensures.items,
     ) (rw end at (horizontal_on c.requires.ended.lawful c.requires.open c.requires.stroke {strict = a._strict} a.hand.now.at
-    a.index {ticks = a.ticks.now} {now = c.tick_times-2.new.self} c.requires.mode two.ensures.runs (c.if-not-is_next.ensures refl)
-    (omega (arith, end)) (omega (arith, c.tick.ensures, c.tick_times.ensures, c.tick_times-2.ensures))
-    (omega (arith, c.tick.ensures, c.tick_times.ensures, c.tick_times-2.ensures))))
+    a.index {ticks = a.ticks.now} {now = c.tick_times.new.self} c.requires.mode c.in_ok-runs.ensures.runs
+    (c.if-not-is_next.ensures refl) (omega (arith, end)) (omega (arith, c.tick.ensures, c.tick_times.ensures))
+    (omega (arith, c.tick.ensures, c.tick_times.ensures))))
 
-pub returns-then-run-run2-2-clause-stroke : goal.returns-then-run-run2-2-clause-stroke
-returns-then-run-run2-2-clause-stroke c =
-    let two = c.in_ok-run in
-    first_stroke c.requires.ended.lawful c.requires.open c.requires.stroke two.run' two.run2 (c.if-not-is_next.ensures refl)
-    (omega (arith, c.if-run2-eq0.false)) (omega (arith, c.if-run-run2-2.true, c.requires.open)) c.turn_at.ensures.items
+pub returns-then-runs-room-2-clause-stroke : goal.returns-then-runs-room-2-clause-stroke
+returns-then-runs-room-2-clause-stroke c =
+    let runs = c.in_ok-runs.runs in
+    first_stroke c.requires.ended.lawful c.requires.open c.requires.stroke runs.first runs.second (c.if-not-is_next.ensures refl)
+    (omega (arith, c.if-runs-eq0.false)) (omega (arith, c.if-runs-room-2.true, c.requires.open)) c.turn_at.ensures.items
 
 pub returns-clause-drawn : goal.returns-clause-drawn
 returns-clause-drawn c =
     let a = c.args in
-    let two = c.in_ok-run in
+    let runs = c.in_ok-runs.runs in
     let work = c.seek_b1-next.ensures in
     rw (
-      c.pass-3.ensures.moved,
       c.pass-2.ensures.moved,
       c.pass.ensures.moved,
       c.runs_at_hand.ensures.same,
@@ -44,14 +43,16 @@ returns-clause-drawn c =
       pixels-pending,
       c.turn_at.ensures.items,
     ) (horizontal_on c.requires.ended.lawful c.requires.open c.requires.stroke a.hand.now.at c.seek_b1-next.result
-    c.requires.mode two.ensures.runs (c.if-not-is_next.ensures refl) (omega (arith, c.if-run-run2.false, c.requires.open))
-    (omega (arith, c.tick.ensures, c.tick_times.ensures, c.tick_times-2.ensures, work.work, work.forward))
-    (omega (arith, c.tick.ensures, c.tick_times.ensures, c.tick_times-2.ensures, work.work, work.forward)))
+    c.requires.mode c.in_ok-runs.ensures.runs (c.if-not-is_next.ensures refl)
+    (omega (arith, c.if-runs-room.false, c.requires.open))
+    (omega (arith, c.tick.ensures, c.tick_times.ensures, work.work, work.forward))
+    (omega (arith, c.tick.ensures, c.tick_times.ensures, work.work, work.forward)))
 
 pub returns-clause-stroke : goal.returns-clause-stroke
 returns-clause-stroke c =
-    let two = c.in_ok-run in
+    let runs = c.in_ok-runs.runs in
     let next = c.seek_b1-next in
-    horizontal_stroke c.requires.ended.lawful c.requires.open c.requires.stroke two.run' two.run2 (c.if-not-is_next.ensures refl)
-    (omega (arith, c.if-run2-eq0.false)) (omega (arith, c.if-run-run2.false, c.if-run-run2-2.false, c.requires.open))
+    horizontal_stroke c.requires.ended.lawful c.requires.open c.requires.stroke runs.first runs.second
+    (c.if-not-is_next.ensures refl)
+    (omega (arith, c.if-runs-eq0.false)) (omega (arith, c.if-runs-room.false, c.if-runs-room-2.false, c.requires.open))
     c.turn_at.ensures.items c.turn_at-2.ensures.items next.ensures.parity next.ensures.near next.ensures.right

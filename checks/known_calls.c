@@ -1,0 +1,175 @@
+/* Makes each call on cases with known results, a line each on standard input. The library has to hold no block after any of them.
+
+     d ENCODING COLUMNS ROWS FLAGS DATA STATUS ROWS CHANGES BYTES_READ COUNT NUMBER ..
+
+   is data to decode: its status, what is told, and the lists. Each call is made with exactly enough room, with one byte or number more,
+   with one less, and with none.
+
+     e COLUMNS ENCODING FLAGS K BITMAP STATUS ROWS DATA
+
+   is a bitmap to encode: with exactly enough room, with nine bytes more, and with each smaller room. Bytes are in hexadecimal, `-` for
+   none, and numbers as the headers have them. The last line counts calls. */
+#include "lent.h"
+
+#include <fax_encode.h>
+#include <hayro_ccitt.h>
+
+static unsigned long calls;
+
+/* Whether a call ended so, and the library holds no block. */
+static void ended(uint32_t status, uint32_t wanted, const char *what) {
+    must(status == wanted, what);
+    must(is_freed(), "every block is freed");
+    calls++;
+}
+
+static void told(const hayro_ccitt_outcome *outcome, uint32_t status, size_t length, uint64_t rows, uint64_t changes, uint64_t bytes_read) {
+    must(outcome->rows == rows && outcome->changes == changes && outcome->bytes_read == bytes_read, "what is told");
+    must(status >= 1 && status <= 5 ? outcome->fault_start <= 8 * length : outcome->fault_start == 0, "where the fault is");
+}
+
+typedef struct {
+    size_t length, count;
+    uint32_t status, columns;
+    uint64_t rows, changes, bytes_read;
+    const uint8_t *data;
+    const uint32_t *lists;
+    hayro_ccitt_settings settings;
+} known;
+
+/* The rows that fit into this many numbers, as many as are told, and how many numbers they take. */
+static void listed_in(const known *it, size_t room, uint64_t *rows, uint64_t *changes, size_t *taken) {
+    for (*rows = *changes = *taken = 0; *rows < it->rows && *taken + 1 + it->lists[*taken] <= room; ++*rows) {
+        *changes += it->lists[*taken];
+        *taken += 1 + it->lists[*taken];
+    }
+}
+
+static void list_rows(const known *it, size_t room) {
+    hayro_ccitt_outcome outcome;
+    uint32_t *lists = lend(4 * room);
+    uint64_t rows, changes;
+    size_t taken;
+    listed_in(it, room, &rows, &changes, &taken);
+    uint32_t wanted = rows == it->rows ? it->status : HAYRO_CCITT_REFUSED;
+    ended(hayro_ccitt_decode_changes(it->data, it->length, &it->settings, lists, room, &outcome), wanted, "the status of the lists");
+    told(&outcome, wanted, it->length, rows, changes, rows == it->rows ? it->bytes_read : 0);
+    must(are_same(lists, it->lists, 4 * taken), "the lists");
+    must(is_untouched_behind(lists, 4 * taken, 4 * room), "nothing is listed behind the last row");
+    take_back(lists);
+}
+
+/* Whether the rows of a bitmap are those of the lists. */
+static int are_rows(const known *it, const uint8_t *packed, uint64_t rows) {
+    const uint32_t *list = it->lists;
+    size_t width = (it->columns + 7ULL) / 8;
+    for (uint64_t row = 0; row < rows; row++, packed += width, list += 1 + list[0])
+        for (uint64_t place = 0, black = 0, k = 1; place < 8 * width; place++) {
+            while (k <= list[0] && list[k] == place) black ^= 1, k++;
+            if ((packed[place / 8] >> (7 - place % 8) & 1) != (place < it->columns && black)) return 0;
+        }
+    return 1;
+}
+
+static void pack_rows(const known *it, size_t room) {
+    hayro_ccitt_outcome outcome;
+    size_t width = (it->columns + 7ULL) / 8, taken = 0;
+    uint64_t rows = !width || width * it->rows <= room ? it->rows : room / width, changes = 0;
+    uint8_t *bitmap = lend(room);
+    for (uint64_t row = 0; row < rows; row++) changes += it->lists[taken], taken += 1 + it->lists[taken];
+    uint32_t wanted = rows == it->rows ? it->status : HAYRO_CCITT_REFUSED;
+    ended(hayro_ccitt_decode_packed(it->data, it->length, &it->settings, bitmap, room, &outcome), wanted, "the status of the bitmap");
+    told(&outcome, wanted, it->length, rows, changes, rows == it->rows ? it->bytes_read : 0);
+    must(!room || are_rows(it, bitmap, rows), "the bitmap");
+    must(is_untouched_behind(bitmap, width * rows, room), "nothing is written behind the last row");
+    take_back(bitmap);
+}
+
+static void decode(known *it) {
+    hayro_ccitt_outcome outcome;
+    size_t size = (it->columns + 7ULL) / 8 * it->rows;
+    ended(hayro_ccitt_measure(it->data, it->length, &it->settings, &outcome), it->status, "the status");
+    told(&outcome, it->status, it->length, it->rows, it->changes, it->bytes_read);
+    list_rows(it, it->count);
+    list_rows(it, it->count + 1);
+    if (it->count > 0) list_rows(it, it->count - 1);
+    if (it->count > 1) list_rows(it, 0);
+    if (size >= 1 << 20) return;
+    pack_rows(it, size);
+    pack_rows(it, size + 1);
+    if (size > 0) pack_rows(it, size - 1);
+    if (size > 1) pack_rows(it, 0);
+}
+
+static void encode(const uint8_t *bitmap, size_t length, const fax_encode_settings *settings, uint32_t status, uint64_t rows, const uint8_t *strip,
+                   size_t size) {
+    for (size_t room = 0; room <= size + 9; room += room < size ? 1 : 9) {
+        fax_encode_outcome outcome = {7, 7};
+        uint8_t *data = lend(room);
+        uint32_t wanted = status ? status : room < size ? FAX_ENCODE_REFUSED : FAX_ENCODE_OK;
+        size_t written = wanted == FAX_ENCODE_OK ? size : 0;
+        ended(fax_encode_bitmap(bitmap, length, settings, data, room, &outcome), wanted, "the status of the strip");
+        must(outcome.rows == rows && outcome.bytes == size, "what is told of the strip");
+        must(are_same(data, strip, written), "the strip");
+        must(is_untouched_behind(data, written, room), "nothing is written behind the strip");
+        take_back(data);
+    }
+}
+
+/* The next number of a line. */
+static uint64_t number(void) {
+    char *word = strtok(NULL, " \n"), *end;
+    must(word != NULL, "a number");
+    uint64_t value = strtoull(word, &end, 10);
+    must(*end == 0, "a number");
+    return value;
+}
+
+static void decode_line(void) {
+    known it = {0};
+    it.settings.encoding = (uint32_t)number();
+    it.columns = it.settings.columns = (uint32_t)number();
+    it.settings.rows = (uint32_t)number();
+    it.settings.flags = (uint32_t)number();
+    uint8_t *data = lend_bytes(strtok(NULL, " \n"), &it.length);
+    it.data = data;
+    it.status = (uint32_t)number(), it.rows = number(), it.changes = number(), it.bytes_read = number(), it.count = number();
+    uint32_t *lists = lend(4 * it.count);
+    for (size_t k = 0; k < it.count; k++) lists[k] = (uint32_t)number();
+    it.lists = lists;
+    held = live;
+    decode(&it);
+    take_back(lists);
+    take_back(data);
+}
+
+static void encode_line(void) {
+    fax_encode_settings settings;
+    size_t length, size;
+    settings.columns = (uint32_t)number(), settings.encoding = (uint32_t)number();
+    settings.flags = (uint32_t)number(), settings.k = (uint32_t)number();
+    uint8_t *bitmap = lend_bytes(strtok(NULL, " \n"), &length);
+    uint32_t status = (uint32_t)number();
+    uint64_t rows = number();
+    uint8_t *strip = lend_bytes(strtok(NULL, " \n"), &size);
+    held = live;
+    encode(bitmap, length, &settings, status, rows, strip, size);
+    take_back(strip);
+    take_back(bitmap);
+}
+
+int main(void) {
+    char *line = NULL;
+    size_t room = 0;
+    unsigned long lines = 0;
+    while (getline(&line, &room, stdin) > 0) {
+        char *kind = strtok(line, " \n");
+        must(kind && (*kind == 'd' || *kind == 'e'), "a line");
+        if (*kind == 'd') decode_line();
+        else encode_line();
+        lines++;
+    }
+    free(line);
+    printf("%lu cases, %lu calls\n", lines, calls);
+    return 0;
+}

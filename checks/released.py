@@ -1,0 +1,295 @@
+"""Checks of what `make dist` makes: the same bytes in two folders, and each package, where the kit isn't: the command of the README
+installs it, and it decodes a page. Also of the Python package, by pytest.
+
+With BARE_DEBIAN=ROOT.tar in the environment the packages are also installed in that root of Debian, which this command makes:
+
+    mmdebstrap --variant=minbase --include=gcc,libc6-dev,make,python3,python3-pip bookworm ROOT.tar
+
+With PROVE=1 the crate of docs/SINKS.md is proved, which takes a minute.
+"""
+import os
+import re
+import shlex
+import shutil
+import subprocess
+import sys
+import tempfile
+from concurrent.futures import ThreadPoolExecutor
+from pathlib import Path
+
+import c_library
+from installed import first_program
+from left_out import leave_out
+
+sys.path.insert(0, os.path.abspath("release"))
+import assembly  # noqa: E402
+
+# What the kit proves and compiles: it is copied, and not proved again.
+PROVED = ["hayro_ccitt_c/out/libhayro_ccitt_c.a", "faxrows/out/faxrows", "faxpack/out/faxpack"]
+TOOLS = ["make", "cc", "objcopy", "objdump", "strip", "dpkg-deb", "tar", "lintian"]
+# A path without `rt`.
+PATH = "/usr/sbin:/usr/bin:/sbin:/bin"
+STRIP, PICTURE = "corpus/strips/page/gs-g4", "corpus/pictures/page"
+DECODE = "fax -m g4 -w 1240 -r 1754 strip > page.pbm"
+IN_PYTHON = (
+    "python3 -c "
+    + shlex.quote("import hayro_ccitt; open('page.pbm', 'wb').write(hayro_ccitt.decode(open('strip', 'rb').read(), 1240, 1754, k=-1).pbm())")
+)
+# Of each package the command that installs it, which is the README's, and the one that decodes a page.
+TARBALL = ("tar xzf hayro_ccitt-*-linux-x86_64.tar.gz", f"hayro_ccitt-*-linux-x86_64/bin/{DECODE}")
+DEB = ("apt-get install ./hayro-ccitt_*.deb", DECODE)
+SOURCE = ("tar xzf hayro_ccitt-*-src.tar.gz && make -C hayro_ccitt-*-src install PREFIX=$HOME/.local", f"$HOME/.local/bin/{DECODE}")
+WHEEL = ("python3 -m pip install hayro_ccitt-*.whl", IN_PYTHON)
+CRATE = (
+    "tar xzf hayro-ccitt-*.crate",
+    "cd hayro-ccitt-*/ && cargo run -q --offline --release --example strip_to_pbm -- g4 1240 1754 b < ../strip > ../page.pbm",
+)
+PACKAGES = {"tarball": TARBALL, "deb": DEB, "source": SOURCE, "wheel": WHEEL, "crate": CRATE}
+# Here nothing is installed into the system.
+INSTEAD = {
+    "deb": ("dpkg-deb -x hayro-ccitt_*.deb root", f"LD_LIBRARY_PATH=root/usr/lib/x86_64-linux-gnu root/usr/bin/{DECODE}"),
+    "wheel": (f"{WHEEL[0].replace('install', 'install -q --no-index --target site')}", f"PYTHONPATH=site {WHEEL[1]}"),
+}
+
+
+def run(words, **more):
+    done = subprocess.run(words, capture_output=True, text=True, check=False, timeout=600, shell=isinstance(words, str), **more)
+    assert done.returncode == 0, f"{words}\n{done.stdout[-2000:]}{done.stderr[-2000:]}"
+    return done.stdout
+
+
+def made(folder):
+    """The packages, made in a copy of the repository."""
+    listed = run(["git", "ls-files", "-z", "--cached", "--others", "--exclude-standard"])
+    names = [name for name in listed.split("\0") if name and os.path.isfile(name)]
+    for name in [*names, *(f"crates/{name}" for name in PROVED)]:
+        os.makedirs(os.path.dirname(f"{folder}/{name}"), exist_ok=True)
+        shutil.copy2(name, f"{folder}/{name}")
+    run(["make", "-s", "RT=true"], cwd=folder)
+    run(["make", "-s", "dist"], cwd=folder)
+    return f"{folder}/build/dist"
+
+
+def are_the_same(one, other):
+    assert sorted(os.listdir(one)) == sorted(os.listdir(other)) and len(os.listdir(one)) == len(PACKAGES) + 1
+    for name in os.listdir(one):
+        with open(f"{one}/{name}", "rb") as first, open(f"{other}/{name}", "rb") as second:
+            assert first.read() == second.read(), f"{name} differs between two folders"
+    run(["sha256sum", "--quiet", "-c", "SHA256SUMS"], cwd=one)
+
+
+def refused_without_its_changes(folder):
+    """A version that CHANGELOG.md doesn't have isn't released."""
+    with open(f"{folder}/CHANGELOG.md", encoding="utf-8") as file:
+        text = file.read()
+    with open(f"{folder}/CHANGELOG.md", "w", encoding="utf-8") as file:
+        file.write(text.replace("\n## ", "\n## 99."))
+    done = subprocess.run(["make", "-s", "dist"], cwd=folder, capture_output=True, text=True, check=False)
+    assert done.returncode != 0 and "CHANGELOG.md has no version" in done.stderr, done
+
+
+def same_object(folder):
+    """The assembly of the source tarball is the object that the kit compiled."""
+    run("tar xzf build/dist/hayro_ccitt-*-src.tar.gz && cc -c -o again.o hayro_ccitt-*-src/proved.s", cwd=folder)
+    assert assembly.same_bytes(f"{folder}/build/proved.o", f"{folder}/again.o")
+
+
+def toolchain():
+    """The folder of cargo's toolchain, or None."""
+    if not shutil.which("cargo"):
+        return None
+    found = run(["rustup", "which", "cargo"]).strip() if shutil.which("rustup") else shutil.which("cargo")
+    return os.path.dirname(os.path.dirname(found))
+
+
+def filled(folder, packages):
+    """A folder with the packages and a strip."""
+    shutil.copytree(packages, folder)
+    shutil.copy(STRIP, f"{folder}/strip")
+    return folder
+
+
+def is_the_page(path, name):
+    with open(PICTURE, "rb") as file:
+        page = b"P4\n1240 1754\n" + file.read()
+    with open(path, "rb") as file:
+        assert file.read() == page, name
+
+
+def installed(name, packages, folder, environment):
+    """A package is installed in a folder of its own, and decodes a page."""
+    here = filled(f"{folder}/{name}", packages)
+    for command in INSTEAD.get(name, PACKAGES[name]):
+        run(command, cwd=here, env={**environment, "HOME": f"{folder}/home"})
+    is_the_page(f"{here}/page.pbm", name)
+
+
+def compiled_as_the_tarball_says(folder, environment):
+    """The header's first program is compiled by the lines of the tarball's README, with each of the libraries, and runs."""
+    with open(next(Path(folder).glob("tarball/*/README")), encoding="utf-8") as file:
+        static, *shared = [line.strip() for line in file if line.startswith("    ")]
+    with open(f"{folder}/tarball/first.c", "w", encoding="utf-8") as file:
+        file.write(first_program())
+    for lines in ([static], shared) if shutil.which("pkg-config") else ([static],):
+        assert run("\n".join([*lines, "./a.out"]), cwd=f"{folder}/tarball", env=environment) == "18\n", lines
+
+
+def package_of_cargo(folder, environment):
+    """`cargo check`, `doc`, `clippy` and `package` work in the unpacked package, without a network."""
+    words = [["check"], ["doc"], ["clippy", "--all-targets", "--", "-D", "warnings"], ["package", "--allow-dirty"]]
+    for word, *more in words:
+        if word != "clippy" or shutil.which("cargo-clippy"):
+            run(["cargo", word, "-q", "--offline", *more], cwd=f"{folder}/crate/hayro-ccitt-0.5.0", env=environment)
+
+
+def packages_where_the_kit_is_not():
+    missing = [tool for tool in TOOLS[:-1] if not shutil.which(tool)]
+    if missing:
+        leave_out("the packages of a release", ", ".join(missing))
+        return
+    c_library.build()
+    assert not shutil.which("rt", path=PATH)
+    environment = {"PATH": PATH}
+    chosen = dict(PACKAGES)
+    if toolchain():
+        environment["PATH"] += f":{toolchain()}/bin"
+    else:
+        del chosen["crate"]
+        leave_out("the Cargo package of a release", "cargo")
+    if subprocess.run("python3 -m pip --version", shell=True, env=environment, capture_output=True, check=False).returncode != 0:
+        del chosen["wheel"]
+        leave_out("the wheel", "pip")
+    with tempfile.TemporaryDirectory() as folder, ThreadPoolExecutor(4) as pool:
+        packages, others = pool.map(made, [f"{folder}/one", f"{folder}/another/folder"])
+        are_the_same(packages, others)
+        same_object(f"{folder}/one")
+        for done in [pool.submit(installed, name, packages, folder, environment) for name in chosen]:
+            done.result()
+        compiled_as_the_tarball_says(folder, environment)
+        if "crate" in chosen:
+            package_of_cargo(folder, {**environment, "HOME": f"{folder}/home"})
+        refused_without_its_changes(f"{folder}/another/folder")
+        if shutil.which("lintian"):
+            run(f"lintian --fail-on error {packages}/*.deb")
+        else:
+            leave_out("the Debian package's form", "lintian")
+    print(f"  the same bytes in two folders; {', '.join(chosen)}: each decodes a page")
+
+
+def cargo_without_the_library():
+    """In the repository without `make`, `cargo check` and `cargo doc` work, and a build says in a line what is missing."""
+    if not toolchain():
+        leave_out("the Cargo package without the library", "cargo")
+        return
+    with tempfile.TemporaryDirectory() as folder:
+        shutil.copytree("bindings/rust", f"{folder}/bindings/rust", ignore=shutil.ignore_patterns("target", "Cargo.lock"))
+        here = {"cwd": f"{folder}/bindings/rust", "env": {**os.environ, "CARGO_TARGET_DIR": f"{folder}/target"}}
+        for word in ("check", "doc"):
+            run(["cargo", word, "-q", "--offline"], **here)
+        done = subprocess.run(["cargo", "build", "--offline"], capture_output=True, text=True, check=False, **here)
+        assert done.returncode != 0 and "libhayro_ccitt_c.a: run `make`" in done.stderr and "panicked" not in done.stderr, done.stderr
+
+
+def in_a_bare_debian():
+    """In a root of Debian with nothing but a C compiler and Python, each package is installed by the README's command."""
+    root = os.environ.get("BARE_DEBIAN")
+    if not root:
+        leave_out("the packages in a bare Debian", "BARE_DEBIAN, which checks/released.py explains")
+        return
+    with tempfile.TemporaryDirectory() as folder:
+        c_library.build()
+        packages = made(f"{folder}/repository")
+        os.mkdir(f"{folder}/root")
+        run(["tar", "xf", root, "-C", f"{folder}/root"])
+        assert not shutil.which("rt", path=":".join(f"{folder}/root{at}" for at in PATH.split(":")))
+        chosen = [name for name in PACKAGES if name != "crate" or toolchain()]
+        mounts = f"mount -t proc proc {folder}/root/proc && mkdir -p {folder}/root/toolchain && "
+        mounts += f"mount --bind {toolchain() or '/mnt'} {folder}/root/toolchain && "
+        for name in chosen:
+            here = filled(f"{folder}/root/{name}", packages)
+            words = {"deb": ("install ", "install -y "), "wheel": ("install ", "install --no-index --break-system-packages ")}.get(name, ("", ""))
+            install, decode = PACKAGES[name]
+            script = f"cd /{name} && {install.replace(*words)} && ({decode})"
+            entered = f"chroot {folder}/root env -i HOME=/root PATH={PATH}:/toolchain/bin sh -ec {shlex.quote(script)}"
+            run(["unshare", "-m", "sh", "-ec", f"{mounts}{entered}"])
+            is_the_page(f"{here}/page.pbm", name)
+    print(f"  {', '.join(chosen)}: each is installed by one command in a bare Debian, and decodes a page")
+
+
+def commands_of_the_readme():
+    """The README has the commands that install the packages."""
+    with open("README.md", encoding="utf-8") as file:
+        text = file.read()
+    lacking = [install for install, _ in PACKAGES.values() if f"$ {install}\n" not in text]
+    assert not lacking, lacking
+
+
+def installed_as_printed():
+    """The README's commands install the library below a home, where the header's first program is compiled and runs."""
+    if not shutil.which("pkg-config"):
+        leave_out("the README's commands after make install", "pkg-config")
+        return
+    c_library.build()
+    with open("README.md", encoding="utf-8") as file:
+        printed = re.findall(r"^\$ ((?:make install|export|cc first\.c) .*)$", file.read(), re.MULTILINE)
+    assert len(printed) == 3, printed
+    with tempfile.TemporaryDirectory() as folder:
+        home = {**os.environ, "HOME": folder, "FOLDER": folder, "MAKEFLAGS": f"BUILD={folder}/build RT=true"}
+        with open(f"{folder}/first.c", "w", encoding="utf-8") as file:
+            file.write(first_program())
+        install, *compile_it = printed
+        run(install, env=home)
+        told = run("\n".join(["cd $FOLDER", "unset MAKEFLAGS", *compile_it, "./first", ".local/bin/faxrows --version"]), env=home)
+    assert told.startswith("18\nfaxrows "), told
+
+
+def crates_in_another_repository():
+    """The command of docs/SINKS.md copies the library as files into another repository, where the crate of that page names it; with PROVE
+    in the environment, which takes a minute, that crate is proved over what is stored of the library."""
+    with open("docs/SINKS.md", encoding="utf-8") as file:
+        text = file.read()
+    command, printed = re.search(r"^\$ python3 \.\./hayro_ccitt/(.* \. .*)\n((?:crates/.*\n)+)", text, re.MULTILINE).groups()
+    source = next(block for block in re.findall(r"^```rust\n(.*?)^```$", text, re.MULTILINE | re.DOTALL) if "#![tactic(auto)]" in block)
+    with tempfile.TemporaryDirectory() as folder:
+        for _ in range(2):
+            assert run(f"python3 {os.path.abspath(command)}", cwd=folder) == printed
+        files = [f"{at}/{name}" for at, _, names in os.walk(folder) for name in names]
+        assert len(files) > 100 and not any(map(os.path.islink, files))
+        with open(f"{folder}/crates.txt", encoding="utf-8") as file:
+            assert file.read() == "hayro_ccitt:\n"
+        if not os.environ.get("PROVE"):
+            leave_out("the proof of the crate in docs/SINKS.md", "PROVE")
+            return
+        os.makedirs(f"{folder}/crates/my_viewer/src")
+        with open(f"{folder}/crates/my_viewer/src/lib.rt", "w", encoding="utf-8") as file:
+            file.write(source)
+        with open(f"{folder}/crates.txt", "a", encoding="utf-8") as file:
+            file.write("my_viewer: hayro_ccitt\n")
+        shutil.copytree("crates/hayro_ccitt/out", f"{folder}/crates/hayro_ccitt/out")
+        run(["rt", "check"], cwd=f"{folder}/crates/my_viewer")
+
+
+def python_package():
+    """The tests of python/, by an interpreter that has pytest, over the shared library."""
+    interpreters = [it for it in (sys.executable, "/usr/bin/python3") if os.path.exists(it)]
+    found = [it for it in interpreters if subprocess.run([it, "-c", "import pytest"], capture_output=True, check=False).returncode == 0]
+    if not found:
+        leave_out("the tests of the Python package", "pytest")
+        return
+    c_library.build()
+    with tempfile.TemporaryDirectory() as folder:
+        run(["make", "-s", "RT=true", f"BUILD={folder}", f"{folder}/libhayro_ccitt.so"])
+        library = {**os.environ, "HAYRO_CCITT_LIBRARY": f"{folder}/libhayro_ccitt.so"}
+        told = run([found[0], "-m", "pytest", "-q", "-rs", "-p", "no:cacheprovider", "python/tests"], env=library)
+    print(f"  {told.strip().splitlines()[-1]}")
+    for module, test in (("PIL", "Pillow"), ("pypdf", "pypdf"), ("pikepdf", "pikepdf")):
+        if f"could not import '{module}" in told:
+            leave_out(f"the Python package beside {test}", test)
+
+
+CHECKS = [packages_where_the_kit_is_not, in_a_bare_debian, cargo_without_the_library, commands_of_the_readme, installed_as_printed, crates_in_another_repository, python_package]
+
+if __name__ == "__main__":
+    for check in CHECKS:
+        check()
+        print(f"{check.__name__}: ok")

@@ -1,0 +1,237 @@
+-- A white row that is painted by its black runs: what is painted, and white pixels after it.
+use Rattle.fax_encode.proofs.Names.{◌≡◌, ℕ, ◌+◌, ◌-◌, ◌*◌, ◌^◌, ◌<◌, ◌≤◌, true, false, List, []}
+use Rattle.fax_encode.proofs.Names.{◌++◌, length, get_or, take, drop, replicate, refl, sym, ap, ◌∙◌, arith, append_assoc}
+use Rattle.fax_encode.proofs.Names.{flat_map-append, length-append, length-replicate, length-drop, drop_all, bit_xor}
+use Rattle.fax_encode.proofs.Names.{replicate-append-replicate, take-replicate, drop-replicate, take-append-add}
+use Rattle.fax_encode.proofs.Names.{drop-append-add, drop-drop}
+use Rattle.fax_encode.proofs.Names.{append-nil, take-append-le, drop-append-le, take-append-drop, put_mid, HighestFirst, Bits}
+use Rattle.fax_encode.proofs.Names.{bits_of}
+use Rattle.fax_encode.proofs.Names.{bits_of_byte, low_bits, AscendFrom, pixels, pixels_from}
+use Rattle.fax_encode.proofs.Names.{then_white, White}
+use Rattle.fax_encode.proofs.PaintedRows.{bits_of_plain}
+use Rattle.fax_encode.proofs.PaintedWords.{bits_of-take, bits_of-drop, turned_behind}
+use Rattle.fax_encode.proofs.RunsWritten.{next_is, next_right, next_within, next_ascends, one_part}
+
+-- ---- a part of the row is painted
+-- the bits of a row with a part written
+pub bits_of-put_mid : (start count : ℕ) (row part : List ℕ) → bits_of (put_mid start count row part)
+    ≡ bits_of (take start row) ++ (bits_of part ++ bits_of (drop (start + count) row))
+bits_of-put_mid start count row part =
+    flat_map-append (bits_of_byte HighestFirst) (take start row) (part ++ drop count (drop start row))
+    ∙ ap (λ (b : Bits). bits_of (take start row) ++ b) (flat_map-append (bits_of_byte HighestFirst) part
+    (drop count (drop start row)) ∙ ap (λ (l : List ℕ). bits_of part ++ bits_of l) (drop-drop count start row))
+
+-- black pixels after black ones
+pub black_more : (front : Bits) (a b : ℕ) → (front ++ replicate a true) ++ replicate b true ≡ front ++ replicate (a + b) true
+black_more front a b = append_assoc front (replicate a true) (replicate b true)
+    ∙ ap (λ (l : Bits). front ++ l) (replicate-append-replicate a b true)
+
+-- and after these more
+pub black_three : (front : Bits) (a b c n : ℕ) → a + b + c ≡ n
+    → ((front ++ replicate a true) ++ replicate b true) ++ replicate c true ≡ front ++ replicate n true
+black_three front a b c n sum = ap (λ (l : Bits). l ++ replicate c true) (black_more front a b) ∙ black_more front (a + b) c
+    ∙ ap (λ (k : ℕ). front ++ replicate k true) sum
+
+-- how many pixels they are together
+pub longer : (front : Bits) (n : ℕ) → length (front ++ replicate n true) ≡ length front + n
+longer front n = length-append front (replicate n true) ∙ ap (λ (k : ℕ). length front + k) (length-replicate n true)
+
+-- bytes are written over a part, with the last pixels before, black ones and white ones
+pub part_painted : (start count black : ℕ) (row row' : List ℕ) (front part : Bits) → start + count ≤ length row
+    → 8 * start ≤ length front → length front + black ≤ 8 * (start + count) → bits_of row ≡ then_white front (length row)
+    → part ≡ (drop (8 * start) front ++ replicate black true) ++ replicate (8 * (start + count) - (length front + black)) false
+    → bits_of row' ≡ bits_of (take start row) ++ (part ++ bits_of (drop (start + count) row))
+    → bits_of row' ≡ then_white (front ++ replicate black true) (length row)
+part_painted start count black row row' front part within over under white is written =
+    let n : ℕ = 8 * length row - length front in
+    let seam : ℕ = 8 * (start + count) - length front in
+    let before : Bits = take (8 * start) front in
+    let inside : Bits = drop (8 * start) front in
+    let more : ℕ = 8 * (start + count) - (length front + black) in
+    let first : bits_of (take start row) ≡ before = bits_of-take start row ∙ ap (take (8 * start)) white
+    ∙ take-append-le (8 * start) front (replicate n false) over in
+    let sum : 8 * (start + count) ≡ length front + seam = omega arith in
+    let last : bits_of (drop (start + count) row) ≡ replicate (n - seam) false = bits_of-drop (start + count) row
+    ∙ ap (drop (8 * (start + count))) white ∙ ap (λ (k : ℕ). drop k (front ++ replicate n false)) sum
+    ∙ drop-append-add front (replicate n false) seam ∙ drop-replicate seam n false in
+    let long : length (front ++ replicate black true) ≡ length front + black =
+    longer front black in
+    let left : more + (n - seam) ≡ 8 * length row - length (front ++ replicate black true) = omega arith in
+    let whites : replicate more false ++ replicate (n - seam) false
+    ≡ replicate (8 * length row - length (front ++ replicate black true)) false
+    = replicate-append-replicate more (n - seam) false ∙ ap (λ (k : ℕ). replicate k false) left in
+    let black_bits : Bits = replicate black true in
+    let back : Bits = replicate more false ++ replicate (n - seam) false in
+    let all : before ++ (((inside ++ black_bits) ++ replicate more false) ++ replicate (n - seam) false)
+    ≡ (before ++ inside) ++ (black_bits ++ back) = simp append_assoc refl in
+    written ∙ ap (λ (b : Bits). b ++ (part ++ bits_of (drop (start + count) row))) first
+    ∙ ap (λ (b : Bits). before ++ (b ++ bits_of (drop (start + count) row))) is
+    ∙ ap (λ (b : Bits). before ++ (((inside ++ black_bits) ++ replicate more false) ++ b)) last ∙ all
+    ∙ ap (λ (b : Bits). b ++ (black_bits ++ back)) (take-append-drop (8 * start) front)
+    ∙ ap (λ (b : Bits). front ++ (black_bits ++ b)) whites
+    ∙ sym (append_assoc front black_bits (replicate (8 * length row - length (front ++ black_bits)) false))
+
+-- a word is painted between two offsets
+pub word_painted : (start from to : ℕ) (row row' : List ℕ) (word new : ℕ) (front : Bits) → start + 8 ≤ length row → from ≤ to
+    → to ≤ 64 → length front ≡ 8 * start + from → bits_of row ≡ then_white front (length row)
+    → low_bits 64 word ≡ take 64 (bits_of (drop start row) ++ replicate 64 false)
+    → new ≡ bit_xor (bit_xor word (2 ^ (64 - from) - 1)) (2 ^ (64 - to) - 1)
+    → bits_of row' ≡ bits_of (take start row) ++ (low_bits 64 new ++ bits_of (drop (start + 8) row))
+    → bits_of row' ≡ then_white (front ++ replicate (to - from) true) (length row)
+word_painted start from to row row' word new front within ascend below long white is new_is written =
+    let n : ℕ = 8 * length row - length front in
+    let inside : Bits = drop (8 * start) front in
+    let few : length inside ≡ from = omega (arith, length-drop (8 * start) front) in
+    let there : bits_of (drop start row) ≡ inside ++ replicate n false = bits_of-drop start row ∙ ap (drop (8 * start)) white
+    ∙ drop-append-le (8 * start) front (replicate n false) (omega arith) in
+    let whole : 64 ≡ length inside + (64 - from) = omega arith in
+    let old : low_bits 64 word ≡ inside ++ replicate (64 - from) false = is
+    ∙ ap (λ (b : Bits). take 64 (b ++ replicate 64 false)) there
+    ∙ ap (take 64) (append_assoc inside (replicate n false) (replicate 64 false)
+    ∙ ap (λ (b : Bits). inside ++ b) (replicate-append-replicate n 64 false))
+    ∙ ap (λ (k : ℕ). take k (inside ++ replicate (n + 64) false)) whole
+    ∙ take-append-add inside (replicate (n + 64) false) (64 - from)
+    ∙ ap (λ (b : Bits). inside ++ b) (take-replicate (64 - from) (n + 64) false (omega arith)) in
+    let one : ℕ = bit_xor word (2 ^ (64 - from) - 1) in
+    let turned : low_bits 64 one ≡ inside ++ replicate (64 - from) true =
+    turned_behind inside (64 - from) word 64 false (omega arith) old in
+    let split : (to - from) + (64 - to) ≡ 64 - from = omega arith in
+    let both : low_bits 64 one ≡ (inside ++ replicate (to - from) true) ++ replicate (64 - to) true = turned
+    ∙ ap (λ (k : ℕ). inside ++ replicate k true) (sym split) ∙ sym (black_more inside (to - from) (64 - to)) in
+    let sum : 64 ≡ length (inside ++ replicate (to - from) true) + (64 - to) =
+    omega (arith, longer inside (to - from)) in
+    let back : low_bits 64 new ≡ (inside ++ replicate (to - from) true) ++ replicate (64 - to) false =
+    ap (low_bits 64) new_is ∙ turned_behind (inside ++ replicate (to - from) true) (64 - to) one 64 true sum both in
+    let left : 64 - to ≡ 8 * (start + 8) - (length front + (to - from)) = omega arith in
+    part_painted start 8 (to - from) row row' front (low_bits 64 new) within (omega arith) (omega arith) white
+    (back ∙ ap (λ (k : ℕ). (inside ++ replicate (to - from) true) ++ replicate k false) left) written
+
+-- bytes are painted from one that begins where the white does
+pub bytes_painted : (from to : ℕ) (row row' : List ℕ) (front : Bits) → from ≤ to → to ≤ length row → length front ≡ 8 * from
+    → bits_of row ≡ then_white front (length row) → row' ≡ put_mid from (to - from) row (replicate (to - from) 255)
+    → bits_of row' ≡ then_white (front ++ replicate (8 * (to - from)) true) (length row)
+bytes_painted from to row row' front ascend within long white is =
+    let count : ℕ = to - from in
+    let black : Bits = replicate (8 * count) true in
+    let part : List ℕ = replicate count 255 in
+    let none : drop (8 * from) front ≡ [] = drop_all (8 * from) front (omega arith) in
+    let left : 0 ≡ 8 * (from + count) - (length front + 8 * count) = omega arith in
+    let shape : bits_of part ≡ (drop (8 * from) front ++ black)
+    ++ replicate (8 * (from + count) - (length front + 8 * count)) false = bits_of_plain 255 count true refl
+    ∙ ap (λ (b : Bits). b ++ black) (sym none) ∙ sym (append-nil (drop (8 * from) front ++ black))
+    ∙ ap (λ (k : ℕ). (drop (8 * from) front ++ black) ++ replicate k false) left in
+    let written : bits_of row' ≡ bits_of (take from row) ++ (bits_of part ++ bits_of (drop (from + count) row)) = ap bits_of is
+    ∙ bits_of-put_mid from count row part in
+    part_painted from count (8 * count) row row' front (bits_of part) (omega arith) (omega arith) (omega arith) white shape
+    written
+
+-- ---- what is left to paint
+-- A row is painted up to a position, and white from there on; this many changes are done, an even number.
+pub record AreBlack (columns : ℕ) (changes : List ℕ) (done : ℕ) (row : List ℕ) : Type 0 where
+  pub place : ℕ
+  pub front : Bits
+  pub within : place ≤ columns
+  pub ascend : AscendFrom place columns (drop done changes)
+  pub long : length front ≡ place
+  pub left : front ++ pixels_from place false columns (drop done changes) ≡ pixels columns changes
+  pub painted : bits_of row ≡ then_white front (length row)
+
+-- white pixels are white pixels before white ones
+white_more : (front : Bits) (n bytes : ℕ) → length front + n ≤ 8 * bytes
+    → then_white front bytes ≡ then_white (front ++ replicate n false) bytes
+white_more front n bytes within =
+    let long : length (front ++ replicate n false) ≡ length front + n =
+    length-append front (replicate n false) ∙ ap (λ (k : ℕ). length front + k) (length-replicate n false) in
+    let rest : ℕ = 8 * bytes - length (front ++ replicate n false) in
+    let sum : n + rest ≡ 8 * bytes - length front = omega arith in
+    sym (append_assoc front (replicate n false) (replicate rest false) ∙ ap (λ (b : Bits). front ++ b)
+    (replicate-append-replicate n rest false ∙ ap (λ (k : ℕ). replicate k false) sum))
+
+-- what painting a black run does to a row that is white from its first pixel on
+abbrev pub TurnsBlack : ℕ → ℕ → List ℕ → List ℕ → Type 0
+TurnsBlack from to row row' =
+    (front : Bits) → length front ≡ from → bits_of row ≡ then_white front (length row)
+    → bits_of row' ≡ then_white (front ++ replicate (to - from) true) (length row)
+
+module _ (columns : ℕ) (changes : List ℕ) (done : ℕ) (row row' : List ℕ) (lt : done < length changes)
+    (room : columns ≤ 8 * length row) (is : AreBlack columns changes done row) where
+  abbrev first : ℕ
+  first = get_or changes done 0
+
+  abbrev front_to : Bits
+  front_to = is.front ++ replicate (first - is.place) false
+
+  pub first_within : first ≤ columns
+  first_within = next_within columns is.place done White changes lt is.ascend
+
+  first_right : is.place ≤ first
+  first_right = next_right columns is.place done White changes lt is.ascend
+
+  first_ascends : AscendFrom first columns (drop (done + 1) changes)
+  first_ascends = next_ascends columns is.place done White changes lt is.ascend
+
+  long_to : length front_to ≡ first
+  long_to = omega (
+    arith,
+    first_right,
+    is.long,
+    length-append is.front (replicate (first - is.place) false),
+    length-replicate (first - is.place) false,
+  )
+
+  white_to : bits_of row ≡ then_white front_to (length row)
+  white_to = is.painted
+      ∙ white_more is.front (first - is.place) (length row) (omega (arith, is.long, first_within, first_right, room))
+
+  left_to : front_to ++ pixels_from first true columns (drop (done + 1) changes) ≡ pixels columns changes
+  left_to = one_part front_to is.front (pixels_from is.place false columns (drop done changes))
+      (replicate (first - is.place) false) (pixels_from first true columns (drop (done + 1) changes)) (pixels columns changes)
+      is.left (ap (pixels_from is.place false columns) (next_is columns is.place done White changes lt is.ascend)) refl
+
+  -- a black run that a change ends
+  pub run_painted : done + 1 < length changes → length row' ≡ length row → TurnsBlack first (get_or changes (done + 1) 0) row row'
+      → AreBlack columns changes (done + 2) row'
+  run_painted more same turns =
+      let second : ℕ = get_or changes (done + 1) 0 in
+      let black : Bits = replicate (second - first) true in
+      let right : first ≤ second = next_right columns first (done + 1) White changes more first_ascends in
+      let two : (done + 1) + 1 ≡ done + 2 = omega arith in
+      let next : AscendFrom second columns (drop ((done + 1) + 1) changes) =
+      next_ascends columns first (done + 1) White changes more first_ascends in
+      record {
+        place = second;
+        front = front_to ++ black;
+        within = next_within columns first (done + 1) White changes more first_ascends;
+        ascend = rw (← two) next;
+        long = omega (arith, longer front_to (second - first), long_to, right);
+        left = one_part (front_to ++ black) front_to (pixels_from first true columns (drop (done + 1) changes)) black
+            (pixels_from second false columns (drop (done + 2) changes)) (pixels columns changes) left_to
+            (ap (pixels_from first true columns) (next_is columns first (done + 1) White changes more first_ascends)
+            ∙ ap (λ (n : ℕ). black ++ pixels_from second false columns (drop n changes)) two) refl;
+        painted = turns front_to long_to white_to ∙ ap (then_white (front_to ++ black)) (sym same);
+      }
+
+  -- a black run that the row's end ends
+  pub last_painted : length changes ≤ done + 1 → TurnsBlack first columns row row'
+      → bits_of row' ≡ then_white (pixels columns changes) (length row)
+  last_painted all turns =
+      let none : drop (done + 1) changes ≡ [] = drop_all (done + 1) changes all in
+      turns front_to long_to white_to ∙ ap (λ (b : Bits). then_white b (length row))
+      (sym (ap (λ (l : List ℕ). front_to ++ pixels_from first true columns l) none) ∙ left_to)
+
+-- a row that ends white
+pub no_run_left : (columns : ℕ) (changes : List ℕ) (done : ℕ) (row : List ℕ) → length changes ≤ done → columns ≤ 8 * length row
+    → AreBlack columns changes done row → bits_of row ≡ then_white (pixels columns changes) (length row)
+no_run_left columns changes done row all room is =
+    let none : drop done changes ≡ [] = drop_all done changes all in
+    let within = is.within in
+    let long = is.long in
+    is.painted ∙ white_more is.front (columns - is.place) (length row) (omega arith)
+    ∙ ap (λ (b : Bits). then_white b (length row))
+    (sym (ap (λ (l : List ℕ). is.front ++ pixels_from is.place false columns l) none) ∙ is.left)
+
+-- a row of zeros is white
+pub zeros_are_white : (count : ℕ) (row : List ℕ) → row ≡ replicate count 0 → bits_of row ≡ then_white [] count
+zeros_are_white count row is =
+    let all : 8 * count ≡ 8 * count - 0 = omega arith in
+    ap bits_of is ∙ bits_of_plain 0 count false refl ∙ ap (λ (n : ℕ). replicate n false) all

@@ -1,0 +1,13 @@
+use Rattle.fax_encode.proofs.ShortestRuns.{shortest_runs}
+use Rattle.fax_encode.proofs.ShortestLines.{shortest_lines}
+use Rattle.fax_encode.proofs.ShortestPictures.{shortest_pictures_t6}
+use Rattle.fax_encode.proofs.laws.shortest.Goals as goal
+
+pub returns-clause-runs : goal.returns-clause-runs
+returns-clause-runs c = shortest_runs
+
+pub returns-clause-lines : goal.returns-clause-lines
+returns-clause-lines c = shortest_lines
+
+pub returns-clause-pictures : goal.returns-clause-pictures
+returns-clause-pictures c = shortest_pictures_t6

@@ -1,0 +1,136 @@
+//! Painting a row by its black runs: each is turned black in a white row. That is fast where runs are few.
+
+ghost use Rattle.std.specs.Prelude.{◌≡◌, ◌+◌, ◌-◌, ◌*◌, ◌/◌, ◌^◌, ◌≤◌, ◌<◌, ◌++◌, [], true, length, replicate};
+ghost use Rattle.hayro_ccitt.specs.Bits.{Bits, bits_of};
+ghost use Rattle.hayro_ccitt.specs.Rows.{AreChanges, pixels};
+ghost use Rattle.fax_encode.specs.Chosen.{filled_up};
+ghost use Rattle.fax_encode.specs.Painting.{then_white};
+
+use crate::pixel_words::{first_pixels, put_pixels};
+
+/// Returns a word whose bits are zeros left of an offset, and ones from there on.
+#[inline(always)]
+fn ones_behind(offset: usize) -> u64
+    requires { offset ≤ 64 }
+    ensures { result ≡ 2 ^ (64 - offset) - 1 }
+{
+    if offset < 64 { u64::MAX >> offset } else { 0 }
+}
+
+/// Paints the pixels between two offsets of the word that begins at a byte.
+#[inline(always)]
+fn paint_in_word(row: &mut [u8], start: usize, from: usize, to: usize)
+    requires within { start + 8 ≤ length row.old }
+    requires ascend { from ≤ to }
+    requires below { to ≤ 64 }
+    ensures painted { (front : Bits) → length front ≡ 8 * start + from → bits_of row.old ≡ then_white front (length row.old)
+        → bits_of row.new ≡ then_white (front ++ replicate (to - from) true) (length row.old) }
+    ensures length { length row.new ≡ length row.old }
+{
+    let word = first_pixels(&row[start..]);
+    put_pixels(row, start, word ^ ones_behind(from) ^ ones_behind(to));
+}
+
+/// Paints the bytes between two positions, each of them a byte's first.
+#[inline(never)]
+fn paint_bytes(row: &mut [u8], from: usize, to: usize)
+    requires ascend { from ≤ to }
+    requires within { to ≤ length row.old }
+    ensures painted { (front : Bits) → length front ≡ 8 * from → bits_of row.old ≡ then_white front (length row.old)
+        → bits_of row.new ≡ then_white (front ++ replicate (8 * (to - from)) true) (length row.old) }
+    ensures length { length row.new ≡ length row.old }
+{
+    if from < to {
+        row[from..to].fill(u8::MAX);
+    }
+}
+
+/// Paints a black run that ends in a word which the row has whole.
+#[inline(always)]
+fn paint_run(row: &mut [u8], from: usize, to: usize)
+    requires ascend { from ≤ to }
+    requires within { to / 64 * 8 + 8 ≤ length row.old }
+    ensures painted { (front : Bits) → length front ≡ from → bits_of row.old ≡ then_white front (length row.old)
+        → bits_of row.new ≡ then_white (front ++ replicate (to - from) true) (length row.old) }
+    ensures length { length row.new ≡ length row.old }
+{
+    let first = from / 64 * 8;
+    let last = to / 64 * 8;
+    if from / 64 == to / 64 {
+        paint_in_word(row, first, from % 64, to % 64);
+    } else {
+        paint_in_word(row, first, from % 64, 64);
+        paint_bytes(row, first + 8, last);
+        paint_in_word(row, last, 0, to % 64);
+    }
+}
+
+/// Paints a black run that ends in the last eight bytes of the row.
+#[inline(never)]
+fn paint_last_run(row: &mut [u8], from: usize, to: usize)
+    requires long { 8 ≤ length row.old }
+    requires ascend { from ≤ to }
+    requires right { 8 * length row.old < to + 64 }
+    requires within { to ≤ 8 * length row.old }
+    ensures painted { (front : Bits) → length front ≡ from → bits_of row.old ≡ then_white front (length row.old)
+        → bits_of row.new ≡ then_white (front ++ replicate (to - from) true) (length row.old) }
+    ensures length { length row.new ≡ length row.old }
+{
+    let start = row.len() - 8;
+    if from < 8 * start {
+        paint_run(row, from, 8 * start);
+        paint_in_word(row, start, 0, to - 8 * start);
+    } else {
+        paint_in_word(row, start, from - 8 * start, to - 8 * start);
+    }
+}
+
+/// Paints a black run.
+#[inline(always)]
+fn paint_black(row: &mut [u8], from: usize, to: usize)
+    requires long { 8 ≤ length row.old }
+    requires ascend { from ≤ to }
+    requires within { to ≤ 8 * length row.old }
+    ensures painted { (front : Bits) → length front ≡ from → bits_of row.old ≡ then_white front (length row.old)
+        → bits_of row.new ≡ then_white (front ++ replicate (to - from) true) (length row.old) }
+    ensures length { length row.new ≡ length row.old }
+{
+    if to / 64 < row.len() / 8 {
+        paint_run(row, from, to);
+    } else {
+        paint_last_run(row, from, to);
+    }
+}
+
+/// Paints the black runs of a white row.
+#[inline(always)]
+fn paint_runs(row: &mut [u8], columns: u32, changes: &[u32])
+    requires changes { AreChanges columns changes.now }
+    requires long { 8 ≤ length row.old }
+    requires room { columns ≤ 8 * length row.old }
+    requires white { bits_of row.old ≡ then_white [] (length row.old) }
+    ensures painted { bits_of row.new ≡ then_white (pixels columns changes.now) (length row.old) }
+    ensures length { length row.new ≡ length row.old }
+{
+    let mut done = 0;
+    'runs: while done + 1 < changes.len() {
+        paint_black(row, changes[done] as usize, changes[done + 1] as usize);
+        done += 2;
+    }
+    if done < changes.len() {
+        paint_black(row, changes[done] as usize, columns as usize);
+    }
+}
+
+/// Paints a row of 57 pixels or more by its black runs. It takes time in proportion to the runs, and the library's time to
+/// clear the row.
+#[inline(never)]
+pub fn paint_by_runs(row: &mut [u8], columns: u32, changes: &[u32])
+    requires changes { AreChanges columns changes.now }
+    requires room { length row.old ≡ (columns + 7) / 8 }
+    requires long { 8 ≤ length row.old }
+    ensures painted { bits_of row.new ≡ filled_up (pixels columns changes.now) }
+{
+    row.fill(0);
+    paint_runs(row, columns, changes);
+}

@@ -1,0 +1,35 @@
+//! Words of 64 pixels, the leftmost in the highest bit.
+
+ghost use Rattle.std.specs.Prelude.{◌≡◌, ◌+◌, ◌≤◌, ◌++◌, false, length, replicate, take, drop};
+ghost use Rattle.hayro_ccitt.specs.Bits.{bits_of, low_bits};
+
+/// Returns a word of pixels of one colour.
+#[inline(always)]
+pub fn plain_word(is_black: bool) -> u64
+    ensures { low_bits 64 result ≡ replicate 64 is_black }
+{
+    if is_black { u64::MAX } else { 0 }
+}
+
+/// Returns the first 64 pixels of eight bytes or more.
+#[inline(always)]
+pub fn first_pixels(bytes: &[u8]) -> u64
+    requires { 8 ≤ length bytes.now }
+    ensures { low_bits 64 result ≡ take 64 (bits_of bytes.now ++ replicate 64 false) }
+{
+    u64::from_be_bytes([
+        bytes[0], bytes[1], bytes[2], bytes[3], bytes[4], bytes[5], bytes[6], bytes[7],
+    ])
+}
+
+/// Writes 64 pixels into the eight bytes from an index on.
+#[inline(always)]
+pub fn put_pixels(bytes: &mut [u8], start: usize, word: u64)
+    requires { start + 8 ≤ length bytes.old }
+    ensures written { bits_of bytes.new
+        ≡ bits_of (take start bytes.old) ++ (low_bits 64 word ++ bits_of (drop (start + 8) bytes.old)) }
+    ensures length { length bytes.new ≡ length bytes.old }
+{
+    let behind = start + 8;
+    bytes[start..behind].copy_from_slice(&word.to_be_bytes());
+}

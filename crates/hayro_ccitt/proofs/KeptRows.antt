@@ -1,0 +1,5 @@
+pub mod EqualFronts
+pub mod LinesAgain
+pub mod RowsBeforeDamage
+pub mod RowsBehindDamage
+pub mod TurnsLeave

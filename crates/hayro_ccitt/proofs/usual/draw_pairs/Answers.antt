@@ -1,0 +1,42 @@
+use Rattle.hayro_ccitt.proofs.Names.{ap, ◌∙◌, arith, White, BitsAt, GoesOn, pen_at}
+use Rattle.hayro_ccitt.proofs.DrawingLines.UsualStrokes.{goes_on_twice, reached_open}
+use Rattle.hayro_ccitt.proofs.usual.draw_pairs.Goals.{After-has_two_runs}
+use Rattle.hayro_ccitt.proofs.usual.draw_pairs.Goals as goal
+
+-- what is drawn before two runs of any length
+so_far : (c : After-has_two_runs) → GoesOn c.args.settings.strict c.args.settings.columns
+    (pen_at c.args.painted c.args.row.now.items White c.args.hand.now.at)
+    (pen_at c.runs.place c.draw_pair.new.row.items White c.has_two_runs.new.hand.at) c.args.ticks.now c.draw_pair.new.ticks
+so_far c =
+    let same = c.in_default.ensures.left in
+    rw (c.has_two_runs.ensures.same, same.0, same.1, same.2) c.runs.invariant.0
+
+pub returns-then-not-has_two_runs-clause-drawn : goal.returns-then-not-has_two_runs-clause-drawn
+returns-then-not-has_two_runs-clause-drawn c =
+    so_far (goal.at.returns-then-not-has_two_runs-clause-drawn c).After-has_two_runs
+
+pub returns-in-None-clause-drawn : goal.returns-in-None-clause-drawn
+returns-in-None-clause-drawn c =
+    let same = c.in-None.ensures.left in
+    rw (same.0, same.1, same.2) (so_far (goal.at.returns-in-None-clause-drawn c).After-has_two_runs)
+
+pub returns-then-next-settings-clause-drawn : goal.returns-then-next-settings-clause-drawn
+returns-then-next-settings-clause-drawn c =
+    goes_on_twice c.args.settings.strict c.args.settings.columns _ _ _ _ _ _
+    (so_far (goal.at.returns-then-next-settings-clause-drawn c).After-has_two_runs) c.in-Some-draw_two_runs.ensures.drawn
+
+pub runs-preserved : goal.runs-preserved
+runs-preserved c =
+    let next = c.in-Some-draw_two_runs in
+    let opened = reached_open c.args.settings.columns next.next next.color c.draw_two_runs.new.row.items next.ensures.taken
+    c.if-next-settings.false in
+    let inv = c.runs.invariant in
+    let same = c.in_default.ensures.left in
+    let filled = c.has_two_runs.ensures.same in (
+      goes_on_twice c.args.settings.strict c.args.settings.columns _ _ _ _ _ _
+          (so_far (goal.at.runs-preserved c).After-has_two_runs) (rw opened.1 at next.ensures.drawn),
+      opened.0,
+      omega (arith, next.ensures.forward, inv.2),
+      next.ensures.same_bits ∙ ap (λ (b : BitsAt). b.bits) (filled ∙ same.0) ∙ inv.3,
+      omega (arith, next.ensures.onward, ap (λ (b : BitsAt). b.place) (filled ∙ same.0), inv.4),
+    )

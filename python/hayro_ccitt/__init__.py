@@ -1,0 +1,49 @@
+"""A decoder and an encoder for CCITT fax images: ITU-T T.4 (Group 3) and T.6 (Group 4), as TIFF and PDF files have them.
+
+It calls a library that is proved: for every input its rows, results and byte counts are those that a formalization of T.4 and T.6
+prescribes.
+
+    >>> import hayro_ccitt
+    >>> picture = hayro_ccitt.decode(b"\\x31\\xc0", columns=8, rows=1, k=-1)
+    >>> picture.rows, picture.pbm()
+    (1, b'P4\\n8 1\\n\\x18')
+    >>> hayro_ccitt.encode(picture.packed, 8, k=-1).hex()
+    '31c0040040'
+"""
+from .containers import from_pdf, from_tiff
+from .decoding import Damage, Picture, Rows, decode, rows
+from .encoding import encode
+from .errors import (
+    DecodeError,
+    EncodeError,
+    Error,
+    InvalidCode,
+    NoEncoding,
+    NoRows,
+    NotFax,
+    NotWholeRows,
+    Overflow,
+    UnexpectedEof,
+)
+
+__version__ = "0.6.0"
+__all__ = [
+    "Damage",
+    "DecodeError",
+    "EncodeError",
+    "Error",
+    "InvalidCode",
+    "NoEncoding",
+    "NoRows",
+    "NotFax",
+    "NotWholeRows",
+    "Overflow",
+    "Picture",
+    "Rows",
+    "UnexpectedEof",
+    "decode",
+    "encode",
+    "from_pdf",
+    "from_tiff",
+    "rows",
+]

@@ -1,0 +1,63 @@
+"""The calls of the shared library: the structures and statuses of hayro_ccitt.h and fax_encode.h."""
+import ctypes
+import os
+from ctypes import POINTER, c_size_t, c_uint8, c_uint32, c_uint64, c_void_p
+
+OK, UNEXPECTED_EOF, INVALID_CODE, OVERFLOW, OUT_OF_MEMORY, REFUSED, NOT_TAKEN, NO_ROW = range(8)
+GROUP_4, GROUP_3_1D, GROUP_3_2D = range(3)
+END_OF_BLOCK, END_OF_LINE, ALIGNED_ROWS, STRICT, LOW_FIRST, EOLS_END_AT_BYTES = (1 << bit for bit in range(6))
+# The installed library whose interface this package calls.
+SONAME = "libhayro_ccitt.so.0.6"
+
+
+class Settings(ctypes.Structure):
+    _fields_ = [(name, c_uint32) for name in ("columns", "rows", "encoding", "flags")]
+
+
+class Outcome(ctypes.Structure):
+    _fields_ = [(name, c_uint64) for name in ("rows", "changes", "bytes_read", "damaged_rows", "fault_start", "missed_eols")]
+
+
+class Reader(ctypes.Structure):
+    _fields_ = [("reading", c_void_p), ("nowhere", c_void_p), ("is_open", c_uint8)]
+
+
+class Row(ctypes.Structure):
+    _fields_ = [
+        (name, c_uint64)
+        for name in ("rows", "changes", "line_start", "bytes_read", "damaged_rows", "damage", "missed_eols", "reserved")
+    ]
+
+
+class EncodeSettings(ctypes.Structure):
+    _fields_ = [(name, c_uint32) for name in ("columns", "encoding", "flags", "k")]
+
+
+class EncodeOutcome(ctypes.Structure):
+    _fields_ = [(name, c_uint64) for name in ("rows", "bytes")]
+
+
+# Data is passed as bytes, whose memory ctypes passes without a copy.
+DATA = [ctypes.c_char_p, c_size_t]
+CALLS = {
+    "hayro_ccitt_measure": [*DATA, POINTER(Settings), POINTER(Outcome)],
+    "hayro_ccitt_decode_packed": [*DATA, POINTER(Settings), c_void_p, c_size_t, POINTER(Outcome)],
+    "hayro_ccitt_open": [*DATA, POINTER(Settings), POINTER(Reader)],
+    "hayro_ccitt_next_packed": [*DATA, POINTER(Reader), c_void_p, c_size_t, POINTER(Row)],
+    "hayro_ccitt_close": [POINTER(Reader)],
+    "fax_encode_bitmap": [*DATA, POINTER(EncodeSettings), c_void_p, c_size_t, POINTER(EncodeOutcome)],
+}
+
+
+def loaded():
+    """The library that HAYRO_CCITT_LIBRARY names; or else that of the wheel, in this folder; or else the installed one."""
+    named = os.environ.get("HAYRO_CCITT_LIBRARY")
+    beside = os.path.join(os.path.dirname(os.path.abspath(__file__)), "libhayro_ccitt.so")
+    library = ctypes.CDLL(named or (beside if os.path.exists(beside) else SONAME))
+    for name, arguments in CALLS.items():
+        call = getattr(library, name)
+        call.argtypes, call.restype = arguments, c_uint32
+    return library
+
+
+LIBRARY = loaded()

@@ -1,0 +1,267 @@
+"""Decoding to a picture, or to rows one at a time."""
+from __future__ import annotations
+
+import ctypes
+import threading
+from typing import Iterator, NamedTuple, Union
+
+from . import _library as c
+from .errors import DecodeError, InvalidCode, Overflow, UnexpectedEof
+
+Data = Union[bytes, bytearray, memoryview]
+FAULTS = {
+    c.UNEXPECTED_EOF: (UnexpectedEof, "unexpected end of input"),
+    c.INVALID_CODE: (InvalidCode, "invalid CCITT code sequence"),
+    c.OVERFLOW: (Overflow, "arithmetic overflow in position calculation"),
+}
+NEGATIVE = bytes(255 - byte for byte in range(256))
+# Up to this size a bitmap for all rows that there may be is allocated at once.
+USUAL_BYTES = 1 << 20
+
+
+class Damage(NamedTuple):
+    """What a lenient reading repaired. It is false if that is nothing."""
+
+    damaged_rows: int
+    """The number of rows whose line was damaged and repaired."""
+    missed_eols: int
+    """The number of other rows after which bits were passed up to the next EOL, or no EOL was left."""
+
+    def __bool__(self) -> bool:
+        return any(self)
+
+
+class Picture(NamedTuple):
+    """A decoded image."""
+
+    columns: int
+    """The width in pixels."""
+    rows: int
+    """The number of rows that were decoded."""
+    packed: bytes
+    """The samples of the rows from the top, as PDF's CCITTFaxDecode yields them: `(columns + 7) // 8` bytes a row, one bit a pixel,
+    the leftmost in a byte's highest bit. A sample is 0 for a black pixel, or 1 with `black_is_1`. Bits after a row's last pixel are
+    those of white pixels. As sample 0 is shown black, `PIL.Image.frombytes("1", (columns, rows), packed)` is the picture."""
+    bytes_read: int
+    """The number of bytes of the data that were consumed; 0 after a fault."""
+    damage: Damage
+    """What was repaired."""
+
+    def pbm(self, rows: int = 0) -> bytes:
+        """The picture as a PBM file (`P4`), in which samples of 0 are black; with white rows below, if there are fewer than `rows`."""
+        height = max(rows, self.rows)
+        return b"P4\n%d %d\n" % (self.columns, height) + self.black(height)
+
+    def black(self, rows: int = 0) -> bytes:
+        """The rows of `pbm`, without its header: 1 for black, and zeros after a row's last pixel."""
+        width = (self.columns + 7) // 8
+        bits = self.packed.translate(NEGATIVE)
+        if self.columns % 8:
+            last = bytes([0xFF << (8 - self.columns % 8) & 0xFF])
+            mask = int.from_bytes((b"\xff" * (width - 1) + last) * self.rows, "big")
+            bits = (int.from_bytes(bits, "big") & mask).to_bytes(len(bits), "big")
+        return bits.ljust(rows * width, b"\0")
+
+
+def decode(
+    data: Data,
+    columns: int = 1728,
+    rows: int = 0,
+    *,
+    k: int = 0,
+    end_of_line: bool = False,
+    encoded_byte_align: bool = False,
+    end_of_block: bool = True,
+    black_is_1: bool = False,
+    low_first: bool = False,
+    strict: bool = False,
+) -> Picture:
+    """Decodes an image, or a strip of one. The arguments are the keys of PDF's CCITTFaxDecode, with its defaults.
+
+    Args:
+        data: the encoded bytes.
+        columns: the width in pixels, below 2 ** 32.
+        rows: the largest number of rows that are decoded, below 2 ** 32; 0 for no limit.
+        k: below 0: Group 4 (T.6, MMR); 0: Group 3, one-dimensional (T.4, MH); above 0: Group 3, two-dimensional (T.4, MR).
+        end_of_line: whether an EOL precedes each line of Group 3. If the data begins with an EOL, this isn't needed.
+        encoded_byte_align: whether each row is padded up to a whole byte.
+        end_of_block: whether EOFB or RTC may end the data. It needn't be there.
+        black_is_1: whether a sample is 1 for a black pixel, rather than 0.
+        low_first: whether each byte's lowest bit comes first, as in TIFF files of FillOrder 2.
+        strict: whether data that breaks a rule is a fault, rather than repaired or cut.
+
+    Raises:
+        UnexpectedEof, InvalidCode, Overflow: there is a fault, before which the exception's `picture` has the rows.
+        ValueError: `columns` or `rows` isn't in its range.
+        MemoryError: an allocation failed, or the picture is too large.
+    """
+    data = bytes_of(data)
+    settings = settings_of(columns, rows, k, end_of_line, encoded_byte_align, end_of_block, low_first, strict)
+    width = (columns + 7) // 8
+    outcome = c.Outcome()
+    most = min(rows or len(data) * 8 + 1, len(data) * 8 + 1) * width
+    if most > max(USUAL_BYTES, 64 * len(data)):
+        check(c.LIBRARY.hayro_ccitt_measure(data, len(data), settings, outcome))
+        most = outcome.rows * width
+    bitmap = room_for(most)
+    status = c.LIBRARY.hayro_ccitt_decode_packed(data, len(data), settings, bitmap, most, outcome)
+    check(status)
+    packed = memoryview(bitmap)[: outcome.rows * width].tobytes()
+    if not black_is_1:
+        packed = packed.translate(NEGATIVE)
+    damage = Damage(outcome.damaged_rows, outcome.missed_eols)
+    picture = Picture(columns, outcome.rows, packed, outcome.bytes_read, damage)
+    if status != c.OK:
+        raise fault_of(status, outcome.fault_start, picture)
+    return picture
+
+
+def rows(
+    data: Data,
+    columns: int = 1728,
+    rows: int = 0,
+    *,
+    k: int = 0,
+    end_of_line: bool = False,
+    encoded_byte_align: bool = False,
+    end_of_block: bool = True,
+    black_is_1: bool = False,
+    low_first: bool = False,
+    strict: bool = False,
+) -> Rows:
+    """Reads an image one row at a time, in memory for a row. The arguments are those of `decode`.
+
+    Each row is lent: a `memoryview` of its `(columns + 7) // 8` bytes, as in `Picture.packed`, which is valid until the next row is
+    read. `bytes(row)` keeps it.
+
+    Raises:
+        ValueError, MemoryError: as `decode`. The faults are raised by the iterator, after the rows before them.
+    """
+    settings = settings_of(columns, rows, k, end_of_line, encoded_byte_align, end_of_block, low_first, strict)
+    return Rows(bytes_of(data), columns, settings, black_is_1)
+
+
+class Rows(Iterator[memoryview]):
+    """The rows of an image, read one at a time by `rows`. Its numbers are those of the rows read so far."""
+
+    def __init__(self, data: bytes, columns: int, settings: c.Settings, black_is_1: bool):
+        self._reader = c.Reader()
+        self._lock = threading.Lock()
+        self._data, self._black_is_1 = data, black_is_1
+        self._bitmap = room_for((columns + 7) // 8)
+        self._row = c.Row()
+        self._lent = memoryview(self._bitmap).cast("B").toreadonly()
+        check(c.LIBRARY.hayro_ccitt_open(data, len(data), settings, self._reader))
+
+    def __iter__(self) -> Rows:
+        return self
+
+    def __next__(self) -> memoryview:
+        with self._lock:
+            if not self._reader.is_open:
+                raise StopIteration
+            room = len(self._lent)
+            status = c.LIBRARY.hayro_ccitt_next_packed(self._data, len(self._data), self._reader, self._bitmap, room, self._row)
+            if status == c.OK:
+                if not self._black_is_1:
+                    self._bitmap[:] = self._bitmap.raw.translate(NEGATIVE)
+                return self._lent
+        self.close()
+        if status == c.NO_ROW:
+            raise StopIteration
+        check(status)
+        raise fault_of(status, self._row.line_start, None)
+
+    @property
+    def rows_read(self) -> int:
+        """The number of rows."""
+        return self._row.rows
+
+    @property
+    def line_start(self) -> int:
+        """The offset in bits at which the last row's line begins, after its EOL."""
+        return self._row.line_start
+
+    @property
+    def bytes_read(self) -> int:
+        """The number of bytes consumed; after the last row, those of the image."""
+        return self._row.bytes_read
+
+    @property
+    def damage(self) -> Damage:
+        """What was repaired. What follows the last row is known after the next one."""
+        return Damage(self._row.damaged_rows, self._row.missed_eols)
+
+    @property
+    def fault(self) -> type[DecodeError] | None:
+        """The fault of the last row, if its line was damaged and repaired."""
+        found = FAULTS.get(self._row.damage)
+        return found and found[0]
+
+    def close(self) -> None:
+        """Frees the reader. It is freed after the last row, too."""
+        with self._lock:
+            c.LIBRARY.hayro_ccitt_close(self._reader)
+
+    def __enter__(self) -> Rows:
+        return self
+
+    def __exit__(self, *_: object) -> None:
+        self.close()
+
+    def __del__(self) -> None:
+        # Nothing else has a reference, so no call is running.
+        if hasattr(self, "_reader"):
+            c.LIBRARY.hayro_ccitt_close(self._reader)
+
+
+def bytes_of(data: Data) -> bytes:
+    """The data as bytes, which nothing changes while the library reads them."""
+    return data if type(data) is bytes else bytes(memoryview(data))
+
+
+def number(name: str, value: int) -> int:
+    if not 0 <= value < 1 << 32:
+        raise ValueError(f"{name} is {value}: it must be at least 0 and below 2 ** 32")
+    return value
+
+
+def encoding_of(k: int) -> int:
+    return c.GROUP_4 if k < 0 else c.GROUP_3_1D if k == 0 else c.GROUP_3_2D
+
+
+def sum_of(*flags: tuple[bool, int]) -> int:
+    return sum(flag for is_set, flag in flags if is_set)
+
+
+def settings_of(columns, rows, k, end_of_line, encoded_byte_align, end_of_block, low_first, strict) -> c.Settings:
+    flags = sum_of(
+        (end_of_block, c.END_OF_BLOCK),
+        (end_of_line, c.END_OF_LINE),
+        (encoded_byte_align, c.ALIGNED_ROWS),
+        (strict, c.STRICT),
+        (low_first, c.LOW_FIRST),
+    )
+    return c.Settings(number("columns", columns), number("rows", rows), encoding_of(k), flags)
+
+
+def room_for(length: int) -> ctypes.Array:
+    try:
+        return ctypes.create_string_buffer(length)
+    except (OverflowError, ValueError):
+        raise MemoryError(f"a picture of {length} bytes") from None
+
+
+def check(status: int) -> None:
+    """Raises what no settings or data are the cause of."""
+    if status == c.OUT_OF_MEMORY:
+        raise MemoryError
+    if status in (c.REFUSED, c.NOT_TAKEN):
+        raise ValueError("the library doesn't take these settings")
+
+
+def fault_of(status: int, start: int, picture: Picture | None) -> DecodeError:
+    kind, text = FAULTS[status]
+    fault = kind(text)
+    fault.fault_start, fault.picture = start, picture
+    return fault

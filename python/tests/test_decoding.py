@@ -1,0 +1,137 @@
+"""Decoding: the corpus, the answers of C, and the arguments."""
+import threading
+import zlib
+
+import pytest
+from conftest import keys_of, strips
+
+import hayro_ccitt
+from hayro_ccitt import Damage, DecodeError, InvalidCode, Overflow, UnexpectedEof
+
+STATUSES = {None: 0, UnexpectedEof: 1, InvalidCode: 2, Overflow: 3}
+NEGATIVE = bytes(255 - byte for byte in range(256))
+
+
+def decoded(data, keys):
+    """The picture, and the fault or None."""
+    try:
+        return hayro_ccitt.decode(data, **keys), None
+    except DecodeError as fault:
+        return fault.picture, fault
+
+
+def test_strips_are_their_pictures():
+    seen = 0
+    for words, data, bits in strips():
+        picture = hayro_ccitt.decode(data, **keys_of(words))
+        assert picture.packed == bits, words
+        keys = {**keys_of(words), "black_is_1": False}
+        turned = hayro_ccitt.decode(data, **keys)
+        assert turned.packed == bits.translate(NEGATIVE)
+        assert turned.pbm() == b"P4\n%d %d\n" % (turned.columns, turned.rows) + bits
+        assert b"".join(map(bytes, hayro_ccitt.rows(data, **keys))) == turned.packed
+        seen += 1
+    assert seen > 500
+
+
+def test_a_picture_has_zeros_after_its_rows():
+    for black_is_1, row in ((False, b"\x18\x00"), (True, b"\xe7\x80")):
+        data = hayro_ccitt.encode(b"\x18\x00", 9, k=-1, black_is_1=True)
+        picture = hayro_ccitt.decode(data, 9, k=-1, black_is_1=black_is_1)
+        assert picture.pbm() == b"P4\n9 1\n" + row
+        assert picture.pbm(3) == b"P4\n9 3\n" + row + bytes(4)
+
+
+def test_whole_as_in_c(answers):
+    results = set()
+    for words, data, lines in answers:
+        picture, fault = decoded(data, keys_of(words))
+        found = ["packed", STATUSES[fault and type(fault)], picture.rows, picture.bytes_read, *picture.damage]
+        found += [fault.fault_start if fault else 0, zlib.adler32(picture.packed)]
+        assert list(map(str, found)) == lines[0], (words, data.hex())
+        results.add(lines[0][1])
+    assert len(results) == 4
+
+
+def test_rows_as_in_c(answers):
+    kinds = set()
+    for words, data, (_, _, *lines, end) in answers[::3]:
+        rows = hayro_ccitt.rows(data, **keys_of(words))
+        fault = None
+        told = iter(lines)
+        try:
+            for row in rows:
+                found = ["row", rows.line_start, rows.bytes_read, *rows.damage, STATUSES[rows.fault]]
+                line = next(told)
+                assert [*map(str, found), str(zlib.adler32(row))] == [*line[:6], line[7]], (words, data.hex())
+                kinds.add(line[5])
+        except DecodeError as error:
+            fault = error
+        found = ["end", STATUSES[type(fault)] if fault else 7, rows.rows_read, rows.line_start, rows.bytes_read, *rows.damage]
+        assert list(map(str, found)) == end and not list(told), (words, data.hex())
+        assert fault is None or (fault.fault_start == rows.line_start and fault.picture is None)
+    assert len(kinds) == 4
+
+
+def test_a_fault_has_the_rows_before_it():
+    with pytest.raises(InvalidCode) as caught:
+        hayro_ccitt.decode(b"\x31\xc0\x00", 8, k=-1)
+    assert caught.value.picture.packed == b"\xe7" and caught.value.fault_start == 10
+    assert str(caught.value) == "invalid CCITT code sequence"
+
+
+def test_damage():
+    data = bytes.fromhex("0019800C400033")
+    picture = hayro_ccitt.decode(data, 8, end_of_line=True, end_of_block=False)
+    assert picture.damage == Damage(1, 0) and picture.damage
+    assert not hayro_ccitt.decode(b"\x31\xc0", 8, 1, k=-1).damage
+
+
+def test_any_bytes_are_data():
+    expected = hayro_ccitt.decode(b"\x31\xc0", 8, 1, k=-1)
+    for data in (bytearray(b"\x31\xc0"), memoryview(b"\x31\xc0"), memoryview(b"\x31-\xc0-")[::2]):
+        assert hayro_ccitt.decode(data, 8, 1, k=-1) == expected
+    for other in (2, "31", None, [0x31]):
+        with pytest.raises(TypeError):
+            hayro_ccitt.decode(other, 8, 1, k=-1)
+
+
+@pytest.mark.parametrize("columns, rows", [(-1, 0), (1 << 32, 0), (8, -1), (8, 1 << 32)])
+def test_numbers_out_of_range(columns, rows):
+    for call in (hayro_ccitt.decode, hayro_ccitt.rows):
+        with pytest.raises(ValueError):
+            call(b"", columns, rows)
+
+
+def test_no_memory_for_rows_that_do_not_come():
+    with pytest.raises(InvalidCode) as caught:
+        hayro_ccitt.decode(b"\0\0", (1 << 32) - 1, (1 << 32) - 1, k=-1)
+    assert caught.value.picture.rows == 0
+    assert hayro_ccitt.decode(b"\x31\xc0", 0).rows == 0
+
+
+def test_a_reader_is_closed():
+    rows = hayro_ccitt.rows(b"\x31\xf8", 8, 2, k=-1)
+    assert bytes(next(rows)) == b"\xe7"
+    rows.close()
+    rows.close()
+    assert list(rows) == []
+    with hayro_ccitt.rows(b"\x31\xf8", 8, 2, k=-1) as rows:
+        assert len([bytes(row) for row in rows]) == 2
+    assert rows.bytes_read == 2
+    with pytest.raises(TypeError):
+        next(iter(hayro_ccitt.rows(b"\x31\xf8", 8, 2, k=-1)))[0] = 0
+
+
+def test_threads():
+    words, data, bits = next(strip for strip in strips() if " 1240 " in strip[0])
+    found = []
+    threads = [threading.Thread(target=lambda: found.append(hayro_ccitt.decode(data, **keys_of(words)).packed == bits)) for _ in range(8)]
+    rows = hayro_ccitt.rows(data, **keys_of(words))
+    read = []
+    threads += [threading.Thread(target=lambda: read.extend(1 for _ in rows)) for _ in range(4)]
+    for thread in threads:
+        thread.start()
+    for thread in threads:
+        thread.join()
+    assert found == [True] * 8 and len(read) == 1754

@@ -1,0 +1,351 @@
+"""Makes the packages of a release of what `make` built; `make dist` calls it.
+
+    python3 release/release.py BUILD VERSION
+
+BUILD/dist gets the binary tarball, the Debian package, the Cargo package, the Python wheel, the source tarball and SHA256SUMS. The
+same files give the same bytes in any folder. A version that CHANGELOG.md doesn't have is refused."""
+import base64
+import email.utils
+import gzip
+import hashlib
+import io
+import os
+import re
+import shutil
+import subprocess
+import sys
+import tarfile
+import tempfile
+import zipfile
+
+CRATE = "hayro-ccitt-0.5.0"
+TRIPLET = "x86_64-linux-gnu"
+PROVED = ["hayro_ccitt_c", "faxrows", "faxpack"]
+DESCRIPTION = "decoder and encoder for CCITT fax images, with proofs"
+MAKERS = "hayro_ccitt <hayro_ccitt@example.org>"
+NO_LICENCE = "No licence is chosen yet: that is for the owner of the repository to do.\n"
+# The oldest C library that the wheel is for.
+MANYLINUX = (2, 17)
+
+
+def fail(why):
+    sys.exit(f"make dist: {why}")
+
+
+def said(*words):
+    """The first line that a command prints, or nothing if it fails."""
+    try:
+        done = subprocess.run(words, capture_output=True, text=True, check=False)
+    except OSError:
+        return ""
+    return done.stdout.split("\n")[0].strip() if done.returncode == 0 else ""
+
+
+def read(path):
+    with open(path, "rb") as file:
+        return file.read()
+
+
+def write(path, data):
+    os.makedirs(os.path.dirname(path), exist_ok=True)
+    with open(path, "wb") as file:
+        file.write(data if isinstance(data, bytes) else data.encode())
+
+
+def sha256(data):
+    return hashlib.sha256(data).hexdigest()
+
+
+def files_in(folder):
+    """The paths of a folder's files and links, below it, in order."""
+    found = [os.path.relpath(f"{at}/{name}", folder) for at, _, names in os.walk(folder) for name in names]
+    return sorted(found)
+
+
+def tracked():
+    """The repository's files: those that git would track, or where it isn't a repository, all that aren't built."""
+    listed = subprocess.run(["git", "ls-files", "-z", "--cached", "--others", "--exclude-standard"], capture_output=True, check=False)
+    if listed.returncode == 0 and listed.stdout:
+        return sorted(name for name in listed.stdout.decode().split("\0") if name and os.path.isfile(name))
+    skipped = ("build", "out", "target", ".git", "__pycache__")
+    return [name for name in files_in(".") if not {*skipped} & {*name.split("/")}]
+
+
+def crates_below(crate):
+    """A crate, and the crates of the repository that it is built from."""
+    with open("crates.txt", encoding="utf-8") as file:
+        named = dict((line.split(":")[0].split()[0], line.split(":")[1].split()) for line in file if not line.startswith("#"))
+    found = [crate]
+    for name in found:
+        found += [it for it in named[name] if it in named and it not in found]
+    return sorted(found)
+
+
+def proved_sources():
+    """A line for each crate that is in the library or the programs: a hash of its sources, definitions and proofs."""
+    lines = []
+    for crate in sorted({name for program in PROVED for name in crates_below(program)}):
+        files = [name for name in tracked() if re.match(rf"crates/{crate}/(src|specs|proofs)/", name)]
+        listed = "".join(f"{sha256(read(name))}  {name}\n" for name in files)
+        lines.append(f"{sha256(listed.encode())}  crates/{crate} ({len(files)} files)")
+    return lines
+
+
+def provenance(build, version):
+    """What the packages were made from, with what, and how the same bytes are made again."""
+    commit = said("git", "rev-parse", "HEAD") or "none"
+    changed = "" if commit == "none" or not said("git", "status", "--porcelain") else ", with changes that aren't committed"
+    built = [f"{build}/proved.o", f"{build}/faxrows", f"{build}/faxpack"]
+    return "\n".join(
+        [
+            f"hayro_ccitt {version}",
+            "",
+            f"Commit: {commit}{changed}",
+            f"Proved and compiled by: {said('rt', 'version') or 'unknown'}",
+            f"C parts compiled by: {said(os.environ.get('CC', 'cc'), '--version')}",
+            f"Linked by: {said('ld', '--version')}",
+            "",
+            "The proved crates: the SHA-256 of the list that `sha256sum` prints for the files of src, specs and proofs, in order.",
+            *proved_sources(),
+            "",
+            "What the kit compiled them to: the object of the library, its calls renamed to proved_*, and two programs.",
+            *(f"{sha256(read(name))}  {os.path.basename(name)}" for name in built),
+            "",
+            "The same bytes again, with this kit, compiler and linker: `make && make dist` in a clone of this commit, in any folder.",
+            "",
+        ]
+    )
+
+
+def packed_tar(entries, epoch):
+    """A tar file of names, modes and data, compressed. A link is a name and a text that it points to."""
+    packed = io.BytesIO()
+    with gzip.GzipFile(filename="", mode="wb", fileobj=packed, mtime=epoch) as compressed:
+        with tarfile.open(fileobj=compressed, mode="w", format=tarfile.GNU_FORMAT) as tar:
+            for name, mode, data in sorted(entries, key=lambda entry: entry[0]):
+                item = tarfile.TarInfo(name)
+                item.mode, item.mtime, item.uname, item.gname = mode, epoch, "root", "root"
+                if isinstance(data, str):
+                    item.type, item.linkname = tarfile.SYMTYPE, data
+                    tar.addfile(item)
+                else:
+                    item.size = len(data)
+                    tar.addfile(item, io.BytesIO(data))
+    return packed.getvalue()
+
+
+def entries_of(folder, top):
+    """The files of a folder as entries of a tar file below a folder of that name."""
+    for name in files_in(folder):
+        path = f"{folder}/{name}"
+        if os.path.islink(path):
+            yield f"{top}/{name}", 0o777, os.readlink(path)
+        else:
+            yield f"{top}/{name}", 0o755 if os.access(path, os.X_OK) else 0o644, read(path)
+
+
+def installed(build, to, *words):
+    done = subprocess.run(["make", "--no-print-directory", f"BUILD={build}", f"DESTDIR={to}", *words, "install"], capture_output=True, text=True, check=False)
+    if done.returncode != 0:
+        fail(f"`make install` failed:\n{done.stdout}{done.stderr}")
+    # The file with the other prefix isn't left in BUILD.
+    os.remove(f"{build}/hayro_ccitt.pc")
+
+
+def documents(folder, told):
+    for name in ("CHANGELOG.md", "SECURITY.md"):
+        write(f"{folder}/{name}", read(name))
+    write(f"{folder}/PROVENANCE", told)
+    for name in tracked():
+        if re.match(r"examples/.*\.c$", name):
+            write(f"{folder}/{name}", read(name))
+
+
+def binary_tarball(build, version, told, epoch, work):
+    top = f"hayro_ccitt-{version}-linux-x86_64"
+    installed(build, f"{work}/binary", "PREFIX=/")
+    pc = f"{work}/binary/lib/pkgconfig/hayro_ccitt.pc"
+    text = read(pc).decode()
+    places = {"prefix": "${pcfiledir}/../..", "libdir": "${prefix}/lib", "includedir": "${prefix}/include"}
+    for name, place in places.items():
+        text = re.sub(rf"^{name}=.*$", lambda _, line=f"{name}={place}": line, text, flags=re.MULTILINE)
+    write(pc, text)
+    documents(f"{work}/binary/share/doc/hayro_ccitt", told)
+    write(f"{work}/binary/README", TARBALL_README.format(top=top))
+    return f"{top}.tar.gz", packed_tar(entries_of(f"{work}/binary", top), epoch)
+
+
+TARBALL_README = """\
+bin       programs, which run as they are: {top}/bin/fax -o page.pbm FILE.tif
+lib       the library, static and shared, and pkgconfig/hayro_ccitt.pc, which finds this folder wherever it is
+include   the headers; the first page of hayro_ccitt.h is a complete program
+share     manual pages, examples, changes, what is promised, and PROVENANCE
+
+A program that is linked with the static library needs nothing else:
+
+    cc first.c -I{top}/include {top}/lib/libhayro_ccitt.a
+
+and with the shared one, found where it lies:
+
+    export PKG_CONFIG_PATH=$PWD/{top}/lib/pkgconfig
+    cc first.c $(pkg-config --cflags --libs hayro_ccitt) -Wl,-rpath,$PWD/{top}/lib
+"""
+
+
+def newest_libc(paths):
+    """The newest version of the C library that these files name."""
+    versions = set()
+    for path in paths:
+        listed = subprocess.run(["objdump", "-T", path], capture_output=True, text=True, check=True).stdout
+        versions |= {tuple(map(int, found.split("."))) for found in re.findall(r"GLIBC_([\d.]+)", listed)}
+    return max(versions, default=(2, 2, 5))
+
+
+def needs_zlib(path):
+    listed = subprocess.run(["objdump", "-p", path], capture_output=True, text=True, check=True).stdout
+    return "NEEDED" in listed and "libz.so" in listed
+
+
+def debian_package(build, version, told, epoch, work):
+    root = f"{work}/debian"
+    installed(build, root, "PREFIX=/usr", f"LIBDIR=/usr/lib/{TRIPLET}")
+    documents(f"{root}/usr/share/doc/hayro-ccitt", told)
+    shared = f"{root}/usr/share/doc/hayro-ccitt"
+    os.rename(f"{shared}/CHANGELOG.md", f"{shared}/changelog")
+    date = email.utils.formatdate(epoch)
+    entry = f"hayro-ccitt ({version}-1) unstable; urgency=medium\n\n  * Version {version}: see changelog.gz.\n\n -- {MAKERS}  {date}\n"
+    write(f"{shared}/changelog.Debian", entry)
+    for name in [f"{shared}/changelog", f"{shared}/changelog.Debian", *(f"{root}/{name}" for name in files_in(root) if "/man/" in name)]:
+        write(f"{name}.gz", gzip.compress(read(name), mtime=0))
+        os.remove(name)
+    write(f"{shared}/copyright", NO_LICENCE)
+    programs = [f"{root}/usr/bin/{name}" for name in os.listdir(f"{root}/usr/bin") if not os.path.islink(f"{root}/usr/bin/{name}")]
+    library = f"{root}/usr/lib/{TRIPLET}/libhayro_ccitt.so.{version}"
+    for path in [*programs, library]:
+        subprocess.run(["strip", "--strip-unneeded", path], check=True)
+    os.chmod(library, 0o644)
+    subprocess.run(["strip", "--strip-debug", f"{root}/usr/lib/{TRIPLET}/libhayro_ccitt.a"], check=True)
+    size = sum(os.path.getsize(f"{root}/{name}") for name in files_in(root)) // 1024
+    libc = ".".join(map(str, newest_libc([*programs, library])))
+    zlib = ", zlib1g" if any(needs_zlib(path) for path in programs) else ""
+    control = [
+        "Package: hayro-ccitt",
+        f"Version: {version}-1",
+        "Architecture: amd64",
+        f"Maintainer: {MAKERS}",
+        f"Installed-Size: {size}",
+        f"Depends: libc6 (>= {libc}){zlib}",
+        "Section: graphics",
+        "Priority: optional",
+        f"Description: {DESCRIPTION}",
+        " ITU-T T.4 (Group 3) and T.6 (Group 4), as TIFF and PDF files have them: the",
+        " programs, the library for C with its headers, and manual pages.",
+        "",
+    ]
+    write(f"{root}/DEBIAN/control", "\n".join(control))
+    write(f"{root}/DEBIAN/shlibs", f"libhayro_ccitt {'.'.join(version.split('.')[:2])} hayro-ccitt (>= {version})\n")
+    write(f"{root}/DEBIAN/triggers", "activate-noawait ldconfig\n")
+    sums = [name for name in files_in(root) if not os.path.islink(f"{root}/{name}") and not name.startswith("DEBIAN/")]
+    write(f"{root}/DEBIAN/md5sums", "".join(f"{hashlib.md5(read(f'{root}/{name}')).hexdigest()}  {name}\n" for name in sums))
+    for at, folders, names in os.walk(root):
+        for name in folders:
+            os.chmod(f"{at}/{name}", 0o755)
+        for name in names:
+            os.utime(f"{at}/{name}", (epoch, epoch), follow_symlinks=False)
+    package = f"hayro-ccitt_{version}-1_amd64.deb"
+    words = ["dpkg-deb", "--root-owner-group", "-Zxz", "--build", root, f"{work}/{package}"]
+    subprocess.run(words, check=True, capture_output=True, env={**os.environ, "SOURCE_DATE_EPOCH": str(epoch)})
+    return package, read(f"{work}/{package}")
+
+
+def cargo_package(told, epoch):
+    """The package of bindings/rust, with the library as the kit made it."""
+    files = {name.removeprefix("bindings/rust/"): read(name) for name in tracked() if name.startswith("bindings/rust/")}
+    # The tests read the repository's corpus.
+    files = {name: data for name, data in files.items() if not name.startswith("tests/") and name != ".gitignore"}
+    files |= {
+        "proved/libhayro_ccitt_c.a": read("crates/hayro_ccitt_c/out/libhayro_ccitt_c.a"),
+        "proved/heap.c": read("c/heap.c"),
+        "proved/hayro_ccitt_heap.h": read("c/hayro_ccitt_heap.h"),
+        "PROVENANCE": told.encode(),
+    }
+    return f"{CRATE}.crate", packed_tar([(f"{CRATE}/{name}", 0o644, data) for name, data in files.items()], epoch)
+
+
+def wheel(build, version, told, epoch):
+    """The Python package with the shared library in it."""
+    library = f"{build}/libhayro_ccitt.so.{version}"
+    if newest_libc([library]) > MANYLINUX:
+        fail(f"the library needs a newer C library than {MANYLINUX}, which the wheel's name says")
+    interface = version.rpartition(".")[0]
+    for name, line in (("__init__", f'__version__ = "{version}"'), ("_library", f'SONAME = "libhayro_ccitt.so.{interface}"')):
+        if line not in read(f"python/hayro_ccitt/{name}.py").decode():
+            fail(f"python/hayro_ccitt/{name}.py isn't of version {version}")
+    tag = f"py3-none-manylinux_{MANYLINUX[0]}_{MANYLINUX[1]}_x86_64"
+    about = f"hayro_ccitt-{version}.dist-info"
+    metadata = f"Metadata-Version: 2.1\nName: hayro_ccitt\nVersion: {version}\nSummary: A {DESCRIPTION}\nRequires-Python: >=3.9\n"
+    files = {name.removeprefix("python/"): read(name) for name in tracked() if re.match(r"python/hayro_ccitt/[^/]+(\.py|py\.typed)$", name)}
+    files |= {
+        "hayro_ccitt/libhayro_ccitt.so": read(library),
+        f"{about}/METADATA": metadata.encode(),
+        f"{about}/WHEEL": f"Wheel-Version: 1.0\nGenerator: hayro_ccitt\nRoot-Is-Purelib: false\nTag: {tag}\n".encode(),
+        f"{about}/PROVENANCE": told.encode(),
+    }
+    digests = {name: base64.urlsafe_b64encode(hashlib.sha256(data).digest()).rstrip(b"=").decode() for name, data in files.items()}
+    record = "".join(f"{name},sha256={digests[name]},{len(data)}\n" for name, data in files.items()) + f"{about}/RECORD,,\n"
+    files[f"{about}/RECORD"] = record.encode()
+    packed = io.BytesIO()
+    with zipfile.ZipFile(packed, "w", zipfile.ZIP_DEFLATED) as zipped:
+        for name, data in files.items():
+            item = zipfile.ZipInfo(name, (1980, 1, 1, 0, 0, 0))
+            item.compress_type, item.external_attr = zipfile.ZIP_DEFLATED, 0o644 << 16
+            zipped.writestr(item, data)
+    return f"hayro_ccitt-{version}-{tag}.whl", packed.getvalue()
+
+
+def source_tarball(build, version, told, epoch, work):
+    """What a C compiler builds: the proved object as assembly, and the C files."""
+    top = f"hayro_ccitt-{version}-src"
+    root = f"{work}/source"
+    assembly = subprocess.run([sys.executable, "release/assembly.py", f"{build}/proved.o"], capture_output=True, check=False)
+    if assembly.returncode != 0:
+        fail(assembly.stderr.decode())
+    write(f"{root}/proved.s", assembly.stdout)
+    strip = "corpus/strips/page/gs-g4"
+    for name in [it for it in tracked() if it.startswith(("c/", "man/", "tools/"))] + ["CHANGELOG.md", "SECURITY.md", strip, "corpus/pictures/page"]:
+        write(f"{root}/{name}", read(name))
+    for name in [it for it in tracked() if re.match(r"examples/[^/]*\.[ch]$", it)]:
+        write(f"{root}/{name}", read(name))
+    write(f"{root}/Makefile", read("release/source.mk"))
+    write(f"{root}/README", read("release/source.txt"))
+    write(f"{root}/PROVENANCE", told)
+    return f"{top}.tar.gz", packed_tar(entries_of(root, top), epoch)
+
+
+def main(build, version):
+    if not re.search(rf"^## {re.escape(version)}\b", read("CHANGELOG.md").decode(), re.MULTILINE):
+        fail(f"CHANGELOG.md has no version {version}")
+    needed = ["proved.o", "libhayro_ccitt.a", f"libhayro_ccitt.so.{version}", "faxrows", "faxpack"]
+    if missing := [name for name in needed if not os.path.exists(f"{build}/{name}")]:
+        fail(f"{build} has no {missing[0]}: run `make` first")
+    if lacking := [tool for tool in ("dpkg-deb", "objdump", "strip") if not shutil.which(tool)]:
+        fail(f"it takes {', '.join(lacking)}")
+    epoch = int(os.environ.get("SOURCE_DATE_EPOCH") or said("git", "log", "-1", "--format=%ct") or 315532800)
+    told = provenance(build, version)
+    with tempfile.TemporaryDirectory() as work:
+        packages = [
+            binary_tarball(build, version, told, epoch, work),
+            debian_package(build, version, told, epoch, work),
+            cargo_package(told, epoch),
+            wheel(build, version, told, epoch),
+            source_tarball(build, version, told, epoch, work),
+        ]
+    shutil.rmtree(f"{build}/dist", ignore_errors=True)
+    for name, data in packages:
+        write(f"{build}/dist/{name}", data)
+    write(f"{build}/dist/SHA256SUMS", "".join(f"{sha256(data)}  {name}\n" for name, data in packages))
+    print("\n".join(f"{build}/dist/{name} ({len(data)} bytes)" for name, data in packages))
+
+
+if __name__ == "__main__":
+    main(*sys.argv[1:])

@@ -1,0 +1,73 @@
+# The library for C and the programs in C, from what the proved crates were compiled to: a C compiler is all that it takes.
+#
+#   make                      the library, static and shared, and the programs, into build/
+#   make check                decodes a page
+#   make install PREFIX=DIR   headers, libraries, hayro_ccitt.pc, manual pages and programs; DESTDIR is respected
+
+VERSION := $(shell sed -n 's/^\#define HAYRO_CCITT_VERSION_TEXT "\(.*\)"/\1/p' c/hayro_ccitt.h)
+INTERFACE := $(shell echo $(VERSION) | cut -d. -f1,2)
+CC ?= cc
+AR ?= ar
+INSTALL ?= install
+CFLAGS ?= -O2
+
+PREFIX ?= /usr/local
+BINDIR ?= $(PREFIX)/bin
+LIBDIR ?= $(PREFIX)/lib
+INCLUDEDIR ?= $(PREFIX)/include
+MANDIR ?= $(PREFIX)/share/man
+
+SHARED = libhayro_ccitt.so.$(VERSION)
+SONAME = libhayro_ccitt.so.$(INTERFACE)
+HEADERS = c/hayro_ccitt.h c/fax_encode.h c/hayro_ccitt_heap.h
+OBJECTS = build/proved.o build/calls.o build/heap.o
+EXAMPLES = $(patsubst examples/%.c,build/%,$(wildcard examples/*.c))
+# fax writes PNG and reads compressed PDF by zlib, where pkg-config finds it; WITH_ZLIB= builds it without.
+WITH_ZLIB ?= $(shell pkg-config --exists zlib 2>/dev/null && echo zlib)
+ZLIB_FLAGS = $(if $(WITH_ZLIB),-DFAX_HAVE_ZLIB $(shell pkg-config --cflags zlib))
+ZLIB_LIBS = $(if $(WITH_ZLIB),$(shell pkg-config --libs zlib))
+COMPLETIONS ?= $(PREFIX)/share/bash-completion/completions
+
+all: build/libhayro_ccitt.a build/libhayro_ccitt.so build/hayro_ccitt.pc build/fax $(EXAMPLES)
+build:
+	mkdir -p $@
+build/proved.o: proved.s | build
+	$(CC) -c -o $@ $<
+build/%.o: c/%.c $(HEADERS) | build
+	$(CC) $(CFLAGS) -fPIC -c -o $@ $<
+build/libhayro_ccitt.a: $(OBJECTS)
+	rm -f $@
+	$(AR) crs $@ $^
+build/libhayro_ccitt.so: $(OBJECTS) c/exports
+	$(CC) $(CFLAGS) $(LDFLAGS) -shared -Wl,-soname,$(SONAME) -Wl,--version-script=c/exports -o $@ $(OBJECTS)
+build/hayro_ccitt.pc: c/hayro_ccitt.pc.in c/hayro_ccitt.h | build
+	sed -e 's|@PREFIX@|$(PREFIX)|' -e 's|@LIBDIR@|$(LIBDIR)|' -e 's|@INCLUDEDIR@|$(INCLUDEDIR)|' -e 's|@VERSION@|$(VERSION)|' $< > $@
+build/fax: $(wildcard tools/fax/*.[ch]) $(HEADERS) build/libhayro_ccitt.a
+	$(CC) $(CFLAGS) -std=c99 -Ic $(ZLIB_FLAGS) $(LDFLAGS) -o $@ $(filter %.c,$^) build/libhayro_ccitt.a $(ZLIB_LIBS)
+build/%: examples/%.c $(HEADERS) build/libhayro_ccitt.a
+	$(CC) $(CFLAGS) -std=c99 -Ic $(LDFLAGS) -o $@ $< build/libhayro_ccitt.a
+
+check: all
+	build/strip_to_pbm g4 1240 1754 b < corpus/strips/page/gs-g4 | tail -c +14 | cmp - corpus/pictures/page
+	@echo "a page: as it should be"
+
+install: all
+	$(INSTALL) -d $(DESTDIR)$(BINDIR) $(DESTDIR)$(LIBDIR)/pkgconfig $(DESTDIR)$(INCLUDEDIR) $(DESTDIR)$(MANDIR)/man1 $(DESTDIR)$(MANDIR)/man3 \
+		$(DESTDIR)$(COMPLETIONS)
+	rm -f build/hayro_ccitt.pc
+	$(MAKE) --no-print-directory build/hayro_ccitt.pc
+	$(INSTALL) -m 644 $(HEADERS) $(DESTDIR)$(INCLUDEDIR)
+	$(INSTALL) -m 644 build/libhayro_ccitt.a $(DESTDIR)$(LIBDIR)
+	$(INSTALL) -m 755 build/libhayro_ccitt.so $(DESTDIR)$(LIBDIR)/$(SHARED)
+	ln -sf $(SHARED) $(DESTDIR)$(LIBDIR)/$(SONAME)
+	ln -sf $(SONAME) $(DESTDIR)$(LIBDIR)/libhayro_ccitt.so
+	$(INSTALL) -m 644 build/hayro_ccitt.pc $(DESTDIR)$(LIBDIR)/pkgconfig
+	$(INSTALL) -m 755 build/fax $(DESTDIR)$(BINDIR)
+	ln -sf fax $(DESTDIR)$(BINDIR)/fax2pbm
+	$(INSTALL) -m 644 tools/fax/fax.bash $(DESTDIR)$(COMPLETIONS)/fax
+	$(INSTALL) -m 644 man/fax.1 man/fax2pbm.1 $(DESTDIR)$(MANDIR)/man1
+	$(INSTALL) -m 644 man/hayro_ccitt.3 $(DESTDIR)$(MANDIR)/man3
+
+clean:
+	rm -rf build
+.PHONY: all check install clean

@@ -1,0 +1,19 @@
+# Completion of fax for bash.
+_fax()
+{
+    local word=${COMP_WORDS[COMP_CWORD]}
+    COMPREPLY=()
+    case ${COMP_WORDS[COMP_CWORD-1]} in
+        -f|--format) COMPREPLY=($(compgen -W 'pbm png tiff pdf' -- "$word")) ;;
+        -e|--encode|-m|--mode) COMPREPLY=($(compgen -W 'g4 1d 2d' -- "$word")) ;;
+        -p|--pages|-w|--width|-r|--rows|-F|--flags) ;;
+        *)
+            if [[ $word == -* ]]; then
+                COMPREPLY=($(compgen -W '--output --format --pages --encode --check --mode --width --rows --flags --help --version' -- "$word"))
+            else
+                compopt -o filenames
+                mapfile -t COMPREPLY < <(compgen -f -- "$word")
+            fi ;;
+    esac
+}
+complete -F _fax fax

@@ -1,0 +1,188 @@
+/* fax: reads fax pages, and writes them as pictures or documents. `fax --help` says how it is called. */
+#include "damage.h"
+#include "options.h"
+#include "sink.h"
+#include "source.h"
+#include "tell.h"
+#include <errno.h>
+#include <stdlib.h>
+#include <string.h>
+
+typedef struct {
+    const options *wanted;
+    sink out;
+    const char *name;    /* of the file */
+    source *from;
+    unsigned pictures;   /* in the files before this one */
+} run;
+
+/* Adds what a line says first: the page, and in a PDF file the image. */
+static void add_place(buffer *text, const run *of, const page *it)
+{
+    unsigned before = (unsigned)of->wanted->is_fax2pbm;
+    if (of->from->kind == PDF_FILE && it->number == 0)
+        add_text(text, "no page, image %u: ", it->image - before);
+    else if (of->from->kind == PDF_FILE)
+        add_text(text, "page %u, image %u: ", it->number - before, it->image - before);
+    else if (of->from->kind != RAW_FILE)
+        add_text(text, "page %u: ", it->number - before);
+}
+
+/* Tells the damage of a page in one line; of a page that is whole there is none, except in a check. Returns the page's status. */
+static int tell_page(const run *of, const page *it, const damage *found)
+{
+    buffer text = {NULL, 0, 0, 0};
+    add_place(&text, of, it);
+    size_t start = text.length;
+    if (it->refused[0])
+        add_text(&text, "%s", it->refused);
+    else
+        add_damage(&text, found);
+    if (it->note[0])
+        add_text(&text, "%s%s", text.length > start ? "; " : "", it->note);
+    int status = it->refused[0] || !is_whole(found) ? NOT_WHOLE : found->is_strict ? WHOLE : DAMAGED;
+    status = worse(status, it->note_status);
+    int is_ok = text.length == start;
+    if (is_ok)
+        add_text(&text, "ok, %lu rows", (unsigned long)it->rows);
+    if (of->wanted->is_check && found->unread)
+        add_text(&text, "; %lu bytes after them", (unsigned long)found->unread);
+    add(&text, "", 1);
+    if (!text.at)
+        status = CANNOT_GO_ON;
+    else if (of->wanted->is_check && printf("%s: %s\n", of->name, (const char *)text.at) < 0)
+        status = CANNOT_GO_ON;
+    else if (!of->wanted->is_check && !is_ok)
+        tell(of->name, "%s", (const char *)text.at);
+    release(&text);
+    return status;
+}
+
+/* Writes the picture of a page. Returns 0 if the run can't go on. */
+static int write_drawn(run *of, page *it, picture *drawn, int is_only)
+{
+    strips encoded;
+    if (!finish_picture(it, drawn)) {
+        tell(of->name, "out of memory");
+        return 0;
+    }
+    if (!takes_strips(&of->out)) {
+        unsigned number = of->pictures + it->image - (unsigned)of->wanted->is_fax2pbm;
+        return put_picture(&of->out, it, drawn, number, is_only && !of->wanted->is_fax2pbm);
+    }
+    if (!encode_strip(it, drawn, of->wanted->how, &encoded)) {
+        tell(of->name, "out of memory");
+        return 0;
+    }
+    put_strips(&of->out, &encoded);
+    release_strips(&encoded);
+    return 1;
+}
+
+/* Reads a page and writes it. Returns its status. */
+static int do_page(run *of, page *it, int is_only)
+{
+    damage found = {.is_strict = 1};
+    picture drawn = {0, 0, 0, NULL};
+    strips taken;
+    show_progress(of->name, it->number);
+    if (it->refused[0])
+        return tell_page(of, it, &found);
+    enum target target = of->wanted->format == PDF ? FOR_PDF : FOR_TIFF;
+    if (takes_strips(&of->out) && !of->wanted->how && !of->wanted->is_check && take_strips(it, target, &of->from->left, &taken)) {
+        put_strips(&of->out, &taken);
+        release_strips(&taken);
+        return tell_page(of, it, &found);
+    }
+    int is_drawn = decode_page(it, &of->from->left, &drawn, &found);
+    int status = tell_page(of, it, &found);
+    if (found.is_out_of_memory)
+        status = CANNOT_GO_ON;
+    else if (is_drawn && !of->wanted->is_check && !write_drawn(of, it, &drawn, is_only))
+        status = CANNOT_GO_ON;
+    free(drawn.bytes);
+    return status;
+}
+
+/* Finds the next page that is wanted. Returns 0 if there is none. */
+static int next_wanted(run *of, page *into)
+{
+    while (next_page(of->from, into)) {
+        if (is_wanted(of->wanted, into->number))
+            return 1;
+        release_page(into);
+    }
+    return 0;
+}
+
+/* Does the pages of a file. A page is written after the next one is laid out, since its name depends on whether there are others. */
+static int do_pages(run *of)
+{
+    page now, next;
+    int status = WHOLE, done = 0, is_there = next_wanted(of, &now);
+    for (; is_there && status != CANNOT_GO_ON; done++) {
+        int is_another = next_wanted(of, &next);
+        status = worse(status, do_page(of, &now, !done && !is_another && of->wanted->count <= 1));
+        release_page(&now);
+        now = next;
+        is_there = is_another;
+    }
+    if (is_there)
+        release_page(&now);
+    const pdf_pages *images = of->from->kind == PDF_FILE ? &of->from->images : NULL;
+    if (images && images->unread[0])
+        tell(of->name, "%s", images->unread);
+    if (!done && images && !images->count)
+        tell(of->name, "it has no fax images, and %u others", images->others);
+    else if (!done)
+        tell(of->name, "there is no such page");
+    return done ? worse(status, images && images->unread[0] ? NOT_WHOLE : WHOLE) : worse(status, NOT_WHOLE);
+}
+
+static int do_file(run *of, const char *path)
+{
+    buffer file = {NULL, 0, 0, 0};
+    source from;
+    int is_standard = !path || !strcmp(path, "-");
+    FILE *in = is_standard ? stdin : fopen(path, "rb");
+    of->name = is_standard ? "standard input" : path;
+    of->from = &from;
+    errno = 0;
+    int was_read = in && read_all(in, &file);
+    if (!was_read)
+        tell(of->name, "%s", file.has_failed ? "out of memory" : errno ? strerror(errno) : "can't be read");
+    if (in && !is_standard)
+        fclose(in);
+    if (!was_read) {
+        release(&file);
+        return CANNOT_GO_ON;
+    }
+    if (!open_source(&from, file, of->wanted->is_raw, of->wanted->raw)) {
+        tell(of->name, "%s", from.why);
+        return NOT_WHOLE;
+    }
+    int status = do_pages(of);
+    of->pictures += from.pages - 1;
+    close_source(&from);
+    return status;
+}
+
+int main(int count, char **words)
+{
+    options wanted;
+    int status = WHOLE;
+    if (!read_options(count, words, &wanted, &status))
+        return status;
+    run all = {.wanted = &wanted};
+    begin_telling(wanted.program);
+    open_sink(&all.out, &wanted);
+    status = wanted.count ? WHOLE : do_file(&all, NULL);
+    for (int i = 0; i < wanted.count; i++)
+        status = worse(status, do_file(&all, wanted.names[i]));
+    if (!wanted.is_check && !close_sink(&all.out))
+        status = CANNOT_GO_ON;
+    if (wanted.is_check && fflush(stdout))
+        status = CANNOT_GO_ON;
+    end_progress();
+    return status;
+}

@@ -1,0 +1,32 @@
+/* The words of a call. */
+#ifndef FAX_OPTIONS_H
+#define FAX_OPTIONS_H
+
+#include "hayro_ccitt.h"
+#include "strip.h"
+
+enum format { PBM, PNG, TIFF, PDF };
+enum { MOST_SELECTED = 64 };
+
+typedef struct {
+    const char *program;   /* its name, for messages */
+    int is_fax2pbm;        /* which counts pages from 0, numbers each picture, and knows no other formats */
+    enum format format;
+    const char *output;    /* the name, or null for standard output */
+    size_t stem;           /* so many of its letters precede the ending */
+    unsigned first[MOST_SELECTED], last[MOST_SELECTED]; /* the pages that are wanted */
+    unsigned selected;     /* so many ranges of them; 0: all */
+    int is_check;
+    int is_raw;            /* whether a file that isn't known is raw data */
+    hayro_ccitt_settings raw;
+    const way *how;        /* how pages are encoded again, or null */
+    char **names;          /* of the files */
+    int count;
+} options;
+
+/* Reads the words of a call. Returns 1; else help, the version or what isn't understood was printed, and the run ends with `status`. */
+int read_options(int count, char **words, options *into, int *status);
+
+int is_wanted(const options *of, unsigned page);
+
+#endif

@@ -1,0 +1,93 @@
+#include "sink.h"
+#include "pictures_out.h"
+#include "tell.h"
+#include <errno.h>
+#include <string.h>
+
+void open_sink(sink *it, const options *wanted)
+{
+    memset(it, 0, sizeof *it);
+    it->wanted = wanted;
+    if (wanted->format == TIFF)
+        begin_tiff(&it->all);
+    else if (wanted->format == PDF)
+        begin_pdf(&it->all);
+}
+
+int takes_strips(const sink *it)
+{
+    return it->wanted->format == TIFF || it->wanted->format == PDF;
+}
+
+void put_strips(sink *to, const strips *page)
+{
+    if (to->wanted->format == TIFF)
+        add_tiff_page(&to->all, page);
+    else
+        add_pdf_page(&to->all, page);
+}
+
+/* Opens the output by its name, which is standard output if it is null. */
+static FILE *opened(const char *name)
+{
+    FILE *out = name ? fopen(name, "wb") : stdout;
+    if (!out)
+        tell(name, "%s", strerror(errno));
+    return out;
+}
+
+/* Closes what was written, and tells it if that failed. */
+static int is_closed(FILE *out, const char *name, int is_written)
+{
+    is_written = fflush(out) == 0 && is_written;
+    if (name && fclose(out))
+        is_written = 0;
+    if (!is_written)
+        tell(name ? name : "standard output", "can't be written");
+    return is_written;
+}
+
+int put_picture(sink *to, const page *from, const picture *drawn, unsigned number, int is_only)
+{
+    const options *wanted = to->wanted;
+    char name[4096] = "";
+    const char *ending = wanted->is_fax2pbm ? ".pbm" : wanted->output ? wanted->output + wanted->stem : "";
+    int length = 0, is_turned = from->orientation > 4 && from->orientation <= 8;
+    if (wanted->output && is_only)
+        length = snprintf(name, sizeof name, "%s", wanted->output);
+    else if (wanted->output)
+        length = snprintf(name, sizeof name, "%.*s-%u%s", (int)wanted->stem, wanted->output, number, ending);
+    if (length >= (int)sizeof name) {
+        tell(wanted->output, "the name is too long");
+        return 0;
+    }
+    if (!wanted->output && wanted->format == PNG && (to->pictures || !is_only)) {
+        tell(NULL, "standard output takes one PNG picture; -p chooses a page");
+        return 0;
+    }
+    FILE *out = opened(wanted->output ? name : NULL);
+    if (!out)
+        return 0;
+    to->pictures++;
+    double across = is_turned ? from->down_inch : from->across_inch, down = is_turned ? from->across_inch : from->down_inch;
+    return is_closed(out, wanted->output ? name : NULL,
+                     wanted->format == PNG ? write_png(out, drawn, across, down) : write_pbm(out, drawn));
+}
+
+int close_sink(sink *it)
+{
+    int is_written = 1;
+    if (takes_strips(it) && it->all.pages) {
+        is_written = it->wanted->format == TIFF ? finish_tiff(&it->all) : finish_pdf(&it->all);
+        if (!is_written || it->all.bytes.has_failed) {
+            tell(NULL, it->all.bytes.has_failed ? "out of memory" : "the document is too large");
+            is_written = 0;
+        } else {
+            FILE *out = opened(it->wanted->output);
+            size_t size = it->all.bytes.length;
+            is_written = out && is_closed(out, it->wanted->output, fwrite(it->all.bytes.at, 1, size, out) == size);
+        }
+    }
+    release_document(&it->all);
+    return is_written;
+}
