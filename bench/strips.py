@@ -4,7 +4,7 @@ import random
 import re
 from dataclasses import dataclass
 
-LISTS = "crates/hayro_ccitt/specs/CodeLists.antt"
+LISTS = "crates/fax_bits/specs/CodeLists.antt"
 EOL = "000000000001"
 PASS, HORIZONTAL = "0001", "001"
 VERTICAL = {0: "1", 1: "011", 2: "000011", 3: "0000011", -1: "010", -2: "000010", -3: "0000010"}
@@ -35,7 +35,7 @@ def line_1d(columns, row):
 
 
 def line_2d(columns, reference, row):
-    """The modes that T.4 section 4.2.1.3 prescribes."""
+    """The modes that T.4, 4.2.1.3 prescribes."""
     text, place, color, b, a = [], -1, 0, 0, 0
     while place < columns:
         while b > 0 and (b > len(reference) or reference[b - 1] > place):

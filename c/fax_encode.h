@@ -17,7 +17,7 @@ enum {
     FAX_ENCODE_GROUP_3_2D = 2  /* a tag before each line says which kind it is (T.4, MR) */
 };
 
-/* Flags, to be added up: as hayro_ccitt.h numbers them, and one more. The settings name no encoding with any other flag or
+/* Flags, to be added up: as hayro_ccitt.h numbers them, and two more. The settings name no encoding with any other flag or
  * encoding; with FAX_ENCODE_END_OF_LINE in Group 4; with FAX_ENCODE_EOLS_END_AT_BYTES, or FAX_ENCODE_END_OF_BLOCK of Group 3, but
  * no FAX_ENCODE_END_OF_LINE; and with FAX_ENCODE_ALIGNED_ROWS and FAX_ENCODE_END_OF_LINE. */
 enum {
@@ -25,7 +25,9 @@ enum {
     FAX_ENCODE_END_OF_LINE = 2,       /* an EOL precedes each line of Group 3 */
     FAX_ENCODE_ALIGNED_ROWS = 4,      /* each row is padded up to a whole byte */
     FAX_ENCODE_LOW_FIRST = 16,        /* each byte's lowest bit comes first (TIFF's FillOrder 2), rather than its highest */
-    FAX_ENCODE_EOLS_END_AT_BYTES = 32 /* fill precedes EOLs, so that they end at whole bytes (TIFF's T4Options bit 2) */
+    FAX_ENCODE_EOLS_END_AT_BYTES = 32, /* fill precedes EOLs, so that they end at whole bytes (TIFF's T4Options bit 2) */
+    FAX_ENCODE_SHORTEST = 64          /* two-dimensional lines have the fewest bits that encode them, rather than those of T.6's
+                                       * procedure; every decoder reads either */
 };
 
 typedef struct {

@@ -74,6 +74,7 @@ typedef struct {
                             * EOL; else 0, and also if HAYRO_CCITT_OUT_OF_MEMORY came before the data was read */
     uint64_t missed_eols;  /* the number of rows among them, not repaired, after which other bits were passed up to the next EOL,
                             * or none was left */
+    uint64_t cut_rows;     /* the number of rows among them in which a run was cut at the row's end, where strict data is in error */
 } hayro_ccitt_outcome;
 
 /* What a call returns. Unless it is HAYRO_CCITT_NOT_TAKEN, the outcome's rows were decoded: on an error, those before it. */
@@ -130,7 +131,9 @@ typedef struct {
     uint64_t damage;       /* the status of the fault of the last row if its line was damaged and repaired; else 0 */
     uint64_t missed_eols;  /* the number of rows read so far, not repaired, after which other bits were passed up to the next EOL, or
                             * none was left: of the last row it is known after the next call */
-    uint64_t reserved;     /* 0 */
+    uint64_t cut_rows;     /* the number of rows read so far in which a run was cut at the row's end */
+    uint64_t is_cut;       /* 1 if a run of the last row was cut, else 0 */
+    uint64_t missed_eol;   /* the offset in bits at which the last call missed an EOL, after the row before; 0 if it missed none */
 } hayro_ccitt_row;
 
 /* Opens a reader before the first row. Unless it returns HAYRO_CCITT_OK, the reader stays as it is. HAYRO_CCITT_NOT_TAKEN also

@@ -2,10 +2,10 @@
  * FLAGS, as faxrows takes them, and the data in hexadecimal or -. The answer to a case is a line for the packed rows, one for the lists
  * of changes, one for each row read by itself, and one for the end:
  *
- *   packed STATUS ROWS BYTES_READ DAMAGED_ROWS MISSED_EOLS FAULT_START ADLER32_OF_THE_BITMAP
- *   changes STATUS ROWS BYTES_READ DAMAGED_ROWS MISSED_EOLS FAULT_START ADLER32_OF_THE_LISTS
- *   row LINE_START BYTES_READ DAMAGED_ROWS MISSED_EOLS DAMAGE ADLER32_OF_THE_CHANGES ADLER32_OF_THE_PACKED_ROW
- *   end STATUS ROWS LINE_START BYTES_READ DAMAGED_ROWS MISSED_EOLS
+ *   packed STATUS ROWS BYTES_READ DAMAGED_ROWS MISSED_EOLS CUT_ROWS FAULT_START ADLER32_OF_THE_BITMAP
+ *   changes STATUS ROWS BYTES_READ DAMAGED_ROWS MISSED_EOLS CUT_ROWS FAULT_START ADLER32_OF_THE_LISTS
+ *   row LINE_START BYTES_READ DAMAGED_ROWS MISSED_EOLS CUT_ROWS DAMAGE IS_CUT ADLER32_OF_THE_CHANGES ADLER32_OF_THE_PACKED_ROW
+ *   end STATUS ROWS LINE_START BYTES_READ DAMAGED_ROWS MISSED_EOLS CUT_ROWS
  */
 #include <hayro_ccitt.h>
 #include <inttypes.h>
@@ -34,8 +34,8 @@ static void *room(size_t count, size_t size)
 
 static void tell(const char *call, uint32_t status, const hayro_ccitt_outcome *told, uint32_t sum)
 {
-    printf("%s %" PRIu32 " %" PRIu64 " %" PRIu64 " %" PRIu64 " %" PRIu64 " %" PRIu64 " %" PRIu32 "\n", call, status, told->rows,
-           told->bytes_read, told->damaged_rows, told->missed_eols, told->fault_start, sum);
+    printf("%s %" PRIu32 " %" PRIu64 " %" PRIu64 " %" PRIu64 " %" PRIu64 " %" PRIu64 " %" PRIu64 " %" PRIu32 "\n", call, status,
+           told->rows, told->bytes_read, told->damaged_rows, told->missed_eols, told->cut_rows, told->fault_start, sum);
 }
 
 static void whole(const uint8_t *data, size_t length, const hayro_ccitt_settings *settings)
@@ -68,12 +68,12 @@ static void by_rows(const uint8_t *data, size_t length, const hayro_ccitt_settin
         if (other != status || memcmp(&row, &same, sizeof row) != 0)
             exit(4);
         if (status == HAYRO_CCITT_OK)
-            printf("row %" PRIu64 " %" PRIu64 " %" PRIu64 " %" PRIu64 " %" PRIu64 " %" PRIu32 " %" PRIu32 "\n", row.line_start,
-                   row.bytes_read, row.damaged_rows, row.missed_eols, row.damage, adler32(changes, row.changes * sizeof *changes),
-                   adler32(packed, width));
+            printf("row %" PRIu64 " %" PRIu64 " %" PRIu64 " %" PRIu64 " %" PRIu64 " %" PRIu64 " %" PRIu64 " %" PRIu32 " %" PRIu32 "\n",
+                   row.line_start, row.bytes_read, row.damaged_rows, row.missed_eols, row.cut_rows, row.damage, row.is_cut,
+                   adler32(changes, row.changes * sizeof *changes), adler32(packed, width));
     }
-    printf("end %" PRIu32 " %" PRIu64 " %" PRIu64 " %" PRIu64 " %" PRIu64 " %" PRIu64 "\n", status, row.rows, row.line_start,
-           row.bytes_read, row.damaged_rows, row.missed_eols);
+    printf("end %" PRIu32 " %" PRIu64 " %" PRIu64 " %" PRIu64 " %" PRIu64 " %" PRIu64 " %" PRIu64 "\n", status, row.rows,
+           row.line_start, row.bytes_read, row.damaged_rows, row.missed_eols, row.cut_rows);
     if (hayro_ccitt_close(&lists) != HAYRO_CCITT_OK || hayro_ccitt_close(&bitmaps) != HAYRO_CCITT_OK)
         exit(4);
     free(changes);

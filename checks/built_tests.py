@@ -19,7 +19,7 @@ NAMED = {
     },
     "faxrows_tests": {
         "tests::refused_memory_by_row": (19, 6),
-        "tests::refused_memory_of_damage": (19, 8),
+        "tests::refused_memory_of_damage": (19, 6),
         "tests::sink_without_memory": (1, 0),
     },
     "decoder_tests": {
@@ -27,8 +27,8 @@ NAMED = {
         "tests::refused_memory::contexts_without_memory": (1, 0),
         "tests::refused_memory::reach_without_memory": (1, 0),
         "tests::refused_memory::refused_bodies": (2, 1),
-        "tests::refused_memory::refused_growths_of_a_row": (12, 11),
-        "tests::refused_memory::refused_rows": (9, 6),
+        "tests::refused_memory::refused_growths_of_a_row": (8, 7),
+        "tests::refused_memory::refused_rows": (8, 5),
         "tests::refused_memory::white_rows_without_memory": (5, 0),
     },
 }

@@ -43,7 +43,10 @@ class Settings(ctypes.Structure):
 
 
 class Outcome(ctypes.Structure):
-    _fields_ = [(name, ctypes.c_uint64) for name in ("rows", "changes", "bytes_read", "damaged_rows", "fault_start", "missed_eols")]
+    _fields_ = [
+        (name, ctypes.c_uint64)
+        for name in ("rows", "changes", "bytes_read", "damaged_rows", "fault_start", "missed_eols", "cut_rows")
+    ]
 
     def told(self):
         return self.rows, self.changes, self.bytes_read
@@ -228,8 +231,8 @@ def missed_eols_are_told():
 
 
 def flips_are_told():
-    """A bit of a large strip of Group 3 with EOLs is flipped, at 400 places. Where a strict run ends well, a lenient one repairs no
-    row and misses no EOL. How often either tells of a picture that differs is printed."""
+    """A bit of a large strip of Group 3 with EOLs is flipped, at 400 places. A strict run ends well exactly where a lenient one does,
+    repairs no row, misses no EOL and cuts no run. How often they tell of a picture that differs is printed."""
     build()
     strips = {line[1]: line[2:5] for line in manifest() if line[2] == "1d" and f"{line[4]}:l" in line[5].split(",")}
     largest = sorted(strips, key=lambda name: (os.path.getsize(f"corpus/{name}"), name))[-4:]
@@ -250,16 +253,17 @@ def flips_are_told():
                     memory, outcome = (ctypes.c_uint8 * size)(), Outcome()
                     words = (bytes(flipped), ctypes.c_size_t(len(data)), ctypes.byref(settings_of(*strips[name], flags)))
                     answer = decode(*words, memory, ctypes.c_size_t(size), ctypes.byref(outcome))
-                    pictures[bit, flags] = (answer, bytes(memory), outcome.damaged_rows, outcome.missed_eols)
+                    pictures[bit, flags] = (answer, bytes(memory), outcome.damaged_rows, outcome.missed_eols, outcome.cut_rows)
                 whole, lenient, strict = pictures[None, "l"], pictures[bit, "l"], pictures[bit, "ls"]
-                assert strict[0] != 0 or (lenient[:2] == strict[:2] and lenient[2:] == (0, 0)), (name, bit)
+                assert (strict[0] == 0) == (lenient[0] == 0 and lenient[2:] == (0, 0, 0)), (name, bit)
+                assert strict[0] != 0 or lenient[:2] == strict[:2], (name, bit)
                 if lenient[1] != whole[1]:
                     changed += 1
                     strictly += strict[0] != 0
                     repaired += lenient[2] > 0
                     told += any(lenient[2:])
     assert 0 < repaired <= told <= strictly <= changed
-    print(f"  of {changed} pictures that differ a strict run tells {strictly}, repaired rows {repaired}, missed EOLs too {told}")
+    print(f"  of {changed} pictures that differ a strict run tells {strictly}, repaired rows {repaired}, missed EOLs and cut runs too {told}")
 
 
 def example_without_memory():

@@ -16,7 +16,7 @@ class Library:
 
     def __init__(self, folder):
         self.calls = c_library.loaded(folder, COUNTED_HEAP)
-        for name in ("requests_seen", "bytes_asked", "blocks_held"):
+        for name in ("requests_seen", "bytes_asked", "largest_asked", "blocks_held"):
             getattr(self.calls, name).restype = ctypes.c_uint64
         self.lists = (ctypes.c_uint32 * ROOM)()
 

@@ -1,5 +1,5 @@
-/* An allocator for libhayro_ccitt_c.a that counts: how many allocations were requested and of how many bytes, and how many blocks
-   are allocated. One request may be refused. */
+/* An allocator for libhayro_ccitt_c.a that counts: how many allocations were requested, of how many bytes in all and at most, and
+   how many blocks are allocated. One request may be refused. */
 #include <stdbool.h>
 #include <stddef.h>
 #include <stdint.h>
@@ -10,16 +10,18 @@ typedef struct {
     void *block;
 } tried;
 
-static uint64_t refused, requests, bytes, blocks;
+static uint64_t refused, requests, bytes, largest, blocks;
 
 /* From now on the request with this number is refused, and no other; 0: none. */
-void refuse_request(uint64_t number) { refused = number; requests = bytes = 0; }
+void refuse_request(uint64_t number) { refused = number; requests = bytes = largest = 0; }
 uint64_t requests_seen(void) { return requests; }
 uint64_t bytes_asked(void) { return bytes; }
+uint64_t largest_asked(void) { return largest; }
 uint64_t blocks_held(void) { return blocks; }
 
 static bool refuses(size_t size) {
     bytes += size;
+    if (size > largest) largest = size;
     return ++requests == refused;
 }
 

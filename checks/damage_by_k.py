@@ -20,7 +20,7 @@ class Reader(ctypes.Structure):
 class Row(ctypes.Structure):
     _fields_ = [
         (name, ctypes.c_uint64)
-        for name in ("rows", "changes", "line_start", "bytes_read", "damaged_rows", "damage", "missed_eols", "reserved")
+        for name in ("rows", "changes", "line_start", "bytes_read", "damaged_rows", "damage", "missed_eols", "cut_rows", "is_cut", "missed_eol")
     ]
 
 

@@ -22,8 +22,12 @@ is false, or its written proof no longer fits. A search that gave up at its limi
 function that only calls one that isn't proved, show nothing. If the check's own searches gave up at the goal, it is tried once
 more by `search rules` alone, which ends. A line 'search: GOAL' in the edit names a goal of the function that stays open: it is tried by
 `search rules` from the start, which takes half the time, since the check then prints no help. If it has a written answer, that is
-left out, and the unedited body must be proved by the same search: so the edit isn't refused for its form. An edit whose clause has a
-written answer and no such line is refused because that answer no longer fits: the last lines say how many these are.
+left out, and the unedited body must be proved by the same search: so the edit isn't refused for its form.
+
+An edit whose clause has a written answer and no such line is refused because that answer no longer fits, which could be for its form.
+So a right body of the same form must be proved with that answer. It is the unedited one if the edit replaces operands and operators
+one for one; else lines 'twin: TEXT', one for each 'new:', say what stands in the place of the wrong text. If it isn't proved, the edit
+may be refused for its form: the last lines say how many these are.
 
 Edits of different functions are checked together, each batch on a copy of the crate and of what a check without edits stored, of
 the functions that the edits change alone. A goal of a function isn't searched for while one that it calls isn't proved. So an edit
@@ -185,6 +189,7 @@ class Edit:
         self.function, self.clause = (found[1], found[2]) if found else ("", "")
         self.goals = re.findall(r"^search: (\S+)$", self.text, re.MULTILINE)
         self.written = [goal for goal in written_answers(crate_folder(file), self.function) if names(goal, self.clause)]
+        self.right = re.findall(r"^twin: (.*)$", self.text, re.MULTILINE)
         path = re.search(r"^file: (\S+)$", self.text, re.MULTILINE)
         self.path = path[1] if path else ""
         olds = re.findall(r"^old: (.*)$", self.text, re.MULTILINE)
@@ -201,9 +206,29 @@ class Edit:
         return [goal for goal in self.goals if goal in self.written]
 
     @property
-    def is_by_form(self):
+    def is_by_answer(self):
         """Whether nothing but a written answer that no longer fits can refuse it."""
         return bool(self.written) and not any(names(goal, self.clause) for goal in self.goals)
+
+    @property
+    def has_own_form(self):
+        """Whether it replaces operands and operators one for one, so that the unedited body has its form."""
+        pairs = re.findall(r"^old: (.*)\nnew: ?(.*)$", self.text, re.MULTILINE)
+        return all([kind_of(word) for word in TOKEN.findall(old)] == [kind_of(word) for word in TOKEN.findall(new)] for old, new in pairs)
+
+    def twin_text(self):
+        """The edit with its right body in the place of the wrong one."""
+        right = iter(self.right)
+        return re.sub(r"^new:.*$", lambda _: f"new: {next(right)}", self.text, flags=re.MULTILINE)
+
+    def lacks_twin(self):
+        """Why nothing shows that it is refused for more than its form, or None."""
+        count = len(re.findall(r"^new:", self.text, re.MULTILINE))
+        if self.right and len(self.right) != count:
+            return f"it has {len(self.right)} lines 'twin:' and {count} lines 'new:'"
+        if self.is_by_answer and not self.right and not self.has_own_form:
+            return "only a written answer that no longer fits could refuse it: add lines 'twin: TEXT', a right body of the same form"
+        return None
 
     @property
     def label(self):
@@ -218,6 +243,19 @@ class Edit:
     def meets(self, other):
         """Whether they overlap, or one changes a function that the other reaches."""
         return self.overlaps(other) or bool(self.touched & other.reaches or other.touched & self.reaches)
+
+
+# An operand: a name or a number, with the fields and calls without arguments behind it; or an operator, or another sign.
+OPERAND = r"&?[A-Za-z_]\w*(?:(?:::|\.)\w+)*(?:\(\))?|\d\w*|\(\)"
+TOKEN = re.compile(rf"{OPERAND}|&&|\|\||<<|>>|[-+*/%<>=!]=?|[^\w\s]")
+OPERATORS = [set("+-"), set("*/%"), {"<", ">", "<=", ">=", "==", "!="}, {"<<", ">>"}, {"&&", "||"}, {"+=", "-="}]
+
+
+def kind_of(token):
+    """What an edit of the same form may put in the place of a token: an operand, or an operator of the same kind."""
+    if re.fullmatch(OPERAND, token):
+        return "operand"
+    return next((sorted(kind)[0] for kind in OPERATORS if token in kind), token)
 
 
 def crate_folder(file):
@@ -286,6 +324,7 @@ def hidden(batch):
 LOST = re.compile(r"is not in scope|has no field|has no `|was not admitted|no such|is no name|not checked: ")
 GAVE_UP = re.compile(r"gave up|could not tell|ran out")
 AT = re.compile(r"(?:\./)?proofs/(\S+)/(\w+)\.antt:\d+:\d+: error: (?:(?:in )?`([^`]*)`: )?(.*)")
+NOT_SHOWN = " (not shown: its right body isn't proved)"
 DEPENDS = re.compile(r"\d+ declarations? that depends? on `([^`]*)`, which [^,]*, (?:was|were) not checked: (.*)")
 OPEN = re.compile(r"note: (src/\S+?):\d+:\d+: (.*?) \(`([^`]+)`\)(.*)")
 
@@ -476,15 +515,16 @@ class Lane:
                 shutil.copy2(f"{kept}/{path}", f"{own}/{path}")
         return own
 
-    def apply(self, crate, edits):
-        """Makes a copy of the crate with these edits. Returns those that couldn't be applied, with the reason."""
+    def apply(self, crate, edits, text_of=None):
+        """Makes a copy of the crate with these edits, or with another text of each. Returns those that couldn't be applied, with the
+        reason."""
         room, bad = f"{self.folder}/room", {}
         shutil.rmtree(room, ignore_errors=True)
         for part in self.rt.rtlib.PARTS:
             if os.path.isdir(f"{crate.folder}/{part}"):
                 shutil.copytree(f"{crate.folder}/{part}", f"{room}/{part}")
         for edit in edits:
-            texts, why = self.rt.read_edit(edit.file, room)
+            texts, why = self.rt.edited((text_of or (lambda it: it.text))(edit), room)
             if why:
                 bad[edit] = why
                 continue
@@ -501,6 +541,24 @@ class Lane:
         words = [self.rt.rtlib.RATTLE, "check", *crate.words(flags, keeps=False), "--incremental", store]
         how = {"cwd": f"{self.folder}/room", "stdin": subprocess.DEVNULL, "stdout": subprocess.PIPE, "stderr": subprocess.STDOUT}
         return subprocess.run([*self.rt.rtlib.guarded(), *words], **how, errors="replace", check=False).stdout
+
+    def proves_twins(self, crate, edits):
+        """Which of these edits have a right body that is proved with the written answers; and the output of the checks."""
+        proved, outputs = set(), []
+        bad = self.apply(crate, edits, Edit.twin_text)
+        left = [edit for edit in edits if edit not in bad]
+        while left:
+            output = self.check(crate, left, self.store(crate))
+            said = read(output, crate.name)
+            outputs.append(output)
+            proved |= {edit for edit in left if edit.function in said and said[edit.function].line.startswith("proved")}
+            # Those that only call one that isn't proved are tried again without it.
+            again = [edit for edit in left if edit.function in said and said[edit.function].line.startswith("no proof: it calls")]
+            if len(again) == len(left):
+                break
+            left = again
+            self.apply(crate, left, Edit.twin_text)
+        return proved, "\n".join(outputs)
 
     def judge(self, crate, edits, is_mixed, is_alone):
         """Whether each edit is refused for its reason, with what to print; and the output of the checks.
@@ -657,9 +715,9 @@ class Whole:
 
     def idle_jobs(self, crate):
         """How many jobs a check of a crate may have, on processors that no other check could use: an `rt ci` beside begins with one job,
-        the proof of the crate that depends on no other."""
+        the proofs of the decoder's two crates, one after the other."""
         if self.beside:
-            return max(self.lanes.count - 1, 1) if not crate.below() and self.rt.free() > ROOM else 1
+            return max(self.lanes.count - 1, 1) if len(crate.below()) < 2 and self.rt.free() > ROOM else 1
         is_alone = all(it is crate or crate in it.below() or it in crate.below() for it in self.to_try)
         return self.lanes.count if is_alone else 1
 
@@ -768,7 +826,29 @@ def main():
             for edit in left:
                 if any((edit.function, goal) not in proved for goal in edit.twins):
                     results[edit] = False, f"the unedited body isn't proved by `search rules`: {', '.join(edit.twins)}"
+            for edit in left:
+                if edit.lacks_twin():
+                    results[edit] = False, edit.lacks_twin()
+            twins = [edit for edit in left if edit not in results and edit.is_by_answer and edit.right]
+            batches = batches_of(twins, words.most, Edit.overlaps)
+            proved = set().union(*(it.result() for it in [threads.submit(1, prove_twins, batch) for batch in batches]))
             attempt([edit for edit in left if edit not in results])
+            for edit in twins:
+                refused, why = results[edit]
+                if refused and edit not in proved:
+                    results[edit] = True, f"{why}{NOT_SHOWN}"
+
+        def prove_twins(batch):
+            """Which edits of a batch have a right body that is proved."""
+            lane = lanes.get()
+            try:
+                start = time.time()
+                proved, output = lane.proves_twins(batch[0].crate, batch)
+                keep(words.keep, batch[0].crate, batch, output, "-right")
+                print(f"{batch[0].crate.name}: {len(proved)} of {len(batch)} right bodies proved in {time.time() - start:.0f} s", flush=True)
+                return proved
+            finally:
+                lanes.put(lane)
 
         def search(crate, goals):
             """Which goals of the unedited crate `search rules` proves."""
@@ -834,9 +914,11 @@ def main():
         print(f"{sum(reason is not None for reason in known.values())} were refused by earlier runs on this machine", end=", ")
     print(f"{sum(numbers)} batches, {used.ru_utime + used.ru_stime:.0f} s of processor", end=", ")
     print(f"{time.time() - began:.0f} s")
-    by_form = sum(edit.is_by_form for edit in edits)
-    if by_form:
-        print(f"{by_form} are refused only because a written answer of their clause no longer fits")
+    by_answer = [edit for edit in edits if edit.is_by_answer]
+    if by_answer:
+        right, unshown = sum(bool(edit.right) for edit in by_answer), sum(results[edit][1].endswith(NOT_SHOWN) for edit in by_answer)
+        print(f"{len(by_answer)} are refused by a written answer: {len(by_answer) - right} have the unedited body's form, {right - unshown} a right body's")
+        print(f"{unshown} of these may be refused for their form: their right bodies aren't proved")
     print(f"{len(edits) - len(failed)} refused, {len(failed)} not")
     sys.exit(1 if failed else 0)
 
@@ -866,11 +948,11 @@ def write(edit, refused):
             file.write(text)
 
 
-def keep(folder, crate, batch, output):
+def keep(folder, crate, batch, output, what=""):
     """Writes what a check printed into a folder, if one is named."""
     if folder:
         os.makedirs(folder, exist_ok=True)
-        with open(f"{folder}/{crate.name}-{batch[0].name}-{len(batch)}.txt", "w", encoding="utf-8") as file:
+        with open(f"{folder}/{crate.name}-{batch[0].name}-{len(batch)}{what}.txt", "w", encoding="utf-8") as file:
             file.write("".join(f"# {edit.name} {edit.function} {edit.clause}\n" for edit in batch) + output)
 
 

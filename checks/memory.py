@@ -1,5 +1,6 @@
 """Checks of allocation: the number of allocations of the library, the encoder and the program, and of the first two the number of
-bytes: exact ones, but where a decoder asks for room for a window's changes, the most. The bytes of all allocations are added up, so a list that grows from 16 bytes to 64 has requested 112."""
+bytes: exact ones, but where a decoder asks for room for a window's changes, the most. The bytes of all allocations are added up, so
+a list that grows from 16 bytes to 64 has requested 112. No list of the decoder is larger than is proved."""
 import os
 import sys
 import tempfile
@@ -14,8 +15,8 @@ sys.path.append("bench")
 
 import strips  # noqa: E402
 
-# A list of changes or of bytes has room for 4, and for 8 bytes, at first, and for twice as many when it is full. A row of the
-# decoder also has room for the changes that the 64 bits of a window may tell.
+# A list of the encoder's changes, or of bytes, has room for 4, and for 8 bytes, at first, and for twice as many when it is full. A
+# list of the decoder has room for the changes that the 64 bits of a window may tell.
 FIRST_CHANGES, FIRST_BYTES = 4 * 4, 8
 WINDOW = 64
 
@@ -32,9 +33,14 @@ def together(*parts):
     return sum(requests for requests, _ in parts), sum(size for _, size in parts)
 
 
-def changes_kept(row, lists):
+def changes_kept(row, lists, first=FIRST_CHANGES):
     """What a number of lists of a row's changes request, four bytes for each change."""
-    return together(*[doubled(FIRST_CHANGES, 4 * len(row))] * lists)
+    return together(*[doubled(first, 4 * len(row))] * lists)
+
+
+def largest(columns, bits):
+    """The most bytes that are proved of a list."""
+    return 4 * (2 * min(columns, bits) + 66)
 
 
 # Rows of 64 columns, and how many equal ones there are at most.
@@ -58,10 +64,10 @@ def white_data():
 
 
 def changes_read(row):
-    """The most that a decoder of two-dimensional lines requests for a row's changes and those of the row before it. The lines of a
-    row with two changes are read from one window."""
-    most = 4 * (len(row) + WINDOW) if len(row) > 2 else 4 * WINDOW
-    return together(*[doubled(FIRST_CHANGES, 4 * len(row)), doubled(4 * WINDOW, most)] * 2)
+    """The most that a decoder of two-dimensional lines requests for a row's changes and those of the row before it: room for a
+    window's changes where fewer than these are left, each time for at most `largest`."""
+    times = 1 + len(row) // 8
+    return 2 * times, 2 * times * largest(64, 64 * HUNDRED)
 
 
 def equal_rows():
@@ -79,7 +85,7 @@ def equal_rows():
                     answer = c_library.called(library.calls.hayro_ccitt_measure, data, called.settings_of(f"{mode} 64 0 b"))
                     assert answer == (0, (count, count * len(row), len(data))), (mode, row, answer)
                     asked = library.calls.requests_seen(), library.calls.bytes_asked()
-                    least, most = changes_kept(row, min(count, 2)), changes_read(row)
+                    least, most = changes_kept(row, min(count, 2), 4 * WINDOW), changes_read(row)
                     if mode == "1d":
                         assert asked == least, (row, count, asked, least)
                     assert asked[0] <= most[0] and asked[1] <= most[1], (mode, row, count, asked, most)
@@ -134,4 +140,33 @@ def runs_of_the_program():
     print(f"  {runs} runs with few allocations")
 
 
-CHECKS = [white_data, equal_rows, encoded_rows, runs_of_the_program]
+def no_larger_list(library, words, data):
+    """Decodes data, and returns the bytes of the largest list."""
+    library.refuse(0)
+    c_library.called(library.calls.hayro_ccitt_measure, data, called.settings_of(words))
+    asked = library.calls.largest_asked()
+    most = largest(int(words.split()[1]), 8 * len(data))
+    assert asked <= most, (words, len(data), asked, most)
+    return asked
+
+
+def bounded_lists():
+    """Each strip of the corpus, and data of each shape that has broken decoders, takes no larger list than is proved."""
+    c_library.build()
+    strip_count = shapes = most = 0
+    with tempfile.TemporaryDirectory() as folder:
+        library = called.Library(folder)
+        for _, strip, mode, columns, _, settings, *_ in c_library.manifest():
+            with open(f"corpus/{strip}", "rb") as file:
+                data = file.read()
+            for setting in settings.split(","):
+                limit, flags = setting.split(":")
+                most = max(most, no_larger_list(library, f"{mode} {columns} {limit} {flags}", data))
+            strip_count += 1
+        for _, words, text, _ in called.lines_of("hostile.tsv"):
+            no_larger_list(library, words, program.bytes_of(text))
+            shapes += 1
+    print(f"  {strip_count} strips, with lists of at most {most} bytes, and {shapes} cases")
+
+
+CHECKS = [white_data, equal_rows, encoded_rows, runs_of_the_program, bounded_lists]

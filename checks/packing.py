@@ -35,11 +35,13 @@ def all_flags(letters):
 
 
 def settings():
-    """Every mode, flags and K that name an encoding, as arguments."""
+    """Every mode, flags and K that name an encoding, as arguments; the letter m for two-dimensional lines alone, and not with r."""
     for mode, flags in itertools.product(LETTERS, all_flags("blafr")):
         if names_encoding(mode, flags):
             for k in ((), ("1",), ("2",), ("9",)) if mode == "2d" else ((),):
                 yield (mode, flags, *k)
+            if mode != "1d" and "r" not in flags:
+                yield (mode, flags.replace("-", "") + "m")
 
 
 def to_read(columns, rows, words):
@@ -86,12 +88,86 @@ def packed_and_read():
     print(f"  {seen} strips in {len(list(settings()))} settings, {size} bytes of them; {refused} settings refused")
 
 
+# The bits of terminating words of up to 8 pixels, white and black, and of vertical modes by how far a1 is from b1 (T.4, tables 2 and 4)
+RUNS = [(8, 6, 4, 4, 4, 4, 4, 4, 5), (10, 3, 2, 2, 3, 4, 4, 5, 6)]
+VERTICAL = (1, 3, 6, 7)
+
+
+def least_bits(columns, above, row):
+    """The fewest bits of the modes of a row of pixels, by trying all that are lawful at each place (T.4, 4.2.1.3)."""
+    known = {}
+
+    def change(pixels, start):
+        """The first changing element at a place or right of it."""
+        return next((at for at in range(start, columns) if pixels[at] != (pixels[at - 1] if at else 0)), columns)
+
+    def rest(a0, color):
+        if a0 >= columns:
+            return 0
+        if (a0, color) not in known:
+            a1 = change(row, a0 + 1)
+            a2 = change(row, a1 + 1)
+            b1 = next((at for at in range(a0 + 1, columns) if above[at] != color and (above[at - 1] if at else 0) == color), columns)
+            b2 = change(above, b1 + 1)
+            found = [3 + RUNS[color][a1 - max(a0, 0)] + RUNS[1 - color][a2 - a1] + rest(a2, color)]
+            if b2 < a1:
+                found.append(4 + rest(b2, color))
+            if abs(a1 - b1) <= 3:
+                found.append(VERTICAL[abs(a1 - b1)] + rest(a1, 1 - color))
+            known[a0, color] = min(found)
+        return known[a0, color]
+
+    return rest(-1, 0)
+
+
+def every_pair(count):
+    """Numbers below a count, in which each stands once behind each."""
+    for first in range(count):
+        yield first
+        for second in range(first + 1, count):
+            yield first
+            yield second
+    yield 0
+
+
+def shortest_small_rows():
+    """With the letter m the picture in which each row of up to 8 pixels stands once below each has as many bits as the least that an
+    exhaustive search finds for each pair. No line can have fewer, or it were no encoding: so each has as many."""
+    pairs = saved = 0
+    for columns in range(1, 9):
+        rows = [tuple(number >> columns - 1 - at & 1 for at in range(columns)) for number in range(1 << columns)]
+        bitmap = bytes(number << 8 - columns for number in every_pair(1 << columns))
+        # the first row is white, below a white row
+        least = 1 + sum(least_bits(columns, above, row) for above in rows for row in rows)
+        strip, usual = (strip_of(columns, bitmap, ("g4", flags)) for flags in ("bm", "b"))
+        bits = int.from_bytes(strip, "big")
+        # EOFB is 24 bits, and its last is a one
+        last = 8 * len(strip) - ((bits & -bits).bit_length() - 1)
+        assert last - 24 == least, (columns, last - 24, least)
+        pairs, saved = pairs + len(rows) ** 2, saved + len(usual) - len(strip)
+    print(f"  {pairs} pairs of rows; {saved} bytes fewer than by the procedure of T.6")
+
+
+def never_longer():
+    """With the letter m no strip of Group 4 is longer."""
+    pictures = fewer = 0
+    for columns, bitmap in encoder.pictures():
+        for flags in ("b", "ba", "-", "a"):
+            usual, least = (strip_of(columns, bitmap, ("g4", some)) for some in (flags, flags.replace("-", "") + "m"))
+            assert len(least) <= len(usual), (columns, flags)
+            pictures, fewer = pictures + 1, fewer + len(usual) - len(least)
+    assert pictures and fewer
+    print(f"  {pictures} strips, {fewer} bytes fewer")
+
+
 PACK = [  # arguments, input, status, output, error
     (("g4", "b"), b"P4\n# a comment\n 8\t2\n\x18\x18", 0, "31f8008008", ""),
     (("g4", "bs"), b"P4 8 #\n#1\n1\n\x18more", 0, "31c0040040", ""),
     (("-o", "g4", "8", "0", "b"), b"\x18\x18", 0, "31f8008008", ""),
     (("-o", "g4", "8", "1", "b"), b"\x18\x18", 0, "31c0040040", ""),
     (("-o", "g4", "8", "9", "br"), b"\x18", 0, "8c03200002", ""),
+    (("g4", "-"), b"P4\n3 2\n\x80\x20", 0, "041454", ""),
+    (("g4", "m"), b"P4\n3 2\n\x80\x20", 0, "041438", ""),
     (("-o", "1d", "8", "0", "bl"), b"\x18", 0, "0018e0004004004004004004", ""),
     (("-o", "2d", "8", "0", "-", "2"), b"\x18\x18", 0, "c70e", ""),
     (("-o", "g4", "8", "0", "b"), b"", 0, "001001", ""),
@@ -149,7 +225,7 @@ def packing_without_memory():
     with tempfile.TemporaryDirectory() as folder:
         shim = f"{folder}/refuse.so"
         subprocess.run(["gcc", "-shared", "-fPIC", "-o", shim, "checks/refuse.c", "-ldl"], check=True)
-        for words in (("g4", "b"), ("1d", "bl"), ("2d", "blfr"), ("2d", "a", "1")):
+        for words in (("g4", "b"), ("1d", "bl"), ("2d", "blfr"), ("2d", "a", "1"), ("g4", "m")):
             whole = (0, run(picture, PROGRAM, *words).stdout, b"")
             for number in range(1, 100):
                 done = run(picture, PROGRAM, *words, env={**os.environ, "LD_PRELOAD": shim, "REFUSE": str(number)})
@@ -322,7 +398,7 @@ def packing_beside_pdf_readers():
         print(f"  {len(strips)} strips decoded by {name}")
 
 
-CHECKS = [packed_and_read, packing_cases, packing_without_memory, packing_beside_libtiff, packing_beside_pdf_readers]
+CHECKS = [packed_and_read, packing_cases, shortest_small_rows, never_longer, packing_without_memory, packing_beside_libtiff, packing_beside_pdf_readers]
 
 if __name__ == "__main__":
     for check in CHECKS:

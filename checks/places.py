@@ -14,7 +14,8 @@ import re
 import sys
 
 WANT_OF_MEMORY, LOOPS = "checks/want_of_memory.txt", "checks/loops.txt"
-DECODER = "hayro_ccitt"
+# The decoder's crates.
+DECODER = ["fax_bits", "hayro_ccitt"]
 # Crates whose functions nobody calls: tests, and worked examples.
 NOT_CALLED = {"decoder_tests", "encoder_tests", "faxrows_tests", "named_requests", "worked_rows"}
 WORDS = re.compile(
@@ -22,8 +23,11 @@ WORDS = re.compile(
     r"|\bwith_capacity\w*\(|\bvec!|\bBox::new\b"
 )
 STATUS = re.compile(r"(?<!/ )\b4\b")
-# The conditions that may be around a place besides the arm of a call: what an earlier arm has kept, and a sink without room.
+# The conditions that may be around a place besides the arm of a call: what an earlier arm has kept, a sink without room, and a list that
+# is full and got no room.
 KEPT = {
+    "if changes.len() == changes.capacity()",
+    "if !make_room(changes)",
     "if self.wants_memory",
     "if let Strip::Rows(encoder) = self",
     "if self.lists.len() - self.end <= changes.len()",
@@ -34,7 +38,7 @@ KEPT = {
 
 
 # What reads bits, or moves among them, without a count.
-READS = re.compile(r"\.(read_bit|peek_u32|consume|align|go_to|refill\w*|pass|thirteen|seven|skip_to_eol)\(")
+READS = re.compile(r"(?:\.|\b(?=go_to|pass_v0))(read_bit|peek_u32|consume|align|go_to|pass_v0|refill\w*|pass|thirteen|twelve|seven|skip_to_eol)\(")
 LOOP = re.compile(r"(?:'\w+: )?\b(?:while\b[^;{]*|loop\s*|for\b[^;{]*\bin\b[^;{]*)\{")
 ITERATORS = re.compile(r"\.(?:iter|chunks\w*|windows|split\w*|fold|all|any|position|find|contains|count)\(")
 
@@ -94,7 +98,7 @@ def wants_of_memory():
 
 def loops():
     """Each loop of the decoder: the file, the function, the blocks around it, and its head, with what it reads without a count."""
-    for path, code in files_of(DECODER):
+    for path, code in (file for crate in DECODER for file in files_of(crate)):
         for found in LOOP.finditer(code):
             end, depth = found.end(), 1
             while depth:
@@ -141,7 +145,7 @@ def want_of_memory_is_made_where_it_is_listed():
 def loops_are_those_listed():
     """No loop of the decoder is new, none reads more without a count, and no iterator takes the place of a loop."""
     is_listed(loops(), LOOPS)
-    found = [f"{path}: {line.strip()}" for path, code in files_of(DECODER) for line in code.splitlines() if ITERATORS.search(line)]
+    found = [f"{path}: {line.strip()}" for crate in DECODER for path, code in files_of(crate) for line in code.splitlines() if ITERATORS.search(line)]
     assert not found, "\n".join(found)
 
 

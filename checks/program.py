@@ -38,19 +38,21 @@ def assert_same_by_row(words, data, done):
 
 
 def assert_damage(words, data, lines, status):
-    """With `-d` the program reads as many rows, and ends in the same way. Only lenient data of Group 3 are repaired. The line before
-    the last one is that of the strict reading, if it fails: at the first damage, or before it."""
+    """With `-d` the program reads as many rows, and ends in the same way. Only lenient data of Group 3 are repaired. A strict reading
+    ends well exactly if this one does and tells of no damage; else it fails at the first line."""
     done = run(["-d", *words], data)
     *told_of, last = done.stdout.decode().splitlines()
     damaged = [line for line in told_of if line.startswith("damaged ")]
     missed = [line for line in told_of if line.startswith("missed ")]
-    strict = [line.partition(" ")[2] for line in told_of[-1:] if line.startswith("strict ")]
-    if strict:
-        told_of.pop()
-        assert "s" not in words[3] and (not told_of or int(strict[0].split()[1]) <= int(told_of[0].split()[2])), ("-d", words, strict)
+    cut = [line for line in told_of if line.startswith("cut ")]
     if "r" not in words[3] and "s" not in words[3]:
-        found = run(["-d", *words[:3], words[3].replace("-", "") + "s"], data).stdout.decode().splitlines()[-1]
-        assert strict == [found.partition(" ")[2]] * found.startswith("error "), ("-d", words, strict, found)
+        found = run(["-d", *words[:3], words[3].replace("-", "") + "s"], data).stdout.decode().splitlines()
+        assert len(found) == 1, ("-d", words, found)
+        kind, first, at = (told_of + [last])[0].split()[:3]
+        place = (str(int(first) + (kind == "missed")), at)
+        clean = not told_of and last.startswith("ok ")
+        assert found == [last] if clean else tuple(found[0].split()[1:3]) == place, ("-d", words, told_of, last, found)
+        assert clean == found[0].startswith("ok "), ("-d", words, told_of, last, found)
     rows, (end, _, told) = len(lines) - 1, lines[-1].partition(" ")
     place = last.split()[2]
     expected = f"ok {rows} {len(damaged)} {told}" if end == "ok" else f"error {rows} {place} {told}"
@@ -58,11 +60,11 @@ def assert_damage(words, data, lines, status):
     assert end == "ok" or int(place) <= 8 * len(data), ("-d", words, done)
     numbers = [int(line.split()[1]) for line in told_of]
     places = [int(line.split()[2]) for line in told_of]
-    assert len(told_of) == len(damaged) + len(missed), ("-d", words, told_of)
-    assert numbers == sorted(set(numbers)) and all(number < rows for number in numbers), ("-d", words, told_of)
+    assert len(told_of) == len(damaged) + len(missed) + len(cut), ("-d", words, told_of)
+    assert numbers == sorted(numbers) and all(number < rows for number in numbers), ("-d", words, told_of)
     assert places == sorted(places) and all(place <= 8 * len(data) for place in places), ("-d", words, told_of)
-    assert not told_of or strict or "s" in words[3], ("-d", words, told_of)
-    assert not told_of or (words[0] != "g4" and "s" not in words[3]), ("-d", words, told_of)
+    assert not told_of or "s" not in words[3], ("-d", words, told_of)
+    assert len(told_of) == len(cut) or words[0] != "g4", ("-d", words, told_of)
 
 
 def real_strips():
@@ -208,22 +210,22 @@ INVALID, CUT = "invalid CCITT code sequence", "unexpected end of input"
 DAMAGE = [
     ("g4 8 1 -", "31C0", ["ok 1 0 2"], 0),
     ("g4 8 1 r", "8C03", ["ok 1 0 2"], 0),
-    ("1d 8 2 l", "0019F800CC", ["missed 0 17", f"strict 1 17 {INVALID}", "ok 2 0 5"], 0),
-    ("1d 8 0 l", "0019CC", ["missed 0 17", f"strict 1 17 {INVALID}", f"error 2 22 {CUT}"], 1),
-    ("1d 8 0 lb", "0019C0040040040040040040", ["missed 0 17", f"strict 1 17 {INVALID}", "ok 1 0 12"], 0),
-    ("1d 8 4 l", "0019800C400033800CC0", [f"damaged 1 29 {INVALID}", "missed 2 56", f"strict 1 29 {INVALID}", "ok 4 1 10"], 0),
-    ("1d 8 1 l", "001380", [f"strict 0 12 {INVALID}", "ok 1 0 3"], 0),
+    ("1d 8 2 l", "0019F800CC", ["missed 0 17", "ok 2 0 5"], 0),
+    ("1d 8 0 l", "0019CC", ["missed 0 17", f"error 2 22 {CUT}"], 1),
+    ("1d 8 0 lb", "0019C0040040040040040040", ["missed 0 17", "ok 1 0 12"], 0),
+    ("1d 8 4 l", "0019800C400033800CC0", [f"damaged 1 29 {INVALID}", "missed 2 56", "ok 4 1 10"], 0),
+    ("1d 8 1 l", "001380", ["cut 0 12", "ok 1 0 3"], 0),
     ("1d 8 0 sl", "0019CC", [f"error 1 17 {INVALID}"], 1),
-    ("1d 8 0 l", "0019800C400033", [f"damaged 1 29 {INVALID}", f"strict 1 29 {INVALID}", "ok 3 1 7"], 0),
+    ("1d 8 0 l", "0019800C400033", [f"damaged 1 29 {INVALID}", "ok 3 1 7"], 0),
     ("1d 8 0 sl", "0019800C400033", [f"error 1 29 {INVALID}"], 1),
-    ("2d 8 0 l", "", [f"damaged 0 0 {CUT}", f"strict 0 0 {CUT}", "ok 1 1 0"], 0),
-    ("g4 8 0 -", "31C000", [f"strict 1 10 {INVALID}", f"error 1 10 {INVALID}"], 1),
+    ("2d 8 0 l", "", [f"damaged 0 0 {CUT}", "ok 1 1 0"], 0),
+    ("g4 8 0 -", "31C000", [f"error 1 10 {INVALID}"], 1),
     (
         "1d 8 0 l",
         "001F" * 1000,
         [
             *[f"damaged {row} {12 + 16 * row} {INVALID}" for row in range(999)],
-            *[f"damaged 999 15996 {CUT}", f"strict 0 12 {INVALID}", f"error 1000 15996 {CUT}"],
+            *[f"damaged 999 15996 {CUT}", f"error 1000 15996 {CUT}"],
         ],
         1,
     ),
@@ -240,8 +242,8 @@ def damage():
 
 
 def flips_are_told():
-    """A bit of a small strip of Group 3 with EOLs is flipped, at 300 places: `-d` tells of it exactly where a strict run fails. How many
-    of the pictures that differ it tells of is printed."""
+    """A bit of a small strip of Group 3 with EOLs is flipped, at 300 places: `-d` tells of damage, or ends in an error, exactly where
+    a strict run fails. Of how many of the pictures that differ it tells is printed."""
     with open("corpus/manifest.tsv", encoding="utf-8") as file:
         lines = [line.rstrip("\n").split("\t") for line in file if not line.startswith("#")]
     strips = {line[1]: line[2:5] for line in lines if line[2] == "1d" and f"{line[4]}:l" in line[5].split(",")}
@@ -256,7 +258,7 @@ def flips_are_told():
             flipped = bytearray(data)
             flipped[bit // 8] ^= 128 >> bit % 8
             fails = run([*strips[name], "ls"], flipped).returncode == 1
-            tells = b"\nstrict " in b"\n" + run(["-d", *strips[name], "l"], flipped).stdout
+            tells = not run(["-d", *strips[name], "l"], flipped).stdout.startswith(b"ok ")
             assert tells == fails, (name, bit)
             if run([*strips[name], "l"], flipped).stdout != whole:
                 differ += 1

@@ -122,7 +122,6 @@ def damage_of(words, count, last):
     starts = STARTS.get(words, [0])
     damaged = [row for row in DAMAGED.get(words, []) if row < count]
     lines = [f"damaged {row} {starts[row]} invalid CCITT code sequence" for row in damaged]
-    lines += [f"strict {row} {starts[row]} invalid CCITT code sequence" for row in DAMAGED.get(words, [])]
     end, _, told = last.partition(" ")
     lines.append(f"ok {count} {len(damaged)} {told}" if end == "ok" else f"error {count} {starts[count]} {told}")
     return "".join(line + "\n" for line in lines).encode()

@@ -24,8 +24,8 @@ def handles_are_none():
 # The functions that are proved by hand: privacy ties the count of work to the code, and a handle for C owns what its pointer points
 # to.
 BY_HAND = [
-    "crates/hayro_ccitt/proofs/codes/Ticks/after",
-    "crates/hayro_ccitt/proofs/codes/Ticks/new",
+    "crates/fax_bits/proofs/codes/Ticks/after",
+    "crates/fax_bits/proofs/codes/Ticks/new",
     "crates/hayro_ccitt_c/proofs/handle/Handle/from_unboxed",
     "crates/hayro_ccitt_c/proofs/handle/Handle/into_unboxed",
     "crates/hayro_ccitt_c/proofs/handle/Handle/nowhere",
@@ -108,7 +108,7 @@ def no_proof_has_a_hole():
 # Where a count of work is made, or made from another one: a context has one, which `decode` restarts, and a reader of rows
 # keeps a context.
 COUNTS = {
-    "crates/hayro_ccitt/src/codes.rt": {"new", "after", "tick"},
+    "crates/fax_bits/src/codes.rt": {"new", "after", "tick"},
     "crates/hayro_ccitt/src/context.rt": {"new", "restart"},
     "crates/hayro_ccitt/src/row_reader.rt": {"new"},  # a reader's own context, which no call of `decode` has
     "crates/hayro_ccitt/src/row_cursor.rt": {"new"},  # the same
@@ -124,13 +124,13 @@ def is_test(place):
 
 
 def no_work_is_thrown_away():
-    """Contracts bound only the count of the context. So inside the crate no other count may be made, into which work
+    """Contracts bound only the count of the context. So inside the decoder's crates no other count may be made, into which work
     would be counted and lost: only the functions named above make one. Tests may."""
     found = []
     function = {}
     for place, line in lines_of_code(".rt", "//"):
         name = place.rsplit(":", 1)[0]
-        if not name.startswith("crates/hayro_ccitt/src/") or is_test(name):
+        if not name.startswith(tuple(f"crates/{crate}/src/" for crate in places.DECODER)) or is_test(name):
             continue
         begun = re.search(r"\bfn (\w+)", line)
         if begun:
@@ -162,25 +162,59 @@ def rust_is_unsafe_in_one_file_only():
 
 # Public functions with a contract that no edit of a body can break.
 NO_WRONG_BODY = {
-    "hayro_ccitt": {
-        # A count has no bytes, so its body stores nothing: the number is only in the proof by hand.
-        "codes::Ticks::new",
-        # The trait's declaration. Each impl has edits of its own.
-        "Decoder::push_row",
-    },
+    # A count has no bytes, so its body stores nothing: the number is only in the proof by hand.
+    "fax_bits": {"codes::Ticks::new"},
+    # The trait's declaration. Each impl has edits of its own.
+    "hayro_ccitt": {"Decoder::push_row"},
     # It returns the only value of a type parameter that it has.
     "fax_program": {"device::Device::into_inner"},
 }
 
 
+# What `hayro_ccitt` passes on of the crate below it, which no other crate names: nothing of the window, nor of a reader's offset, nor
+# anything that counts more than a tick.
+PASSED_ON = {
+    "DecodeError",
+    "DecodeSettings",
+    "EncodingMode",
+    "Result",
+    "bit_reader::BitOrder",
+    "bit_reader::BitReader",
+    "bits_fit",
+    "codes::Color",
+    "codes::Mode",
+    "codes::Ticks",
+    "tables",
+}
+
+
+def only_what_users_call_is_passed_on():
+    with open("crates/hayro_ccitt/src/lib.rt", encoding="utf-8") as file:
+        found = re.findall(r"^ *pub use fax_bits::(?:([\w:]+)::)?(\{[^}]*\}|\w+);", file.read(), re.MULTILINE)
+    passed = {f"{path}::{name}".removeprefix("::") for path, names in found for name in re.findall(r"\w+", names)}
+    assert passed == PASSED_ON, passed ^ PASSED_ON
+    others = [place for place, line in lines_of_code(".rt", "//") if re.search(r"\bpub(?:\([a-z]+\))? use fax_bits\b", line)]
+    assert len(others) == len(found) and all(place.startswith("crates/hayro_ccitt/src/lib.rt:") for place in others), others
+    with open("crates.txt", encoding="utf-8") as file:
+        above = [line.split(":")[0] for line in file if not line.startswith("#") and "fax_bits" in line.partition(":")[2].split()]
+    assert above == ["hayro_ccitt"], above
+
+
+def is_for_users(crate, item):
+    """Whether a function is more than a part of the library: of the crate below the decoder only what is passed on is."""
+    above = item.name.split("::")
+    return crate != "fax_bits" or bool(PASSED_ON & {"::".join(above[:length]) for length in range(1, len(above) + 1)})
+
+
 def each_public_function_has_an_edit():
-    """Each function that another crate can name, and each sink's `push_row`, is broken by an edit, unless it only states a law."""
+    """Each function that a user can name, and each sink's `push_row`, is broken by an edit, unless it only states a law."""
     lacking = []
     for crate in sorted(os.listdir("crates")):
         source = edits.Source(f"crates/{crate}")
         touched = {item.name for edit in edits.edits_in(f"crates/{crate}", crate, source) for item in edit.touched}
         for item in source.public():
-            if item.has_contract and item.has_body and item.name not in touched | NO_WRONG_BODY.get(crate, set()):
+            is_tried = item.name in touched | NO_WRONG_BODY.get(crate, set())
+            if item.has_contract and item.has_body and is_for_users(crate, item) and not is_tried:
                 lacking.append(f"{crate}: {item.name}")
     assert not lacking, f"no edit breaks {lacking}"
 
@@ -196,6 +230,8 @@ def each_edit_can_be_applied():
                 found.append(f"{edit.label}: {why or 'it changes no item'}")
             elif not edit.function:
                 found.append(f"{edit.label}: it has no line 'breaks: FUNCTION: CLAUSE'")
+            elif edit.lacks_twin():
+                found.append(f"{edit.label}: {edit.lacks_twin()}")
             answers = f"crates/{crate}/proofs/{edit.function.replace('::', '/')}/Answers.antt"
             if edit.goals and os.path.exists(answers):
                 with open(answers, encoding="utf-8") as file:
@@ -234,6 +270,15 @@ def imported_names(name, text):
             yield f"Rattle.{lemma.strip().replace('crate', name.split('/')[1], 1).replace('::', '.')}"
 
 
+def module_of(name):
+    """The module of a file, as `use` lines write it: that of `Lib.antt` is its folder's."""
+    return "Rattle." + name.removeprefix("crates/").removesuffix(".antt").removesuffix("/Lib").replace("/", ".")
+
+
+# A file of lemmas, or a folder of them, that a crate passes on.
+PASSES_ON = re.compile(r"^pub use (Rattle\.\w+\.proofs(?:\.\w+)*?\.(\w+))$", re.MULTILINE)
+
+
 def each_lemma_is_cited():
     """A lemma that nothing cites is useless: each is named besides its declaration, or another file imports it. Examples aren't
     cited."""
@@ -243,12 +288,16 @@ def each_lemma_is_cited():
             with open(name, encoding="utf-8") as file:
                 texts[name] = re.sub(r"--.*" if name.endswith(".antt") else r"//.*", "", file.read())
     imported = {whole for name, text in texts.items() for whole in imported_names(name, text)}
+    for name, text in texts.items():
+        for of, last in PASSES_ON.findall(text):
+            passed = f"{module_of(name)}.{last}."
+            imported |= {whole.replace(passed, f"{of}.", 1) for whole in imported if whole.startswith(passed)}
     dead = []
     for name, text in texts.items():
         if "/proofs/" not in name or not name.endswith(".antt") or name.endswith((*NOT_CITED, "/Examples.antt")):
             continue
         words = collections.Counter(re.findall(NAME, text))
-        module = "Rattle." + name.removeprefix("crates/").removesuffix(".antt").replace("/", ".")
+        module = module_of(name)
         for found in DECLARED.finditer(text):
             indent, modifiers, lemma = found.groups()
             if is_field(text, found.start(), indent):
@@ -317,7 +366,7 @@ def no_line_is_too_long():
     assert not found, "\n".join(found)
 
 
-MOST_CLAUSES = 12
+MOST_CLAUSES = 13
 CLAUSE = re.compile(r"\b(?:requires|ensures)\s+(?:\w+\s*)?\{")
 
 
@@ -337,7 +386,7 @@ def clauses_of(text):
 
 
 def no_contract_is_too_long():
-    """No function has more than 12 clauses. A list of examples or laws, which has no body, may have as many as it likes."""
+    """No function has more than 13 clauses. A list of examples or laws, which has no body, may have as many as it likes."""
     found = []
     for crate in sorted(os.listdir("crates")):
         source = edits.Source(f"crates/{crate}")

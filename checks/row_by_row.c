@@ -39,7 +39,7 @@ static void next_is(hayro_ccitt_reader *reader, const uint8_t *data, size_t leng
         take_back(changes);
     }
     must(row.rows == index + 1 && row.changes == count, "what is told of a row");
-    must(row.line_start <= 8 * length && row.bytes_read <= length && !row.reserved, "fields of a row");
+    must(row.line_start <= 8 * length && row.bytes_read <= length && row.is_cut <= 1 && row.missed_eol <= 8 * length, "fields of a row");
     rows_read++;
 }
 
@@ -69,7 +69,8 @@ static void each_case(const uint8_t *data, size_t length, const hayro_ccitt_sett
     for (int again = 0; again < 3; again++) {
         last = hayro_ccitt_next_changes(data, length, again % 2 ? &second : &first, &none, 0, &row);
         must(last == (status ? status : HAYRO_CCITT_NO_ROW), "the end");
-        must(row.rows == listed.rows && row.damaged_rows == listed.damaged_rows && row.missed_eols == listed.missed_eols, "what is told at the end");
+        must(row.rows == listed.rows && row.damaged_rows == listed.damaged_rows && row.missed_eols == listed.missed_eols
+             && row.cut_rows == listed.cut_rows, "what is told at the end");
         must(status ? row.line_start == listed.fault_start : row.bytes_read == listed.bytes_read, "the bytes, or the fault");
     }
     must(live > held && hayro_ccitt_close(&first) == HAYRO_CCITT_OK && hayro_ccitt_close(&second) == HAYRO_CCITT_OK, "close");

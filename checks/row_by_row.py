@@ -22,7 +22,7 @@ def pictures():
     """Columns, encoding, flags, K and bitmap of small pictures, by each combination of settings; and what is not taken."""
     for columns, bitmap in encoder.pictures():
         if len(bitmap) < 1 << 8 and (columns < 10 or columns % 8 < 2):
-            for kind, flags, k in itertools.product(range(3), range(64), (1, 3)):
+            for kind, flags, k in itertools.product(range(3), range(128), (1, 3)):
                 if not flags & 8 and (kind == 2 or k == 1):
                     yield columns, kind, flags, k, bitmap.hex()
     for columns, text, kind, flags, k, _ in encoder.KNOWN:

@@ -32,7 +32,10 @@ class Settings(ctypes.Structure):
 
 
 class Outcome(ctypes.Structure):
-    _fields_ = [(name, ctypes.c_uint64) for name in ("rows", "changes", "bytes_read", "damaged_rows", "fault_start", "missed_eols")]
+    _fields_ = [
+        (name, ctypes.c_uint64)
+        for name in ("rows", "changes", "bytes_read", "damaged_rows", "fault_start", "missed_eols", "cut_rows")
+    ]
 
 
 def loaded():

@@ -16,7 +16,7 @@ static size_t decode(const uint8_t *data, size_t size, Jbig2Image *image, int *f
 {
     const hayro_ccitt_settings settings = {image->width, image->height, HAYRO_CCITT_GROUP_4, HAYRO_CCITT_END_OF_BLOCK};
     hayro_ccitt_reader reader = {0, 0, 0};
-    hayro_ccitt_row row = {0, 0, 0, 0, 0, 0, 0, 0};
+    hayro_ccitt_row row = {0};
     uint32_t status = hayro_ccitt_open(data, size, &settings, &reader);
     memset(image->data, 0, (size_t)image->stride * image->height);
     for (uint32_t at = 0; status == HAYRO_CCITT_OK && at < image->height; at++)

@@ -46,9 +46,9 @@ static int decode(TIFF *tif, uint8_t *bitmap, tmsize_t size, uint16_t sample)
         TIFFErrorExtR(tif, "fax", "Out of memory");
         return -1;
     }
-    if (status != HAYRO_CCITT_OK || told.rows < settings.rows || told.damaged_rows || told.missed_eols)
-        TIFFWarningExtR(tif, "fax", "Damaged data: %u of %u rows, %u of them repaired", (unsigned)told.rows, settings.rows,
-                        (unsigned)told.damaged_rows);
+    if (status != HAYRO_CCITT_OK || told.rows < settings.rows || told.damaged_rows || told.cut_rows || told.missed_eols)
+        TIFFWarningExtR(tif, "fax", "Damaged data: %u of %u rows, %u of them repaired, %u cut", (unsigned)told.rows, settings.rows,
+                        (unsigned)told.damaged_rows, (unsigned)told.cut_rows);
     tif->tif_rawcp += told.bytes_read;
     tif->tif_rawcc -= (tmsize_t)told.bytes_read;
     return 1;

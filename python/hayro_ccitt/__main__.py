@@ -107,7 +107,8 @@ def decoded(strips: Strips) -> tuple[str, int, bytearray]:
             if picture.rows < keys["rows"]:
                 result = f"{picture.rows} of {keys['rows']} rows"
             elif picture.damage:
-                result = f"{picture.damage.damaged_rows} rows repaired, {picture.damage.missed_eols} EOLs missed"
+                damage = picture.damage
+                result = f"{damage.damaged_rows} rows repaired, {damage.cut_rows} cut, {damage.missed_eols} EOLs missed"
         height = max(picture.rows, min(keys["rows"], 8 * len(data)))  # a row takes at least one bit
         rows += height
         bits += picture.black(height)

@@ -5,7 +5,7 @@ from ctypes import POINTER, c_size_t, c_uint8, c_uint32, c_uint64, c_void_p
 
 OK, UNEXPECTED_EOF, INVALID_CODE, OVERFLOW, OUT_OF_MEMORY, REFUSED, NOT_TAKEN, NO_ROW = range(8)
 GROUP_4, GROUP_3_1D, GROUP_3_2D = range(3)
-END_OF_BLOCK, END_OF_LINE, ALIGNED_ROWS, STRICT, LOW_FIRST, EOLS_END_AT_BYTES = (1 << bit for bit in range(6))
+END_OF_BLOCK, END_OF_LINE, ALIGNED_ROWS, STRICT, LOW_FIRST, EOLS_END_AT_BYTES, SHORTEST = (1 << bit for bit in range(7))
 # The installed library whose interface this package calls.
 SONAME = "libhayro_ccitt.so.0.6"
 
@@ -15,7 +15,10 @@ class Settings(ctypes.Structure):
 
 
 class Outcome(ctypes.Structure):
-    _fields_ = [(name, c_uint64) for name in ("rows", "changes", "bytes_read", "damaged_rows", "fault_start", "missed_eols")]
+    _fields_ = [
+        (name, c_uint64)
+        for name in ("rows", "changes", "bytes_read", "damaged_rows", "fault_start", "missed_eols", "cut_rows")
+    ]
 
 
 class Reader(ctypes.Structure):
@@ -25,7 +28,7 @@ class Reader(ctypes.Structure):
 class Row(ctypes.Structure):
     _fields_ = [
         (name, c_uint64)
-        for name in ("rows", "changes", "line_start", "bytes_read", "damaged_rows", "damage", "missed_eols", "reserved")
+        for name in ("rows", "changes", "line_start", "bytes_read", "damaged_rows", "damage", "missed_eols", "cut_rows", "is_cut", "missed_eol")
     ]
 
 

@@ -20,12 +20,14 @@ USUAL_BYTES = 1 << 20
 
 
 class Damage(NamedTuple):
-    """What a lenient reading repaired. It is false if that is nothing."""
+    """What a lenient reading passed. It is false exactly if a strict one succeeds too, where the data was decoded."""
 
     damaged_rows: int
     """The number of rows whose line was damaged and repaired."""
     missed_eols: int
     """The number of other rows after which bits were passed up to the next EOL, or no EOL was left."""
+    cut_rows: int
+    """The number of rows in which a run was cut at the row's end."""
 
     def __bool__(self) -> bool:
         return any(self)
@@ -109,7 +111,7 @@ def decode(
     packed = memoryview(bitmap)[: outcome.rows * width].tobytes()
     if not black_is_1:
         packed = packed.translate(NEGATIVE)
-    damage = Damage(outcome.damaged_rows, outcome.missed_eols)
+    damage = Damage(outcome.damaged_rows, outcome.missed_eols, outcome.cut_rows)
     picture = Picture(columns, outcome.rows, packed, outcome.bytes_read, damage)
     if status != c.OK:
         raise fault_of(status, outcome.fault_start, picture)
@@ -190,7 +192,12 @@ class Rows(Iterator[memoryview]):
     @property
     def damage(self) -> Damage:
         """What was repaired. What follows the last row is known after the next one."""
-        return Damage(self._row.damaged_rows, self._row.missed_eols)
+        return Damage(self._row.damaged_rows, self._row.missed_eols, self._row.cut_rows)
+
+    @property
+    def is_cut(self) -> bool:
+        """Whether a run of the last row was cut at the row's end."""
+        return self._row.is_cut != 0
 
     @property
     def fault(self) -> type[DecodeError] | None:

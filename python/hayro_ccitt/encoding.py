@@ -17,6 +17,7 @@ def encode(
     black_is_1: bool = False,
     low_first: bool = False,
     eols_end_at_bytes: bool = False,
+    shortest: bool = False,
 ) -> bytes:
     """Encodes a bitmap. Decoded with the same arguments, the data gives exactly its rows; if `end_of_block` is false, with their number.
 
@@ -24,13 +25,15 @@ def encode(
         packed: the samples, as `Picture.packed` has them. Bits after a row's last pixel are ignored.
         columns: the width in pixels, at least 1 and below 2 ** 32.
         k: below 0: Group 4; 0: Group 3, one-dimensional; above 0: Group 3, two-dimensional, with at most `k` - 1 two-dimensional lines
-            after a one-dimensional one (T.4 section 4.2.1).
+            after a one-dimensional one (T.4, 4.2.1).
         end_of_line: whether an EOL precedes each line of Group 3. Group 4 has none.
         encoded_byte_align: whether each line without an EOL is padded up to a whole byte.
         end_of_block: whether EOFB follows the last line of Group 4, or RTC that of Group 3 with EOLs.
         black_is_1: whether a sample is 1 for a black pixel, rather than 0.
         low_first: whether each byte's lowest bit comes first, as in TIFF files of FillOrder 2.
         eols_end_at_bytes: whether fill precedes EOLs, so that they end at whole bytes, as TIFF's T4Options bit 2 says.
+        shortest: whether two-dimensional lines have the fewest bits that encode them, rather than those of T.6's procedure. Every
+            decoder reads either.
 
     Raises:
         NoEncoding, NoRows, NotWholeRows: as they say.
@@ -50,6 +53,7 @@ def encode(
         (encoded_byte_align, c.ALIGNED_ROWS),
         (low_first, c.LOW_FIRST),
         (eols_end_at_bytes, c.EOLS_END_AT_BYTES),
+        (shortest, c.SHORTEST),
     )
     settings = c.EncodeSettings(columns, encoding_of(k), flags, number("k", max(k, 0)))
     outcome = c.EncodeOutcome()

@@ -61,10 +61,10 @@ def test_rows_as_in_c(answers):
         told = iter(lines)
         try:
             for row in rows:
-                found = ["row", rows.line_start, rows.bytes_read, *rows.damage, STATUSES[rows.fault]]
+                found = ["row", rows.line_start, rows.bytes_read, *rows.damage, STATUSES[rows.fault], int(rows.is_cut)]
                 line = next(told)
-                assert [*map(str, found), str(zlib.adler32(row))] == [*line[:6], line[7]], (words, data.hex())
-                kinds.add(line[5])
+                assert [*map(str, found), str(zlib.adler32(row))] == [*line[:8], line[9]], (words, data.hex())
+                kinds.add(line[6])
         except DecodeError as error:
             fault = error
         found = ["end", STATUSES[type(fault)] if fault else 7, rows.rows_read, rows.line_start, rows.bytes_read, *rows.damage]
@@ -83,7 +83,7 @@ def test_a_fault_has_the_rows_before_it():
 def test_damage():
     data = bytes.fromhex("0019800C400033")
     picture = hayro_ccitt.decode(data, 8, end_of_line=True, end_of_block=False)
-    assert picture.damage == Damage(1, 0) and picture.damage
+    assert picture.damage == Damage(1, 0, 0) and picture.damage
     assert not hayro_ccitt.decode(b"\x31\xc0", 8, 1, k=-1).damage
 
 

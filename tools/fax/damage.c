@@ -59,6 +59,7 @@ void add_damage(buffer *text, const damage *it)
     size_t start = text->length;
     add_list(text, "", &it->missing, "no row", "no rows");
     add_list(text, text->length > start ? "; " : "", &it->repaired, "repaired row", "repaired rows");
+    add_list(text, text->length > start ? "; " : "", &it->cut, "cut row", "cut rows");
     add_list(text, text->length > start ? "; " : "", &it->missed, "no EOL after row", "no EOL after rows");
     if (!it->is_strict)
         add_text(text, "%sstrict reading ends at row %" PRIu64 ", bit %" PRIu64 " of %s %" PRIu64 ": %s",

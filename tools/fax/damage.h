@@ -22,6 +22,7 @@ typedef struct {
 typedef struct {
     row_list missing;    /* not decoded: they are white */
     row_list repaired;   /* the line was damaged */
+    row_list cut;        /* a run was cut at the row's end */
     row_list missed;     /* no EOL after them */
     int is_strict;       /* whether a strict reading takes all parts */
     uint64_t row, bit;   /* else the first place where it doesn't: the page's row, and the bit of the part */

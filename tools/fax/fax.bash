@@ -5,11 +5,12 @@ _fax()
     COMPREPLY=()
     case ${COMP_WORDS[COMP_CWORD-1]} in
         -f|--format) COMPREPLY=($(compgen -W 'pbm png tiff pdf' -- "$word")) ;;
-        -e|--encode|-m|--mode) COMPREPLY=($(compgen -W 'g4 1d 2d' -- "$word")) ;;
+        -e|--encode) COMPREPLY=($(compgen -W 'g4 1d 2d shortest' -- "$word")) ;;
+        -m|--mode) COMPREPLY=($(compgen -W 'g4 1d 2d' -- "$word")) ;;
         -p|--pages|-w|--width|-r|--rows|-F|--flags) ;;
         *)
             if [[ $word == -* ]]; then
-                COMPREPLY=($(compgen -W '--output --format --pages --encode --check --mode --width --rows --flags --help --version' -- "$word"))
+                COMPREPLY=($(compgen -W '--output --format --pages --encode --copy --check --mode --width --rows --flags --help --version' -- "$word"))
             else
                 compopt -o filenames
                 mapfile -t COMPREPLY < <(compgen -f -- "$word")

@@ -12,7 +12,7 @@ typedef struct {
     const options *wanted;
     sink out;
     const char *name;    /* of the file */
-    source *from;
+    source from;
     unsigned pictures;   /* in the files before this one */
 } run;
 
@@ -20,11 +20,11 @@ typedef struct {
 static void add_place(buffer *text, const run *of, const page *it)
 {
     unsigned before = (unsigned)of->wanted->is_fax2pbm;
-    if (of->from->kind == PDF_FILE && it->number == 0)
+    if (of->from.kind == PDF_FILE && it->number == 0)
         add_text(text, "no page, image %u: ", it->image - before);
-    else if (of->from->kind == PDF_FILE)
+    else if (of->from.kind == PDF_FILE)
         add_text(text, "page %u, image %u: ", it->number - before, it->image - before);
-    else if (of->from->kind != RAW_FILE)
+    else if (of->from.kind != RAW_FILE)
         add_text(text, "page %u: ", it->number - before);
 }
 
@@ -79,6 +79,15 @@ static int write_drawn(run *of, page *it, picture *drawn, int is_only)
     return 1;
 }
 
+/* Takes the strips of a page as they are, if they are wanted so and that can be done. */
+static int is_taken(run *of, const page *it, strips *into)
+{
+    const options *wanted = of->wanted;
+    enum target target = wanted->format == PDF ? FOR_PDF : FOR_TIFF;
+    return takes_strips(&of->out) && !wanted->how && !wanted->is_check
+        && take_strips(it, target, wanted->is_copy, &of->from.left, into);
+}
+
 /* Reads a page and writes it. Returns its status. */
 static int do_page(run *of, page *it, int is_only)
 {
@@ -88,13 +97,12 @@ static int do_page(run *of, page *it, int is_only)
     show_progress(of->name, it->number);
     if (it->refused[0])
         return tell_page(of, it, &found);
-    enum target target = of->wanted->format == PDF ? FOR_PDF : FOR_TIFF;
-    if (takes_strips(&of->out) && !of->wanted->how && !of->wanted->is_check && take_strips(it, target, &of->from->left, &taken)) {
+    if (is_taken(of, it, &taken)) {
         put_strips(&of->out, &taken);
         release_strips(&taken);
         return tell_page(of, it, &found);
     }
-    int is_drawn = decode_page(it, &of->from->left, &drawn, &found);
+    int is_drawn = decode_page(it, &of->from.left, &drawn, &found);
     int status = tell_page(of, it, &found);
     if (found.is_out_of_memory)
         status = CANNOT_GO_ON;
@@ -107,12 +115,27 @@ static int do_page(run *of, page *it, int is_only)
 /* Finds the next page that is wanted. Returns 0 if there is none. */
 static int next_wanted(run *of, page *into)
 {
-    while (next_page(of->from, into)) {
+    while (next_page(&of->from, into)) {
         if (is_wanted(of->wanted, into->number))
             return 1;
         release_page(into);
     }
     return 0;
+}
+
+/* Tells what of a file isn't among the pages that were done. Returns the file's status. */
+static int tell_what_is_left(const run *of, int done)
+{
+    const pdf_pages *images = of->from.kind == PDF_FILE ? &of->from.images : NULL;
+    if (images && images->unread[0])
+        tell(of->name, "%s", images->unread);
+    if (images && !images->count)
+        tell(of->name, "it has no fax images, and %u others", images->others);
+    else if (!done)
+        tell(of->name, images ? "these pages have no fax image" : "there is no such page");
+    else if (images && images->others && !of->wanted->selected)
+        tell(of->name, "left out: %u image%s without fax data", images->others, images->others == 1 ? "" : "s");
+    return done && !(images && images->unread[0]) ? WHOLE : NOT_WHOLE;
 }
 
 /* Does the pages of a file. A page is written after the next one is laid out, since its name depends on whether there are others. */
@@ -129,24 +152,15 @@ static int do_pages(run *of)
     }
     if (is_there)
         release_page(&now);
-    const pdf_pages *images = of->from->kind == PDF_FILE ? &of->from->images : NULL;
-    if (images && images->unread[0])
-        tell(of->name, "%s", images->unread);
-    if (!done && images && !images->count)
-        tell(of->name, "it has no fax images, and %u others", images->others);
-    else if (!done)
-        tell(of->name, "there is no such page");
-    return done ? worse(status, images && images->unread[0] ? NOT_WHOLE : WHOLE) : worse(status, NOT_WHOLE);
+    return worse(status, tell_what_is_left(of, done));
 }
 
 static int do_file(run *of, const char *path)
 {
     buffer file = {NULL, 0, 0, 0};
-    source from;
     int is_standard = !path || !strcmp(path, "-");
     FILE *in = is_standard ? stdin : fopen(path, "rb");
     of->name = is_standard ? "standard input" : path;
-    of->from = &from;
     errno = 0;
     int was_read = in && read_all(in, &file);
     if (!was_read)
@@ -157,13 +171,13 @@ static int do_file(run *of, const char *path)
         release(&file);
         return CANNOT_GO_ON;
     }
-    if (!open_source(&from, file, of->wanted->is_raw, of->wanted->raw)) {
-        tell(of->name, "%s", from.why);
+    if (!open_source(&of->from, file, of->wanted->is_raw, of->wanted->raw)) {
+        tell(of->name, "%s", of->from.why);
         return NOT_WHOLE;
     }
     int status = do_pages(of);
-    of->pictures += from.pages - 1;
-    close_source(&from);
+    of->pictures += of->from.pages - 1;
+    close_source(&of->from);
     return status;
 }
 

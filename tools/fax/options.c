@@ -15,8 +15,9 @@ static const char help[] =
     "  -o, --output NAME.EXT   writes NAME.pbm, NAME.png, NAME.tif or NAME.pdf; several pictures are NAME-1.png, NAME-2.png ..\n"
     "  -f, --format FORMAT     pbm, png, tiff or pdf, whatever the name; without -o to standard output\n"
     "  -p, --pages PAGES       only these, as 2-5 or 1,3,7-; the first one is 1\n"
-    "  -e, --encode ENCODING   TIFF and PDF: encodes all pages again, by g4, 1d or 2d; without it only those that can't be\n"
-    "                          copied, by g4\n"
+    "  -e, --encode ENCODING   TIFF and PDF: encodes all pages again, by one of %s; without it only those that can't be\n"
+    "                          copied, by the first of these\n"
+    "      --copy              TIFF and PDF: copies pages without reading them first, where that can be done; their damage isn't told\n"
     "      --check             writes no pictures, but a line for each page: whether a strict reading takes it\n"
     "      --help, --version\n"
     "\n"
@@ -45,9 +46,10 @@ static const char help_of_fax2pbm[] =
 
 static const struct option words_known[] = {
     {"output", required_argument, NULL, 'o'}, {"format", required_argument, NULL, 'f'}, {"pages", required_argument, NULL, 'p'},
-    {"encode", required_argument, NULL, 'e'}, {"check", no_argument, NULL, 'c'}, {"help", no_argument, NULL, 'h'},
-    {"version", no_argument, NULL, 'V'}, {"mode", required_argument, NULL, 'm'}, {"width", required_argument, NULL, 'w'},
-    {"rows", required_argument, NULL, 'r'}, {"flags", required_argument, NULL, 'F'}, {NULL, 0, NULL, 0},
+    {"encode", required_argument, NULL, 'e'}, {"copy", no_argument, NULL, 'y'}, {"check", no_argument, NULL, 'c'},
+    {"help", no_argument, NULL, 'h'}, {"version", no_argument, NULL, 'V'}, {"mode", required_argument, NULL, 'm'},
+    {"width", required_argument, NULL, 'w'}, {"rows", required_argument, NULL, 'r'}, {"flags", required_argument, NULL, 'F'},
+    {NULL, 0, NULL, 0},
 };
 
 /* Reads a number of 32 bits. Returns what follows it, or null. */
@@ -147,6 +149,9 @@ static int read_option(int option, const char *word, options *into, int *has_for
     case 'c':
         into->is_check = 1;
         return 1;
+    case 'y':
+        into->is_copy = 1;
+        return 1;
     case 'm':
         return read_mode(word, into);
     case 'w':
@@ -175,6 +180,17 @@ static int read_ending(options *into, int has_format)
     return 0;
 }
 
+/* Tells what excludes each other, or isn't built in. */
+static int is_possible(const options *it)
+{
+    const char *why = it->format == PNG && !has_png() ? "it was built without zlib, which PNG needs"
+        : it->is_copy && it->how ? "--copy and --encode exclude each other"
+        : NULL;
+    if (why)
+        fprintf(stderr, "%s: %s\n", it->program, why);
+    return !why;
+}
+
 int read_options(int count, char **words, options *into, int *status)
 {
     static const options usual = {.raw = {1728, 0, HAYRO_CCITT_GROUP_3_1D, HAYRO_CCITT_END_OF_BLOCK}};
@@ -187,8 +203,8 @@ int read_options(int count, char **words, options *into, int *status)
     *status = CANNOT_GO_ON;
     while ((option = getopt_long(count, words, letters, words_known, NULL)) != -1) {
         if (option == 'h' || option == 'V') {
-            int is_written = option == 'h' ? fputs(into->is_fax2pbm ? help_of_fax2pbm : help, stdout) >= 0
-                : printf("%s %s\n", into->program, HAYRO_CCITT_VERSION_TEXT) > 0;
+            int is_written = option == 'V' ? printf("%s %s\n", into->program, HAYRO_CCITT_VERSION_TEXT) > 0
+                : into->is_fax2pbm ? fputs(help_of_fax2pbm, stdout) >= 0 : printf(help, names_of_ways()) > 0;
             *status = is_written && !fflush(stdout) ? WHOLE : CANNOT_GO_ON;
             return 0;
         }
@@ -201,13 +217,7 @@ int read_options(int count, char **words, options *into, int *status)
     }
     into->names = words + optind;
     into->count = count - optind;
-    if (!read_ending(into, has_format))
-        return 0;
-    if (into->format == PNG && !has_png()) {
-        fprintf(stderr, "%s: it was built without zlib, which PNG needs\n", into->program);
-        return 0;
-    }
-    return 1;
+    return read_ending(into, has_format) && is_possible(into);
 }
 
 int is_wanted(const options *of, unsigned page)

@@ -49,10 +49,9 @@ part *new_parts(page *it, uint64_t count)
  * rows may look like an EOL, which a reader of one row doesn't reach. */
 static uint32_t decode_words(span data, hayro_ccitt_settings settings, uint8_t *rows, size_t length, hayro_ccitt_outcome *outcome)
 {
-    static const hayro_ccitt_outcome none = {0, 0, 0, 0, 0, 0};
     size_t at = 0, width = bytes_of_row(settings.columns);
     uint32_t wanted = settings.rows, status = HAYRO_CCITT_OK;
-    *outcome = none;
+    memset(outcome, 0, sizeof *outcome);
     settings.rows = 1;
     while (outcome->rows < wanted && at < data.length && status == HAYRO_CCITT_OK) {
         hayro_ccitt_reader reader = {NULL, NULL, 0};
@@ -83,7 +82,7 @@ static uint32_t decode_rows(const page *it, const part *from, uint32_t flags, ui
     return hayro_ccitt_decode_packed(from->data.at, from->data.length, &settings, rows, length, outcome);
 }
 
-/* Lists the rows of a part that are repaired, or after which an EOL is missing. */
+/* Lists the rows of a part that are repaired, in which a run was cut, or after which an EOL is missing. */
 static void list_damage(const part *from, uint32_t flags, damage *found)
 {
     hayro_ccitt_reader reader = {NULL, NULL, 0};
@@ -101,6 +100,8 @@ static void list_damage(const part *from, uint32_t flags, damage *found)
         missed = row.missed_eols;
         if (status == HAYRO_CCITT_OK && row.damage)
             add_rows(&found->repaired, from->top + row.rows - 1, 1);
+        if (status == HAYRO_CCITT_OK && row.is_cut)
+            add_rows(&found->cut, from->top + row.rows - 1, 1);
     }
     hayro_ccitt_close(&reader);
     free(packed);
@@ -131,7 +132,7 @@ static uint64_t decode_part(const page *it, const part *from, uint8_t *rows, siz
         note_strict(found, it, from, status, &outcome);
         if (status != HAYRO_CCITT_OK && status != HAYRO_CCITT_OUT_OF_MEMORY && it->columns <= WIDEST) {
             status = decode_rows(it, from, flags, rows, length, &outcome);
-            if ((outcome.damaged_rows || outcome.missed_eols) && !it->rows_are_words)
+            if ((outcome.damaged_rows || outcome.missed_eols || outcome.cut_rows) && !it->rows_are_words)
                 list_damage(from, flags, found);
         }
     }
@@ -241,6 +242,20 @@ static uint64_t decode_parts(page *it, allowance *left, picture *into, damage *f
     return end;
 }
 
+/* Refuses a page of which there is no picture. */
+static void refuse_lost(page *it, int has_memory, uint64_t rows, const allowance *left, const damage *found)
+{
+    if (!has_memory)
+        refuse(it, "out of memory");
+    else if (!left->left)
+        refuse(it, "its %ss lie over each other", it->kind);
+    else if (!found->is_strict && it->columns > WIDEST)
+        refuse(it, "its rows don't have %lu columns: %s in row %lu", (unsigned long)it->columns, meaning(found->why),
+               (unsigned long)found->row);
+    else if (!rows)
+        refuse(it, "no row can be decoded: %s", found->is_strict ? "there is no data" : meaning(found->why));
+}
+
 int decode_page(page *it, allowance *left, picture *into, damage *found)
 {
     const damage start = {.is_strict = 1, .kind = it->kind};
@@ -263,15 +278,7 @@ int decode_page(page *it, allowance *left, picture *into, damage *found)
         *found = start;
         end = decode_parts(it, left, into, found);
     }
-    if (!into->bytes || found->is_out_of_memory)
-        refuse(it, "out of memory");
-    else if (!left->left)
-        refuse(it, "its %ss lie over each other", it->kind);
-    else if (!found->is_strict && it->columns > WIDEST)
-        refuse(it, "its rows don't have %lu columns: %s in row %lu", (unsigned long)it->columns, meaning(found->why),
-               (unsigned long)found->row);
-    else if (!end)
-        refuse(it, "no row can be decoded: %s", found->is_strict ? "there is no data" : meaning(found->why));
+    refuse_lost(it, into->bytes && !found->is_out_of_memory, end, left, found);
     int has_false_height = rows < it->rows || (found->missing.count && into->width * rows > LARGE);
     if (has_false_height) /* the picture has only the rows that were decoded */
         into->rows = (uint32_t)end;

@@ -19,6 +19,7 @@ int spend(allowance *it, uint64_t bytes);      /* 0 if not more are left */
 /* A strip or tile, or a stream. */
 typedef struct {
     span data;
+    int is_cut;                    /* whether the file ends before it */
     uint32_t left, top;            /* its first column and row in the page */
     hayro_ccitt_settings settings; /* of a page whose height isn't known, `rows` is 0 */
 } part;

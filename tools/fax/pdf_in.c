@@ -77,15 +77,19 @@ static void note_image(pdf_pages *to, pdf_value image, pdf_value resources, unsi
 
 static void read_content(pdf_pages *to, pdf_value resources, span content, unsigned page, int depth);
 static void read_contents(pdf_pages *to, pdf_value from, pdf_value resources, unsigned page, int depth);
+static void read_resources(pdf_pages *to, pdf_value resources, const char *kind, unsigned page, int depth);
 
-/* An object that a page's content shows: an image, or a form that has a content of its own. */
+/* An object that a page shows: an image, or a form or a pattern, which has a content of its own. */
 static void show(pdf_pages *to, pdf_value object, pdf_value resources, unsigned page, int depth)
 {
-    if (pdf_is_name(pdf_key(to->objects, object, "Subtype"), "Image")) {
+    pdf_value kind = pdf_key(to->objects, object, "Subtype");
+    int has_content = pdf_is_name(kind, "Form") || pdf_number(pdf_key(to->objects, object, "PatternType"), 0) == 1;
+    if (pdf_is_name(kind, "Image")) {
         note_image(to, object, resources, page);
-    } else if (pdf_is_name(pdf_key(to->objects, object, "Subtype"), "Form") && depth < MOST_DEPTH && is_new(to, object, page)) {
+    } else if (has_content && depth < MOST_DEPTH && is_new(to, object, page)) {
         pdf_value own = pdf_key(to->objects, object, "Resources");
         read_contents(to, object, own.at ? own : resources, page, depth + 1);
+        read_resources(to, own, "Pattern", page, depth + 1);
     }
 }
 
@@ -160,25 +164,31 @@ static void read_content(pdf_pages *to, pdf_value resources, span content, unsig
     }
 }
 
+/* Adds the text of a stream of a page's content. */
+static void add_content(pdf_pages *to, pdf_value stream, unsigned page, buffer *content)
+{
+    buffer text = {NULL, 0, 0, 0};
+    const char *why = "its content";
+    span data;
+    if (pdf_stream(to->objects, stream, &data)) {
+        if (pdf_decoded(to->objects, stream, data, NULL, &text, &why))
+            add(content, text.at, text.length);
+        else
+            snprintf(to->unread, sizeof to->unread, "the content of page %u can't be read: %s", page, why);
+        add(content, "\n", 1);
+    }
+    release(&text);
+}
+
 /* Reads the content of a form, or of a page, whose streams follow each other. */
 static void read_contents(pdf_pages *to, pdf_value from, pdf_value resources, unsigned page, int depth)
 {
     buffer content = {NULL, 0, 0, 0};
-    size_t count = pdf_is_array(from) ? pdf_length(to->objects, from) : 1;
-    for (size_t i = 0; i < count; i++) {
-        buffer one = {NULL, 0, 0, 0};
-        const char *why = "its content";
-        span data;
-        pdf_value stream = pdf_is_array(from) ? pdf_item(to->objects, from, i) : from;
-        if (pdf_stream(to->objects, stream, &data)) {
-            if (pdf_decoded(to->objects, stream, data, NULL, &one, &why))
-                add(&content, one.at, one.length);
-            else
-                snprintf(to->unread, sizeof to->unread, "the content of page %u can't be read: %s", page, why);
-            add(&content, "\n", 1);
-        }
-        release(&one);
-    }
+    pdf_value rest = pdf_items(from), stream;
+    if (!pdf_is_array(from))
+        add_content(to, from, page, &content);
+    while (pdf_next_item(to->objects, &rest, &stream))
+        add_content(to, stream, page, &content);
     buffer *more = content.has_failed ? NULL : realloc(to->contents, (to->content_count + 1) * sizeof *more);
     if (!more) {
         release(&content);
@@ -189,10 +199,10 @@ static void read_contents(pdf_pages *to, pdf_value from, pdf_value resources, un
     read_content(to, resources, bytes_in(&content), page, depth);
 }
 
-/* Adds the images that a page names, and those of the forms that it names. */
-static void read_resources(pdf_pages *to, pdf_value resources, unsigned page, int depth)
+/* Adds the images among the resources of a kind, and those that they show. */
+static void read_resources(pdf_pages *to, pdf_value resources, const char *kind, unsigned page, int depth)
 {
-    pdf_value objects = pdf_key(to->objects, resources, "XObject");
+    pdf_value objects = pdf_key(to->objects, resources, kind);
     if (!pdf_is_dictionary(objects) || depth > MOST_DEPTH)
         return;
     const uint8_t *at = pdf_past_space(objects.at + 2, objects.end);
@@ -205,13 +215,28 @@ static void read_resources(pdf_pages *to, pdf_value resources, unsigned page, in
     }
 }
 
+/* Adds the images that a page's annotations show, in their state if they have several. */
+static void read_annotations(pdf_pages *to, pdf_value it, unsigned page)
+{
+    pdf_value rest = pdf_items(pdf_key(to->objects, it, "Annots")), annotation;
+    while (pdf_next_item(to->objects, &rest, &annotation)) {
+        char state[128];
+        pdf_value normal = pdf_key(to->objects, pdf_key(to->objects, annotation, "AP"), "N");
+        pdf_name(pdf_key(to->objects, annotation, "AS"), state, sizeof state);
+        pdf_value chosen = state[0] ? pdf_key(to->objects, normal, state) : nothing;
+        show(to, chosen.at ? chosen : normal, nothing, page, 0);
+    }
+}
+
 static void read_page(pdf_pages *to, pdf_value it, pdf_value resources)
 {
     unsigned page = ++to->pages;
     pdf_value contents = pdf_key(to->objects, it, "Contents");
     if (contents.at)
         read_contents(to, contents, resources, page, 0);
-    read_resources(to, resources, page, 0);
+    read_resources(to, resources, "XObject", page, 0);
+    read_resources(to, resources, "Pattern", page, 0);
+    read_annotations(to, it, page);
 }
 
 /* Reads a page, or the pages of a node of their tree. */
@@ -225,14 +250,9 @@ static void read_node(pdf_pages *to, pdf_value node, pdf_value resources, int de
         read_page(to, node, own.at ? own : resources);
         return;
     }
-    const uint8_t *at = pdf_past_space(kids.at + 1, kids.end);
-    while (at < kids.end && *at != ']' && spend(to->left, 1)) {
-        pdf_value rest = {kids.at, kids.end, NO_OBJECT};
-        const uint8_t *next = pdf_past_space(pdf_past_value(at, kids.end), kids.end);
-        rest.at = at;
-        read_node(to, pdf_followed(to->objects, rest), own.at ? own : resources, depth + 1);
-        at = next;
-    }
+    pdf_value rest = pdf_items(kids), kid;
+    while (pdf_next_item(to->objects, &rest, &kid))
+        read_node(to, kid, own.at ? own : resources, depth + 1);
 }
 
 int open_pdf(pdf_pages *it, span file, allowance *left, const char **why)
@@ -389,6 +409,13 @@ static int set_data(pdf_pages *from, const pdf_image *image, page *into)
     return !into->refused[0];
 }
 
+/* How many columns are shown of those that are decoded: the image's Width, if its rows have as many bytes. */
+static uint32_t columns_of(pdf *in, pdf_value image, uint32_t decoded)
+{
+    uint32_t width = whole_number(either(in, image, "Width", "W"), 0);
+    return width && width < decoded && bytes_of_row(width) == bytes_of_row(decoded) ? width : decoded;
+}
+
 int next_pdf_page(pdf_pages *from, page *into)
 {
     if (from->next == from->count)
@@ -403,7 +430,7 @@ int next_pdf_page(pdf_pages *from, page *into)
     int is_mask = pdf_is_true(either(in, image->dictionary, "ImageMask", "IM"));
     hayro_ccitt_settings settings = settings_of(in, image->dictionary, parameters);
     uint32_t height = whole_number(either(in, image->dictionary, "Height", "H"), 0);
-    into->columns = settings.columns;
+    into->columns = columns_of(in, image->dictionary, settings.columns);
     into->rows = height ? height : settings.rows;
     into->parts[0].settings = settings;
     if (!settings.columns || !settings.rows)

@@ -34,6 +34,11 @@ int pdf_is_dictionary(pdf_value it);
 int pdf_is_array(pdf_value it);
 size_t pdf_length(pdf *in, pdf_value array);
 
+/* The items of an array one after the other: the rest of them, at first all, of which each call takes one. Returns 0 after the last. */
+pdf_value pdf_items(pdf_value array);
+int pdf_next_item(pdf *in, pdf_value *rest, pdf_value *item);
+
+
 int pdf_is_name(pdf_value it, const char *name);
 int pdf_is_true(pdf_value it);
 double pdf_number(pdf_value it, double otherwise);

@@ -33,11 +33,11 @@ static void add_placed(buffer *to, unsigned orientation, double width, double he
         {1, 0, 0, 1, 0, 0}, {-1, 0, 0, 1, 1, 0}, {-1, 0, 0, -1, 1, 1}, {1, 0, 0, -1, 0, 1},
         {0, -1, -1, 0, 1, 1}, {0, -1, 1, 0, 0, 1}, {0, 1, 1, 0, 0, 0}, {0, 1, -1, 0, 1, 0},
     };
-    const signed char *turn = turns[orientation >= 1 && orientation <= 8 ? orientation - 1 : 0];
+    const signed char *turned = turns[orientation >= 1 && orientation <= 8 ? orientation - 1 : 0];
     add_text(to, "q ");
     for (int i = 0; i < 6; i++) {
-        add_text(to, turn[i] < 0 ? "-" : "");
-        add_decimal(to, turn[i] ? (i % 2 ? height : width) : 0);
+        add_text(to, turned[i] < 0 ? "-" : "");
+        add_decimal(to, turned[i] ? (i % 2 ? height : width) : 0);
         add_text(to, " ");
     }
     add_text(to, "cm /I Do Q");

@@ -8,6 +8,7 @@ static const way ways[] = {
     {"g4", FAX_ENCODE_GROUP_4, FAX_ENCODE_END_OF_BLOCK},
     {"1d", FAX_ENCODE_GROUP_3_1D, FAX_ENCODE_END_OF_LINE},
     {"2d", FAX_ENCODE_GROUP_3_2D, FAX_ENCODE_END_OF_LINE},
+    {"shortest", FAX_ENCODE_GROUP_4, FAX_ENCODE_END_OF_BLOCK | FAX_ENCODE_SHORTEST},
 };
 
 const way *way_named(const char *name)
@@ -36,10 +37,10 @@ static unsigned bit_at(const strip *it, uint64_t bit)
 
 static int begins_with_eol(const strip *it)
 {
-    uint64_t zeros = 0, bits = 8 * (uint64_t)it->data.length;
+    uint64_t zeros = 0, bits = it->settings.encoding == HAYRO_CCITT_GROUP_4 ? 0 : 8 * (uint64_t)it->data.length;
     while (zeros < bits && !bit_at(it, zeros))
         zeros++;
-    return it->settings.encoding != HAYRO_CCITT_GROUP_4 && zeros >= 11 && zeros < bits;
+    return zeros >= 11 && zeros < bits;
 }
 
 /* Whether the last bits are two EOLs, and less than a byte of zeros. */
@@ -123,7 +124,19 @@ static void describe(const page *it, size_t count, strips *into)
     into->count = into->strips ? count : 0;
 }
 
-int take_strips(const page *it, enum target target, allowance *left, strips *into)
+/* The strip of a part, of whose flags only those are left that say how its rows are encoded. */
+static strip strip_of(const part *from)
+{
+    strip made = {from->data, from->settings, 0, 0};
+    made.settings.flags &= HAYRO_CCITT_ALIGNED_ROWS | HAYRO_CCITT_LOW_FIRST;
+    if (made.settings.encoding == HAYRO_CCITT_GROUP_4)
+        made.settings.flags |= HAYRO_CCITT_END_OF_BLOCK;
+    made.has_eols = begins_with_eol(&made);
+    made.is_closed = ends_with_eofb(&made);
+    return made;
+}
+
+int take_strips(const page *it, enum target target, int is_trusted, allowance *left, strips *into)
 {
     if (it->drawn || !are_strips(it) || (target == FOR_PDF && it->count > 1))
         return 0;
@@ -134,16 +147,11 @@ int take_strips(const page *it, enum target target, allowance *left, strips *int
     int is_taken = into->count != 0;
     for (size_t i = 0; is_taken && i < it->count; i++) {
         strip *one = &into->strips[i];
-        one->data = it->parts[i].data;
-        one->settings = it->parts[i].settings;
-        one->settings.flags &= HAYRO_CCITT_ALIGNED_ROWS | HAYRO_CCITT_LOW_FIRST;
-        if (one->settings.encoding == HAYRO_CCITT_GROUP_4)
-            one->settings.flags |= HAYRO_CCITT_END_OF_BLOCK;
-        one->has_eols = one->data.length && begins_with_eol(one);
-        one->is_closed = one->data.length && ends_with_eofb(one);
-        is_taken = spend(left, one->data.length) && has_way(target, one) && is_lawful(one)
-            && one->has_eols == into->strips[0].has_eols;
-        allow(left, one->settings.rows * bytes_of_row(it->columns));
+        *one = strip_of(&it->parts[i]);
+        int is_unread = is_trusted && one->data.length && !it->parts[i].is_cut;
+        is_taken = spend(left, one->data.length) && has_way(target, one) && one->has_eols == into->strips[0].has_eols
+            && (is_unread || is_lawful(one));
+        allow(left, is_unread ? 0 : one->settings.rows * bytes_of_row(it->columns));
     }
     if (is_taken && target == FOR_PDF && into->strips[0].settings.flags & HAYRO_CCITT_LOW_FIRST)
         is_taken = turn_bits(into);

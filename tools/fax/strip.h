@@ -35,8 +35,9 @@ typedef struct {
 
 enum target { FOR_TIFF, FOR_PDF };
 
-/* Takes the strips of a page as they are. Returns 0 if that can't be done: one isn't lawful, or the target has no such strips. */
-int take_strips(const page *it, enum target target, allowance *left, strips *into);
+/* Takes the strips of a page as they are. Returns 0 if that can't be done: one isn't lawful, or the target has no such strips. That a
+ * strip is lawful, a strict reading shows; if they are trusted, that all of it is in the file. */
+int take_strips(const page *it, enum target target, int is_trusted, allowance *left, strips *into);
 
 /* Encodes the picture of a page, which is turned and inverted already, as one strip. Returns 0 if an allocation failed. */
 int encode_strip(const page *it, const picture *drawn, const way *how, strips *into);

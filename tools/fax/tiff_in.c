@@ -114,10 +114,10 @@ static double resolution(const directory *in, unsigned tag)
 /* Whether the first colour of a palette is darker than the second one. */
 static int is_dark_first(const directory *in)
 {
-    uint64_t dark = 0, light = 0;
+    uint64_t brightness[2] = {0, 0};
     for (unsigned i = 0; i < 6; i++)
-        *(i % 2 ? &light : &dark) += value(in, COLOR_MAP, i, 0);
-    return dark < light;
+        brightness[i % 2] += value(in, COLOR_MAP, i, 0);
+    return brightness[0] < brightness[1];
 }
 
 /* How long strips are whose length isn't said: up to the next one. */
@@ -176,6 +176,7 @@ static void lay_out_parts(const directory *in, const layout *of, hayro_ccitt_set
         if (!length && offset)
             length = length_to_next(in, of->offsets, offset, &all);
         parts[i].data = part_of_span(in->from->file, offset, length);
+        parts[i].is_cut = parts[i].data.length < length;
         parts[i].left = (uint32_t)(i % across * of->width);
         parts[i].top = (uint32_t)(i / across * of->length);
         parts[i].settings = settings;

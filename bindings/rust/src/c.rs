@@ -76,6 +76,7 @@ pub(crate) struct Outcome {
     pub(crate) damaged_rows: u64,
     pub(crate) fault_start: u64,
     pub(crate) missed_eols: u64,
+    pub(crate) cut_rows: u64,
 }
 
 /// `hayro_ccitt_row`.
@@ -89,7 +90,9 @@ pub(crate) struct Row {
     pub(crate) damaged_rows: u64,
     pub(crate) damage: u64,
     pub(crate) missed_eols: u64,
-    reserved: u64,
+    pub(crate) cut_rows: u64,
+    pub(crate) is_cut: u64,
+    pub(crate) missed_eol: u64,
 }
 
 /// `hayro_ccitt_reader`.
@@ -119,6 +122,7 @@ impl From<&crate::EncodeSettings> for EncodeSettings {
             false,
             settings.low_first,
             settings.eols_end_at_bytes,
+            settings.shortest,
         ];
         Self {
             columns: settings.columns,

@@ -24,6 +24,9 @@ pub struct EncodeSettings {
     pub end_of_block: bool,
     /// Whether each byte's lowest bit comes first, as in TIFF files of FillOrder 2.
     pub low_first: bool,
+    /// Whether two-dimensional lines have the fewest bits that encode them, rather than those of T.6's procedure, which other
+    /// encoders follow. Every decoder reads either.
+    pub shortest: bool,
 }
 
 /// Why a bitmap wasn't encoded.
@@ -77,6 +80,7 @@ impl core::error::Error for EncodeError {}
 ///     rows_are_byte_aligned: false,
 ///     end_of_block: true,
 ///     low_first: false,
+///     shortest: false,
 /// };
 /// let data = encode_bitmap(&[0b00011000], settings)?;
 /// assert_eq!(data, [0x31, 0xC0, 0x04, 0x00, 0x40]);

@@ -43,7 +43,7 @@
 //!
 //! If an allocation fails, the program ends, as with a [`Vec`].
 //! `decode_low_first`, [`decode_packed`], [`RowReader`], [`DecoderContext::damaged_rows`], [`DecoderContext::missed_eols`],
-//! [`DecoderContext::fault_start`] and [`encode_bitmap`] are added. The package is `no_std`, and needs an allocator and a C compiler.
+//! [`DecoderContext::cut_rows`], [`DecoderContext::fault_start`] and [`encode_bitmap`] are added. The package is `no_std`, and needs an allocator and a C compiler.
 
 #![no_std]
 #![warn(missing_docs)]
@@ -133,6 +133,7 @@ fn push_rows(
 ) -> Result<usize> {
     ctx.damaged_rows = 0;
     ctx.missed_eols = 0;
+    ctx.cut_rows = 0;
     ctx.fault_start = None;
     let mut rows = RowReader::with(data, &ctx.settings, settings);
     let result = loop {
@@ -144,6 +145,7 @@ fn push_rows(
     };
     ctx.damaged_rows = rows.damaged_rows();
     ctx.missed_eols = rows.missed_eols();
+    ctx.cut_rows = rows.cut_rows();
     // After an error the reader tells the place of the fault.
     ctx.fault_start = result.is_err().then(|| rows.line_start());
     result
@@ -188,6 +190,7 @@ fn pack_at_once(
     };
     ctx.damaged_rows = outcome.damaged_rows;
     ctx.missed_eols = outcome.missed_eols;
+    ctx.cut_rows = outcome.cut_rows;
     ctx.fault_start = result.is_err().then(|| usize_of(outcome.fault_start));
     PackedRows {
         rows: usize_of(outcome.rows),
@@ -227,6 +230,7 @@ fn pack_as_they_come(
     };
     ctx.damaged_rows = rows.row.damaged_rows;
     ctx.missed_eols = rows.row.missed_eols;
+    ctx.cut_rows = rows.row.cut_rows;
     // After an error the reader tells the place of the fault.
     ctx.fault_start = result.is_err().then(|| usize_of(rows.row.line_start));
     PackedRows {
@@ -284,6 +288,7 @@ pub struct DecoderContext {
     settings: DecodeSettings,
     damaged_rows: u64,
     missed_eols: u64,
+    cut_rows: u64,
     fault_start: Option<usize>,
 }
 
@@ -294,6 +299,7 @@ impl DecoderContext {
             settings,
             damaged_rows: 0,
             missed_eols: 0,
+            cut_rows: 0,
             fault_start: None,
         }
     }
@@ -308,6 +314,13 @@ impl DecoderContext {
     /// the next EOL, or found none.
     pub fn missed_eols(&self) -> u64 {
         self.missed_eols
+    }
+
+    /// Returns the number of rows of the last image in which a lenient reading cut a run at the row's end. If this,
+    /// [`damaged_rows`](Self::damaged_rows) and [`missed_eols`](Self::missed_eols) are 0 after a decoding without an error, a strict
+    /// reading ends without one too; and only then.
+    pub fn cut_rows(&self) -> u64 {
+        self.cut_rows
     }
 
     /// Returns the offset of the fault in bits if the last image ended with an error: that at which the line after its rows begins,

@@ -120,6 +120,25 @@ impl<'a> RowReader<'a> {
         self.rows.row.missed_eols
     }
 
+    /// Returns the offset in bits at which the last call of [`next_row`](Self::next_row) missed an EOL, after the row that had been the
+    /// last one before.
+    pub fn missed_eol(&self) -> Option<usize> {
+        match self.rows.row.missed_eol {
+            0 => None,
+            place => Some(usize_of(place)),
+        }
+    }
+
+    /// Returns the number of rows read so far in which a run was cut at the row's end, where a strict reading fails.
+    pub fn cut_rows(&self) -> u64 {
+        self.rows.row.cut_rows
+    }
+
+    /// Returns whether a run of the last row was cut at the row's end.
+    pub fn is_cut(&self) -> bool {
+        self.rows.row.is_cut != 0
+    }
+
     /// Returns the fault of the last row if its line was damaged and repaired.
     pub fn damage(&self) -> Option<DecodeError> {
         match self.rows.row.damage as u32 {

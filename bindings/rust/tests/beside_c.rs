@@ -131,6 +131,7 @@ fn long_data() -> Vec<Case> {
                 rows_are_byte_aligned: false,
                 end_of_block: true,
                 low_first: false,
+                shortest: false,
             };
             let row = |byte: u8| vec![byte; 125];
             let bitmap = [row(0xAA), row(0), row(0xCC), row(0xFF)]
@@ -219,11 +220,12 @@ fn tell(
 ) -> String {
     assert_eq!(told.fault_start().is_some(), result.is_err());
     format!(
-        "{call} {} {rows} {} {} {} {} {sum}\n",
+        "{call} {} {rows} {} {} {} {} {} {sum}\n",
         status_of(result.err()),
         result.unwrap_or(0),
         told.damaged_rows(),
         told.missed_eols(),
+        told.cut_rows(),
         told.fault_start().unwrap_or(0),
     )
 }
@@ -268,12 +270,14 @@ fn by_rows(case: &Case) -> String {
         match (changes, packed) {
             (Ok(Some(changes)), Ok(Some(packed))) => writeln!(
                 text,
-                "row {} {} {} {} {} {changes} {packed}",
+                "row {} {} {} {} {} {} {} {changes} {packed}",
                 lists.line_start(),
                 lists.bytes_read(),
                 lists.damaged_rows(),
                 lists.missed_eols(),
+                lists.cut_rows(),
                 status_of(lists.damage()),
+                u32::from(lists.is_cut()),
             )
             .unwrap(),
             (Ok(None), Ok(None)) => break 7,
@@ -282,12 +286,13 @@ fn by_rows(case: &Case) -> String {
         }
     };
     text + &format!(
-        "end {status} {} {} {} {} {}\n",
+        "end {status} {} {} {} {} {} {}\n",
         lists.rows_read(),
         lists.line_start(),
         lists.bytes_read(),
         lists.damaged_rows(),
         lists.missed_eols(),
+        lists.cut_rows(),
     )
 }
 
@@ -307,7 +312,7 @@ fn every_call_answers_as_in_c() {
         for line in text.lines() {
             let words: Vec<&str> = line.split(' ').collect();
             match words[0] {
-                "row" => kinds.insert(words[5].to_string()),
+                "row" => kinds.insert(words[6].to_string()),
                 kind => results.insert(format!("{kind} {}", words[1])),
             };
         }

@@ -180,6 +180,7 @@ fn encode_settings(settings: DecodeSettings, eols_end_at_bytes: bool) -> EncodeS
         rows_are_byte_aligned: settings.rows_are_byte_aligned,
         end_of_block: settings.end_of_block,
         low_first: false,
+        shortest: false,
     }
 }
 

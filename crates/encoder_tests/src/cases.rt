@@ -15,8 +15,9 @@ use fax_callers::{
     strip_to_bitmap,
 };
 use fax_encode::{
-    BitmapSink, EncodeError, EncodeSettings, Encoder, bitmap_by_group3, bitmap_by_group4, encode,
-    encode_1d, encode_bitmap, encode_bitmap_1d, encode_bitmap_g4, encode_g4, rows_of_bitmap,
+    BitmapSink, Effort, EncodeError, EncodeSettings, Encoder, bitmap_by_group3, bitmap_by_group4,
+    encode, encode_1d, encode_bitmap, encode_bitmap_1d, encode_bitmap_g4, encode_g4,
+    rows_of_bitmap,
 };
 use hayro_ccitt::bit_reader::BitOrder;
 use hayro_ccitt::{DecoderContext, EncodingMode, bits_fit};
@@ -339,6 +340,7 @@ pub fn settings_by(words: &str) -> EncodeSettings {
         rows_are_byte_aligned: has(words, "aligned"),
         end_of_block: has(words, "rtc"),
         order: order_by(words),
+        effort: effort_by(words),
     }
 }
 
@@ -359,6 +361,15 @@ fn order_by(words: &str) -> BitOrder {
         BitOrder::LowestFirst
     } else {
         BitOrder::HighestFirst
+    }
+}
+
+/// Returns the effort that words name.
+fn effort_by(words: &str) -> Effort {
+    if has(words, "shortest") {
+        Effort::Shortest
+    } else {
+        Effort::Procedure
     }
 }
 

@@ -3,7 +3,7 @@
 
 use crate::cases::{bytes_of, check, row_of, says, settings_by};
 use crate::same;
-use fax_encode::{BitmapSink, EncodeError, EncodeSettings, Encoder, encode_bitmap};
+use fax_encode::{BitmapSink, Effort, EncodeError, EncodeSettings, Encoder, encode_bitmap};
 use hayro_ccitt::bit_reader::BitOrder;
 use hayro_ccitt::{DecodeSettings, DecoderContext, EncodingMode, bits_fit, decode_in};
 use named_requests::{refuse_request, was_refused};
@@ -261,6 +261,7 @@ fn all_settings_come_back(rt: HostRuntime) {
                     rows_are_byte_aligned: flags & 4 == 4,
                     end_of_block: flags & 8 == 8,
                     order,
+                    effort: Effort::Procedure,
                 };
                 let first = encode_bitmap(rt.alloc(), 24, &BITMAP, settings).err();
                 if first != Some(EncodeError::NoEncoding) {

@@ -1,9 +1,9 @@
 -- What decoding one image leaves, in the terms of the callers.
 use Rattle.std.proofs.Common.{◌≡◌, inl, inr, ℕ, List, refl, Ok, Err, arith}
 use Rattle.std.specs.Prelude.{Result, IsOk}
-use Rattle.hayro_ccitt.specs.declared.error.DecodeError.{DecodeError}
-use Rattle.hayro_ccitt.specs.declared.error.DecodeError.TheVariants.{OutOfMemory}
-use Rattle.hayro_ccitt.specs.declared.settings.DecodeSettings.{DecodeSettings}
+use Rattle.hayro_ccitt.specs.DecodeError.{DecodeError}
+use Rattle.hayro_ccitt.specs.DecodeError.TheVariants.{OutOfMemory}
+use Rattle.hayro_ccitt.specs.DecodeSettings.{DecodeSettings}
 use Rattle.hayro_ccitt.specs.Answers.{OnAnswer}
 use Rattle.hayro_ccitt.specs.Bits.{Bits}
 use Rattle.hayro_ccitt.specs.Context.{Held}

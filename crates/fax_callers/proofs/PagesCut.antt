@@ -1,8 +1,8 @@
 -- Pages that are found one after another.
 use Rattle.std.proofs.Common.{◌≡◌, ℕ, ◌+◌, ◌-◌, ◌<◌, ◌≤◌, List, [], ◌∷◌, ◌++◌, length, Ok, refl, sym, ap, subst, ◌∙◌, arith}
 use Rattle.std.specs.Prelude.{Result}
-use Rattle.hayro_ccitt.specs.declared.bit_reader.BitOrder.{BitOrder}
-use Rattle.hayro_ccitt.specs.declared.error.DecodeError.{DecodeError}
+use Rattle.hayro_ccitt.specs.BitOrder.{BitOrder}
+use Rattle.hayro_ccitt.specs.DecodeError.{DecodeError}
 use Rattle.fax_callers.specs.Pages.{page_from, ReadsClosedPages, EndAt, StandAt}
 
 -- one page more

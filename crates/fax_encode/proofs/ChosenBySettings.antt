@@ -10,49 +10,60 @@ use Rattle.fax_encode.proofs.Names.{ChosenComesBack, ChosenIsRead, ChosenLinesEn
 use Rattle.fax_encode.proofs.Names.{needs_row, is_closed, decode_settings_for, is_two_dimensional, chosen_line, left_after}
 use Rattle.fax_encode.proofs.Names.{chosen_lines, fill_of, chosen_lines_with_eols, chosen_eols, chosen_picture, chosen_with_eols}
 use Rattle.fax_encode.proofs.Names.{chosen_group4, eols_here}
+use Rattle.fax_encode.proofs.Names.{Effort, Procedure, Shortest, line_2d, EncodesLine2D, White}
 use Rattle.fax_encode.proofs.{BytesOfBits.same_bytes, ChosenLines.line_1d_encodes, ChosenLines.line_2d_encodes}
+use Rattle.fax_encode.proofs.ShortestLines.{shortest_lines}
 use Rattle.fax_encode.proofs.ReadToTheEnd.{all_but, rounded_up, rtc_few, few_zeros, all_t6, all_t4, all_t4_with_eols}
 
 -- ---- lines
+-- a two-dimensional line is one, whatever the effort
+pub line_2d_encoded : (effort : Effort) (reference row : Row) → length reference ≡ length row
+    → EncodesLine2D reference row 0 White (line_2d effort reference row)
+line_2d_encoded Procedure reference row same = line_2d_encodes reference row same
+line_2d_encoded Shortest reference row same = (shortest_lines reference row same).0
+
 -- a line is one of an encoding
-pub line_encodes : (encoding : EncodingMode) (left : ℕ) (reference row : Row) → length reference ≡ length row → 0 < length row
-    → EncodesLine encoding reference row (chosen_line encoding left reference row)
-line_encodes Group4 left reference row same some = line_2d_encodes reference row same
-line_encodes Group3_1D left reference row same some = line_1d_encodes row some
-line_encodes Group3_2D left reference row same some = by_two (is_two_dimensional left reference row)
+pub line_encodes : (effort : Effort) (encoding : EncodingMode) (left : ℕ) (reference row : Row)
+    → length reference ≡ length row → 0 < length row
+    → EncodesLine encoding reference row (chosen_line effort encoding left reference row)
+line_encodes effort Group4 left reference row same some = line_2d_encoded effort reference row same
+line_encodes effort Group3_1D left reference row same some = line_1d_encodes row some
+line_encodes effort Group3_2D left reference row same some = by_two (is_two_dimensional effort left reference row)
   where
     by_two : (two : Bool)
-        → EncodesLine Group3_2D reference row (cond two (false ∷ chosen_line_2d reference row) (true ∷ chosen_line_1d row))
-    by_two true = (chosen_line_2d reference row, inr (refl, line_2d_encodes reference row same))
+        → EncodesLine Group3_2D reference row (cond two (false ∷ line_2d effort reference row) (true ∷ chosen_line_1d row))
+    by_two true = (line_2d effort reference row, inr (refl, line_2d_encoded effort reference row same))
     by_two false = (chosen_line_1d row, inl (refl, line_1d_encodes row some))
 
-lines_encode : (encoding : EncodingMode) (columns k : ℕ) (aligned : Bool) (left : ℕ) (reference : Row) (rows : List Row)
+lines_encode : (effort : Effort) (encoding : EncodingMode) (columns k : ℕ) (aligned : Bool) (left : ℕ) (reference : Row)
+    (rows : List Row)
     → 0 < columns → length reference ≡ columns → HaveWidth columns rows
-    → EncodesRows encoding aligned reference rows (chosen_lines encoding k aligned left reference rows)
-lines_encode encoding columns k aligned left reference [] wide same widths = refl
-lines_encode encoding columns k aligned left reference (row ∷ rows) wide same widths =
+    → EncodesRows encoding aligned reference rows (chosen_lines effort encoding k aligned left reference rows)
+lines_encode effort encoding columns k aligned left reference [] wide same widths = refl
+lines_encode effort encoding columns k aligned left reference (row ∷ rows) wide same widths =
     let width : length row ≡ columns = All-head (λ row. length row ≡ columns) row rows widths in (
-      chosen_line encoding left reference row,
-      chosen_lines encoding k aligned (left_after encoding k left reference row) row rows,
-      line_encodes encoding left reference row (same ∙ sym width) (omega arith),
-      lines_encode encoding columns k aligned (left_after encoding k left reference row) row rows wide width
+      chosen_line effort encoding left reference row,
+      chosen_lines effort encoding k aligned (left_after effort encoding k left reference row) row rows,
+      line_encodes effort encoding left reference row (same ∙ sym width) (omega arith),
+      lines_encode effort encoding columns k aligned (left_after effort encoding k left reference row) row rows wide width
           (All-tail (λ row. length row ≡ columns) row rows widths),
       refl,
     )
 
 -- the lines are those of an encoding, with EOLs
-pub lines_with_eols_encode : (encoding : EncodingMode) (columns k : ℕ) (fills : Bool)
+pub lines_with_eols_encode : (effort : Effort) (encoding : EncodingMode) (columns k : ℕ) (fills : Bool)
     (at left : ℕ) (reference : Row) (rows : List Row) → 0 < columns → length reference ≡ columns → HaveWidth columns rows
-    → EncodesRowsWithEols encoding reference rows (chosen_lines_with_eols encoding k fills at left reference rows)
-lines_with_eols_encode encoding columns k fills at left reference [] wide same widths = refl
-lines_with_eols_encode encoding columns k fills at left reference (row ∷ rows) wide same widths =
+    → EncodesRowsWithEols encoding reference rows (chosen_lines_with_eols effort encoding k fills at left reference rows)
+lines_with_eols_encode effort encoding columns k fills at left reference [] wide same widths = refl
+lines_with_eols_encode effort encoding columns k fills at left reference (row ∷ rows) wide same widths =
     let width : length row ≡ columns = All-head (λ row. length row ≡ columns) row rows widths in
-    let next : ℕ = at + 12 + fill_of fills at + length (chosen_line encoding left reference row) in (
+    let next : ℕ = at + 12 + fill_of fills at + length (chosen_line effort encoding left reference row) in (
       fill_of fills at,
-      chosen_line encoding left reference row,
-      chosen_lines_with_eols encoding k fills next (left_after encoding k left reference row) row rows,
-      line_encodes encoding left reference row (same ∙ sym width) (omega arith),
-      lines_with_eols_encode encoding columns k fills next (left_after encoding k left reference row) row rows wide width
+      chosen_line effort encoding left reference row,
+      chosen_lines_with_eols effort encoding k fills next (left_after effort encoding k left reference row) row rows,
+      line_encodes effort encoding left reference row (same ∙ sym width) (omega arith),
+      lines_with_eols_encode effort encoding columns k fills next
+          (left_after effort encoding k left reference row) row rows wide width
           (All-tail (λ row. length row ≡ columns) row rows widths),
       refl,
     )
@@ -70,9 +81,9 @@ white_is_wide columns = length-replicate columns false
 
 -- the law
 pub chosen_lines_encode : ChosenLinesEncode
-chosen_lines_encode encoding columns k rows is = (
-  λ aligned. lines_encode encoding columns k aligned 0 (white_row columns) rows is.0 (white_is_wide columns) is.1,
-  λ fills. lines_with_eols_encode encoding columns k fills 0 0 (white_row columns) rows is.0 (white_is_wide columns) is.1,
+chosen_lines_encode effort encoding columns k rows is = (
+  λ aligned. lines_encode effort encoding columns k aligned 0 (white_row columns) rows is.0 (white_is_wide columns) is.1,
+  λ fills. lines_with_eols_encode effort encoding columns k fills 0 0 (white_row columns) rows is.0 (white_is_wide columns) is.1,
   λ fills at. eols_close encoding fills at 6,
 )
 
@@ -90,8 +101,8 @@ tag_alone two = omega arith
 
 -- the law
 pub never_longer : NeverLonger
-never_longer zero reference row = tag_alone (chosen_line_1d row)
-never_longer (suc left) reference row = shorter_one (chosen_line_2d reference row) (chosen_line_1d row)
+never_longer effort zero reference row = tag_alone (chosen_line_1d row)
+never_longer effort (suc left) reference row = shorter_one (line_2d effort reference row) (chosen_line_1d row)
 
 -- ---- what is chosen is read again
 -- settings of a decoder that match
@@ -121,13 +132,14 @@ module _ (order : BitOrder) (d : DecodeSettings) (columns : ℕ) (rows : List Ro
   are_settings : (limit : ℕ) → d.columns ≡ columns → d.rows ≡ limit → limit < 2 ^ 32 → AreSettings d
   are_settings limit c r lt = record { columns = omega (arith, c, small); rows = omega (arith, r, lt) }
 
-  of_group4 : (k : ℕ) (eols aligned closed : Bool) → (needs_row Group4 closed ≡ true → 0 < length rows)
-      → Match d Group4 eols aligned closed columns (length rows) → whole ≡ filled_up (chosen_group4 k aligned closed white rows)
+  of_group4 : (effort : Effort) (k : ℕ) (eols aligned closed : Bool) → (needs_row Group4 closed ≡ true → 0 < length rows)
+      → Match d Group4 eols aligned closed columns (length rows)
+      → whole ≡ filled_up (chosen_group4 effort k aligned closed white rows)
       → GivesAll d whole rows (length bytes)
-  of_group4 k eols aligned true some m e =
-      let body : Bits = chosen_lines Group4 k aligned 0 white rows in
+  of_group4 effort k eols aligned true some m e =
+      let body : Bits = chosen_lines effort Group4 k aligned 0 white rows in
       let bits : Bits = body ++ (eol 0 ++ eol 0) in
-      let lines = lines_encode Group4 columns k aligned 0 white rows is.0 (white_is_wide columns) is.1 in
+      let lines = lines_encode effort Group4 columns k aligned 0 white rows is.0 (white_is_wide columns) is.1 in
       closed_gives d rows ((length bits + 7) / 8) (length bytes) whole (are_settings 0 m.columns_are m.limit_is (omega arith))
       (bits_are_whole order bytes) (rounded_up order bits bytes e) (IsClosedPicture.by_eofb bits (record {
         encoding = m.encoding_is;
@@ -137,9 +149,9 @@ module _ (order : BitOrder) (d : DecodeSettings) (columns : ℕ) (rows : List Ro
             PictureT6 columns a rows bits) (sym m.aligned_is) (body, is, lines, sym (append_assoc body (eol 0) (eol 0))));
         begins = (padding (length bits), e);
       }) refl)
-  of_group4 k eols aligned false some m e =
-      let body : Bits = chosen_lines Group4 k aligned 0 white rows in
-      let lines = lines_encode Group4 columns k aligned 0 white rows is.0 (white_is_wide columns) is.1 in
+  of_group4 effort k eols aligned false some m e =
+      let body : Bits = chosen_lines effort Group4 k aligned 0 white rows in
+      let lines = lines_encode effort Group4 columns k aligned 0 white rows is.0 (white_is_wide columns) is.1 in
       all_t6 order d rows bytes (are_settings (length rows) m.columns_are m.limit_is few) body (record {
         encoding = m.encoding_is;
         limit = m.limit_is;
@@ -150,19 +162,20 @@ module _ (order : BitOrder) (d : DecodeSettings) (columns : ℕ) (rows : List Ro
         begins = (padding (length (body ++ [])), e ∙ ap (λ (b : Bits). b ++ padding (length (body ++ []))) (append-nil body));
       }) (few_zeros (length (body ++ [])))
 
-  module _ (encoding : EncodingMode) (k : ℕ) (fills : Bool) (not_t6 : encoding ≢ Group4) (some : 0 < length rows) where
+  module _ (effort : Effort) (encoding : EncodingMode) (k : ℕ) (fills : Bool) (not_t6 : encoding ≢ Group4)
+      (some : 0 < length rows) where
     abbrev lines_there : Bits
-    lines_there = chosen_lines_with_eols encoding k fills 0 0 white rows
+    lines_there = chosen_lines_with_eols effort encoding k fills 0 0 white rows
 
     encoded_with_eols : d.columns ≡ columns → d.encoding ≡ encoding
         → EncodesRowsWithEols d.encoding (white_row d.columns) rows lines_there
     encoded_with_eols c m =
         subst (λ (n : ℕ). EncodesRowsWithEols d.encoding (white_row n) rows lines_there) (sym c)
         (subst (λ (x : EncodingMode). EncodesRowsWithEols x white rows lines_there) (sym m)
-        (lines_with_eols_encode encoding columns k fills 0 0 white rows is.0 (white_is_wide columns) is.1))
+        (lines_with_eols_encode effort encoding columns k fills 0 0 white rows is.0 (white_is_wide columns) is.1))
 
     of_eols : (aligned closed : Bool) → Match d encoding true aligned closed columns (length rows)
-        → whole ≡ filled_up (chosen_with_eols encoding k fills closed white rows) → GivesAll d whole rows (length bytes)
+        → whole ≡ filled_up (chosen_with_eols effort encoding k fills closed white rows) → GivesAll d whole rows (length bytes)
     of_eols aligned true m e =
         let closing : Bits = chosen_eols encoding fills (length lines_there) 6 in
         let pad : Bits = padding (length (lines_there ++ closing)) in
@@ -195,10 +208,10 @@ module _ (order : BitOrder) (d : DecodeSettings) (columns : ℕ) (rows : List Ro
         }) (few_zeros (length (lines_there ++ [])))
 
     of_lines : (aligned : Bool) → Match d encoding false aligned false columns (length rows)
-        → whole ≡ filled_up (chosen_lines encoding k aligned 0 white rows) → GivesAll d whole rows (length bytes)
+        → whole ≡ filled_up (chosen_lines effort encoding k aligned 0 white rows) → GivesAll d whole rows (length bytes)
     of_lines aligned m e =
-        let body : Bits = chosen_lines encoding k aligned 0 white rows in
-        let lines = lines_encode encoding columns k aligned 0 white rows is.0 (white_is_wide columns) is.1 in
+        let body : Bits = chosen_lines effort encoding k aligned 0 white rows in
+        let lines = lines_encode effort encoding columns k aligned 0 white rows is.0 (white_is_wide columns) is.1 in
         all_t4 order d rows bytes (are_settings (length rows) m.columns_are m.limit_is few) body (record {
           encoding = λ x. not_t6 (sym m.encoding_is ∙ x);
           end_of_line = m.eols_are;
@@ -211,38 +224,43 @@ module _ (order : BitOrder) (d : DecodeSettings) (columns : ℕ) (rows : List Ro
           begins = (padding (length body), e);
         }) (few_zeros (length body))
 
-  by_kind : (encoding : EncodingMode) (eols : Bool) (k : ℕ) (fills aligned closed : Bool) → (needs_row encoding closed ≡ true
+  by_kind : (effort : Effort) (encoding : EncodingMode) (eols : Bool) (k : ℕ) (fills aligned closed : Bool)
+      → (needs_row encoding closed ≡ true
       → 0 < length rows) → Match d encoding eols aligned (is_closed encoding eols closed) columns (length rows)
-      → whole ≡ filled_up (chosen_picture encoding eols k fills aligned closed white rows) → GivesAll d whole rows (length bytes)
-  by_kind Group4 eols k fills aligned closed some m e = of_group4 k eols aligned closed some m e
-  by_kind Group3_1D true k fills aligned closed some m e =
-      of_eols Group3_1D k fills (λ x. absurd cc) (some refl) aligned closed m e
-  by_kind Group3_1D false k fills aligned closed some m e = of_lines Group3_1D k fills (λ x. absurd cc) (some refl) aligned m e
-  by_kind Group3_2D true k fills aligned closed some m e =
-      of_eols Group3_2D k fills (λ x. absurd cc) (some refl) aligned closed m e
-  by_kind Group3_2D false k fills aligned closed some m e = of_lines Group3_2D k fills (λ x. absurd cc) (some refl) aligned m e
+      → whole ≡ filled_up (chosen_picture effort encoding eols k fills aligned closed white rows)
+      → GivesAll d whole rows (length bytes)
+  by_kind effort Group4 eols k fills aligned closed some m e = of_group4 effort k eols aligned closed some m e
+  by_kind effort Group3_1D true k fills aligned closed some m e =
+      of_eols effort Group3_1D k fills (λ x. absurd cc) (some refl) aligned closed m e
+  by_kind effort Group3_1D false k fills aligned closed some m e = of_lines effort Group3_1D k fills (λ x. absurd cc)
+      (some refl) aligned m e
+  by_kind effort Group3_2D true k fills aligned closed some m e =
+      of_eols effort Group3_2D k fills (λ x. absurd cc) (some refl) aligned closed m e
+  by_kind effort Group3_2D false k fills aligned closed some m e = of_lines effort Group3_2D k fills (λ x. absurd cc)
+      (some refl) aligned m e
 
 -- the law
 pub chosen_is_read : ChosenIsRead
 chosen_is_read settings columns rows bytes small few some is e =
-    by_kind settings.order (decode_settings_for settings columns (length rows)) columns rows bytes small few is settings.encoding
+    by_kind settings.order (decode_settings_for settings columns
+    (length rows)) columns rows bytes small few is settings.effort settings.encoding
     settings.end_of_line settings.k settings.eols_end_at_bytes settings.rows_are_byte_aligned settings.end_of_block some
     (record { columns_are = refl; encoding_is = refl; eols_are = refl; aligned_is = refl; block_is = refl; limit_is = refl }) e
 
 -- ---- the existing encoders
 same_lines_2d : (k left : ℕ) (aligned : Bool) (reference : Row) (rows : List Row)
-    → chosen_lines Group4 k aligned left reference rows ≡ chosen_lines_2d aligned reference rows
+    → chosen_lines Procedure Group4 k aligned left reference rows ≡ chosen_lines_2d aligned reference rows
 same_lines_2d k left aligned reference [] = refl
 same_lines_2d k left aligned reference (row ∷ rows) =
     ap (λ (b : Bits). (chosen_line_2d reference row ++ cond aligned (padding (length (chosen_line_2d reference row))) []) ++ b)
-    (same_lines_2d k (left_after Group4 k left reference row) aligned row rows)
+    (same_lines_2d k (left_after Procedure Group4 k left reference row) aligned row rows)
 
 same_lines_1d : (k at left : ℕ) (reference : Row) (rows : List Row)
-    → chosen_lines_with_eols Group3_1D k false at left reference rows ≡ chosen_lines_1d rows
+    → chosen_lines_with_eols Procedure Group3_1D k false at left reference rows ≡ chosen_lines_1d rows
 same_lines_1d k at left reference [] = refl
 same_lines_1d k at left reference (row ∷ rows) =
     ap (λ (b : Bits). (eol 0 ++ chosen_line_1d row) ++ b)
-    (same_lines_1d k (at + 12 + 0 + length (chosen_line_1d row)) (left_after Group3_1D k left reference row) row rows)
+    (same_lines_1d k (at + 12 + 0 + length (chosen_line_1d row)) (left_after Procedure Group3_1D k left reference row) row rows)
 
 same_eols : (at : ℕ) → chosen_eols Group3_1D false at 6 ≡ return_to_control
 same_eols at = refl

@@ -6,12 +6,13 @@ use Rattle.fax_encode.proofs.Names.{EncodingMode, Group3_2D, BitOrder, Bits, Are
 use Rattle.fax_encode.proofs.Names.{tagged_eols, EncodesRowsWithEols, ClosesWithEols, IsPicture, padding, eol, tag_of, IsEolAt}
 use Rattle.fax_encode.proofs.Names.{EndAlike, IsTaggedBody, ComeBefore1D, RowsDiffer, SameBut, plain, AreSettings, locality_by_k}
 use Rattle.fax_encode.proofs.Names.{encoded_follows, encoded_lines_are_bodies, drop_at, eol_stands, eols_here_two, six_tagged}
-use Rattle.fax_encode.proofs.Names.{eol_before, EncodeSettings, chosen_line_1d, chosen_line_2d, filled_up, DamageReachesKRows}
+use Rattle.fax_encode.proofs.Names.{eol_before, EncodeSettings, chosen_line_1d, filled_up, DamageReachesKRows}
 use Rattle.fax_encode.proofs.Names.{lenient_settings_for, tag_after, line_end, ChangesAtMost, DamagedLine, RowsEncoded, no_rows}
 use Rattle.fax_encode.proofs.Names.{with_row, with_rows, chosen, is_two_dimensional, chosen_line, left_after, fill_of}
 use Rattle.fax_encode.proofs.Names.{chosen_lines_with_eols, chosen_eols, with_end}
-use Rattle.fax_encode.proofs.{ChosenLines.line_1d_encodes, ChosenLines.line_2d_encodes, FilledEols.length-eol}
+use Rattle.fax_encode.proofs.{ChosenLines.line_1d_encodes, ChosenBySettings.line_2d_encoded, FilledEols.length-eol}
 use Rattle.fax_encode.proofs.ChosenBySettings.{line_encodes, lines_with_eols_encode, eols_close, white_is_wide}
+use Rattle.fax_encode.proofs.Names.{Effort, line_2d}
 use Rattle.fax_encode.proofs.LinesOfPictures.{lines_left, lines_pushed, rows_are_chosen}
 use Rattle.hayro_ccitt.proofs.DamagedLines.DamageByK.{eol_before_lines}
 
@@ -45,11 +46,12 @@ module _ (d : DecodeSettings) (one two : Bits) (from count more : ℕ) (le : cou
       EndAlike.at_limit index place place2 n n2 comes comes2 met (omega (arith, limit, le)) many at at2 first second
 
 -- ---- The lines that follow
-module _ (d : DecodeSettings) (columns k : ℕ) (wide : 0 < columns) (small : columns < 2 ^ 32) (columns_are : d.columns ≡ columns)
+module _ (effort : Effort) (d : DecodeSettings) (columns k : ℕ) (wide : 0 < columns) (small : columns < 2 ^ 32)
+    (columns_are : d.columns ≡ columns)
     (encoding : d.encoding ≡ Group3_2D) (block : d.end_of_block ≡ true) (fills : Bool) (closing more : Bits)
     (closes : ClosesWithEols Group3_2D 6 closing) where
   abbrev lines : ℕ → ℕ → Row → List Row → Bits
-  lines at left reference rows = chosen_lines_with_eols Group3_2D k fills at left reference rows
+  lines at left reference rows = chosen_lines_with_eols effort Group3_2D k fills at left reference rows
 
   abbrev Comes : ℕ → Bits → Type 0
   Comes left bits = (n : ℕ) × (n ≤ left) × ComeBefore1D d n bits
@@ -81,13 +83,13 @@ module _ (d : DecodeSettings) (columns k : ℕ) (wide : 0 < columns) (small : co
 
   -- a two-dimensional one, and those that follow it
   two_dimensional : (fill n : ℕ) (reference row : Row) (next : Bits) → length reference ≡ length row → ComeBefore1D d n next
-      → ComeBefore1D d (suc n) (eol fill ++ ((false ∷ chosen_line_2d reference row) ++ next))
+      → ComeBefore1D d (suc n) (eol fill ++ ((false ∷ line_2d effort reference row) ++ next))
   two_dimensional fill n reference row next same given =
-      encoded_follows d encoding n reference row (chosen_line_2d reference row) next (eol fill
-      ++ ((false ∷ chosen_line_2d reference row) ++ next)) (line_2d_encodes reference row same) given (eol_stands fill _)
+      encoded_follows d encoding n reference row (line_2d effort reference row) next (eol fill
+      ++ ((false ∷ line_2d effort reference row) ++ next)) (line_2d_encoded effort reference row same) given (eol_stands fill _)
 
   -- a line is two-dimensional only if one may be
-  may_be : (left : ℕ) (reference row : Row) → is_two_dimensional left reference row ≡ true → 0 < left
+  may_be : (left : ℕ) (reference row : Row) → is_two_dimensional effort left reference row ≡ true → 0 < left
   may_be zero reference row e = absurd cc
   may_be (suc left) reference row e = omega arith
 
@@ -96,8 +98,8 @@ module _ (d : DecodeSettings) (columns k : ℕ) (wide : 0 < columns) (small : co
   comes at left reference [] width widths = (0, omega arith, closed)
   comes at left reference (row ∷ rows) width widths =
       subst (Comes left) (sym split)
-      (by_two (is_two_dimensional left reference row) (may_be left reference row)
-      (comes next (left_after Group3_2D k left reference row) row rows row_width
+      (by_two (is_two_dimensional effort left reference row) (may_be left reference row)
+      (comes next (left_after effort Group3_2D k left reference row) row rows row_width
       (All-tail (λ row. length row ≡ columns) row rows widths)))
     where
       row_width : length row ≡ columns
@@ -107,20 +109,20 @@ module _ (d : DecodeSettings) (columns k : ℕ) (wide : 0 < columns) (small : co
       fill = fill_of fills at
 
       line : Bits
-      line = chosen_line Group3_2D left reference row
+      line = chosen_line effort Group3_2D left reference row
 
       next : ℕ
       next = at + 12 + fill + length line
 
       others : Bits
-      others = lines next (left_after Group3_2D k left reference row) row rows
+      others = lines next (left_after effort Group3_2D k left reference row) row rows
 
       split : ((eol fill ++ line) ++ others) ++ (closing ++ more) ≡ eol fill ++ (line ++ (others ++ (closing ++ more)))
       split = append_assoc (eol fill ++ line) others (closing ++ more)
           ∙ append_assoc (eol fill) line (others ++ (closing ++ more))
 
       by_two : (two : Bool) → (two ≡ true → 0 < left) → Comes (cond two (left - 1) (k - 1)) (others ++ (closing ++ more))
-          → Comes left (eol fill ++ (cond two (false ∷ chosen_line_2d reference row) (true ∷ chosen_line_1d row)
+          → Comes left (eol fill ++ (cond two (false ∷ line_2d effort reference row) (true ∷ chosen_line_1d row)
           ++ (others ++ (closing ++ more))))
       by_two true some (n, le, given) = (
         suc n,
@@ -151,8 +153,9 @@ last_width columns rows (row ∷ more) width widths =
     (All-tail (λ row. length row ≡ columns) row more widths)
 
 -- at most K - 1 more lines may be two-dimensional
-left_below : (k left : ℕ) (reference row : Row) → left ≤ k - 1 → left_after Group3_2D k left reference row ≤ k - 1
-left_below k left reference row le = by_two (is_two_dimensional left reference row)
+left_below : (effort : Effort) (k left : ℕ) (reference row : Row) → left ≤ k - 1
+    → left_after effort Group3_2D k left reference row ≤ k - 1
+left_below effort k left reference row le = by_two (is_two_dimensional effort left reference row)
   where
     by_two : (two : Bool) → cond two (left - 1) (k - 1) ≤ k - 1
     by_two true = omega arith
@@ -163,9 +166,9 @@ left_most : (settings : EncodeSettings) → settings.encoding ≡ Group3_2D → 
 left_most settings encoding rows [] same le = le
 left_most settings encoding rows (row ∷ more) same le =
     left_most settings encoding (with_row rows row) more same
-    (subst (λ (s : EncodeSettings). left_after s.encoding s.k rows.left rows.last row ≤ settings.k - 1) (sym same)
-    (subst (λ (e : EncodingMode). left_after e settings.k rows.left rows.last row ≤ settings.k - 1) (sym encoding)
-    (left_below settings.k rows.left rows.last row le)))
+    (subst (λ (s : EncodeSettings). left_after s.effort s.encoding s.k rows.left rows.last row ≤ settings.k - 1) (sym same)
+    (subst (λ (e : EncodingMode). left_after settings.effort e settings.k rows.left rows.last row ≤ settings.k - 1) (sym encoding)
+    (left_below settings.effort settings.k rows.left rows.last row le)))
 
 widths_of_parts : (columns : ℕ) (before rest : List Row) → HaveWidth columns (before ++ rest) → HaveWidth columns before
     × HaveWidth columns rest
@@ -186,7 +189,8 @@ filled_is_whole bits = omega (
 )
 
 -- ---- The law
-module _ (k : ℕ) (fills aligned : Bool) (order : BitOrder) (columns : ℕ) (before later : List Row) (row : Row) (some : 0 < k)
+module _ (effort : Effort) (k : ℕ) (fills aligned : Bool) (order : BitOrder) (columns : ℕ) (before later : List Row)
+    (row : Row) (some : 0 < k)
     (small : columns < 2 ^ 32) (picture : IsPicture columns (before ++ row ∷ later)) where
   abbrev settings : EncodeSettings
   settings = record {
@@ -197,6 +201,7 @@ module _ (k : ℕ) (fills aligned : Bool) (order : BitOrder) (columns : ℕ) (be
     rows_are_byte_aligned = aligned;
     end_of_block = true;
     order = order;
+    effort = effort;
   }
 
   abbrev d : DecodeSettings
@@ -209,11 +214,11 @@ module _ (k : ℕ) (fills aligned : Bool) (order : BitOrder) (columns : ℕ) (be
   fill = fill_of fills (length so_far.lines)
 
   abbrev line : Bits
-  line = chosen_line Group3_2D so_far.left so_far.last row
+  line = chosen_line effort Group3_2D so_far.left so_far.last row
 
   abbrev others : Bits
-  others = chosen_lines_with_eols Group3_2D k fills (length so_far.lines + 12 + fill + length line)
-      (left_after Group3_2D k so_far.left so_far.last row) row later
+  others = chosen_lines_with_eols effort Group3_2D k fills (length so_far.lines + 12 + fill + length line)
+      (left_after effort Group3_2D k so_far.left so_far.last row) row later
 
   abbrev all : Bits
   all = so_far.lines ++ ((eol fill ++ line) ++ others)
@@ -255,8 +260,8 @@ module _ (k : ℕ) (fills aligned : Bool) (order : BitOrder) (columns : ℕ) (be
   closes : ClosesWithEols Group3_2D 6 closing
   closes = eols_close Group3_2D fills (length all) 6
 
-  follow : (n : ℕ) × (n ≤ left_after Group3_2D k so_far.left so_far.last row) × ComeBefore1D d n next
-  follow = comes d columns k picture.0 small refl refl refl fills closing more closes _ _ row later width
+  follow : (n : ℕ) × (n ≤ left_after effort Group3_2D k so_far.left so_far.last row) × ComeBefore1D d n next
+  follow = comes effort d columns k picture.0 small refl refl refl fills closing more closes _ _ row later width
       (All-tail (λ row. length row ≡ columns) row later widths.1)
 
   are : AreSettings d
@@ -265,7 +270,8 @@ module _ (k : ℕ) (fills aligned : Bool) (order : BitOrder) (columns : ℕ) (be
   lines_before : EncodesRowsWithEols Group3_2D (white_row columns) before so_far.lines
   lines_before = subst (EncodesRowsWithEols Group3_2D (white_row columns) before)
       (sym (lines_pushed (no_rows settings columns) before))
-      (lines_with_eols_encode Group3_2D columns k fills 0 0 (white_row columns) before picture.0 (white_is_wide columns) widths.0)
+      (lines_with_eols_encode effort Group3_2D columns k fills 0 0 (white_row columns) before picture.0
+      (white_is_wide columns) widths.0)
 
   start : length (so_far.lines ++ eol fill) ≡ tag_after settings columns before
   start = omega (arith, length-append so_far.lines (eol fill), length-eol fill)
@@ -277,7 +283,7 @@ module _ (k : ℕ) (fills aligned : Bool) (order : BitOrder) (columns : ℕ) (be
       (length (so_far.lines ++ eol fill) + length line)) (sym one_is)
       (encoded_lines_are_bodies d (white_row columns) so_far.last row before so_far.lines line next fill are refl refl
       (picture.0, All-cons (λ row. length row ≡ columns) row before width widths.0) lines_before
-      (line_encodes Group3_2D so_far.left so_far.last row (last_is_wide ∙ sym width) (omega (arith, width, picture.0)))
+      (line_encodes effort Group3_2D so_far.left so_far.last row (last_is_wide ∙ sym width) (omega (arith, width, picture.0)))
       (eol_before_lines d refl follow.0 next follow.2)))
 
   next_on : drop (line_end settings columns before row) one ≡ next
@@ -289,7 +295,7 @@ module _ (k : ℕ) (fills aligned : Bool) (order : BitOrder) (columns : ℕ) (be
       → DamagedLine d one two (tag_after settings columns before) (line_end settings columns before row) to2
       → ChangesAtMost d one two (tag_after settings columns before) k
   reaches two to2 whole_two (same_before, same_behind, other) =
-      let le = left_below k so_far.left so_far.last row
+      let le = left_below effort k so_far.left so_far.last row
       (left_most settings refl (no_rows settings columns) before refl (omega arith)) in
       let both = locality_by_k d one are (filled_is_whole (chosen settings columns (before ++ row ∷ later))) two
       (tag_after settings columns before) (line_end settings columns before row) to2 follow.0 whole_two (record {
@@ -312,7 +318,8 @@ module _ (k : ℕ) (fills aligned : Bool) (order : BitOrder) (columns : ℕ) (be
 -- the law
 pub damage_reaches_k_rows : DamageReachesKRows
 damage_reaches_k_rows settings columns before later row two to2 encoding eols block some small picture whole_two damaged =
-    subst Holds (sym same) (λ given. reaches settings.k settings.eols_end_at_bytes settings.rows_are_byte_aligned settings.order
+    subst Holds (sym same)
+    (λ given. reaches settings.effort settings.k settings.eols_end_at_bytes settings.rows_are_byte_aligned settings.order
     columns before later row
     some small picture two to2 whole_two given) damaged
   where
@@ -331,6 +338,7 @@ damage_reaches_k_rows settings columns before later row two to2 encoding eols bl
       rows_are_byte_aligned = settings.rows_are_byte_aligned;
       end_of_block = true;
       order = settings.order;
+      effort = settings.effort;
     }
     same = ap (λ (e : EncodingMode). record settings { encoding = e }) encoding
         ∙ ap (λ (b : Bool). record settings { encoding = Group3_2D; end_of_line = b }) eols

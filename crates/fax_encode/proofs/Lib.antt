@@ -23,9 +23,13 @@ pub mod RunLengths
 pub mod RunsWritten
 pub mod ScannedRows
 pub mod ScannedWords
+pub mod ShortestBySettings
 pub mod ShortestLines
 pub mod ShortestPictures
 pub mod ShortestRuns
+pub mod ShortestRunsWritten
+pub mod ShortestSteps
+pub mod ShortestWays
 pub mod StepsToB1
 pub mod StoredWords
 pub mod TurnedBits

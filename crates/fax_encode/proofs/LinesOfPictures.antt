@@ -4,12 +4,13 @@ use Rattle.fax_encode.proofs.Names.{append_assoc, append-nil, length-append, Enc
 use Rattle.fax_encode.proofs.Names.{Row, white_row, eol, padding, EncodeSettings, RowsAreChosen, RowsEncoded, no_rows, with_row}
 use Rattle.fax_encode.proofs.Names.{with_rows, chosen, chosen_picture, chosen_line, chosen_lines, chosen_lines_with_eols}
 use Rattle.fax_encode.proofs.Names.{chosen_part, chosen_end, fill_of, has_eols, left_after, with_end}
+use Rattle.fax_encode.proofs.Names.{Effort}
 use Rattle.fax_encode.proofs.FilledEols.{length-eol}
 
 -- ---- one line
 module _ (settings : EncodeSettings) (at left : ℕ) (reference row : Row) where
   abbrev line : Bits
-  line = chosen_line settings.encoding left reference row
+  line = chosen_line settings.effort settings.encoding left reference row
 
   abbrev fill : ℕ
   fill = fill_of settings.eols_end_at_bytes at
@@ -31,9 +32,9 @@ module _ (settings : EncodeSettings) (at left : ℕ) (reference row : Row) where
 -- with EOLs or without
 abbrev pub lines_by : Bool → EncodeSettings → ℕ → ℕ → Row → List Row → Bits
 lines_by true settings at left reference rows =
-    chosen_lines_with_eols settings.encoding settings.k settings.eols_end_at_bytes at left reference rows
+    chosen_lines_with_eols settings.effort settings.encoding settings.k settings.eols_end_at_bytes at left reference rows
 lines_by false settings at left reference rows =
-    chosen_lines settings.encoding settings.k settings.rows_are_byte_aligned left reference rows
+    chosen_lines settings.effort settings.encoding settings.k settings.rows_are_byte_aligned left reference rows
 
 abbrev pub lines_left : EncodeSettings → ℕ → ℕ → Row → List Row → Bits
 lines_left settings at left reference rows =
@@ -50,14 +51,16 @@ lines_none settings at left reference = by_with_eols (has_eols settings.encoding
 -- the first of them
 pub lines_more : (settings : EncodeSettings) (at left : ℕ) (reference row : Row) (rows : List Row)
     → lines_left settings at left reference (row ∷ rows) ≡ chosen_part settings at left reference row ++ lines_left settings (at
-    + length (chosen_part settings at left reference row)) (left_after settings.encoding settings.k left reference row) row rows
+    + length (chosen_part settings at left reference row))
+    (left_after settings.effort settings.encoding settings.k left reference row) row rows
 lines_more settings at left reference row rows = by_has_eols (has_eols settings.encoding settings.end_of_line) refl
   where
     by_has_eols : (with_eols : Bool) → has_eols settings.encoding settings.end_of_line ≡ with_eols → lines_by with_eols settings
         at left reference (row ∷ rows) ≡ chosen_part settings at left reference row ++ lines_by with_eols settings (at + length
-        (chosen_part settings at left reference row)) (left_after settings.encoding settings.k left reference row) row rows
+        (chosen_part settings at left reference row))
+        (left_after settings.effort settings.encoding settings.k left reference row) row rows
     by_has_eols true e =
-        let next : ℕ = left_after settings.encoding settings.k left reference row in
+        let next : ℕ = left_after settings.effort settings.encoding settings.k left reference row in
         let part : Bits = eol (fill settings at left reference row) ++ line settings at left reference row in
         let length_is : at + 12 + fill settings at left reference row + length (line settings at left reference row) ≡ at
         + length part = omega (
@@ -67,17 +70,19 @@ lines_more settings at left reference row rows = by_has_eols (has_eols settings.
         ) in
         ap (λ (n : ℕ). part ++ lines_by true settings n next row rows) length_is ∙ ap (λ (b : Bits).
         b ++ lines_by true settings (at + length b) next row rows) (sym (part_with_eol settings at left reference row e))
-    by_has_eols false e = ap (λ (b : Bits). b ++ lines_by false settings (at + length b) (left_after settings.encoding settings.k
+    by_has_eols false e = ap (λ (b : Bits). b ++ lines_by false settings (at + length b)
+        (left_after settings.effort settings.encoding settings.k
         left reference row) row rows) (sym (part_without_eol settings at left reference row e))
 
 -- a line that was written stands before those that are left
 pub line_written : (settings : EncodeSettings) (left : ℕ) (reference row : Row) (rows : List Row) (before after : Bits)
     → after ≡ before ++ chosen_part settings (length before) left reference row
-    → after ++ lines_left settings (length after) (left_after settings.encoding settings.k left reference row) row rows
+    → after ++ lines_left settings (length after)
+    (left_after settings.effort settings.encoding settings.k left reference row) row rows
     ≡ before ++ lines_left settings (length before) left reference (row ∷ rows)
 line_written settings left reference row rows before after e =
     let part : Bits = chosen_part settings (length before) left reference row in
-    let next : ℕ = left_after settings.encoding settings.k left reference row in
+    let next : ℕ = left_after settings.effort settings.encoding settings.k left reference row in
     let length_is : length after ≡ length before + length part = omega (arith, ap length e, length-append before part) in
     ap (λ (n : ℕ). after ++ lines_left settings n next row rows) length_is
     ∙ ap (λ (b : Bits). b ++ lines_left settings (length before + length part) next row rows) e
@@ -86,19 +91,21 @@ line_written settings left reference row rows before after e =
 
 -- ---- the whole
 -- the lines, by the settings one by one
-abbrev lines_of : ℕ → List Row → EncodingMode → Bool → ℕ → Bool → Bool → Bits
-lines_of columns rows encoding eols k fills aligned =
-    cond (has_eols encoding eols) (chosen_lines_with_eols encoding k fills 0 0 (white_row columns) rows)
-    (chosen_lines encoding k aligned 0 (white_row columns) rows)
+abbrev lines_of : Effort → ℕ → List Row → EncodingMode → Bool → ℕ → Bool → Bool → Bits
+lines_of effort columns rows encoding eols k fills aligned =
+    cond (has_eols encoding eols) (chosen_lines_with_eols effort encoding k fills 0 0 (white_row columns) rows)
+    (chosen_lines effort encoding k aligned 0 (white_row columns) rows)
 
 same_lines : (columns : ℕ) (rows : List Row) (settings : EncodeSettings)
-    → lines_left settings 0 0 (white_row columns) rows ≡ lines_of columns rows settings.encoding settings.end_of_line settings.k
+    → lines_left settings 0 0
+    (white_row columns) rows ≡ lines_of settings.effort columns rows settings.encoding settings.end_of_line settings.k
     settings.eols_end_at_bytes settings.rows_are_byte_aligned
 same_lines columns rows settings = by_with_eols (has_eols settings.encoding settings.end_of_line)
   where
     by_with_eols : (with_eols : Bool) → lines_by with_eols settings 0 0 (white_row columns) rows ≡ cond with_eols
-        (chosen_lines_with_eols settings.encoding settings.k settings.eols_end_at_bytes 0 0 (white_row columns) rows)
-        (chosen_lines settings.encoding settings.k settings.rows_are_byte_aligned 0 (white_row columns) rows)
+        (chosen_lines_with_eols settings.effort settings.encoding settings.k settings.eols_end_at_bytes 0 0
+        (white_row columns) rows)
+        (chosen_lines settings.effort settings.encoding settings.k settings.rows_are_byte_aligned 0 (white_row columns) rows)
     by_with_eols true = refl
     by_with_eols false = refl
 
@@ -106,17 +113,21 @@ same_lines columns rows settings = by_with_eols (has_eols settings.encoding sett
 pub whole_picture : (settings : EncodeSettings) (columns : ℕ) (rows : List Row) (lines : Bits)
     → lines ≡ lines_left settings 0 0 (white_row columns) rows → with_end settings lines ≡ chosen settings columns rows
 whole_picture settings columns rows lines e =
-    ap (with_end settings) (e ∙ same_lines columns rows settings) ∙ by_encoding settings.encoding settings.end_of_line settings.k
+    ap (with_end settings) (e ∙ same_lines columns rows settings)
+    ∙ by_encoding settings.effort settings.encoding settings.end_of_line settings.k
     settings.eols_end_at_bytes settings.rows_are_byte_aligned settings.end_of_block
   where
-    by_encoding : (encoding : EncodingMode) (eols : Bool) (k : ℕ) (fills aligned closed : Bool)
-        → lines_of columns rows encoding eols k fills aligned ++ chosen_end encoding eols fills closed (length (lines_of columns
-        rows encoding eols k fills aligned)) ≡ chosen_picture encoding eols k fills aligned closed (white_row columns) rows
-    by_encoding Group4 eols k fills aligned closed = refl
-    by_encoding Group3_1D true k fills aligned closed = refl
-    by_encoding Group3_1D false k fills aligned closed = append-nil (chosen_lines Group3_1D k aligned 0 (white_row columns) rows)
-    by_encoding Group3_2D true k fills aligned closed = refl
-    by_encoding Group3_2D false k fills aligned closed = append-nil (chosen_lines Group3_2D k aligned 0 (white_row columns) rows)
+    by_encoding : (effort : Effort) (encoding : EncodingMode) (eols : Bool) (k : ℕ) (fills aligned closed : Bool)
+        → lines_of effort columns rows encoding eols k fills aligned ++ chosen_end encoding eols fills closed (length
+        (lines_of effort columns
+        rows encoding eols k fills aligned)) ≡ chosen_picture effort encoding eols k fills aligned closed (white_row columns) rows
+    by_encoding effort Group4 eols k fills aligned closed = refl
+    by_encoding effort Group3_1D true k fills aligned closed = refl
+    by_encoding effort Group3_1D false k fills aligned closed = append-nil (chosen_lines effort Group3_1D k aligned 0
+        (white_row columns) rows)
+    by_encoding effort Group3_2D true k fills aligned closed = refl
+    by_encoding effort Group3_2D false k fills aligned closed = append-nil (chosen_lines effort Group3_2D k aligned 0
+        (white_row columns) rows)
 
 -- no line is left
 pub all_written : (settings : EncodeSettings) (columns at left : ℕ) (reference : Row) (rows : List Row) (now : Bits)

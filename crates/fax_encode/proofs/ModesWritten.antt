@@ -80,7 +80,7 @@ near_same b x a y t e f near = cc
 -- ---- From mode to mode.
 module _ (columns : ℕ) (reference changes : List ℕ) (lawful : AreChanges columns reference)
     (are : AreChanges columns changes) where
-  one_width : length (pixels columns reference) ≡ length (pixels columns changes)
+  pub one_width : length (pixels columns reference) ≡ length (pixels columns changes)
   one_width = length-pixels columns reference lawful ∙ sym (length-pixels columns changes are)
 
   module _ (at after : Place) (inside : at.from ≤ columns) (moves : after ≡ place_after (pixels columns reference)

@@ -6,7 +6,8 @@ pub use Rattle.fax_encode.specs.Chosen.{runs_of_mode, vertical_mode, word_of, wo
 pub use Rattle.fax_encode.specs.Coding.{AreAllLeft, AreLeft, IsNear, color_after, place_of}
 pub use Rattle.fax_encode.specs.Laws.{BitmapRoundTripT4, BitmapRoundTripT6, ChangesAtMost, ChosenBySettings, ChosenComesBack}
 pub use Rattle.fax_encode.specs.Laws.{ChosenIsAnEncoding, ChosenIsRead, ChosenLinesEncode, DamageReachesKRows, DamagedLine}
-pub use Rattle.fax_encode.specs.Laws.{GivesAll, NeverLonger, PackedIsShown, ReadToTheEnd, RoundTripT4, RoundTripT6, RowsAreChosen}
+pub use Rattle.fax_encode.specs.Laws.{GivesAll, NeverLonger, NoLineIsShorter, NoneIsShorter, PackedIsShown, ReadToTheEnd}
+pub use Rattle.fax_encode.specs.Laws.{RoundTripT4, RoundTripT6, RowsAreChosen}
 pub use Rattle.fax_encode.specs.Laws.{RowsArePacked, lenient_settings_for, line_end, tag_after}
 pub use Rattle.fax_encode.specs.Packed.{Bitmap, bytes_of_row, packed, rows_shown, shown, with_packed_row}
 pub use Rattle.fax_encode.specs.Painting.{StandsAt, then_white, under}
@@ -16,10 +17,12 @@ pub use Rattle.fax_encode.specs.Scanning.{differences, ones_from}
 pub use Rattle.fax_encode.specs.Settings.{chosen, chosen_end, chosen_eols, chosen_group4, chosen_line, chosen_lines}
 pub use Rattle.fax_encode.specs.Settings.{chosen_lines_with_eols, chosen_part, chosen_picture, chosen_with_eols}
 pub use Rattle.fax_encode.specs.Settings.{decode_settings_for, fill_of, group3_settings, group4_settings, has_eols, is_closed}
-pub use Rattle.fax_encode.specs.Settings.{is_two_dimensional, left_after, names_encoding, needs_row, with_end}
+pub use Rattle.fax_encode.specs.Settings.{is_two_dimensional, left_after, line_2d, names_encoding, needs_row, with_end}
 pub use Rattle.fax_encode.specs.Writing.{IsWord, Marked, Written, all_bits}
 pub use Rattle.fax_encode.specs.declared.bit_order.TheConstants.{TURNED}
 pub use Rattle.fax_encode.specs.declared.painting.Brush.{Brush}
+pub use Rattle.fax_encode.specs.declared.settings.Effort.{Effort}
+pub use Rattle.fax_encode.specs.declared.settings.Effort.TheVariants.{Procedure, Shortest}
 pub use Rattle.fax_encode.specs.declared.settings.EncodeSettings.{EncodeSettings}
 pub use Rattle.fax_encode.specs.declared.words.Word.{Word}
 pub use Rattle.hayro_ccitt.proofs.BitReading.BitLists.{bits_are_whole, drop_some, length-bits_in, length-bits_of, length-low_bits}
@@ -47,8 +50,9 @@ pub use Rattle.hayro_ccitt.proofs.PixelRows.RowChanges.{changes_from, changes_fr
 pub use Rattle.hayro_ccitt.proofs.PixelRows.StepsOnRows.{over_rows}
 pub use Rattle.hayro_ccitt.proofs.Readings.Gathered.{gathered_turn}
 pub use Rattle.hayro_ccitt.proofs.Readings.Repeated.{Shrinks}
-pub use Rattle.hayro_ccitt.proofs.Readings.TurnsMoveOn.{eols-none, eols-some, eols_here_counted, eols_with_tags-none}
-pub use Rattle.hayro_ccitt.proofs.Readings.TurnsMoveOn.{eols_with_tags-some}
+pub use Rattle.hayro_ccitt.proofs.BitReading.ConsecutiveEols.{eols-none, eols-some, eols_with_tags-none}
+pub use Rattle.hayro_ccitt.proofs.Readings.TurnsMoveOn.{eols_here_counted}
+pub use Rattle.hayro_ccitt.proofs.BitReading.ConsecutiveEols.{eols_with_tags-some}
 pub use Rattle.hayro_ccitt.specs.Answers.{meaning_after}
 pub use Rattle.hayro_ccitt.specs.Bits.{AreWholeBytes, Bits, bit_of, bits_in, bits_of, bits_of_byte, low_bits}
 pub use Rattle.hayro_ccitt.specs.CodeLists.{Code, mode_codes}
@@ -69,18 +73,18 @@ pub use Rattle.hayro_ccitt.specs.Rows.{last_pixel, least_below, opposite, pixels
 pub use Rattle.hayro_ccitt.specs.Runs.{codes_of}
 pub use Rattle.hayro_ccitt.specs.Settings.{AreSettings}
 pub use Rattle.hayro_ccitt.specs.UsualModes.{TurnsFrom}
-pub use Rattle.hayro_ccitt.specs.declared.bit_reader.BitOrder.{BitOrder}
-pub use Rattle.hayro_ccitt.specs.declared.bit_reader.BitOrder.TheVariants.{HighestFirst, LowestFirst}
-pub use Rattle.hayro_ccitt.specs.declared.codes.Color.{Color}
-pub use Rattle.hayro_ccitt.specs.declared.codes.Color.TheVariants.{Black, White}
-pub use Rattle.hayro_ccitt.specs.declared.codes.Mode.{Mode}
-pub use Rattle.hayro_ccitt.specs.declared.codes.Mode.TheVariants.{Horizontal, Pass, Vertical}
-pub use Rattle.hayro_ccitt.specs.declared.error.DecodeError.{DecodeError}
-pub use Rattle.hayro_ccitt.specs.declared.settings.DecodeSettings.{DecodeSettings}
-pub use Rattle.hayro_ccitt.specs.declared.settings.EncodingMode.{EncodingMode}
-pub use Rattle.hayro_ccitt.specs.declared.settings.EncodingMode.TheVariants.{Group3_1D, Group3_2D, Group4}
-pub use Rattle.hayro_ccitt.specs.declared.tables.TheConstants.{BLACK_MAKEUP, BLACK_TERMINATING, COMMON_MAKEUP, WHITE_MAKEUP}
-pub use Rattle.hayro_ccitt.specs.declared.tables.TheConstants.{WHITE_TERMINATING}
+pub use Rattle.hayro_ccitt.specs.BitOrder.{BitOrder}
+pub use Rattle.hayro_ccitt.specs.BitOrder.TheVariants.{HighestFirst, LowestFirst}
+pub use Rattle.hayro_ccitt.specs.Color.{Color}
+pub use Rattle.hayro_ccitt.specs.Color.TheVariants.{Black, White}
+pub use Rattle.hayro_ccitt.specs.Mode.{Mode}
+pub use Rattle.hayro_ccitt.specs.Mode.TheVariants.{Horizontal, Pass, Vertical}
+pub use Rattle.hayro_ccitt.specs.DecodeError.{DecodeError}
+pub use Rattle.hayro_ccitt.specs.DecodeSettings.{DecodeSettings}
+pub use Rattle.hayro_ccitt.specs.EncodingMode.{EncodingMode}
+pub use Rattle.hayro_ccitt.specs.EncodingMode.TheVariants.{Group3_1D, Group3_2D, Group4}
+pub use Rattle.hayro_ccitt.specs.TableConstants.{BLACK_MAKEUP, BLACK_TERMINATING, COMMON_MAKEUP, WHITE_MAKEUP}
+pub use Rattle.hayro_ccitt.specs.TableConstants.{WHITE_TERMINATING}
 pub use Rattle.std.proofs.Common.{Bool, Err, IfOk, List, None, OnOk, Result, Some, [], add-one, ap, append_assoc, arith}
 pub use Rattle.std.proofs.Common.{below_more, cond, drop, eqb, false, get_or, inl, inr, leb, length, ltb, map, nat_eq, not, refl}
 pub use Rattle.std.proofs.Common.{replicate, rules, set, subst, suc, sym, take, take_all, true, zero, ℕ, ◌%◌, ◌&&◌, ◌*◌, ◌++◌}
@@ -116,6 +120,5 @@ pub use borrow.Rule.Slice.PartMut.{put_mid}
 pub use lib.Count.{count_leading_zeros}
 pub use mathlib.Core.Bool.{beq}
 pub use Rattle.fax_encode.specs.Shortest.{ShortestLines, ShortestPicturesT6, ShortestRuns, first_makeup, other_modes, shorter}
-pub use Rattle.fax_encode.specs.Shortest.{shortest_from}
-pub use Rattle.fax_encode.specs.Shortest.{shortest_line_2d, shortest_lines_2d, shortest_of, shortest_run, shortest_runs_of_mode}
-pub use Rattle.fax_encode.specs.Shortest.{shortest_words}
+pub use Rattle.fax_encode.specs.Shortest.{shortest_lines_2d, shortest_of, shortest_runs_of_mode}
+unfoldable pub use Rattle.fax_encode.specs.Shortest.{shortest_from, shortest_line_2d, shortest_run, shortest_words}

@@ -1,12 +1,13 @@
 -- How many bits runs take.
-use Rattle.fax_encode.proofs.Names.{◌≡◌, ℕ, zero, suc, ◌+◌, ◌-◌, ◌*◌, ◌/◌, ◌%◌, ◌<◌, ◌≤◌, List, length, drop, get_or, replicate}
-use Rattle.fax_encode.proofs.Names.{refl, sym, ap, ◌∙◌, arith, flat_map, length-append, Color, White, Black, Bits, opposite}
+use Rattle.fax_encode.proofs.Names.{◌≡◌, ℕ, zero, suc, ◌+◌, ◌-◌, ◌*◌, ◌/◌, ◌%◌, ◌<◌, ◌≤◌, true, cond, leb, ltb, List, []}
+use Rattle.fax_encode.proofs.Names.{◌∷◌, ◌++◌, length, drop, get_or, replicate, agree_below_at, leb-true}
+use Rattle.fax_encode.proofs.Names.{refl, sym, ap, ◌∙◌, arith, flat_map, length-append, Color, White, Black, Bits}
 use Rattle.fax_encode.proofs.Names.{AscendFrom, length-low_bits, Word, word_of_length, chosen_rest, chosen_run, chosen_runs}
 use Rattle.fax_encode.proofs.Names.{IsWord}
-use Rattle.fax_encode.proofs.RunsWritten.{rest_few, rest_more, next_run}
+use Rattle.fax_encode.proofs.RunsWritten.{rest_few, rest_more, short_run, two_runs}
 
 -- a word is as long as its number of bits says
-word_length : (word : Bits) (coded : Word) → IsWord word coded → length word ≡ coded.count
+pub word_length : (word : Bits) (coded : Word) → IsWord word coded → length word ≡ coded.count
 word_length word coded is = sym (ap length is.spells) ∙ length-low_bits coded.count coded.bits
 
 long_word : (color : Color) → length (word_of_length color 2560) ≡ 12
@@ -64,19 +65,85 @@ long_rest color n first last more one two =
       word_length behind last two,
     )
 
--- ---- budgets
--- the next run is taken from both sides
-pub run_taken : (columns place i : ℕ) (color : Color) (changes : List ℕ) (bits left run whole : ℕ) → i < length changes
-    → AscendFrom place columns (drop i changes) → run ≡ length (chosen_run color (get_or changes i 0 - place))
-    → bits + length (chosen_runs columns color place (drop i changes)) ≡ left + whole → run ≤ left
-    → bits + length (chosen_runs columns (opposite color) (get_or changes i 0) (drop (i + 1) changes)) ≡ (left - run) + whole
-run_taken columns place i color changes bits left run whole lt ascend is e le =
-    let next : ℕ = get_or changes i 0 in
-    let rest : Bits = chosen_runs columns (opposite color) next (drop (i + 1) changes) in
+-- ---- whole rows
+-- less than 64 pixels are one word
+pub short_bits : (color : Color) (n : ℕ) (word : Word) → n < 64 → IsWord (word_of_length color n) word
+    → word.count ≡ length (chosen_run color n)
+short_bits color n word lt is =
+    omega (arith, ap length (short_run color n word lt is), length-low_bits word.count word.bits)
+
+-- the next two runs are counted
+pub pair_taken : (columns place i : ℕ) (changes : List ℕ) (bits first second whole : ℕ) → i < length changes
+    → i + 1 < length changes → AscendFrom place columns (drop i changes)
+    → first ≡ length (chosen_run White (get_or changes i 0 - place))
+    → second ≡ length (chosen_run Black (get_or changes (i + 1) 0 - get_or changes i 0))
+    → bits + length (chosen_runs columns White place (drop i changes)) ≡ whole
+    → (bits + (first + second)) + length (chosen_runs columns White (get_or changes (i + 1) 0) (drop (i + 1 + 1) changes)) ≡ whole
+pair_taken columns place i changes bits first second whole lt more ascend one two e =
+    let black : ℕ = get_or changes i 0 in
+    let white : ℕ = get_or changes (i + 1) 0 in
+    let rest : Bits = chosen_runs columns White white (drop (i + 1 + 1) changes) in
     omega (
       arith,
       e,
-      is,
-      ap length (next_run columns place i color changes lt ascend),
-      length-append (chosen_run color (next - place)) rest,
+      one,
+      two,
+      ap length (two_runs columns place i White changes lt more ascend),
+      length-append (chosen_run White (black - place) ++ chosen_run Black (white - black)) rest,
+      length-append (chosen_run White (black - place)) (chosen_run Black (white - black)),
     )
+
+-- ---- at least
+white_least : (n : ℕ) → n < 64 → 4 ≤ length (word_of_length White n)
+white_least n lt = leb-true 4 (length (word_of_length White n))
+    (agree_below_at (λ m. leb 4 (length (word_of_length White m))) (λ m. true) 64 n refl lt)
+
+black_least : (n : ℕ) → n < 64 → 2 ≤ length (word_of_length Black n)
+black_least n lt = leb-true 2 (length (word_of_length Black n))
+    (agree_below_at (λ m. leb 2 (length (word_of_length Black m))) (λ m. true) 64 n refl lt)
+
+-- what a run has at least
+least_run : Color → ℕ
+least_run White = 4
+least_run Black = 2
+
+run_least : (color : Color) (n : ℕ) → least_run color ≤ length (chosen_run color n)
+unfolding least_run
+run_least color n =
+    let rest : ℕ = n % 2560 in
+    omega (
+      arith,
+      run_parts color n,
+      length-append (cond (ltb rest 64) [] (word_of_length color (rest - rest % 64))) (word_of_length color (rest % 64)),
+      word_least color (rest % 64) (omega arith),
+    )
+  where
+    word_least : (k : Color) (m : ℕ) → m < 64 → least_run k ≤ length (word_of_length k m)
+    word_least White m lt = white_least m lt
+    word_least Black m lt = black_least m lt
+
+-- and the runs of a row: three bits for each change, and a few
+abbrev least_rest : Color → ℕ
+least_rest White = 3
+least_rest Black = 2
+
+pub runs_least : (color : Color) (place width : ℕ) (list : List ℕ)
+    → length list * 3 + least_rest color ≤ length (chosen_runs width color place list)
+unfolding least_run
+runs_least White place width [] = omega (arith, run_least White (width - place))
+runs_least Black place width [] = omega (arith, run_least Black (width - place))
+runs_least White place width (change ∷ list) = omega (
+  arith,
+  length-append (chosen_run White (change - place)) (chosen_runs width Black change list),
+  run_least White (change - place),
+  runs_least Black change width list,
+)
+runs_least Black place width (change ∷ list) = omega (
+  arith,
+  length-append (chosen_run Black (change - place)) (chosen_runs width White change list),
+  run_least Black (change - place),
+  runs_least White change width list,
+)
+
+pub row_least : (columns : ℕ) (changes : List ℕ) → length changes * 3 + 3 ≤ length (chosen_runs columns White 0 changes)
+row_least columns changes = runs_least White 0 columns changes

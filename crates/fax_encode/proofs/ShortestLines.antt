@@ -6,7 +6,7 @@ use Rattle.fax_encode.proofs.Names.{length-append, Color, White, Mode, Pass, Hor
 use Rattle.fax_encode.proofs.Names.{Row, opposite, a1, a2, b1, b2, EncodesLine2D, a1_next, a2_next, a2_least, b2_above, Place}
 use Rattle.fax_encode.proofs.Names.{vertical_mode, is_near, place_after, is_coded, word_of_mode}
 use Rattle.fax_encode.proofs.Names.{ShortestLines, shortest_run, shortest_runs_of_mode, other_modes, shorter, shortest_of}
-use Rattle.fax_encode.proofs.Names.{shortest_from}
+use Rattle.fax_encode.proofs.Names.{shortest_from, shortest_line_2d}
 use Rattle.fax_encode.proofs.ChosenLines.{is_vertical}
 use Rattle.fax_encode.proofs.ShortestRuns.{shortest_runs}
 use Rattle.std.proofs.lemmas.Bool.{and_from, lt-leb}
@@ -107,7 +107,7 @@ one_of P first second left right = by_leb (leb (length first) (length second))
 
 module _ (bits_with : Mode → Bits) (vertical : Mode) where
   -- the modes besides horizontal mode, if these are lawful
-  others : Bool → Bool → List Mode
+  unfoldable pub others : Bool → Bool → List Mode
   others left near = cond left (Pass ∷ []) [] ++ cond near (vertical ∷ []) []
 
   no_longer : (left near : Bool) → (length (shortest_of bits_with (others left near)) ≤ length (bits_with Horizontal))
@@ -167,28 +167,29 @@ module _ (bits_with : Mode → Bits) (vertical : Mode) where
 -- ---- Lines.
 module _ (reference row : Row) (same : length reference ≡ length row) where
   -- what begins with a mode, within this number of modes after it
-  begins_with : ℕ → Place → Mode → Bits
+  unfoldable pub begins_with : ℕ → Place → Mode → Bits
   begins_with modes at mode = (word_of_mode mode ++ shortest_runs_of_mode row at mode)
       ++ shortest_from modes reference row (place_after reference row at mode)
 
-  from_is : (modes : ℕ) (at : Place) → at.from ≤ length row
+  pub from_is : (modes : ℕ) (at : Place) → at.from ≤ length row
       → shortest_from (suc modes) reference row at ≡ shortest_of (begins_with modes at) (other_modes reference row at)
-  unfolding begins_with
+  unfolding begins_with shortest_from
   from_is modes at inside = let e : is_coded row at ≡ false = le-ltb (length row) at.from inside in rw e refl
 
-  over_is : (modes : ℕ) (at : Place) → length row < at.from → shortest_from modes reference row at ≡ []
+  pub over_is : (modes : ℕ) (at : Place) → length row < at.from → shortest_from modes reference row at ≡ []
+  unfolding shortest_from
   over_is zero at past = refl
   over_is (suc modes) at past = let e : is_coded row at ≡ true = lt-ltb (length row) at.from past in rw e refl
 
   -- pass makes progress to the right
-  pass_right : (from : ℕ) (color : Color) → b2 reference from color < a1 row from → from < b2 reference from color
+  pub pass_right : (from : ℕ) (color : Color) → b2 reference from color < a1 row from → from < b2 reference from color
   pass_right from color lt =
       let within = (a1_next row from).within in
       let sides = b2_above reference from color (omega arith) in
       omega (arith, sides.0, sides.1)
 
   -- the shortest is no longer than what begins with any lawful mode
-  at_most : (modes : ℕ) (at : Place) → at.from ≤ length row
+  pub at_most : (modes : ℕ) (at : Place) → at.from ≤ length row
       → (length (shortest_from (suc modes) reference row at) ≤ length (begins_with modes at Horizontal))
       × (ltb (b2 reference at.from at.color) (a1 row at.from) ≡ true
       → length (shortest_from (suc modes) reference row at) ≤ length (begins_with modes at Pass))
@@ -204,7 +205,7 @@ module _ (reference row : Row) (same : length reference ≡ length row) where
   least : (modes from : ℕ) (color : Color) (bits : Bits) → EncodesLine2D reference row from color bits
       → suc (length row) ≤ from + modes
       → length (shortest_from modes reference row (record { from = from; color = color })) ≤ length bits
-  unfolding begins_with
+  unfolding begins_with shortest_from
   least modes from color bits EncodesLine2D.over enough =
       let none = over_is modes (record { from = from; color = color }) (omega arith) in omega (arith, ap length none)
   least zero from color bits derived enough = omega arith
@@ -394,7 +395,7 @@ module _ (reference row : Row) (same : length reference ≡ length row) where
   kept : (modes : ℕ) (at : Place) → at.from ≤ suc (length row) → suc (length row) ≤ at.from + modes
       → length (chosen_from reference row at) ≤ length (shortest_from modes reference row at)
       → shortest_from modes reference row at ≡ chosen_from reference row at
-  unfolding begins_with
+  unfolding begins_with shortest_from
   kept zero at le enough few = sym (chosen_over reference row same at (omega arith))
   kept (suc modes) at le enough few = elim (cases_lt (length row) at.from) [
     | inl past ↦ over_is (suc modes) at past ∙ sym (chosen_over reference row same at past)
@@ -422,7 +423,7 @@ module _ (reference row : Row) (same : length reference ≡ length row) where
 
 -- the shortest two-dimensional line
 pub shortest_lines : ShortestLines
-unfolding Encodes
+unfolding Encodes shortest_line_2d
 shortest_lines reference row same = (
   encodes reference row same (suc (length row)) (record { from = 0; color = White }) (omega arith) (omega arith),
   λ bits derived. least reference row same (suc (length row)) 0 White bits derived (omega arith),

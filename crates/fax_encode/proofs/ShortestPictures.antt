@@ -35,7 +35,7 @@ shortest_lines_encode columns aligned reference (row ∷ rows) same widths =
       refl,
     )
 
-lines_least : (columns : ℕ) (aligned : Bool) (reference : Row) (rows : List Row) → length reference ≡ columns
+pub lines_least : (columns : ℕ) (aligned : Bool) (reference : Row) (rows : List Row) → length reference ≡ columns
     → All (λ row. length row ≡ columns) rows → (bits : Bits) → EncodesRows Group4 aligned reference rows bits
     → length (shortest_lines_2d aligned reference rows) ≤ length bits
 unfolding up_to_byte

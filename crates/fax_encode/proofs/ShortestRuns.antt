@@ -40,7 +40,7 @@ either_long : (b : Bool) (m n : ℕ) → (26 ≤ m) × (m ≤ 40) → (26 ≤ n)
 either_long true m n left right = left
 either_long false m n left right = right
 
-first_long : (color : Color) (times : ℕ) → (26 ≤ first_makeup color times) × (first_makeup color times ≤ 40)
+pub first_long : (color : Color) (times : ℕ) → (26 ≤ first_makeup color times) × (first_makeup color times ≤ 40)
 first_long White times = either_long (leb 66 times && leb times 67) 40 26 (omega arith, omega arith) (omega arith, omega arith)
 first_long Black times =
     either_long (eqb times 56 || eqb times 84) 28 _ (omega arith, omega arith)
@@ -181,6 +181,7 @@ rest_bits color n lt = elim (cases_lt n 64) [
 
 words_bits : (color : Color) (words n : ℕ) → n < 1664 * suc words
     → length (shortest_words color words n) ≡ total color (n / 64) + ends color (n % 64)
+unfolding shortest_words
 words_bits color zero n lt = rest_bits color n (omega arith)
 words_bits color (suc words) n lt = elim (cases_lt n 2624) [
   | inl few ↦ let e : ltb n 2624 ≡ true = lt-ltb n 2624 few in rw e (rest_bits color n few)
@@ -202,9 +203,11 @@ words_bits color (suc words) n lt = elim (cases_lt n 2624) [
 ]
 
 run_bits : (color : Color) (n : ℕ) → length (shortest_run color n) ≡ total color (n / 64) + ends color (n % 64)
+unfolding shortest_run
 run_bits color n = words_bits color (n / 1664) n (omega arith)
 
 words_spelled : (color : Color) (words n : ℕ) → n < 1664 * suc words → Spells color n (shortest_words color words n)
+unfolding shortest_words
 words_spelled color zero n lt = rest_spelled color n (omega arith)
 words_spelled color (suc words) n lt = elim (cases_lt n 2624) [
   | inl few ↦ let e : ltb n 2624 ≡ true = lt-ltb n 2624 few in rw e (rest_spelled color n few)
@@ -384,6 +387,7 @@ chosen_seam color n many few =
 
 usual_kept : (color : Color) (words n : ℕ) → n < 1664 * suc words
     → length (chosen_run color n) ≤ length (shortest_words color words n) → shortest_words color words n ≡ chosen_run color n
+unfolding shortest_words
 usual_kept color zero n lt le = sym (run_rest color n (omega arith))
 usual_kept color (suc words) n lt le = elim (cases_lt n 2624) [
   | inl few ↦
@@ -415,6 +419,7 @@ usual_kept color (suc words) n lt le = elim (cases_lt n 2624) [
 
 -- the shortest words of a run
 pub shortest_runs : ShortestRuns
+unfolding shortest_run
 shortest_runs color n = (
   words_spelled color (n / 1664) n (omega arith),
   λ bits spells. omega (arith, run_bits color n, no_fewer color n bits spells),

@@ -6,13 +6,13 @@ use Rattle.fax_encode.proofs.Names.{in_list_if_below, b1_is, rising, turns_next,
 use Rattle.fax_encode.proofs.Names.{color_after}
 
 -- one change turns the colour, and two don't
-even_or_odd : (n : ℕ) → (n % 2 ≡ 0) ⊎ (n % 2 ≡ 1)
+pub even_or_odd : (n : ℕ) → (n % 2 ≡ 0) ⊎ (n % 2 ≡ 1)
 even_or_odd n = elim (cases_lt (n % 2) 1) [ inl lt ↦ inl (omega arith) | inr ge ↦ inr (omega arith) ]
 
-white_after : (n : ℕ) → n % 2 ≡ 0 → color_after n ≡ White
+pub white_after : (n : ℕ) → n % 2 ≡ 0 → color_after n ≡ White
 white_after n e = rw e refl
 
-black_after : (n : ℕ) → n % 2 ≡ 1 → color_after n ≡ Black
+pub black_after : (n : ℕ) → n % 2 ≡ 1 → color_after n ≡ Black
 black_after n e = rw e refl
 
 pub color_next : (n : ℕ) → color_after (n + 1) ≡ opposite (color_after n)

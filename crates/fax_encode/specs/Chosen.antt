@@ -1,10 +1,10 @@
 -- The encoding that an encoder chooses among those of a picture (T.4, 4.1 and 4.2.1.3; T.6, 2.2).
 use Rattle.std.specs.Prelude.{ℕ, suc, ◌+◌, ◌-◌, ◌/◌, ◌%◌, ◌==◌, Bool, true, false, ◌&&◌, nat_le, nat_lt, List, [], ◌∷◌, ◌++◌}
 use Rattle.std.specs.Prelude.{length, replicate, flat_map, map, pos, negsuc, if◌then◌else◌}
-use Rattle.hayro_ccitt.specs.declared.codes.Color.{Color}
-use Rattle.hayro_ccitt.specs.declared.codes.Color.TheVariants.{White}
-use Rattle.hayro_ccitt.specs.declared.codes.Mode.{Mode}
-use Rattle.hayro_ccitt.specs.declared.codes.Mode.TheVariants.{Pass, Horizontal, Vertical}
+use Rattle.hayro_ccitt.specs.Color.{Color}
+use Rattle.hayro_ccitt.specs.Color.TheVariants.{White}
+use Rattle.hayro_ccitt.specs.Mode.{Mode}
+use Rattle.hayro_ccitt.specs.Mode.TheVariants.{Pass, Horizontal, Vertical}
 use Rattle.hayro_ccitt.specs.Bits.{Bits}
 use Rattle.hayro_ccitt.specs.CodeLists.{Code, mode_codes}
 use Rattle.hayro_ccitt.specs.Runs.{codes_of}

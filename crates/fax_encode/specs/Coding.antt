@@ -1,7 +1,7 @@
 -- How far an encoder has come in a line.
 use Rattle.std.specs.Prelude.{ℕ, ◌+◌, ◌%◌, ◌==◌, ◌<◌, ◌≤◌, List, length, get_or, if◌then◌else◌}
-use Rattle.hayro_ccitt.specs.declared.codes.Color.{Color}
-use Rattle.hayro_ccitt.specs.declared.codes.Color.TheVariants.{White, Black}
+use Rattle.hayro_ccitt.specs.Color.{Color}
+use Rattle.hayro_ccitt.specs.Color.TheVariants.{White, Black}
 use Rattle.hayro_ccitt.specs.UsualModes.{TurnsFrom}
 use Rattle.fax_encode.specs.declared.group4.Coding.{Coding}
 use Rattle.fax_encode.specs.Chosen.{Place}

@@ -1,21 +1,25 @@
 -- The laws of the chosen encoding.
 use Rattle.std.specs.Prelude.{◌≡◌, ℕ, suc, ◌^◌, ◌<◌, ◌≤◌, Bool, true, false, List, [], ◌∷◌, ◌++◌, length, take, drop, ◌+◌, Ok}
 use Rattle.std.specs.Prelude.{All}
-use Rattle.hayro_ccitt.specs.declared.settings.EncodingMode.{EncodingMode}
-use Rattle.hayro_ccitt.specs.declared.settings.EncodingMode.TheVariants.{Group4, Group3_1D, Group3_2D}
-use Rattle.hayro_ccitt.specs.declared.settings.DecodeSettings.{DecodeSettings}
+use Rattle.hayro_ccitt.specs.EncodingMode.{EncodingMode}
+use Rattle.hayro_ccitt.specs.EncodingMode.TheVariants.{Group4, Group3_1D, Group3_2D}
+use Rattle.hayro_ccitt.specs.DecodeSettings.{DecodeSettings}
 use Rattle.hayro_ccitt.specs.Answers.{meaning_after}
 use Rattle.hayro_ccitt.specs.Bits.{Bits, AreWholeBytes, bits_in, bits_of}
 use Rattle.hayro_ccitt.specs.Locality.{EndAlike}
 use Rattle.hayro_ccitt.specs.LocalityByK.{IsTaggedBody, RowsDiffer}
 use Rattle.hayro_ccitt.specs.Rows.{Row, HaveWidth, white_row, pixels}
-use Rattle.hayro_ccitt.specs.Encodings.{IsPicture, PictureT6, PictureT4, EncodesRows, EncodesRowsWithEols, ClosesWithEols}
-use Rattle.hayro_ccitt.specs.declared.bit_reader.BitOrder.TheVariants.{HighestFirst}
+use Rattle.hayro_ccitt.specs.Encodings.{IsPicture, PictureT6, PictureT4, EncodesLine2D, EncodesRows, EncodesRowsWithEols}
+use Rattle.hayro_ccitt.specs.Encodings.{ClosesWithEols}
+use Rattle.hayro_ccitt.specs.BitOrder.TheVariants.{HighestFirst}
 use Rattle.hayro_ccitt.specs.PlainReading.{plain}
 use Rattle.fax_encode.specs.Chosen.{chosen_line_1d, chosen_t6, chosen_t4, filled_up, rows_of}
 use Rattle.fax_encode.specs.Packed.{packed, shown, with_packed_row}
 use Rattle.fax_encode.specs.Refusals.{AreRows}
 use Rattle.fax_encode.specs.RowByRow.{no_rows, with_rows}
+use Rattle.fax_encode.specs.declared.settings.Effort.{Effort}
+use Rattle.fax_encode.specs.declared.settings.Effort.TheVariants.{Procedure, Shortest}
+use Rattle.hayro_ccitt.specs.Color.TheVariants.{White}
 use Rattle.fax_encode.specs.declared.settings.EncodeSettings.{EncodeSettings}
 use Rattle.fax_encode.specs.Settings.{chosen, chosen_line, chosen_lines, chosen_lines_with_eols, chosen_eols, fill_of, needs_row}
 use Rattle.fax_encode.specs.Settings.{with_end, decode_settings_for}
@@ -76,17 +80,18 @@ BitmapRoundTripT4 = (settings : DecodeSettings) (columns : ℕ) (bitmap bytes : 
 
 -- the chosen lines encode the rows, with EOLs and without, and the chosen end is the end of a block
 abbrev pub ChosenLinesEncode : Type 0
-ChosenLinesEncode = (encoding : EncodingMode) (columns k : ℕ) (rows : List Row) → IsPicture columns rows
+ChosenLinesEncode = (effort : Effort) (encoding : EncodingMode) (columns k : ℕ) (rows : List Row) → IsPicture columns rows
     → ((aligned : Bool)
-    → EncodesRows encoding aligned (white_row columns) rows (chosen_lines encoding k aligned 0 (white_row columns) rows))
+    → EncodesRows encoding aligned (white_row columns) rows (chosen_lines effort encoding k aligned 0 (white_row columns) rows))
     × ((fills : Bool) → EncodesRowsWithEols encoding (white_row columns) rows
-    (chosen_lines_with_eols encoding k fills 0 0 (white_row columns) rows))
+    (chosen_lines_with_eols effort encoding k fills 0 0 (white_row columns) rows))
     × ((fills : Bool) (at : ℕ) → ClosesWithEols encoding 6 (chosen_eols encoding fills at 6))
 
 -- a line of two-dimensional Group 3 has no more bits than the one-dimensional line and its tag
 abbrev pub NeverLonger : Type 0
 NeverLonger =
-    (left : ℕ) (reference row : Row) → length (chosen_line Group3_2D left reference row) ≤ suc (length (chosen_line_1d row))
+    (effort : Effort) (left : ℕ) (reference row : Row) → length (chosen_line effort Group3_2D left reference row) ≤ suc
+    (length (chosen_line_1d row))
 
 -- auxiliary: the reading of some data yields these rows, without a fault, and this number of bytes is consumed
 abbrev pub GivesAll : DecodeSettings → Bits → List Row → ℕ → Type 0
@@ -127,6 +132,7 @@ ChosenBySettings = (columns k : ℕ) (rows : List Row)
       rows_are_byte_aligned = aligned;
       end_of_block = true;
       order = HighestFirst;
+      effort = Procedure;
     }) columns rows ≡ chosen_t6 columns aligned rows)
     × (chosen (record {
       encoding = Group3_1D;
@@ -136,7 +142,25 @@ ChosenBySettings = (columns k : ℕ) (rows : List Row)
       rows_are_byte_aligned = false;
       end_of_block = true;
       order = HighestFirst;
+      effort = Procedure;
     }) columns rows ≡ chosen_t4 rows)
+
+-- ---- the fewest bits
+
+-- What is chosen for a picture as Group 4 with the effort `Shortest` has no more bits than any lines that encode its rows with
+-- the same alignment, with the same end (T.6, 2).
+abbrev pub NoneIsShorter : Type 0
+NoneIsShorter = (settings : EncodeSettings) (columns : ℕ) (rows : List Row) (lines : Bits) → IsPicture columns rows
+    → settings.encoding ≡ Group4 → settings.effort ≡ Shortest
+    → EncodesRows Group4 settings.rows_are_byte_aligned (white_row columns) rows lines
+    → length (chosen settings columns rows) ≤ length (with_end settings lines)
+
+-- A line of two-dimensional Group 3 that may be two-dimensional, with the effort `Shortest`, has no more bits than any modes that
+-- encode its row, and the tag (T.4, 4.2.1.3 and 4.2.2).
+abbrev pub NoLineIsShorter : Type 0
+NoLineIsShorter = (left : ℕ) (reference row : Row) (bits : Bits) → length reference ≡ length row
+    → EncodesLine2D reference row 0 White bits
+    → length (chosen_line Shortest Group3_2D (suc left) reference row) ≤ suc (length bits)
 
 -- ---- damage
 
@@ -154,7 +178,7 @@ tag_after settings columns rows =
 abbrev pub line_end : EncodeSettings → ℕ → List Row → Row → ℕ
 line_end settings columns rows row =
     tag_after settings columns rows
-    + length (chosen_line settings.encoding (with_rows (no_rows settings columns) rows).left
+    + length (chosen_line settings.effort settings.encoding (with_rows (no_rows settings columns) rows).left
     (with_rows (no_rows settings columns) rows).last row)
 
 -- two data differ only within a line of the first one, up to an EOL in both; in the second one a line is there too
@@ -195,6 +219,7 @@ WorkedSettings = IsWritten (record {
   rows_are_byte_aligned = false;
   end_of_block = true;
   order = HighestFirst;
+  effort = Procedure;
 }) (white_row 8 ∷ white_row 8 ∷ []) (0 ∷ 28 ∷ 192 ∷ 5 ∷ 0 ∷ 24 ∷ 0 ∷ 192 ∷ 6 ∷ 0 ∷ 48 ∷ 1 ∷ 128 ∷ 12 ∷ [])
     × IsWritten (record {
       encoding = Group3_1D;
@@ -204,6 +229,7 @@ WorkedSettings = IsWritten (record {
       rows_are_byte_aligned = true;
       end_of_block = false;
       order = HighestFirst;
+      effort = Procedure;
     }) (pixels 8 (3 ∷ 5 ∷ []) ∷ pixels 8 (3 ∷ 5 ∷ []) ∷ []) (142 ∷ 0 ∷ 142 ∷ 0 ∷ [])
     × IsWritten (record {
       encoding = Group3_1D;
@@ -213,6 +239,7 @@ WorkedSettings = IsWritten (record {
       rows_are_byte_aligned = false;
       end_of_block = false;
       order = HighestFirst;
+      effort = Procedure;
     }) (white_row 8 ∷ white_row 8 ∷ []) (0 ∷ 1 ∷ 152 ∷ 0 ∷ 1 ∷ 152 ∷ [])
     × IsWritten (record {
       encoding = Group4;
@@ -222,4 +249,5 @@ WorkedSettings = IsWritten (record {
       rows_are_byte_aligned = false;
       end_of_block = false;
       order = HighestFirst;
+      effort = Procedure;
     }) (pixels 8 (3 ∷ 5 ∷ []) ∷ []) (49 ∷ 192 ∷ [])

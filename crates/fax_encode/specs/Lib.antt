@@ -8,4 +8,5 @@ pub mod RowByRow
 pub mod Scanning
 pub mod Settings
 pub mod Shortest
+pub mod Ways
 pub mod Writing

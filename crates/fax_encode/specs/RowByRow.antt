@@ -37,7 +37,7 @@ with_row rows row = record {
   lines = rows.lines ++ chosen_part rows.settings (length rows.lines) rows.left rows.last row;
   count = min (rows.count + 1) (2 ^ 64 - 1);
   last = row;
-  left = left_after rows.settings.encoding rows.settings.k rows.left rows.last row;
+  left = left_after rows.settings.effort rows.settings.encoding rows.settings.k rows.left rows.last row;
   wants_memory = false;
 }
 

@@ -1,15 +1,18 @@
 -- The encoding that is chosen, by settings (T.4, 4.1 and 4.2; T.6, 2.2).
 use Rattle.std.specs.Prelude.{ℕ, zero, suc, ◌+◌, ◌-◌, ◌%◌, Bool, true, false, not, ◌&&◌, nat_le, nat_lt, List, [], ◌∷◌, ◌++◌}
 use Rattle.std.specs.Prelude.{length, if◌then◌else◌}
-use Rattle.hayro_ccitt.specs.declared.settings.EncodingMode.{EncodingMode}
-use Rattle.hayro_ccitt.specs.declared.settings.EncodingMode.TheVariants.{Group4, Group3_1D, Group3_2D}
-use Rattle.hayro_ccitt.specs.declared.settings.DecodeSettings.{DecodeSettings}
-use Rattle.hayro_ccitt.specs.declared.bit_reader.BitOrder.TheVariants.{HighestFirst}
+use Rattle.hayro_ccitt.specs.EncodingMode.{EncodingMode}
+use Rattle.hayro_ccitt.specs.EncodingMode.TheVariants.{Group4, Group3_1D, Group3_2D}
+use Rattle.hayro_ccitt.specs.DecodeSettings.{DecodeSettings}
+use Rattle.hayro_ccitt.specs.BitOrder.TheVariants.{HighestFirst}
 use Rattle.hayro_ccitt.specs.Bits.{Bits}
 use Rattle.hayro_ccitt.specs.Rows.{Row, white_row}
 use Rattle.hayro_ccitt.specs.Encodings.{padding, eol, tag_of}
 use Rattle.fax_encode.specs.declared.settings.EncodeSettings.{EncodeSettings}
+use Rattle.fax_encode.specs.declared.settings.Effort.{Effort}
+use Rattle.fax_encode.specs.declared.settings.Effort.TheVariants.{Procedure, Shortest}
 use Rattle.fax_encode.specs.Chosen.{chosen_line_1d, chosen_line_2d}
+use Rattle.fax_encode.specs.Shortest.{shortest_line_2d}
 
 -- ---- settings that name an encoding
 
@@ -40,47 +43,53 @@ needs_row Group3_2D closed = true
 
 -- ---- one line
 
+-- a two-dimensional line, by the procedure of T.6 or as short as it can be (T.4, 4.2.1.3.2; T.6, 2.2)
+abbrev pub line_2d : Effort → Row → Row → Bits
+line_2d Procedure reference row = chosen_line_2d reference row
+line_2d Shortest reference row = shortest_line_2d reference row
+
 -- Whether a line of Group 3 is two-dimensional, if `left` more may be: if it is no longer than the one-dimensional line (T.4,
 -- 4.2.1).
-abbrev pub is_two_dimensional : ℕ → Row → Row → Bool
-is_two_dimensional zero reference row = false
-is_two_dimensional (suc left) reference row = nat_le (length (chosen_line_2d reference row)) (length (chosen_line_1d row))
+abbrev pub is_two_dimensional : Effort → ℕ → Row → Row → Bool
+is_two_dimensional effort zero reference row = false
+is_two_dimensional effort (suc left) reference row = nat_le (length (line_2d effort reference row)) (length (chosen_line_1d row))
 
 -- a line, if `left` more may be two-dimensional; in two-dimensional Group 3 after its tag (T.4, 4.2.2)
-abbrev pub chosen_line : EncodingMode → ℕ → Row → Row → Bits
-chosen_line Group4 left reference row = chosen_line_2d reference row
-chosen_line Group3_1D left reference row = chosen_line_1d row
-chosen_line Group3_2D left reference row =
-    if is_two_dimensional left reference row then false ∷ chosen_line_2d reference row else true ∷ chosen_line_1d row
+abbrev pub chosen_line : Effort → EncodingMode → ℕ → Row → Row → Bits
+chosen_line effort Group4 left reference row = line_2d effort reference row
+chosen_line effort Group3_1D left reference row = chosen_line_1d row
+chosen_line effort Group3_2D left reference row =
+    if is_two_dimensional effort left reference row then false ∷ line_2d effort reference row else true ∷ chosen_line_1d row
 
 -- how many lines after a line may be two-dimensional: K - 1 after a one-dimensional one (T.4, 4.2.1). They are counted only in
 -- two-dimensional Group 3.
-abbrev pub left_after : EncodingMode → ℕ → ℕ → Row → Row → ℕ
-left_after Group4 k left reference row = 0
-left_after Group3_1D k left reference row = 0
-left_after Group3_2D k left reference row = if is_two_dimensional left reference row then left - 1 else k - 1
+abbrev pub left_after : Effort → EncodingMode → ℕ → ℕ → Row → Row → ℕ
+left_after effort Group4 k left reference row = 0
+left_after effort Group3_1D k left reference row = 0
+left_after effort Group3_2D k left reference row = if is_two_dimensional effort left reference row then left - 1 else k - 1
 
 -- ---- lines
 
 -- lines without EOLs, each filled up to a whole byte if they are aligned (T.4, 4.1.1 and 4.2.1; T.6, 2.2)
-abbrev pub chosen_lines : EncodingMode → ℕ → Bool → ℕ → Row → List Row → Bits
-chosen_lines encoding k aligned left reference [] = []
-chosen_lines encoding k aligned left reference (row ∷ rows) =
-    chosen_line encoding left reference row
-    ++ (if aligned then padding (length (chosen_line encoding left reference row)) else [])
-    ++ chosen_lines encoding k aligned (left_after encoding k left reference row) row rows
+abbrev pub chosen_lines : Effort → EncodingMode → ℕ → Bool → ℕ → Row → List Row → Bits
+chosen_lines effort encoding k aligned left reference [] = []
+chosen_lines effort encoding k aligned left reference (row ∷ rows) =
+    chosen_line effort encoding left reference row
+    ++ (if aligned then padding (length (chosen_line effort encoding left reference row)) else [])
+    ++ chosen_lines effort encoding k aligned (left_after effort encoding k left reference row) row rows
 
 -- the number of zeros of fill of an EOL that begins after this number of bits, if it ends at a whole byte (T.4, 4.1.3)
 abbrev pub fill_of : Bool → ℕ → ℕ
 fill_of fills at = if fills then (8 - (at + 12) % 8) % 8 else 0
 
 -- lines after this number of bits, an EOL before each (T.4, 4.1.2)
-abbrev pub chosen_lines_with_eols : EncodingMode → ℕ → Bool → ℕ → ℕ → Row → List Row → Bits
-chosen_lines_with_eols encoding k fills at left reference [] = []
-chosen_lines_with_eols encoding k fills at left reference (row ∷ rows) =
-    eol (fill_of fills at) ++ chosen_line encoding left reference row
-    ++ chosen_lines_with_eols encoding k fills (at + 12 + fill_of fills at + length (chosen_line encoding left reference row))
-    (left_after encoding k left reference row) row rows
+abbrev pub chosen_lines_with_eols : Effort → EncodingMode → ℕ → Bool → ℕ → ℕ → Row → List Row → Bits
+chosen_lines_with_eols effort encoding k fills at left reference [] = []
+chosen_lines_with_eols effort encoding k fills at left reference (row ∷ rows) =
+    eol (fill_of fills at) ++ chosen_line effort encoding left reference row
+    ++ chosen_lines_with_eols effort encoding k fills (at + 12 + fill_of fills at + length
+    (chosen_line effort encoding left reference row))
+    (left_after effort encoding k left reference row) row rows
 
 -- this number of EOLs after this number of bits, each with its tag: six are RTC (T.4, 4.1.4 and 4.2.4)
 abbrev pub chosen_eols : EncodingMode → Bool → ℕ → ℕ → Bits
@@ -102,9 +111,10 @@ has_eols Group3_2D eols = eols
 abbrev pub chosen_part : EncodeSettings → ℕ → ℕ → Row → Row → Bits
 chosen_part settings at left reference row =
     if has_eols settings.encoding settings.end_of_line
-    then eol (fill_of settings.eols_end_at_bytes at) ++ chosen_line settings.encoding left reference row
-    else chosen_line settings.encoding left reference row
-    ++ (if settings.rows_are_byte_aligned then padding (length (chosen_line settings.encoding left reference row)) else [])
+    then eol (fill_of settings.eols_end_at_bytes at) ++ chosen_line settings.effort settings.encoding left reference row
+    else chosen_line settings.effort settings.encoding left reference row
+    ++ (if settings.rows_are_byte_aligned then padding (length
+    (chosen_line settings.effort settings.encoding left reference row)) else [])
 
 -- what follows the lines, after this number of bits: EOFB or RTC if the picture is closed
 abbrev pub chosen_end : EncodingMode → Bool → Bool → Bool → ℕ → Bits
@@ -120,32 +130,36 @@ with_end settings lines =
 -- ---- pictures
 
 -- a picture of Group 3 with EOLs: its lines, and RTC if it is closed (T.4, 4.1.2 and 4.1.4)
-abbrev pub chosen_with_eols : EncodingMode → ℕ → Bool → Bool → Row → List Row → Bits
-chosen_with_eols encoding k fills closed white rows =
-    chosen_lines_with_eols encoding k fills 0 0 white rows
-    ++ (if closed then chosen_eols encoding fills (length (chosen_lines_with_eols encoding k fills 0 0 white rows)) 6 else [])
+abbrev pub chosen_with_eols : Effort → EncodingMode → ℕ → Bool → Bool → Row → List Row → Bits
+chosen_with_eols effort encoding k fills closed white rows =
+    chosen_lines_with_eols effort encoding k fills 0 0 white rows
+    ++ (if closed then chosen_eols encoding fills (length
+    (chosen_lines_with_eols effort encoding k fills 0 0 white rows)) 6 else [])
 
 -- a picture of Group 4: its lines, and EOFB if it is closed (T.6, 2.4.1.1)
-abbrev pub chosen_group4 : ℕ → Bool → Bool → Row → List Row → Bits
-chosen_group4 k aligned closed white rows = chosen_lines Group4 k aligned 0 white rows ++ (if closed then eol 0 ++ eol 0 else [])
+abbrev pub chosen_group4 : Effort → ℕ → Bool → Bool → Row → List Row → Bits
+chosen_group4 effort k aligned closed white rows = chosen_lines effort Group4 k aligned 0 white rows
+    ++ (if closed then eol 0 ++ eol 0 else [])
 
 -- a picture of Group 3, with EOLs or without
-abbrev pub chosen_group3 : EncodingMode → Bool → ℕ → Bool → Bool → Bool → Row → List Row → Bits
-chosen_group3 encoding true k fills aligned closed white rows = chosen_with_eols encoding k fills closed white rows
-chosen_group3 encoding false k fills aligned closed white rows = chosen_lines encoding k aligned 0 white rows
+abbrev pub chosen_group3 : Effort → EncodingMode → Bool → ℕ → Bool → Bool → Bool → Row → List Row → Bits
+chosen_group3 effort encoding true k fills aligned closed white rows = chosen_with_eols effort encoding k fills closed white rows
+chosen_group3 effort encoding false k fills aligned closed white rows = chosen_lines effort encoding k aligned 0 white rows
 
 -- a picture of any kind
-abbrev pub chosen_picture : EncodingMode → Bool → ℕ → Bool → Bool → Bool → Row → List Row → Bits
-chosen_picture Group4 eols k fills aligned closed white rows = chosen_group4 k aligned closed white rows
-chosen_picture Group3_1D eols k fills aligned closed white rows = chosen_group3 Group3_1D eols k fills aligned closed white rows
-chosen_picture Group3_2D eols k fills aligned closed white rows = chosen_group3 Group3_2D eols k fills aligned closed white rows
+abbrev pub chosen_picture : Effort → EncodingMode → Bool → ℕ → Bool → Bool → Bool → Row → List Row → Bits
+chosen_picture effort Group4 eols k fills aligned closed white rows =
+    chosen_group4 effort k aligned closed white rows
+chosen_picture effort Group3_1D eols k fills aligned closed white rows =
+    chosen_group3 effort Group3_1D eols k fills aligned closed white rows
+chosen_picture effort Group3_2D eols k fills aligned closed white rows =
+    chosen_group3 effort Group3_2D eols k fills aligned closed white rows
 
 -- What is chosen for a picture, by settings. The first line is one-dimensional in two-dimensional Group 3 (T.4, 4.2.1).
 abbrev pub chosen : EncodeSettings → ℕ → List Row → Bits
 chosen settings columns rows =
-    chosen_picture settings.encoding settings.end_of_line settings.k settings.eols_end_at_bytes settings.rows_are_byte_aligned
-    settings.end_of_block
-    (white_row columns) rows
+    chosen_picture settings.effort settings.encoding settings.end_of_line settings.k settings.eols_end_at_bytes
+    settings.rows_are_byte_aligned settings.end_of_block (white_row columns) rows
 
 -- ---- the settings of closed pictures
 
@@ -159,6 +173,7 @@ group4_settings aligned = record {
   rows_are_byte_aligned = aligned;
   end_of_block = true;
   order = HighestFirst;
+  effort = Procedure;
 }
 
 -- one-dimensional Group 3 with EOLs and RTC (T.4, 4.1)
@@ -171,6 +186,7 @@ group3_settings = record {
   rows_are_byte_aligned = false;
   end_of_block = true;
   order = HighestFirst;
+  effort = Procedure;
 }
 
 -- ---- settings that read it

@@ -1,10 +1,10 @@
 -- The shortest encoding of a picture (T.4, 4.1.1 and 4.2.1.3; T.6, 2.2).
 use Rattle.std.specs.Prelude.{◌≡◌, ℕ, zero, suc, ◌-◌, ◌*◌, ◌/◌, ◌==◌, ◌≤◌, Bool, ◌&&◌, ◌||◌, nat_le, nat_lt, List, [], ◌∷◌, ◌++◌}
 use Rattle.std.specs.Prelude.{length, if◌then◌else◌}
-use Rattle.hayro_ccitt.specs.declared.codes.Color.{Color}
-use Rattle.hayro_ccitt.specs.declared.codes.Color.TheVariants.{White, Black}
-use Rattle.hayro_ccitt.specs.declared.codes.Mode.{Mode}
-use Rattle.hayro_ccitt.specs.declared.codes.Mode.TheVariants.{Pass, Horizontal, Vertical}
+use Rattle.hayro_ccitt.specs.Color.{Color}
+use Rattle.hayro_ccitt.specs.Color.TheVariants.{White, Black}
+use Rattle.hayro_ccitt.specs.Mode.{Mode}
+use Rattle.hayro_ccitt.specs.Mode.TheVariants.{Pass, Horizontal, Vertical}
 use Rattle.hayro_ccitt.specs.Bits.{Bits}
 use Rattle.hayro_ccitt.specs.Rows.{Row, white_row, opposite, b1, b2, a1, a2}
 use Rattle.hayro_ccitt.specs.Encodings.{Spells, EncodesLine2D, IsPicture, PictureT6, padding, eol}
@@ -26,7 +26,7 @@ first_makeup Black times =
     then 30 else 40))
 
 -- the words of a run, of which this number of words may come before the last two
-abbrev pub shortest_words : Color → ℕ → ℕ → Bits
+unfoldable pub shortest_words : Color → ℕ → ℕ → Bits
 shortest_words color zero n = chosen_rest color n
 shortest_words color (suc words) n =
     if nat_lt n 2624 then chosen_rest color n
@@ -34,7 +34,7 @@ shortest_words color (suc words) n =
     ++ shortest_words color words (n - 64 * first_makeup color (n / 64))
 
 -- The shortest words of a run: each word before the last two has at least 1664 pixels (T.4, 4.1.1).
-abbrev pub shortest_run : Color → ℕ → Bits
+unfoldable pub shortest_run : Color → ℕ → Bits
 shortest_run color n = shortest_words color (n / 1664) n
 
 -- ---- two-dimensional lines
@@ -65,7 +65,7 @@ shortest_of bits_with (mode ∷ modes) = shorter (bits_with mode) (shortest_of b
 
 -- The modes from a position to the row's end that have the fewest bits, within this number of modes. Where several begin
 -- equally short codings it is pass rather than vertical, and vertical rather than horizontal, as in T.4, 4.2.1.3.2.
-abbrev pub shortest_from : ℕ → Row → Row → Place → Bits
+unfoldable pub shortest_from : ℕ → Row → Row → Place → Bits
 shortest_from zero reference row at = []
 shortest_from (suc modes) reference row at =
     if is_coded row at then []
@@ -73,7 +73,7 @@ shortest_from (suc modes) reference row at =
     ++ shortest_from modes reference row (place_after reference row at mode)) (other_modes reference row at)
 
 -- the modes of a row with the fewest bits, from the position left of it: each makes progress to the right (T.4, 4.2.1.3)
-abbrev pub shortest_line_2d : Row → Row → Bits
+unfoldable pub shortest_line_2d : Row → Row → Bits
 shortest_line_2d reference row = shortest_from (suc (length row)) reference row (record { from = 0; color = White })
 
 -- ---- pictures

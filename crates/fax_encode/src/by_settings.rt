@@ -31,6 +31,7 @@ pub fn needs_row(settings: EncodeSettings) -> bool
 /// Writes the lines of a picture, each with what belongs to it.
 fn put_rows(
     writer: &mut BitWriter,
+    alloc: Global,
     columns: u32,
     rows: &[Vec<u32>],
     settings: EncodeSettings,
@@ -40,10 +41,19 @@ fn put_rows(
     ensures { OnOk result (with_end settings (all_bits writer.new)
         ≡ chosen settings columns (rows_of columns (map (λ row. row.items) rows.now))) }
 {
+    let mut ways = Vec::new(alloc);
     let mut reference: &[u32] = &[];
     let mut left = 0;
     for row in rows {
-        left = put_part(writer, columns, settings, left, reference, row.as_slice())?;
+        left = put_part(
+            writer,
+            &mut ways,
+            columns,
+            settings,
+            left,
+            reference,
+            row.as_slice(),
+        )?;
         reference = row.as_slice();
     }
     Ok(())
@@ -61,14 +71,14 @@ fn picture(
         ≡ filled_up (chosen settings columns (rows_of columns (map (λ row. row.items) rows.now)))) }
 {
     let mut writer = BitWriter::new(alloc);
-    put_rows(&mut writer, columns, rows, settings)?;
+    put_rows(&mut writer, alloc, columns, rows, settings)?;
     put_end(&mut writer, settings)?;
     Ok(bytes_in_order(writer.finish()?, settings.order))
 }
 
 /// Encodes rows, given as lists of changes, as the settings say: each line, the EOL before it or the zeros after it, EOFB
 /// or RTC after the last, and zeros up to a whole byte. A line of two-dimensional Group 3 is two-dimensional if K allows it
-/// and it is no longer than the one-dimensional line (T.4 section 4.2.1).
+/// and it is no longer than the one-dimensional line (T.4, 4.2.1).
 ///
 /// # Errors
 ///
@@ -129,12 +139,14 @@ fn put_bitmap(
     let width = (columns as usize).div_ceil(8);
     let mut reference = Vec::new(alloc);
     let mut row = Vec::new(alloc);
+    let mut ways = Vec::new(alloc);
     let mut left = 0;
     let mut rest = bitmap;
     while rest.len() >= width {
         scan_row(&mut row, columns, rest)?;
         left = put_part(
             writer,
+            &mut ways,
             columns,
             settings,
             left,

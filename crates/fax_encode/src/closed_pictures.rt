@@ -7,7 +7,7 @@ ghost use Rattle.fax_encode.specs.Packed.{bytes_of_row, shown};
 ghost use Rattle.fax_encode.specs.Refusals.{AreRows, IsFirstUnlawful};
 ghost use Rattle.fax_encode.specs.Settings.{group3_settings, group4_settings};
 
-use crate::{EncodeError, EncodeSettings, encode, encode_bitmap};
+use crate::{Effort, EncodeError, EncodeSettings, encode, encode_bitmap};
 use hayro_ccitt::EncodingMode;
 use hayro_ccitt::bit_reader::BitOrder;
 use std::alloc::Global;
@@ -24,6 +24,7 @@ fn group4_settings(aligned: bool) -> EncodeSettings
         rows_are_byte_aligned: aligned,
         end_of_block: true,
         order: BitOrder::HighestFirst,
+        effort: Effort::Procedure,
     }
 }
 
@@ -39,13 +40,14 @@ fn group3_settings() -> EncodeSettings
         rows_are_byte_aligned: false,
         end_of_block: true,
         order: BitOrder::HighestFirst,
+        effort: Effort::Procedure,
     }
 }
 
 /// Encodes rows, given as lists of changes, as Group 4 (T.6): the modes of each row against the row before it, with zeros
 /// up to a whole byte after each row if they are `aligned`, and EOFB after the last, with zeros up to a whole byte. No rows
 /// are encoded as EOFB alone. With 8 columns and not aligned the one row `[3, 5]` is 31 C0 04 00 40: horizontal mode, 3
-/// white pixels, 2 black ones, a vertical mode, and EOFB (T.6 sections 2.2 and 2.4.1.1).
+/// white pixels, 2 black ones, a vertical mode, and EOFB (T.6, 2.2 and 2.4.1.1).
 ///
 /// # Errors
 ///
@@ -69,7 +71,7 @@ pub fn encode_g4(
     encode(alloc, columns, rows, group4_settings(aligned))
 }
 
-/// Encodes rows, given as lists of changes, as one-dimensional Group 3 (T.4, section 4.1): an EOL before each row, the
+/// Encodes rows, given as lists of changes, as one-dimensional Group 3 (T.4, 4.1): an EOL before each row, the
 /// runs of the row, and RTC after the last, with zeros up to a whole byte and no other fill.
 ///
 /// # Errors
@@ -115,7 +117,7 @@ pub fn encode_bitmap_g4(
     encode_bitmap(alloc, columns, bitmap, group4_settings(aligned))
 }
 
-/// Encodes the rows of a bitmap as one-dimensional Group 3 (T.4, section 4.1), as [`encode_1d`](crate::encode_1d) encodes
+/// Encodes the rows of a bitmap as one-dimensional Group 3 (T.4, 4.1), as [`encode_1d`](crate::encode_1d) encodes
 /// lists of changes. Its rows are those of [`encode_bitmap_g4`].
 ///
 /// # Errors

@@ -14,6 +14,7 @@ use crate::bitmap_rows::scan_row;
 use crate::by_settings::needs_row;
 use crate::encoding::{names_encoding, put_end, put_part};
 use crate::rows::is_row;
+use crate::shortest_lines::Way;
 use crate::{EncodeError, EncodeSettings};
 use std::alloc::{AllocError, Global};
 use std::marker::Model;
@@ -28,6 +29,8 @@ pub struct Encoder {
     reference: Vec<u32>,
     /// The current row.
     row: Vec<u32>,
+    /// The ways of the current row, for their memory.
+    ways: Vec<Way>,
     settings: EncodeSettings,
     columns: u32,
     /// How many lines may still be two-dimensional.
@@ -86,6 +89,7 @@ impl Encoder {
             writer: BitWriter::new(alloc),
             reference: Vec::new(alloc),
             row: Vec::new(alloc),
+            ways: Vec::new(alloc),
             settings,
             columns,
             left: 0,
@@ -121,6 +125,7 @@ impl Encoder {
         self.wants_memory = true;
         let left = put_part(
             &mut self.writer,
+            &mut self.ways,
             self.columns,
             self.settings,
             self.left,
@@ -179,6 +184,7 @@ impl Encoder {
         scan_row(&mut self.row, self.columns, bitmap)?;
         let left = put_part(
             &mut self.writer,
+            &mut self.ways,
             self.columns,
             self.settings,
             self.left,

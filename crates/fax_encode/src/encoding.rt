@@ -2,16 +2,18 @@
 
 ghost use Rattle.std.specs.Prelude.{◌≡◌, ◌%◌, ◌++◌, [], false, true, ◌∷◌, length, nat_le, IfOk, OnOk, if◌then◌else◌};
 ghost use Rattle.hayro_ccitt.specs.Rows.{AreChanges, pixels};
-ghost use Rattle.fax_encode.specs.Chosen.{chosen_line_1d, chosen_line_2d};
-ghost use Rattle.fax_encode.specs.Settings.{chosen_line, chosen_part, has_eols, left_after, names_encoding, names_group3};
+ghost use Rattle.fax_encode.specs.Chosen.{chosen_line_1d};
+ghost use Rattle.fax_encode.specs.Settings.{chosen_line, chosen_part, has_eols, left_after, line_2d, names_encoding};
+ghost use Rattle.fax_encode.specs.Settings.{names_group3};
 ghost use Rattle.fax_encode.specs.Settings.{with_end};
 ghost use Rattle.fax_encode.specs.Writing.{all_bits};
 
-use crate::EncodeSettings;
 use crate::bit_writer::BitWriter;
 use crate::group3::{put_closing_eols, put_eol, put_filled_eol};
 use crate::group4::{put_line, put_padding};
 use crate::runs::{put_row, takes_at_least};
+use crate::shortest_lines::{Way, put_shortest_line};
+use crate::{Effort, EncodeSettings};
 use hayro_ccitt::EncodingMode;
 use std::alloc::AllocError;
 
@@ -36,10 +38,33 @@ pub fn names_encoding(settings: EncodeSettings) -> bool
     }
 }
 
+/// Writes a two-dimensional line. The list lends its memory.
+#[inline(always)]
+fn put_line_2d(
+    writer: &mut BitWriter,
+    ways: &mut Vec<Way>,
+    effort: Effort,
+    columns: u32,
+    reference: &[u32],
+    changes: &[u32],
+) -> Result<(), AllocError>
+    requires reference { AreChanges columns reference.now }
+    requires changes { AreChanges columns changes.now }
+    ensures { OnOk result (all_bits writer.new ≡ all_bits writer.old
+        ++ line_2d effort (pixels columns reference.now) (pixels columns changes.now)) }
+{
+    match effort {
+        Effort::Procedure => put_line(writer, columns, reference, changes),
+        Effort::Shortest => put_shortest_line(writer, ways, columns, reference, changes),
+    }
+}
+
 /// Writes a two-dimensional line of Group 3 and the tag before it, and returns true. If the one-dimensional line is
 /// shorter, writes nothing and returns false.
 fn put_if_shorter(
     writer: &mut BitWriter,
+    ways: &mut Vec<Way>,
+    effort: Effort,
     columns: u32,
     reference: &[u32],
     changes: &[u32],
@@ -47,15 +72,15 @@ fn put_if_shorter(
     requires reference { AreChanges columns reference.now }
     requires changes { AreChanges columns changes.now }
     ensures shorter { IfOk result (λ is_written. is_written
-        ≡ nat_le (length (chosen_line_2d (pixels columns reference.now) (pixels columns changes.now)))
+        ≡ nat_le (length (line_2d effort (pixels columns reference.now) (pixels columns changes.now)))
         (length (chosen_line_1d (pixels columns changes.now)))) }
     ensures written { IfOk result (λ is_written. all_bits writer.new ≡ all_bits writer.old
-        ++ (if is_written then false ∷ chosen_line_2d (pixels columns reference.now) (pixels columns changes.now) else [])) }
+        ++ (if is_written then false ∷ line_2d effort (pixels columns reference.now) (pixels columns changes.now) else [])) }
 {
     let mark = writer.mark();
     writer.put(0, 1)?;
     let start = writer.bit_count();
-    put_line(writer, columns, reference, changes)?;
+    put_line_2d(writer, ways, effort, columns, reference, changes)?;
     if takes_at_least(columns, changes, writer.bit_count() - start) {
         return Ok(true);
     }
@@ -63,7 +88,7 @@ fn put_if_shorter(
     Ok(false)
 }
 
-/// Writes a one-dimensional line of two-dimensional Group 3 and the tag before it (T.4, section 4.2.2).
+/// Writes a one-dimensional line of two-dimensional Group 3 and the tag before it (T.4, 4.2.2).
 fn put_one_dimensional(
     writer: &mut BitWriter,
     columns: u32,
@@ -76,10 +101,12 @@ fn put_one_dimensional(
     put_row(writer, columns, changes)
 }
 
-/// Writes a line of two-dimensional Group 3 and the tag before it (T.4, sections 4.2.1 and 4.2.2). Takes the number of
+/// Writes a line of two-dimensional Group 3 and the tag before it (T.4, 4.2.1 and 4.2.2). Takes the number of
 /// lines that may still be two-dimensional, and returns that after this line.
 fn put_line_by_k(
     writer: &mut BitWriter,
+    ways: &mut Vec<Way>,
+    effort: Effort,
     columns: u32,
     k: u32,
     left: u32,
@@ -89,16 +116,16 @@ fn put_line_by_k(
     requires reference { AreChanges columns reference.now }
     requires changes { AreChanges columns changes.now }
     ensures written { OnOk result (all_bits writer.new ≡ all_bits writer.old
-        ++ chosen_line EncodingMode.Group3_2D left (pixels columns reference.now) (pixels columns changes.now)) }
+        ++ chosen_line effort EncodingMode.Group3_2D left (pixels columns reference.now) (pixels columns changes.now)) }
     ensures left { IfOk result (λ after. after
-        ≡ left_after EncodingMode.Group3_2D k left (pixels columns reference.now) (pixels columns changes.now)) }
+        ≡ left_after effort EncodingMode.Group3_2D k left (pixels columns reference.now) (pixels columns changes.now)) }
 {
     let most = k.saturating_sub(1);
     if left == 0 {
         put_one_dimensional(writer, columns, changes)?;
         return Ok(most);
     }
-    if put_if_shorter(writer, columns, reference, changes)? {
+    if put_if_shorter(writer, ways, effort, columns, reference, changes)? {
         return Ok(left - 1);
     }
     put_one_dimensional(writer, columns, changes)?;
@@ -110,6 +137,7 @@ fn put_line_by_k(
 #[inline(always)]
 fn put_line_of(
     writer: &mut BitWriter,
+    ways: &mut Vec<Way>,
     columns: u32,
     settings: EncodeSettings,
     left: u32,
@@ -119,13 +147,13 @@ fn put_line_of(
     requires reference { AreChanges columns reference.now }
     requires changes { AreChanges columns changes.now }
     ensures written { OnOk result (all_bits writer.new ≡ all_bits writer.old
-        ++ chosen_line settings.encoding left (pixels columns reference.now) (pixels columns changes.now)) }
+        ++ chosen_line settings.effort settings.encoding left (pixels columns reference.now) (pixels columns changes.now)) }
     ensures left { IfOk result (λ after. after
-        ≡ left_after settings.encoding settings.k left (pixels columns reference.now) (pixels columns changes.now)) }
+        ≡ left_after settings.effort settings.encoding settings.k left (pixels columns reference.now) (pixels columns changes.now)) }
 {
     match settings.encoding {
         EncodingMode::Group4 => {
-            put_line(writer, columns, reference, changes)?;
+            put_line_2d(writer, ways, settings.effort, columns, reference, changes)?;
             Ok(0)
         }
         EncodingMode::Group3_1D => {
@@ -133,7 +161,16 @@ fn put_line_of(
             Ok(0)
         }
         EncodingMode::Group3_2D => {
-            put_line_by_k(writer, columns, settings.k, left, reference, changes)
+            put_line_by_k(
+                writer,
+                ways,
+                settings.effort,
+                columns,
+                settings.k,
+                left,
+                reference,
+                changes,
+            )
         }
     }
 }
@@ -153,6 +190,7 @@ fn eols_precede_lines(settings: EncodeSettings) -> bool
 #[inline(always)]
 pub fn put_part(
     writer: &mut BitWriter,
+    ways: &mut Vec<Way>,
     columns: u32,
     settings: EncodeSettings,
     left: u32,
@@ -166,15 +204,15 @@ pub fn put_part(
     ensures written { OnOk result (all_bits writer.new ≡ all_bits writer.old
         ++ chosen_part settings (length (all_bits writer.old)) left (pixels columns reference.now) (pixels columns changes.now)) }
     ensures left { IfOk result (λ after. after
-        ≡ left_after settings.encoding settings.k left (pixels columns reference.now) (pixels columns changes.now)) }
+        ≡ left_after settings.effort settings.encoding settings.k left (pixels columns reference.now) (pixels columns changes.now)) }
     ensures whole { OnOk result (has_eols settings.encoding settings.end_of_line ≡ false → settings.rows_are_byte_aligned ≡ true
         → length (all_bits writer.new) % 8 ≡ 0) }
 {
     if eols_precede_lines(settings) {
         put_filled_eol(writer, settings.eols_end_at_bytes)?;
-        return put_line_of(writer, columns, settings, left, reference, changes);
+        return put_line_of(writer, ways, columns, settings, left, reference, changes);
     }
-    let after = put_line_of(writer, columns, settings, left, reference, changes)?;
+    let after = put_line_of(writer, ways, columns, settings, left, reference, changes)?;
     put_padding(writer, settings.rows_are_byte_aligned)?;
     Ok(after)
 }

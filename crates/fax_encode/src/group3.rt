@@ -1,4 +1,4 @@
-//! One-dimensional Group 3 (T.4, section 4.1).
+//! One-dimensional Group 3 (T.4, 4.1).
 
 ghost use Rattle.std.specs.Prelude.{◌≡◌, ◌<◌, ◌++◌, length, OnOk};
 ghost use Rattle.hayro_ccitt.specs.Encodings.{eol, tag_of};
@@ -9,7 +9,7 @@ use crate::bit_writer::BitWriter;
 use hayro_ccitt::EncodingMode;
 use std::alloc::AllocError;
 
-/// Writes an end-of-line code without fill: eleven zeros and a one (T.4, section 4.1.2).
+/// Writes an end-of-line code without fill: eleven zeros and a one (T.4, 4.1.2).
 pub fn put_eol(writer: &mut BitWriter) -> Result<(), AllocError>
     ensures { OnOk result (all_bits writer.new ≡ all_bits writer.old ++ eol 0) }
 {
@@ -25,7 +25,7 @@ fn fill_of(writer: &BitWriter, fills: bool) -> u32
     if fills { writer.eol_fill() } else { 0 }
 }
 
-/// Writes an EOL, with fill before it where it is to end at a whole byte (T.4, sections 4.1.2 and 4.1.3).
+/// Writes an EOL, with fill before it where it is to end at a whole byte (T.4, 4.1.2 and 4.1.3).
 #[inline(always)]
 pub fn put_filled_eol(writer: &mut BitWriter, fills: bool) -> Result<(), AllocError>
     ensures { OnOk result (all_bits writer.new
@@ -35,7 +35,7 @@ pub fn put_filled_eol(writer: &mut BitWriter, fills: bool) -> Result<(), AllocEr
     writer.put(1, 12 + fill)
 }
 
-/// Writes an EOL and the tag after it (T.4, section 4.2.4).
+/// Writes an EOL and the tag after it (T.4, 4.2.4).
 fn put_tagged_eol(
     writer: &mut BitWriter,
     encoding: EncodingMode,
@@ -51,7 +51,7 @@ fn put_tagged_eol(
     }
 }
 
-/// Writes RTC: six EOLs, each with its tag (T.4, sections 4.1.4 and 4.2.4).
+/// Writes RTC: six EOLs, each with its tag (T.4, 4.1.4 and 4.2.4).
 pub fn put_closing_eols(
     writer: &mut BitWriter,
     encoding: EncodingMode,

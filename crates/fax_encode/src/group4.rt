@@ -1,8 +1,8 @@
-//! Group 4 (T.6): two-dimensional lines (T.4, section 4.2).
+//! Group 4 (T.6): two-dimensional lines (T.4, 4.2).
 
 ghost use Rattle.std.specs.Prelude.{◌≡◌, ◌+◌, ◌<◌, ◌≤◌, ◌++◌, [], length, get_or, IfOk, OnOk, MatchOption, if◌then◌else◌, true};
 ghost use Rattle.std.specs.Prelude.{false};
-ghost use Rattle.hayro_ccitt.specs.declared.codes.Mode.TheVariants.{Horizontal};
+ghost use Rattle.hayro_ccitt.specs.Mode.TheVariants.{Horizontal};
 ghost use Rattle.hayro_ccitt.specs.Rows.{AreChanges, pixels, opposite, b1, b2};
 ghost use Rattle.hayro_ccitt.specs.Encodings.{padding};
 ghost use Rattle.fax_encode.specs.Chosen.{bits_at, place_after, chosen_mode, chosen_run, word_of_mode, chosen_line_2d, is_near};
@@ -20,15 +20,15 @@ use std::alloc::AllocError;
 /// How far a line is coded: the first position right of a0, how many changes of the row are left of that position, and an
 /// index among the changes of the reference row from which b1 is found. The number of changes determines the present colour.
 #[derive(Clone, Copy)]
-struct Coding {
-    from: u64,
-    next: usize,
-    above: usize,
+pub struct Coding {
+    pub from: u64,
+    pub next: usize,
+    pub above: usize,
 }
 
 /// Returns the colour after a number of changes.
 #[inline(always)]
-fn color_after(changes: usize) -> Color
+pub fn color_after(changes: usize) -> Color
     ensures { result ≡ color_after changes }
 {
     if changes.is_multiple_of(2) {
@@ -40,14 +40,14 @@ fn color_after(changes: usize) -> Color
 
 /// Where b1 is among the changes of a reference row: its index, and its position. b2 is the next change.
 #[derive(Clone, Copy)]
-struct Above {
-    index: usize,
-    b1: u32,
+pub struct Above {
+    pub index: usize,
+    pub b1: u32,
 }
 
-/// Finds b1 of a reference row (T.4, section 4.2.1.1), in steps of two changes from the index that was reached before.
+/// Finds b1 of a reference row (T.4, 4.2.1.1), in steps of two changes from the index that was reached before.
 #[inline(always)]
-fn find_above(columns: u32, reference: &[u32], at: Coding) -> Above
+pub fn find_above(columns: u32, reference: &[u32], at: Coding) -> Above
     requires lawful { AreChanges columns reference.now }
     requires inside { at.from ≤ columns }
     requires near { IsNear columns reference.now (place_of at) at.above }
@@ -70,7 +70,7 @@ fn find_above(columns: u32, reference: &[u32], at: Coding) -> Above
 
 /// Returns an index from which b1 is found after a vertical mode that ends at a1.
 #[inline(always)]
-fn above_after_vertical(
+pub fn above_after_vertical(
     columns: u32,
     reference: &[u32],
     _at: Coding,
@@ -82,7 +82,8 @@ fn above_after_vertical(
     requires first { above.b1 ≡ get_or reference.now above.index columns }
     requires near { IsNear columns reference.now (place_of _at) above.index }
     requires within { above.index ≤ length reference.now + 1 }
-    ensures { IsNear columns reference.now (record { from = a1 + 1; color = opposite (color_after _at.next) }) result }
+    ensures near { IsNear columns reference.now (record { from = a1 + 1; color = opposite (color_after _at.next) }) result }
+    ensures onward { above.index ≤ result + 1 }
 {
     if above.b1 <= a1 {
         return above.index + 1;
@@ -121,7 +122,7 @@ fn put_below(writer: &mut BitWriter, _b1: u32, _a1: u32) -> Result<(), AllocErro
 
 /// Writes the vertical mode from b1 to a1, if that is at most three positions from it; returns whether it is.
 #[inline(always)]
-fn put_vertical(writer: &mut BitWriter, b1: u32, a1: u32) -> Result<bool, AllocError>
+pub fn put_vertical(writer: &mut BitWriter, b1: u32, a1: u32) -> Result<bool, AllocError>
     ensures near { IfOk result (λ is_written. is_written ≡ is_near b1 a1) }
     ensures written { IfOk result (λ is_written. all_bits writer.new ≡ all_bits writer.old
         ++ (if is_written then word_of_mode (vertical_mode b1 a1) else [])) }
@@ -133,7 +134,7 @@ fn put_vertical(writer: &mut BitWriter, b1: u32, a1: u32) -> Result<bool, AllocE
     Ok(false)
 }
 
-/// Writes horizontal mode and its two runs, the first of this colour (T.4, section 4.2.1.3.1).
+/// Writes horizontal mode and its two runs, the first of this colour (T.4, 4.2.1.3.1).
 #[inline(never)]
 fn put_horizontal(
     writer: &mut BitWriter,
@@ -149,7 +150,8 @@ fn put_horizontal(
 }
 
 /// Writes one mode: pass if b2 is left of a1; else vertical if a1 is at most three positions from b1; else horizontal (T.4,
-/// section 4.2.1.3.2). Afterwards all changes of the row that are left of the new position are counted.
+/// section 4.2.1.3.2). Afterwards all changes of the row that are left of the new position are counted, and the index from which b1
+/// is found is at most one less than before.
 #[inline(always)]
 fn put_mode(
     writer: &mut BitWriter,
@@ -170,6 +172,7 @@ fn put_mode(
         (chosen_mode (pixels columns reference.now) (pixels columns changes.now) (place_of at))) }
     ensures near { IfOk result (λ after. IsNear columns reference.now (place_of after) after.above) }
     ensures next { IfOk result (λ after. after.from ≤ columns → AreAllLeft changes.now after.from after.next) }
+    ensures onward { IfOk result (λ after. at.above ≤ after.above + 1) }
 {
     let a1 = change_or_end(changes, at.next, columns);
     let above = find_above(columns, reference, at);
@@ -212,7 +215,7 @@ fn put_mode(
     })
 }
 
-/// Writes the modes of a row, from the position left of it to its end (T.4, section 4.2.1.3).
+/// Writes the modes of a row, from the position left of it to its end (T.4, 4.2.1.3).
 pub fn put_line(
     writer: &mut BitWriter,
     columns: u32,

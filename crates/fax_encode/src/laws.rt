@@ -1,7 +1,7 @@
 //! Laws of the chosen encoding: each is the contract of a function that does nothing.
 
 ghost use Rattle.fax_encode.specs.Laws.{ChosenBySettings, ChosenComesBack, ChosenIsRead, ChosenLinesEncode, DamageReachesKRows};
-ghost use Rattle.fax_encode.specs.Laws.{NeverLonger, WorkedSettings};
+ghost use Rattle.fax_encode.specs.Laws.{NeverLonger, NoLineIsShorter, NoneIsShorter, WorkedSettings};
 ghost use Rattle.fax_encode.specs.Laws.{RowsAreChosen, BitmapRoundTripT4, BitmapRoundTripT6, ChosenIsAnEncoding, PackedIsShown};
 ghost use Rattle.fax_encode.specs.Laws.{RoundTripT6, RoundTripT4, RowsArePacked};
 ghost use Rattle.fax_encode.specs.Shortest.{ShortestLines, ShortestPicturesT6, ShortestRuns};
@@ -60,16 +60,20 @@ pub fn rows_are_chosen()
 
 /// In two-dimensional Group 3 with EOLs and RTC, as it is encoded, damage within one line, tag and body, that leaves no EOL there,
 /// and a line that is broken or ends before its EOL as it is read, changes at most `k` rows for a lenient reading: that of the
-/// line, and those of the two-dimensional lines up to the next one-dimensional one (T.4 section 4.2.1).
+/// line, and those of the two-dimensional lines up to the next one-dimensional one (T.4, 4.2.1).
 pub fn damage_reaches_k_rows()
     ensures { DamageReachesKRows }
 {}
 
 /// The shortest words of a run, modes of a two-dimensional line against a reference row, and T.6 picture are encodings, and no
 /// other encoding of them, with the same alignment, has fewer bits. Where T.4's words of a run, or the modes of the procedure of
-/// T.4 section 4.2.1.3.2 with those words, are as short, they are the shortest.
+/// T.4, 4.2.1.3.2 with those words, are as short, they are the shortest. What an encoder chooses as Group 4 with
+/// [`Effort::Shortest`](crate::Effort) has no more bits than any lines that encode the rows, with the same alignment and end; and
+/// a line of two-dimensional Group 3 that may be two-dimensional no more than any two-dimensional one.
 pub fn shortest()
     ensures runs { ShortestRuns }
     ensures lines { ShortestLines }
     ensures pictures { ShortestPicturesT6 }
+    ensures chosen { NoneIsShorter }
+    ensures kinds { NoLineIsShorter }
 {}

@@ -20,6 +20,7 @@ mod round_trip;
 mod rows;
 mod runs;
 mod settings;
+mod shortest_lines;
 mod words;
 
 pub use bitmap_rows::rows_of_bitmap;
@@ -31,4 +32,4 @@ pub use encoding::names_encoding;
 pub use error::EncodeError;
 pub use painting::paint_row;
 pub use round_trip::{bitmap_by_group3, bitmap_by_group4};
-pub use settings::EncodeSettings;
+pub use settings::{Effort, EncodeSettings};

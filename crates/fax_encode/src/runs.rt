@@ -1,9 +1,10 @@
-//! Runs of one colour, and one-dimensional lines (T.4, section 4.1).
+//! Runs of one colour, and one-dimensional lines (T.4, 4.1).
 
-ghost use Rattle.std.specs.Prelude.{◌≡◌, ◌^◌, ◌<◌, ◌≤◌, ◌++◌, OnOk, length, nat_le};
+ghost use Rattle.std.specs.Prelude.{◌≡◌, ◌+◌, ◌^◌, ◌<◌, ◌≤◌, ◌++◌, OnOk, length, nat_le};
 ghost use Rattle.hayro_ccitt.specs.Bits.{low_bits};
 ghost use Rattle.hayro_ccitt.specs.Rows.{AreChanges, opposite};
 ghost use Rattle.fax_encode.specs.Chosen.{chosen_rest, chosen_run, chosen_runs};
+ghost use Rattle.fax_encode.specs.Shortest.{first_makeup, shortest_run};
 ghost use Rattle.fax_encode.specs.Writing.{all_bits};
 
 use crate::bit_writer::BitWriter;
@@ -33,10 +34,10 @@ fn put_two_words(writer: &mut BitWriter, first: Word, second: Word) -> Result<()
     writer.put(bits, u32::from(first.count + second.count))
 }
 
-/// Writes the words of less than 2560 pixels: a make-up word if there are 64 or more, and a terminating word.
+/// Writes the words of less than 2624 pixels: a make-up word if there are 64 or more, and a terminating word.
 #[inline(always)]
 fn put_rest(writer: &mut BitWriter, color: Color, pixels: u32) -> Result<(), AllocError>
-    requires { pixels < 2560 }
+    requires { pixels < 2624 }
     ensures { OnOk result (all_bits writer.new ≡ all_bits writer.old ++ chosen_rest color pixels) }
 {
     if pixels < 64 {
@@ -49,7 +50,7 @@ fn put_rest(writer: &mut BitWriter, color: Color, pixels: u32) -> Result<(), All
     )
 }
 
-/// Writes the words of a long run: as many of 2560 pixels as fit, and those of the rest (T.4, section 4.1.1).
+/// Writes the words of a long run: as many of 2560 pixels as fit, and those of the rest (T.4, 4.1.1).
 #[inline(never)]
 fn put_long_run(writer: &mut BitWriter, color: Color, pixels: u32) -> Result<(), AllocError>
     ensures { OnOk result (all_bits writer.new ≡ all_bits writer.old ++ chosen_run color pixels) }
@@ -62,7 +63,7 @@ fn put_long_run(writer: &mut BitWriter, color: Color, pixels: u32) -> Result<(),
     put_rest(writer, color, left)
 }
 
-/// Writes the words of a run (T.4, section 4.1.1).
+/// Writes the words of a run (T.4, 4.1.1).
 #[inline(always)]
 pub fn put_run(writer: &mut BitWriter, color: Color, pixels: u32) -> Result<(), AllocError>
     ensures { OnOk result (all_bits writer.new ≡ all_bits writer.old ++ chosen_run color pixels) }
@@ -140,9 +141,9 @@ fn put_changes(writer: &mut BitWriter, columns: u32, changes: &[u32]) -> Result<
     put_runs(writer, Color::White, black - place, columns - black)
 }
 
-/// Returns the number of bits of the code words of a run.
-#[inline(always)]
-fn run_bits(color: Color, pixels: u32) -> u32
+/// Returns the number of bits of the code words of a run of 64 pixels or more.
+#[inline(never)]
+fn long_run_bits(color: Color, pixels: u32) -> u32
     ensures { result ≡ length (chosen_run color pixels) }
 {
     let rest = pixels % 2560;
@@ -153,22 +154,148 @@ fn run_bits(color: Color, pixels: u32) -> u32
     long + u32::from(makeup_word(color, rest / 64).count)
 }
 
-/// Returns whether the runs of a row have at least this many bits. It looks at no more runs than it needs to.
+/// Returns the number of bits of the code words of a run.
+#[inline(always)]
+fn run_bits(color: Color, pixels: u32) -> u32
+    ensures { result ≡ length (chosen_run color pixels) }
+{
+    if pixels >= 64 {
+        return long_run_bits(color, pixels);
+    }
+    u32::from(terminating_word(color, pixels).count)
+}
+
+/// Returns the number of bits of the runs of a row, white first.
+fn row_bits(columns: u32, changes: &[u32]) -> u128
+    requires { AreChanges columns changes.now }
+    ensures { result ≡ length (chosen_runs columns Color.White 0 changes.now) }
+{
+    let mut bits = 0;
+    let mut place = 0;
+    let mut next = 0;
+    while changes.len() - next >= 2 {
+        let black = changes[next];
+        let white = changes[next + 1];
+        let runs = u64::from(run_bits(Color::White, black - place))
+            + u64::from(run_bits(Color::Black, white - black));
+        bits += u128::from(runs);
+        place = white;
+        next += 2;
+    }
+    if next == changes.len() {
+        return bits + u128::from(run_bits(Color::White, columns - place));
+    }
+    let black = changes[next];
+    let runs = u64::from(run_bits(Color::White, black - place))
+        + u64::from(run_bits(Color::Black, columns - black));
+    bits + u128::from(runs)
+}
+
+/// Returns whether the runs of a row have at least this many bits. They aren't counted where so many changes have as many at
+/// least: a white run has four bits or more, a black one two.
 pub fn takes_at_least(columns: u32, changes: &[u32], bits: u128) -> bool
     requires { AreChanges columns changes.now }
     ensures { result ≡ nat_le bits (length (chosen_runs columns Color.White 0 changes.now)) }
 {
-    let mut left = bits;
-    let mut place = 0;
-    let mut color = Color::White;
-    for change in changes {
-        let run = u128::from(run_bits(color, *change - place));
-        if left <= run {
-            return true;
-        }
-        left -= run;
-        place = *change;
-        color = color.opposite();
+    if bits <= changes.len() as u128 * 3 + 3 {
+        return true;
     }
-    left <= u128::from(run_bits(color, columns - place))
+    bits <= row_bits(columns, changes)
+}
+
+/// Returns the first make-up word of the shortest words of a run of more than 40 times 64 pixels, in times of 64 pixels.
+fn first_makeup(color: Color, times: u32) -> u32
+    ensures is { result ≡ first_makeup color times }
+    ensures long { (26 ≤ result) × (result ≤ 40) }
+{
+    match color {
+        Color::White => { if times >= 66 && times <= 67 { 40 } else { 26 } }
+        Color::Black => {
+            if times == 56 || times == 84 {
+                return 28;
+            }
+            if times == 57 || times == 85 {
+                return 29;
+            }
+            if times >= 48 && times <= 67
+                || times >= 82 && times <= 107
+                || times >= 121 && times <= 123
+            {
+                return 30;
+            }
+            40
+        }
+    }
+}
+
+/// Writes the shortest words of a run: make-up words of 1664 pixels and more while the rest needs two of them (T.4, section
+/// 4.1.1).
+#[inline(never)]
+fn put_long_shortest_run(
+    writer: &mut BitWriter,
+    color: Color,
+    pixels: u32,
+) -> Result<(), AllocError>
+    ensures { OnOk result (all_bits writer.new ≡ all_bits writer.old ++ shortest_run color pixels) }
+{
+    let mut left = pixels;
+    while left >= 2624 {
+        let times = first_makeup(color, left / 64);
+        put_code_word(writer, makeup_word(color, times))?;
+        left -= 64 * times;
+    }
+    put_rest(writer, color, left)
+}
+
+/// Writes the shortest words of a run (T.4, 4.1.1).
+#[inline(always)]
+pub fn put_shortest_run(writer: &mut BitWriter, color: Color, pixels: u32) -> Result<(), AllocError>
+    ensures { OnOk result (all_bits writer.new ≡ all_bits writer.old ++ shortest_run color pixels) }
+{
+    if pixels >= 64 {
+        return put_long_shortest_run(writer, color, pixels);
+    }
+    put_code_word(writer, terminating_word(color, pixels))
+}
+
+/// Returns the number of bits of the words of less than 2624 pixels.
+#[inline(always)]
+fn rest_bits(color: Color, pixels: u32) -> u32
+    requires { pixels < 2624 }
+    ensures is { result ≡ length (chosen_rest color pixels) }
+    ensures few { result ≤ 26 }
+{
+    let last = u32::from(terminating_word(color, pixels % 64).count);
+    if pixels >= 64 {
+        return last + u32::from(makeup_word(color, pixels / 64).count);
+    }
+    last
+}
+
+/// Returns the number of bits of the shortest words of a run.
+#[inline(never)]
+fn long_shortest_run_bits(color: Color, pixels: u32) -> u32
+    ensures is { result ≡ length (shortest_run color pixels) }
+    ensures few { result ≤ pixels + 26 }
+{
+    let mut left = pixels;
+    let mut bits = 0;
+    while left >= 2624 {
+        let times = first_makeup(color, left / 64);
+        bits += u32::from(makeup_word(color, times).count);
+        left -= 64 * times;
+    }
+    bits + rest_bits(color, left)
+}
+
+/// Returns the number of bits of the shortest words of a run.
+#[inline(always)]
+pub fn shortest_run_bits(color: Color, pixels: u32) -> u32
+    ensures is { result ≡ length (shortest_run color pixels) }
+    ensures few { result ≤ pixels + 26 }
+{
+    if pixels >= 2624 {
+        return long_shortest_run_bits(color, pixels);
+    }
+    rest_bits(color, pixels)
 }

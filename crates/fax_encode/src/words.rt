@@ -2,7 +2,7 @@
 
 ghost use Rattle.std.specs.Prelude.{◌≡◌, ◌-◌, ◌*◌, ◌^◌, ◌<◌, ◌≤◌, MatchOption, true, false, pos, length, get_or};
 ghost use Rattle.hayro_ccitt.specs.Bits.{low_bits};
-ghost use Rattle.hayro_ccitt.specs.declared.codes.Mode.TheVariants.{Pass, Horizontal, Vertical};
+ghost use Rattle.hayro_ccitt.specs.Mode.TheVariants.{Pass, Horizontal, Vertical};
 ghost use Rattle.fax_encode.specs.Chosen.{word_of_length, word_of_mode, vertical_mode, is_near};
 ghost use Rattle.fax_encode.specs.Writing.{IsWord};
 

@@ -2,7 +2,9 @@
 use Rattle.std.specs.Prelude.{ℕ, Bool, ◌&&◌, ◌||◌, List, [], ◌∷◌, length, nat_lt, nat_le, ◌==◌, Option, Some, None}
 use Rattle.std.specs.Prelude.{option_and_then, if◌then◌else◌, codes, bytes_eq}
 use Rattle.std.specs.List.{list_all}
-use Rattle.hayro_ccitt.specs.declared.settings.EncodingMode.{EncodingMode}
+use Rattle.hayro_ccitt.specs.EncodingMode.{EncodingMode}
+use Rattle.fax_encode.specs.declared.settings.Effort.{Effort}
+use Rattle.fax_encode.specs.declared.settings.Effort.TheVariants.{Procedure, Shortest}
 use Rattle.fax_encode.specs.declared.settings.EncodeSettings.{EncodeSettings}
 use Rattle.fax_encode.specs.Settings.{names_encoding}
 use Rattle.fax_program.specs.Words.{mode_of, number_of, times, has_flag, order_with}
@@ -13,18 +15,19 @@ infixl 10 ◌>>=◌
 abbrev pub ◌>>=◌ : {A B : Type 0} → Option A → (A → Option B) → Option B
 o >>= next = option_and_then next o
 
--- the letters of flags: b, l, a, s, r and f
+-- the letters of flags: b, l, a, s, r, f and m
 abbrev pub is_flag : ℕ → Bool
 is_flag letter = (letter == 98) || (letter == 108) || (letter == 97) || (letter == 115) || (letter == 114) || (letter == 102)
+    || (letter == 109)
 
 -- no letter of a flag occurs twice
 abbrev pub are_apart : List ℕ → Bool
 are_apart word =
     nat_le (times 98 word) 1 && nat_le (times 108 word) 1 && nat_le (times 97 word) 1 && nat_le (times 115 word) 1
-    && nat_le (times 114 word) 1 && nat_le (times 102 word) 1
+    && nat_le (times 114 word) 1 && nat_le (times 102 word) 1 && nat_le (times 109 word) 1
 
 -- the flags are `-`, or one or more letters of flags, none of them twice
-abbrev pub are_flags : List ℕ → Bool
+unfoldable pub are_flags : List ℕ → Bool
 are_flags word = bytes_eq word (codes "-") || (nat_lt 0 (length word) && list_all is_flag word && are_apart word)
 
 -- the K that the arguments after the flags mean: one number, or 4 without one, the largest of T.4, 4.2.1
@@ -32,6 +35,10 @@ abbrev pub k_of : List (List ℕ) → Option ℕ
 k_of [] = Some 4
 k_of (word ∷ []) = number_of word
 k_of (word ∷ other ∷ more) = None
+
+-- with m two-dimensional lines have the fewest bits
+unfoldable pub effort_with : List ℕ → Effort
+effort_with flags = if has_flag 109 flags then Shortest else Procedure
 
 -- the settings with this K and these flags
 abbrev pub settings_with : EncodingMode → ℕ → List ℕ → EncodeSettings
@@ -43,6 +50,7 @@ settings_with encoding k flags = record {
   rows_are_byte_aligned = has_flag 97 flags;
   end_of_block = has_flag 98 flags;
   order = order_with flags;
+  effort = effort_with flags;
 }
 
 -- the settings that a mode, flags and the arguments after them mean, if they name an encoding

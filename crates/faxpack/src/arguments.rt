@@ -3,9 +3,9 @@
 ghost use Rattle.std.specs.Prelude.{◌≡◌, map, string_bytes};
 ghost use Rattle.std.specs.List.{list_all};
 ghost use Rattle.faxpack.specs.Arguments.{arguments_of_words, picture_words, rows_words, settings_of_words, k_of, are_flags};
-ghost use Rattle.faxpack.specs.Arguments.{are_apart, is_flag};
+ghost use Rattle.faxpack.specs.Arguments.{are_apart, effort_with, is_flag};
 
-use fax_encode::{EncodeSettings, names_encoding};
+use fax_encode::{Effort, EncodeSettings, names_encoding};
 use fax_program::words::{has_flag, is_first_word, mode_of, number_of, order_with, times};
 
 /// The size of rows without a header.
@@ -84,11 +84,24 @@ fn settings_of_words(mode: &str, flags: &str, more: &[String]) -> Option<EncodeS
         rows_are_byte_aligned: has_flag(flags, b'a'),
         end_of_block: has_flag(flags, b'b'),
         order: order_with(flags),
+        effort: effort_with(flags),
     };
     if !names_encoding(settings) {
         return None;
     }
     Some(settings)
+}
+
+/// Returns the effort that flags mean.
+#[tactic(auto, unfolding(crate::specs::Arguments::effort_with))]
+fn effort_with(flags: &[u8]) -> Effort
+    ensures { result ≡ effort_with flags.now }
+{
+    if has_flag(flags, b'm') {
+        Effort::Shortest
+    } else {
+        Effort::Procedure
+    }
 }
 
 /// Returns the K that the arguments after the flags mean: 4 without one.
@@ -102,7 +115,8 @@ fn k_of(words: &[String]) -> Option<u32>
     }
 }
 
-/// Returns whether an argument is `-`, or one or more of the letters b, l, a, s, r and f, none of them twice.
+/// Returns whether an argument is `-`, or one or more of the letters b, l, a, s, r, f and m, none of them twice.
+#[tactic(auto, unfolding(crate::specs::Arguments::are_flags))]
 fn are_flags(word: &[u8]) -> bool
     ensures { result ≡ are_flags word.now }
 {
@@ -114,7 +128,7 @@ fn are_flags(word: &[u8]) -> bool
 fn are_letters(word: &[u8]) -> bool
     ensures { result ≡ list_all is_flag word.now }
 {
-    word.iter().all(|byte| matches!(*byte, b'b' | b'l' | b'a' | b's' | b'r' | b'f'))
+    word.iter().all(|byte| matches!(*byte, b'b' | b'l' | b'a' | b's' | b'r' | b'f' | b'm'))
 }
 
 /// Returns whether no letter of a flag occurs twice in an argument.
@@ -127,4 +141,5 @@ fn are_apart(word: &[u8]) -> bool
         && times(word, b's') <= 1
         && times(word, b'r') <= 1
         && times(word, b'f') <= 1
+        && times(word, b'm') <= 1
 }

@@ -1,8 +1,8 @@
 -- The status that the program exits with: 0 if the data was decoded, 1 if the data is invalid, 2 for invalid arguments,
 -- and 3 for a failed allocation or device.
 use Rattle.std.specs.Prelude.{◌≡◌, ◌⊎◌, ℕ, Result, Ok, Err}
-use Rattle.hayro_ccitt.specs.declared.error.DecodeError.{DecodeError}
-use Rattle.hayro_ccitt.specs.declared.error.DecodeError.TheVariants.{UnexpectedEof, InvalidCode, Overflow, OutOfMemory, Refused}
+use Rattle.hayro_ccitt.specs.DecodeError.{DecodeError}
+use Rattle.hayro_ccitt.specs.DecodeError.TheVariants.{UnexpectedEof, InvalidCode, Overflow, OutOfMemory, Refused}
 use Rattle.faxrows_runs.specs.declared.program.Done.{Done}
 use Rattle.faxrows_runs.specs.declared.program.Done.TheVariants.{Good, Faulty, Memory}
 

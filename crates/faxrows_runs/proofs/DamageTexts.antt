@@ -9,7 +9,7 @@ use Rattle.faxrows_runs.proofs.Names.{Memory, IsDamageText, IsDamageWithoutMemor
 use Rattle.faxrows_runs.proofs.Names.{damage_of_row, line_of_damage, whole_damage, Outcome, done_of, outcome_of}
 use Rattle.faxrows_runs.proofs.Names.{rows_of}
 use Rattle.faxrows_runs.proofs.Names.{EndsByRow, line_of_miss, miss_of_row, missed_before, misses_by_line, repair_of_row}
-use Rattle.faxrows_runs.proofs.Names.{start_in}
+use Rattle.faxrows_runs.proofs.Names.{start_in, fault_in, repairs_by_line}
 use Rattle.faxrows_runs.proofs.Outputs.{front_of_longer, front_of_more}
 
 -- ---- The lines of the rows
@@ -39,13 +39,15 @@ front_of_damage a b settings bits rows all few front =
 
 -- the line of a row that was read is that of its index
 line_is : (old new : RowsRead) → ReadsNext old new (Ok true)
-    → line_of_damage (new.taken - 1) new.line_start new.damage ≡ repair_of_row old.settings old.bits old.taken
+    → line_of_damage (new.taken - 1) new.line_start new.damage new.cut ≡ repair_of_row old.settings old.bits old.taken
 line_is old new reads =
     let index : new.taken - 1 ≡ old.taken = omega (arith, (reads.more refl).1) in
-    ap (λ (n : ℕ). line_of_damage n new.line_start new.damage) index
-    ∙ ap (λ (n : ℕ). line_of_damage old.taken n new.damage) (reads.line_start refl)
-    ∙ ap (λ (fault : Option DecodeError). line_of_damage old.taken
-    (get_or (line_starts old.settings old.bits) old.taken 0) fault) (reads.damage refl)
+    let start = get_or (line_starts old.settings old.bits) old.taken 0 in
+    ap (λ (n : ℕ). line_of_damage n new.line_start new.damage new.cut) index
+    ∙ ap (λ (n : ℕ). line_of_damage old.taken n new.damage new.cut) (reads.line_start refl)
+    ∙ ap (λ (fault : Option DecodeError). line_of_damage old.taken start fault new.cut) (reads.damage refl)
+    ∙ ap (line_of_damage old.taken start (fault_in (get_or (repairs_by_line old.settings old.bits) old.taken [])))
+    (reads.cut refl)
 
 -- the lines of the first n rows, without that of the EOL after the last one, whose gap is passed with the next row
 abbrev pub damage_so_far : DecodeSettings → Bits → ℕ → List ℕ
@@ -85,10 +87,10 @@ front_so_far a b settings bits rows all few front =
 -- with the line of its damage there is one more row
 pub damage_more : (settings : DecodeSettings) (bits : Bits) (old new : RowsRead) → old.settings ≡ settings
     → old.bits ≡ bits → ReadsNext old new (Ok true) → damage_lines settings bits old.taken
-    ++ line_of_damage (new.taken - 1) new.line_start new.damage ≡ damage_so_far settings bits new.taken
+    ++ line_of_damage (new.taken - 1) new.line_start new.damage new.cut ≡ damage_so_far settings bits new.taken
 damage_more settings bits old new of_settings of_bits reads =
     let next : suc old.taken ≡ new.taken = omega (arith, (reads.more refl).1) in
-    let line = line_of_damage (new.taken - 1) new.line_start new.damage in
+    let line = line_of_damage (new.taken - 1) new.line_start new.damage new.cut in
     let here : damage_lines old.settings old.bits old.taken ++ line ≡ damage_so_far old.settings old.bits new.taken
     = ap (λ l. damage_lines old.settings old.bits old.taken ++ l) (line_is old new reads) ∙ ap
     (damage_so_far old.settings old.bits) next in

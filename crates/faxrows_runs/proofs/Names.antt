@@ -5,7 +5,7 @@ pub use Rattle.fax_program.specs.Devices.{AppendsFront}
 pub use Rattle.faxrows_runs.specs.Arguments.{arguments_of_words}
 pub use Rattle.faxrows_runs.specs.DamageText.{IsDamageText, IsDamageWithoutMemory, damage_after, damage_lines, damage_of_row}
 pub use Rattle.faxrows_runs.specs.DamageText.{end_with_fault, last_line_of_damage, line_of_damage, line_of_miss, miss_of_row}
-pub use Rattle.faxrows_runs.specs.DamageText.{end_of_damage, fault_after, line_of_strict, strict_fault, strictly}
+pub use Rattle.faxrows_runs.specs.DamageText.{line_of_cut}
 pub use Rattle.faxrows_runs.specs.DamageText.{number_and, numbered, repair_of_row, whole_damage}
 pub use Rattle.faxrows_runs.specs.Output.{PassesOn}
 pub use Rattle.faxrows_runs.specs.PackedRuns.{IsPackedOf}
@@ -15,22 +15,21 @@ pub use Rattle.faxrows_runs.specs.RunsByRow.{EndsByRow, IsTextByRow, IsTextWitho
 pub use Rattle.faxrows_runs.specs.Text.{line_of_outcome, line_of_row, lines_of_rows, text_of, text_of_change}
 pub use Rattle.faxrows_runs.specs.declared.arguments.Arguments.{Arguments}
 pub use Rattle.faxrows_runs.specs.declared.program.Done.{Done}
-pub use Rattle.faxrows_runs.specs.declared.strict_reading.StrictFault.{StrictFault}
 pub use Rattle.faxrows_runs.specs.declared.program.Done.TheVariants.{Faulty, Good, Memory}
 pub use Rattle.hayro_ccitt.specs.Answers.{IsFault, meaning_after}
 pub use Rattle.hayro_ccitt.specs.Bits.{Bits, BitsFit, bits_in, bits_of}
 pub use Rattle.hayro_ccitt.specs.Context.{Held}
-pub use Rattle.hayro_ccitt.specs.Damage.{misses_by_line, missed_before, start_in}
+pub use Rattle.hayro_ccitt.specs.Damage.{cut_in, cuts_by_line, fault_in, misses_by_line, missed_before, repairs_by_line, start_in}
 pub use Rattle.hayro_ccitt.specs.Decoding.{SinkState, StopsShort, TakesRows}
 pub use Rattle.hayro_ccitt.specs.PlainReading.{failed_at, line_starts, lines_of, plain}
 pub use Rattle.hayro_ccitt.specs.Rows.{HaveWidth, Row, changes}
 pub use Rattle.hayro_ccitt.specs.RowsRead.{HasFailed, ReadsNext, RowsRead, at_end_of_rows}
-pub use Rattle.hayro_ccitt.specs.declared.bit_reader.BitOrder.TheVariants.{HighestFirst, LowestFirst}
-pub use Rattle.hayro_ccitt.specs.declared.error.DecodeError.{DecodeError}
-pub use Rattle.hayro_ccitt.specs.declared.error.DecodeError.TheVariants.{InvalidCode, OutOfMemory, Overflow, Refused}
-pub use Rattle.hayro_ccitt.specs.declared.error.DecodeError.TheVariants.{UnexpectedEof}
-pub use Rattle.hayro_ccitt.specs.declared.settings.DecodeSettings.{DecodeSettings}
-pub use Rattle.hayro_ccitt.specs.declared.settings.EncodingMode.TheVariants.{Group3_1D, Group3_2D, Group4}
+pub use Rattle.hayro_ccitt.specs.BitOrder.TheVariants.{HighestFirst, LowestFirst}
+pub use Rattle.hayro_ccitt.specs.DecodeError.{DecodeError}
+pub use Rattle.hayro_ccitt.specs.DecodeError.TheVariants.{InvalidCode, OutOfMemory, Overflow, Refused}
+pub use Rattle.hayro_ccitt.specs.DecodeError.TheVariants.{UnexpectedEof}
+pub use Rattle.hayro_ccitt.specs.DecodeSettings.{DecodeSettings}
+pub use Rattle.hayro_ccitt.specs.EncodingMode.TheVariants.{Group3_1D, Group3_2D, Group4}
 pub use Rattle.std.proofs.Common.{Bool, Err, IfOk, IfSome, List, None, Ok, OnErr, OnOk, Option, Result, Some, [], ap, append-nil}
 pub use Rattle.std.proofs.Common.{append_assoc, arith, drop, drop_of_length-le, false, get_or, inl, inr, length, length-append}
 pub use Rattle.std.proofs.Common.{length-drop, map, refl, rules, set, string_bytes, subst, suc, sym, take, take-append-drop}

@@ -2,8 +2,8 @@
 use Rattle.std.specs.Prelude.{ℕ, Bool, ◌&&◌, ◌||◌, List, [], ◌∷◌, length, nat_lt, nat_le, ◌==◌, Option, Some, None}
 use Rattle.std.specs.Prelude.{option_and_then, if◌then◌else◌, codes, bytes_eq}
 use Rattle.std.specs.List.{list_all}
-use Rattle.hayro_ccitt.specs.declared.settings.EncodingMode.{EncodingMode}
-use Rattle.hayro_ccitt.specs.declared.settings.DecodeSettings.{DecodeSettings}
+use Rattle.hayro_ccitt.specs.EncodingMode.{EncodingMode}
+use Rattle.hayro_ccitt.specs.DecodeSettings.{DecodeSettings}
 use Rattle.fax_program.specs.Words.{has_flag, mode_of, number_of, order_with, times}
 use Rattle.faxrows_runs.specs.declared.arguments.Arguments.{Arguments}
 

@@ -1,15 +1,14 @@
 -- The damage of some data as lines of text.
 use Rattle.std.specs.Prelude.{◌≡◌, ◌⊎◌, ℕ, zero, suc, List, [], ◌∷◌, ◌++◌, length, take, get_or, sum_by, codes, decimal, Option}
-use Rattle.std.specs.Prelude.{None, Some, Ok, Err, true, if◌then◌else◌}
-use Rattle.hayro_ccitt.specs.declared.error.DecodeError.{DecodeError}
-use Rattle.hayro_ccitt.specs.declared.error.DecodeError.TheVariants.{OutOfMemory}
-use Rattle.hayro_ccitt.specs.declared.settings.DecodeSettings.{DecodeSettings}
+use Rattle.std.specs.Prelude.{None, Some, Ok, Err, Bool, true, false}
+use Rattle.hayro_ccitt.specs.DecodeError.{DecodeError}
+use Rattle.hayro_ccitt.specs.DecodeError.TheVariants.{OutOfMemory}
+use Rattle.hayro_ccitt.specs.DecodeSettings.{DecodeSettings}
 use Rattle.hayro_ccitt.specs.Bits.{Bits}
-use Rattle.hayro_ccitt.specs.Damage.{fault_in, misses_by_line, repairs_by_line, start_in}
+use Rattle.hayro_ccitt.specs.Damage.{cut_in, cuts_by_line, fault_in, misses_by_line, repairs_by_line, start_in}
 use Rattle.hayro_ccitt.specs.PlainReading.{line_starts, failed_at}
 use Rattle.hayro_ccitt.specs.Texts as library
 use Rattle.faxrows_runs.specs.Runs.{Outcome, EndsAfter, rows_of, outcome_of}
-use Rattle.faxrows_runs.specs.declared.strict_reading.StrictFault.{StrictFault}
 
 -- a number, and a sign after it
 abbrev pub number_and : ℕ → ℕ → List ℕ
@@ -23,11 +22,17 @@ numbered word first second = word ++ (number_and first 32 ++ number_and second 3
 abbrev pub end_with_fault : DecodeError → List ℕ
 end_with_fault fault = library.text_of fault ++ 10 ∷ []
 
--- The line of a row, if it was repaired: `damaged`, its index, the offset in bits at which its line begins, and the fault
--- (T.4, 4.1.2).
-abbrev pub line_of_damage : ℕ → ℕ → Option DecodeError → List ℕ
-line_of_damage row start None = []
-line_of_damage row start (Some fault) = numbered (codes "damaged ") row start ++ end_with_fault fault
+-- The line of a row, if a run of it was cut: `cut`, its index, and the offset in bits at which its line begins (T.4, 4.1.1 and
+-- 4.2.1.3).
+abbrev pub line_of_cut : ℕ → ℕ → Bool → List ℕ
+line_of_cut row start true = codes "cut " ++ (number_and row 32 ++ number_and start 10)
+line_of_cut row start false = []
+
+-- The line of a row, if it was repaired: `damaged`, its index, the offset in bits at which its line begins, and the fault (T.4,
+-- 4.1.2). That of a run that was cut, if it was whole.
+abbrev pub line_of_damage : ℕ → ℕ → Option DecodeError → Bool → List ℕ
+line_of_damage row start None cut = line_of_cut row start cut
+line_of_damage row start (Some fault) cut = numbered (codes "damaged ") row start ++ end_with_fault fault
 
 -- The line of an EOL that is missed after a row: `missed`, the row's index, and the offset in bits at which it is expected (T.4,
 -- 4.1.2).
@@ -39,6 +44,7 @@ line_of_miss row (Some start) = codes "missed " ++ (number_and row 32 ++ number_
 abbrev pub repair_of_row : DecodeSettings → Bits → ℕ → List ℕ
 repair_of_row settings bits row =
     line_of_damage row (get_or (line_starts settings bits) row 0) (fault_in (get_or (repairs_by_line settings bits) row []))
+    (cut_in (get_or (cuts_by_line settings bits) row []))
 
 abbrev pub miss_of_row : DecodeSettings → Bits → ℕ → List ℕ
 miss_of_row settings bits row = line_of_miss row (start_in (get_or (misses_by_line settings bits) row []))
@@ -63,40 +69,9 @@ last_line_of_damage settings bits rows (Ok count) =
 last_line_of_damage settings bits rows (Err error) =
     numbered (codes "error ") rows (failed_at settings bits rows) ++ end_with_fault error
 
--- the settings of a strict reading
-abbrev pub strictly : DecodeSettings → DecodeSettings
-strictly settings = record settings { strict = true }
-
--- the fault that ends a reading after this number of rows, if one does: the index of the row that can't be read, the offset in
--- bits at which its line begins, or at which its EOL is missing, and the error (T.4, 4.1.2)
-abbrev pub fault_after : DecodeSettings → Bits → ℕ → Outcome → Option StrictFault
-fault_after settings bits rows (Ok count) = None
-fault_after settings bits rows (Err error) = Some (record {
-  row = rows;
-  start = failed_at settings bits rows;
-  fault = error;
-})
-
--- What the strict reading finds in data that are read leniently: nothing exactly if it ends well (T.4, 4.1.2).
-abbrev pub strict_fault : DecodeSettings → Bits → Option StrictFault
-strict_fault settings bits =
-    if settings.strict
-    then None
-    else fault_after (strictly settings) bits (length (rows_of (strictly settings) bits)) (outcome_of (strictly settings) bits)
-
--- its line: `strict`, the row's index, the offset, and the error
-abbrev pub line_of_strict : Option StrictFault → List ℕ
-line_of_strict None = []
-line_of_strict (Some found) = numbered (codes "strict ") found.row found.start ++ end_with_fault found.fault
-
--- the line of the strict reading, and the last line
-abbrev pub end_of_damage : DecodeSettings → Bits → ℕ → Outcome → List ℕ
-end_of_damage settings bits rows outcome =
-    line_of_strict (strict_fault settings bits) ++ last_line_of_damage settings bits rows outcome
-
 -- what is written of the damage after this number of rows, and how the reading ended
 abbrev pub damage_after : DecodeSettings → Bits → ℕ → Outcome → List ℕ
-damage_after settings bits rows outcome = damage_lines settings bits rows ++ end_of_damage settings bits rows outcome
+damage_after settings bits rows outcome = damage_lines settings bits rows ++ last_line_of_damage settings bits rows outcome
 
 -- all that is written of the damage
 abbrev pub whole_damage : DecodeSettings → Bits → List ℕ

@@ -1,7 +1,7 @@
 -- What a run writes that writes each row as it is read.
 use Rattle.std.specs.Prelude.{◌≡◌, ◌≢◌, ◌⊎◌, ℕ, List, Err}
-use Rattle.hayro_ccitt.specs.declared.error.DecodeError.TheVariants.{OutOfMemory, Refused}
-use Rattle.hayro_ccitt.specs.declared.settings.DecodeSettings.{DecodeSettings}
+use Rattle.hayro_ccitt.specs.DecodeError.TheVariants.{OutOfMemory, Refused}
+use Rattle.hayro_ccitt.specs.DecodeSettings.{DecodeSettings}
 use Rattle.hayro_ccitt.specs.Bits.{Bits}
 use Rattle.faxrows_runs.specs.Runs.{Outcome, EndsAfter, text_after, whole_text}
 

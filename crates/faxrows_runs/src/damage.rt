@@ -9,16 +9,15 @@ ghost use Rattle.fax_program.specs.Devices.{AppendsFront, WasRead};
 ghost use Rattle.faxrows_runs.specs.Arguments.{arguments_of_words};
 ghost use Rattle.faxrows_runs.specs.DamageText.{IsDamageText, IsDamageWithoutMemory, damage_after, damage_lines};
 ghost use Rattle.faxrows_runs.specs.DamageText.{last_line_of_damage};
-ghost use Rattle.faxrows_runs.specs.DamageText.{line_of_damage, line_of_strict, strict_fault, whole_damage};
+ghost use Rattle.faxrows_runs.specs.DamageText.{line_of_damage, whole_damage};
 ghost use Rattle.faxrows_runs.specs.Output.{PassesOn};
 ghost use Rattle.faxrows_runs.specs.Runs.{Outcome, OnKnown, rows_of, outcome_of, done_of, IsEndOfRun};
 ghost use Rattle.faxrows_runs.specs.RunsByRow.{EndsByRow};
 
-use crate::damage_lines::{put_fault, put_good_end, put_missed, put_strict};
+use crate::damage_lines::{put_cut, put_fault, put_good_end, put_missed};
 use crate::input::read_input;
 use crate::output::flush;
 use crate::program::{Done, done_of};
-use crate::strict_reading::{StrictFault, strict_fault};
 use fax_program::{Device, RunFault};
 use hayro_ccitt::{DecodeError, RowReader};
 use std::alloc::Global;
@@ -26,10 +25,9 @@ use std::io::{Read, Write};
 
 /// Reads all that the reader has, decodes it row by row as the arguments mean, and writes the damage instead of the rows:
 /// for each row that was repaired a line of `damaged`, the row's index, the offset in bits at which its line begins, and
-/// the fault; for each EOL that was missed a line of `missed`, the index of the row before it, and the offset in bits at
-/// which it is expected; unless the settings are strict, and a strict reading fails, a line of `strict`, the index of
-/// the row at which it does, the offset in bits at which its line begins or its EOL is missing, and the error; and then
-/// `ok`, the rows, the number of them that were repaired, and the byte count, or `error`, the index of
+/// the fault; for each row in which a run was cut a line of `cut`, the row's index, and the offset in bits at which its
+/// line begins; for each EOL that was missed a line of `missed`, the index of the row before it, and the offset in bits at
+/// which it is expected; and then `ok`, the rows, the number of them that were repaired, and the byte count, or `error`, the index of
 /// the row that can't be read, the offset in bits at which its line begins or its EOL is missing, and the error.
 ///
 /// # Errors
@@ -64,23 +62,20 @@ pub fn run_damage<R: Read, W: Write>(
     ensures write { writer.old.1 ≡ false → ((result ≡ Err RunFault.Write) ↔ (writer.new.1 ≡ true)) }
 {
     let (arguments, input) = read_input(alloc, words, reader)?;
-    let found = strict_fault(alloc, input.as_slice(), arguments.order, arguments.settings)?;
     let Ok(mut rows) = RowReader::new(alloc, input.as_slice(), arguments.order, arguments.settings)
     else {
         return Err(RunFault::Memory);
     };
-    write_damage(alloc, &mut rows, found, writer)
+    write_damage(alloc, &mut rows, writer)
 }
 
-/// Reads row by row from the first one on, and writes a line for each row that was repaired and for each missed EOL, what a
-/// strict reading found, and then how the reading ended. It fails only if the writer does.
+/// Reads row by row from the first one on, and writes a line for each row that was repaired or in which a run was cut, and for
+/// each missed EOL, and then how the reading ended. It fails only if the writer does.
 fn write_damage<W: Write>(
     alloc: Global,
     rows: &mut RowReader<'_>,
-    found: Option<StrictFault>,
     writer: &mut Device<W>,
 ) -> std::result::Result<Done, RunFault>
-    requires found { found ≡ strict_fault rows.old.settings rows.old.bits }
     requires none_read { rows.old.taken ≡ 0 }
     requires unfailed { (error : DecodeError) → rows.old.end ≢ Some (Err error) }
     ensures written { IfOk result (λ done. (outcome : Outcome)
@@ -96,13 +91,13 @@ fn write_damage<W: Write>(
 {
     let mut waiting = Vec::new(alloc);
     let outcome = put_damage(rows, &mut waiting, writer)?;
-    put_ends(rows, found, &outcome, &mut waiting, writer)?;
+    put_end(rows, &outcome, &mut waiting, writer)?;
     flush(&mut waiting, writer)?;
     Ok(done_of(&outcome))
 }
 
-/// Reads row by row from the first one on, puts a line for each row that was repaired and for each missed EOL, and returns how
-/// the reading ended.
+/// Reads row by row from the first one on, puts a line for each row that was repaired or in which a run was cut, and for each
+/// missed EOL, and returns how the reading ended.
 fn put_damage<W: Write>(
     rows: &mut RowReader<'_>,
     waiting: &mut Vec<u8>,
@@ -136,7 +131,7 @@ fn put_damage<W: Write>(
     }
 }
 
-/// Puts the line of the last row that was read, if it was repaired.
+/// Puts the line of the last row that was read, if it was repaired or a run of it was cut.
 fn put_last_row<W: Write>(
     rows: &RowReader<'_>,
     waiting: &mut Vec<u8>,
@@ -144,9 +139,9 @@ fn put_last_row<W: Write>(
 ) -> std::result::Result<(), RunFault>
     requires some { 0 < rows.now.taken }
     ensures ok { OnOk result (PassesOn (W.contents writer.old.0) (W.contents writer.new.0)
-        waiting.old.items (line_of_damage (rows.now.taken - 1) rows.now.line_start rows.now.damage) waiting.new.items) }
+        waiting.old.items (line_of_damage (rows.now.taken - 1) rows.now.line_start rows.now.damage rows.now.cut) waiting.new.items) }
     ensures front { OnErr result (AppendsFront (W.contents writer.old.0) (W.contents writer.new.0)
-        (waiting.old.items ++ line_of_damage (rows.now.taken - 1) rows.now.line_start rows.now.damage)) }
+        (waiting.old.items ++ line_of_damage (rows.now.taken - 1) rows.now.line_start rows.now.damage rows.now.cut)) }
     ensures flag { OnOk result (writer.new.1 ≡ writer.old.1) }
     ensures failed { OnErr result (writer.new.1 ≡ true) }
     ensures only { IfErr result (λ fault. fault ≡ RunFault.Write) }
@@ -157,30 +152,12 @@ fn put_last_row<W: Write>(
             let start = rows.line_start() as u64;
             put_fault(b"damaged ", row, start, fault, waiting, writer)
         }
-        None => Ok(()),
+        None => {
+            let row = rows.rows_read() - 1;
+            let start = rows.line_start() as u64;
+            put_cut(row, start, rows.is_cut(), waiting, writer)
+        }
     }
-}
-
-/// Puts the line of what a strict reading found, and the last line.
-fn put_ends<W: Write>(
-    rows: &RowReader<'_>,
-    found: Option<StrictFault>,
-    outcome: &hayro_ccitt::Result<usize>,
-    waiting: &mut Vec<u8>,
-    writer: &mut Device<W>,
-) -> std::result::Result<(), RunFault>
-    requires fails { OnErr outcome.now (rows.now.line_start ≡ failed_at rows.now.settings rows.now.bits rows.now.taken) }
-    ensures ok { OnOk result (PassesOn (W.contents writer.old.0) (W.contents writer.new.0) waiting.old.items
-        (line_of_strict found ++ last_line_of_damage rows.now.settings rows.now.bits rows.now.taken outcome.now)
-        waiting.new.items) }
-    ensures front { OnErr result (AppendsFront (W.contents writer.old.0) (W.contents writer.new.0) (waiting.old.items
-        ++ (line_of_strict found ++ last_line_of_damage rows.now.settings rows.now.bits rows.now.taken outcome.now))) }
-    ensures flag { OnOk result (writer.new.1 ≡ writer.old.1) }
-    ensures failed { OnErr result (writer.new.1 ≡ true) }
-    ensures only { IfErr result (λ fault. fault ≡ RunFault.Write) }
-{
-    put_strict(found, waiting, writer)?;
-    put_end(rows, outcome, waiting, writer)
 }
 
 /// Puts the last line.

@@ -2,12 +2,11 @@
 
 ghost use Rattle.std.specs.Prelude.{◌≡◌, ◌≤◌, ◌-◌, ◌++◌, ◌∷◌, [], OnOk, OnErr, IfErr, Some, Ok, Err, drop, codes, true, ℕ};
 ghost use Rattle.fax_program.specs.Devices.{AppendsFront};
-ghost use Rattle.faxrows_runs.specs.DamageText.{end_with_fault, line_of_miss, line_of_strict, number_and, numbered};
+ghost use Rattle.faxrows_runs.specs.DamageText.{end_with_fault, line_of_cut, line_of_miss, number_and, numbered};
 ghost use Rattle.faxrows_runs.specs.Output.{PassesOn};
 
 use crate::digits::{MOST_DIGITS, put_decimal};
 use crate::output::put;
-use crate::strict_reading::StrictFault;
 use fax_program::{Device, RunFault};
 use hayro_ccitt::DecodeError;
 use std::io::Write;
@@ -124,27 +123,26 @@ pub(crate) fn put_missed<W: Write>(
     }
 }
 
-/// Puts the line of what a strict reading found, if it found a fault.
-pub(crate) fn put_strict<W: Write>(
-    found: Option<StrictFault>,
+/// Puts the line of a row in which a run was cut, if one was.
+pub(crate) fn put_cut<W: Write>(
+    row: u64,
+    start: u64,
+    cut: bool,
     waiting: &mut Vec<u8>,
     writer: &mut Device<W>,
 ) -> std::result::Result<(), RunFault>
     ensures ok { OnOk result (PassesOn (W.contents writer.old.0) (W.contents writer.new.0)
-        waiting.old.items (line_of_strict found) waiting.new.items) }
+        waiting.old.items (line_of_cut row start cut) waiting.new.items) }
     ensures front { OnErr result (AppendsFront (W.contents writer.old.0) (W.contents writer.new.0)
-        (waiting.old.items ++ line_of_strict found)) }
+        (waiting.old.items ++ line_of_cut row start cut)) }
     ensures flag { OnOk result (writer.new.1 ≡ writer.old.1) }
     ensures failed { OnErr result (writer.new.1 ≡ true) }
     ensures only { IfErr result (λ fault. fault ≡ RunFault.Write) }
 {
-    match found {
-        Some(found) => {
-            let start = found.start as u64;
-            put_fault(b"strict ", found.row, start, found.fault, waiting, writer)
-        }
-        None => Ok(()),
+    if !cut {
+        return Ok(());
     }
+    put_numbers(b"cut ", row, start, b'\n', waiting, writer)
 }
 
 /// Puts the last line of a good reading: the rows, the number of them that were repaired, and the byte count.

@@ -12,7 +12,6 @@ mod last_line;
 mod output;
 pub mod packed;
 pub mod program;
-mod strict_reading;
 pub mod text_sink;
 
 pub use by_row::run_by_row;

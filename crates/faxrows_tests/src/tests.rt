@@ -185,10 +185,9 @@ fn check(rt: &(impl Abort + AllocGlobal), name: &str, cases: &str) {
 
 /// Two runs over three rows, the second of which is damaged; in the second run a bit, an EOL and a white line follow.
 const DAMAGED_ROWS: &str = "
-    1d 8 0 l: 0019800C400033: Ok(Good) \"damaged 1 29 invalid CCITT code sequence\\n\
-        strict 1 29 invalid CCITT code sequence\\nok 3 1 7\\n\"
+    1d 8 0 l: 0019800C400033: Ok(Good) \"damaged 1 29 invalid CCITT code sequence\\nok 3 1 7\\n\"
     1d 8 4 l: 0019800C400033800CC0: Ok(Good) \"damaged 1 29 invalid CCITT code sequence\\nmissed 2 56\\n\
-        strict 1 29 invalid CCITT code sequence\\nok 4 1 10\\n\"
+        ok 4 1 10\\n\"
 ";
 
 #[test]
@@ -201,14 +200,14 @@ fn writes_damage(rt: HostRuntime) {
         1d 8 0 ls: 0019800C400033: Ok(Faulty) "error 1 29 invalid CCITT code sequence\n"
         1d 8 0 ls: 0019CC: Ok(Faulty) "error 1 17 invalid CCITT code sequence\n"
         1d 8 1 l: 0019800C400033: Ok(Good) "ok 1 0 4\n"
-        1d 8 0 l: 0019CC: Ok(Faulty) "missed 0 17\nstrict 1 17 invalid CCITT code sequence\nerror 2 22 unexpected end of input\n"
+        1d 8 0 l: 0019CC: Ok(Faulty) "missed 0 17\nerror 2 22 unexpected end of input\n"
         // An EOL, a white line, a bit, and RTC.
-        1d 8 0 lb: 0019C0040040040040040040: Ok(Good) "missed 0 17\nstrict 1 17 invalid CCITT code sequence\nok 1 0 12\n"
+        1d 8 0 lb: 0019C0040040040040040040: Ok(Good) "missed 0 17\nok 1 0 12\n"
         g4 8 2 -: 31F8: Ok(Good) "ok 2 0 2\n"
-        2d 8 0 l: : Ok(Good) "damaged 0 0 unexpected end of input\nstrict 0 0 unexpected end of input\nok 1 1 0\n"
-        2d 8 0 -: : Ok(Faulty) "strict 0 0 unexpected end of input\nerror 0 0 unexpected end of input\n"
-        // A run of ten in eight columns is cut, which only the strict reading tells.
-        1d 8 1 l: 001380: Ok(Good) "strict 0 12 invalid CCITT code sequence\nok 1 0 3\n"
+        2d 8 0 l: : Ok(Good) "damaged 0 0 unexpected end of input\nok 1 1 0\n"
+        2d 8 0 -: : Ok(Faulty) "error 0 0 unexpected end of input\n"
+        // A run of ten in eight columns is cut.
+        1d 8 1 l: 001380: Ok(Good) "cut 0 12\nok 1 0 3\n"
         // In no columns nothing is read.
         g4 0 0 -: 80: Ok(Good) "ok 0 0 0\n"
         "#,
@@ -424,7 +423,7 @@ fn fails_at_each_write(rt: HostRuntime) {
         "run_damage",
         "1d 8 0 l",
         "0019800C400033",
-        "damaged 1 29 invalid CCITT code sequence\nstrict 1 29 invalid CCITT code sequence\nok 3 1 7\n",
+        "damaged 1 29 invalid CCITT code sequence\nok 3 1 7\n",
     );
 }
 
@@ -494,8 +493,8 @@ fn refused_memory_of_damage(rt: HostRuntime) {
         "1d 8 0 l",
         "0019800C400033",
         r#"
-        Ok(Good) "damaged 1 29 invalid CCITT code sequence\nstrict 1 29 invalid CCITT code sequence\nok 3 1 7\n"
-        Ok(Memory) "strict 1 29 invalid CCITT code sequence\nerror 1 29 out of memory\n"
+        Ok(Good) "damaged 1 29 invalid CCITT code sequence\nok 3 1 7\n"
+        Ok(Memory) "error 1 29 out of memory\n"
         Err(Memory) ""
         "#,
     );

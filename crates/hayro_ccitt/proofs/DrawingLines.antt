@@ -1,4 +1,5 @@
 pub mod CountedLines
+pub mod CutRuns
 pub mod Drawings
 pub mod DrawnLines
 pub mod FullRows

@@ -1,4 +1,3 @@
-pub mod BitReading
 pub mod CodeWords
 pub mod DamagedLines
 pub mod Decoded
@@ -9,3 +8,4 @@ pub mod Names
 pub mod PixelRows
 pub mod Readings
 pub mod Work
+pub use Rattle.fax_bits.proofs.BitReading

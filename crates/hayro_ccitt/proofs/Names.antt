@@ -14,7 +14,12 @@ pub use Rattle.hayro_ccitt.specs.ContextView.{context_of}
 pub use Rattle.hayro_ccitt.specs.Contract.{Decodes}
 pub use Rattle.hayro_ccitt.specs.Damage.{Damaged, damage_of, damaged_by_turn, fault_in, missed_behind, missed_by_turn}
 pub use Rattle.hayro_ccitt.specs.Damage.{missed_before, misses_by_line, repaired_by_turn, repaired_in, repairs_by_line}
-pub use Rattle.hayro_ccitt.specs.Damage.{start_in}
+pub use Rattle.hayro_ccitt.specs.Answers.{TellsCut, breaks, is_broken, strict_step_of_mode, strict_step_of_run}
+pub use Rattle.hayro_ccitt.specs.Context.{exceeds, painted_front, with_cut}
+pub use Rattle.hayro_ccitt.specs.Decoding.{cuts_with}
+pub use Rattle.hayro_ccitt.specs.RowsRead.{cut_since}
+pub use Rattle.hayro_ccitt.specs.Damage.{cut_by_turn, cut_in, cuts_by_line, cuts_of, cuts_run, start_in}
+pub use Rattle.hayro_ccitt.specs.Damage.{strict_line_of_turn}
 pub use Rattle.hayro_ccitt.specs.Decoding.{CountsDamage, DecodesRows, FailsHere, RowIsTaken}
 pub use Rattle.hayro_ccitt.specs.Decoding.{SinkState, StopsShort, TakesAll, TakesOneRow, TakesRows, gap_said, leaving}
 pub use Rattle.hayro_ccitt.specs.Decoding.{repairs_behind, repairs_with, with_row_taken}
@@ -65,6 +70,7 @@ pub use Rattle.hayro_ccitt.specs.RowsRead.{context_at, damage_since, ended, gaps
 pub use Rattle.hayro_ccitt.specs.RowsRead.{IsWhole, MissIsTold, missed_since, row_came, seen, stand_after, start_after}
 pub use Rattle.hayro_ccitt.specs.Runs.{codes_of, read_run, run_from, run_of_word, run_turn}
 pub use Rattle.hayro_ccitt.specs.Settings.{AreSettings}
+pub use Rattle.hayro_ccitt.specs.Space.{most_room, most_stored, room_for}
 pub use Rattle.hayro_ccitt.specs.Ticks.{looked, looked_ahead, looked_at_tag, missed, run_found, run_gives, tag_tests, word_found}
 pub use Rattle.hayro_ccitt.specs.UsualModes.{AreEnded, GoesOn2d, IsB1, IsNear, IsStroke, TurnsFrom, changes_in}
 pub use Rattle.hayro_ccitt.specs.UsualModes.{row_in}
@@ -74,26 +80,22 @@ pub use Rattle.hayro_ccitt.specs.Window.{AtHand, IsFilled, moved, place_in_word}
 pub use Rattle.hayro_ccitt.specs.Work.{CountsRun, CountsWork, IsPaidUpTo, found_here, mode_found, most_counted, most_for_lines}
 pub use Rattle.hayro_ccitt.specs.Work.{runs_found, runs_found_behind, second_run_found, words_of}
 pub use Rattle.hayro_ccitt.specs.Work.{words_of_turn}
-pub use Rattle.hayro_ccitt.specs.declared.bit_reader.BitOrder.{BitOrder}
-pub use Rattle.hayro_ccitt.specs.declared.bit_reader.BitOrder.TheVariants.{HighestFirst, LowestFirst}
-pub use Rattle.hayro_ccitt.specs.declared.bit_reader.BitReader.TheInside.{Inside}
-pub use Rattle.hayro_ccitt.specs.declared.bit_reader.TheConstants.{TURNED_DOWN, TURNED_UP}
-pub use Rattle.hayro_ccitt.specs.declared.codes.Color.{Color}
-pub use Rattle.hayro_ccitt.specs.declared.codes.Color.TheVariants.{Black, White}
-pub use Rattle.hayro_ccitt.specs.declared.codes.Mode.{Mode}
-pub use Rattle.hayro_ccitt.specs.declared.codes.Mode.TheVariants.{Horizontal, Pass, Vertical}
-pub use Rattle.hayro_ccitt.specs.declared.entries.TheConstants.{BLACK_ENTRIES, WHITE_ENTRIES}
-pub use Rattle.hayro_ccitt.specs.declared.pairs.TheConstants.{BLACK_PAIRS, WHITE_PAIRS}
-pub use Rattle.hayro_ccitt.specs.declared.error.DecodeError.{DecodeError}
-pub use Rattle.hayro_ccitt.specs.declared.error.DecodeError.TheVariants.{InvalidCode, OutOfMemory, Overflow, Refused}
-pub use Rattle.hayro_ccitt.specs.declared.error.DecodeError.TheVariants.{UnexpectedEof}
+pub use Rattle.fax_bits.specs.declared.bit_reader.BitOrder.{BitOrder}
+pub use Rattle.fax_bits.specs.declared.bit_reader.BitOrder.TheVariants.{HighestFirst, LowestFirst}
+pub use Rattle.fax_bits.specs.declared.codes.Color.{Color}
+pub use Rattle.fax_bits.specs.declared.codes.Color.TheVariants.{Black, White}
+pub use Rattle.fax_bits.specs.declared.codes.Mode.{Mode}
+pub use Rattle.fax_bits.specs.declared.codes.Mode.TheVariants.{Horizontal, Pass, Vertical}
+pub use Rattle.fax_bits.specs.declared.error.DecodeError.{DecodeError}
+pub use Rattle.fax_bits.specs.declared.error.DecodeError.TheVariants.{InvalidCode, OutOfMemory, Overflow, Refused}
+pub use Rattle.fax_bits.specs.declared.error.DecodeError.TheVariants.{UnexpectedEof}
 pub use Rattle.hayro_ccitt.specs.declared.row_reader.Stand.{Stand}
 pub use Rattle.hayro_ccitt.specs.declared.row_reader.Stand.TheVariants.{AtEnd, AtFault, AtLine, BehindRow}
-pub use Rattle.hayro_ccitt.specs.declared.settings.DecodeSettings.{DecodeSettings}
-pub use Rattle.hayro_ccitt.specs.declared.settings.EncodingMode.{EncodingMode}
-pub use Rattle.hayro_ccitt.specs.declared.settings.EncodingMode.TheVariants.{Group3_1D, Group3_2D, Group4}
-pub use Rattle.hayro_ccitt.specs.declared.tables.TheConstants.{BLACK_MAKEUP, BLACK_TERMINATING, COMMON_MAKEUP, WHITE_MAKEUP}
-pub use Rattle.hayro_ccitt.specs.declared.tables.TheConstants.{WHITE_TERMINATING}
+pub use Rattle.fax_bits.specs.declared.settings.DecodeSettings.{DecodeSettings}
+pub use Rattle.fax_bits.specs.declared.settings.EncodingMode.{EncodingMode}
+pub use Rattle.fax_bits.specs.declared.settings.EncodingMode.TheVariants.{Group3_1D, Group3_2D, Group4}
+pub use Rattle.fax_bits.specs.declared.tables.TheConstants.{BLACK_MAKEUP, BLACK_TERMINATING, COMMON_MAKEUP, WHITE_MAKEUP}
+pub use Rattle.fax_bits.specs.declared.tables.TheConstants.{WHITE_TERMINATING}
 pub use Rattle.hayro_ccitt.specs.declared.usual.TwoRuns.{TwoRuns}
 pub use Rattle.std.proofs.Common.{Bool, Err, IfOk, IsTrue, List, None, Ok, Option, Result, SFits, Some, [], add-one, add_assoc}
 pub use Rattle.std.proofs.Common.{ap, append-nil, append_assoc, arith, bit_and, bit_or, cond, drop, eqb, false, get_or}

@@ -1,10 +1,11 @@
 -- What calls return of what a definition says.
-use Rattle.std.specs.Prelude.{◌≡◌, ◌≢◌, ◌<◌, ℕ, Bool, true, false, ◌∷◌, ◌++◌, length, map, slice_get, Some, Result, Ok, Err}
+use Rattle.std.specs.Prelude.{◌≡◌, ◌≢◌, ◌<◌, ◌⊎◌, ℕ, Bool, true, false, ◌∷◌, ◌++◌, length, map, slice_get, Some, Result, Ok, Err}
 use Rattle.std.specs.Prelude.{Contains, List}
 use Rattle.std.specs.List.{fold}
-use Rattle.hayro_ccitt.specs.declared.error.DecodeError.{DecodeError}
-use Rattle.hayro_ccitt.specs.declared.error.DecodeError.TheVariants.{UnexpectedEof, InvalidCode, Overflow, OutOfMemory, Refused}
-use Rattle.hayro_ccitt.specs.declared.codes.Mode.{Mode}
+pub use Rattle.fax_bits.specs.Faults.{IsFault}
+use Rattle.fax_bits.specs.declared.error.DecodeError.{DecodeError}
+use Rattle.fax_bits.specs.declared.error.DecodeError.TheVariants.{UnexpectedEof, InvalidCode, Overflow, OutOfMemory, Refused}
+use Rattle.fax_bits.specs.declared.codes.Mode.{Mode}
 use Rattle.hayro_ccitt.specs.Bits.{Bits}
 use Rattle.hayro_ccitt.specs.Rows.{Row, is_black, changes, last_pixel}
 use Rattle.hayro_ccitt.specs.Context.{Held, painted_front}
@@ -12,14 +13,6 @@ use Rattle.hayro_ccitt.specs.Lines.{Line, Pen, draw_run, draw_mode, line_1d, lin
 use Rattle.hayro_ccitt.specs.Repetition.{Turn}
 
 -- ---- Errors, and what a row shows (auxiliary).
-
--- an error that is a fault of the data
-abbrev pub IsFault : DecodeError → Type 0
-IsFault UnexpectedEof = Unit {0}
-IsFault InvalidCode = Unit {0}
-IsFault Overflow = Unit {0}
-IsFault OutOfMemory = ⊥
-IsFault Refused = ⊥
 
 -- the row of a whole line, or the front of a broken one
 abbrev pub front_of : Line → Row
@@ -63,6 +56,29 @@ step_of_run held rest = (draw_run held.settings.strict held.settings.columns (pe
 -- a mode, drawn against the reference row (T.4, 4.2.1.3; T.6, 2.2)
 abbrev pub step_of_mode : Held → Bits → Mode → Step
 step_of_mode held rest mode = (draw_mode held.settings.strict held.settings.columns held.reference (pen_of held rest) mode).turn
+
+-- the same steps of a strict reading
+abbrev pub strict_step_of_run : Held → Bits → Step
+strict_step_of_run held rest = (draw_run true held.settings.columns (pen_of held rest)).turn
+
+abbrev pub strict_step_of_mode : Held → Bits → Mode → Step
+strict_step_of_mode held rest mode = (draw_mode true held.settings.columns held.reference (pen_of held rest) mode).turn
+
+-- the line is broken
+abbrev pub is_broken : Line → Bool
+is_broken (Line.whole row rest) = false
+is_broken (Line.broken front fault) = true
+
+-- the line is broken with this step
+abbrev pub breaks : Step → Bool
+breaks (Turn.next pen) = false
+breaks (Turn.done line) = is_broken line
+
+-- What a call that draws a step of a line leaves of whether a run of the line was cut: a strict reading's step is the same if
+-- none was, and breaks the line where the first is cut (T.4, 4.1.1 and 4.2.1.3).
+abbrev pub TellsCut : Step → Pen → Bool → Bool → Type 0
+TellsCut strict pen before false = (before ≡ false) × (strict ≡ Turn.next pen)
+TellsCut strict pen before true = (before ≡ true) ⊎ (breaks strict ≡ true)
 
 -- a one-dimensional line (T.4, 4.1.1)
 abbrev pub line_from_1d : Held → Bits → Line

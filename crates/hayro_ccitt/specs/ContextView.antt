@@ -1,6 +1,6 @@
 -- A context as seen from outside. This is not part of the trusted specification: contracts speak of this view, and the
 -- code is proved to keep the fields valid.
-use Rattle.std.specs.Prelude.{◌≤◌}
+use Rattle.std.specs.Prelude.{◌≤◌, max, vec_capacity}
 use Rattle.hayro_ccitt.specs.Rows.{AreChanges, pixels}
 use Rattle.hayro_ccitt.specs.Context.{Context, ArePassed}
 use Rattle.hayro_ccitt.specs.declared.context.DecoderContext.TheInside.{Inside}
@@ -14,13 +14,22 @@ context_of c =
         front = pixels c.pixels_decoded c.coding_changes.items;
         color = c.color;
         taken = c.decoded_rows;
-        repairs = record { rows = c.damaged_rows; fault = c.last_fault; last = c.last_damaged; missed = c.missed_eols };
+        repairs = record {
+          rows = c.damaged_rows;
+          fault = c.last_fault;
+          last = c.last_damaged;
+          cut = c.cut_rows;
+          missed =
+              c.missed_eols;
+        };
         has_eols = c.has_eols;
         fault_start = c.fault_start;
         settings = c.settings;
       };
       passed = c.passed;
+      cut = c.is_cut;
       ticks = c.ticks;
+      space = max (vec_capacity c.ref_changes) (vec_capacity c.coding_changes);
     }
 
 -- both lists are lawful; the front's changes are below the pixels decoded, which are at most the columns; and the

@@ -1,12 +1,13 @@
 -- The contract of `decode` and of `decode_low_first`, over the bits of their data.
-use Rattle.std.specs.Prelude.{◌≡◌, ◌⊎◌, ℕ, true, false, List, length, take, sum_by, None, Some, Result, Ok, IsOk, OnOk, OnErr}
-use Rattle.hayro_ccitt.specs.declared.error.DecodeError.{DecodeError}
-use Rattle.hayro_ccitt.specs.declared.settings.DecodeSettings.{DecodeSettings}
-use Rattle.hayro_ccitt.specs.declared.settings.EncodingMode.TheVariants.{Group4}
+use Rattle.std.specs.Prelude.{◌≡◌, ◌⊎◌, ◌↔◌, ℕ, true, false, List, length, take, sum_by, None, Some, Result, Ok, IsOk, OnOk}
+use Rattle.std.specs.Prelude.{OnErr}
+use Rattle.fax_bits.specs.declared.error.DecodeError.{DecodeError}
+use Rattle.fax_bits.specs.declared.settings.DecodeSettings.{DecodeSettings}
+use Rattle.fax_bits.specs.declared.settings.EncodingMode.TheVariants.{Group4}
 use Rattle.hayro_ccitt.specs.Answers.{OnAnswer, meaning_after}
 use Rattle.hayro_ccitt.specs.Bits.{Bits}
 use Rattle.hayro_ccitt.specs.Context.{Held}
-use Rattle.hayro_ccitt.specs.Damage.{repairs_by_line, repairs_of, misses_by_line, misses_of}
+use Rattle.hayro_ccitt.specs.Damage.{repairs_by_line, repairs_of, cuts_by_line, cuts_of, misses_by_line, misses_of}
 use Rattle.hayro_ccitt.specs.Decoding.{SinkState, TakesRows, StopsShort}
 use Rattle.hayro_ccitt.specs.Locality.{DamageStaysInRow}
 use Rattle.hayro_ccitt.specs.LocalityByK.{DamageEndsAt1D}
@@ -63,9 +64,18 @@ pub record Decodes {M : Type 0} (settings : DecodeSettings) (bits : Bits) (step 
   -- In a picture none is (T.4, 4.1.2).
   pub closed_eols : (rows : List Row) (count : ℕ) → IsClosedPicture settings rows count bits → held.repairs.missed ≡ 0
   pub limited_eols : (rows : List Row) → IsLimitedPicture settings rows bits → held.repairs.missed ≡ 0
-  -- Where the strict reading ends without a fault, no row is repaired and no EOL missed (T.4, 4.1.2).
+  -- It counts the accepted rows in which a run was cut at the row's end (T.4, 4.1.1 and 4.2.1.3).
+  pub cut_taken : held.repairs.cut ≡ sum_by length (take held.taken (cuts_by_line settings bits))
+  pub cut : OnAnswer answer (held.repairs.cut ≡ length (cuts_of settings bits))
+  -- In a picture none is (T.4, 4.1.1 and 4.2.1.3).
+  pub closed_runs : (rows : List Row) (count : ℕ) → IsClosedPicture settings rows count bits → held.repairs.cut ≡ 0
+  pub limited_runs : (rows : List Row) → IsLimitedPicture settings rows bits → held.repairs.cut ≡ 0
+  -- Where the strict reading ends without a fault, no row is repaired, no run cut and no EOL missed (T.4, 4.1.1 and 4.1.2).
   pub undamaged : IsOk (plain (record settings { strict = true }) bits).outcome → (held.repairs.rows ≡ 0)
-      × (held.repairs.missed ≡ 0)
+      × (held.repairs.cut ≡ 0) × (held.repairs.missed ≡ 0)
+  -- The strict reading ends without a fault exactly if this one does and the three counts are 0 (T.4, 4.1.1 and 4.1.2).
+  pub silence : OnAnswer answer (IsOk (plain (record settings { strict = true }) bits).outcome
+      ↔ (IsOk answer × (held.repairs.rows ≡ 0) × (held.repairs.cut ≡ 0) × (held.repairs.missed ≡ 0)))
   -- In lenient one-dimensional data with EOLs a change inside one line's body changes that row alone (T.4, 4.1.2).
   pub damage : OnAnswer answer (DamageStaysInRow settings bits (take held.taken (plain settings bits).rows) answer)
   -- In two-dimensional ones a change inside one line changes no row from the next one-dimensional line on, if the lines in

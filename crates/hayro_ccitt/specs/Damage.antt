@@ -1,15 +1,18 @@
--- Damage that a lenient reading of Group 3 data with EOLs passes: rows that it repairs, and EOLs that it misses (T.4, 4.1.2).
-use Rattle.std.specs.Prelude.{ℕ, zero, suc, ◌+◌, ◌-◌, Bool, not, ◌&&◌, ◌||◌, List, [], ◌∷◌, ◌++◌, length, flat_map, ◌==◌}
+-- Damage that a lenient reading passes: runs that it cuts, and in Group 3 data with EOLs rows that it repairs and EOLs that it
+-- misses (T.4, 4.1.1 and 4.1.2).
+use Rattle.std.specs.Prelude.{ℕ, zero, suc, ◌+◌, ◌-◌, Bool, true, false, not, ◌&&◌, ◌||◌, List, [], ◌∷◌, ◌++◌, length, flat_map}
+use Rattle.std.specs.Prelude.{◌==◌}
 use Rattle.std.specs.Prelude.{Option, Some, None, if◌then◌else◌, get_or}
-use Rattle.hayro_ccitt.specs.declared.error.DecodeError.{DecodeError}
-use Rattle.hayro_ccitt.specs.declared.error.DecodeError.TheVariants.{InvalidCode}
-use Rattle.hayro_ccitt.specs.declared.settings.DecodeSettings.{DecodeSettings}
+use Rattle.fax_bits.specs.declared.error.DecodeError.{DecodeError}
+use Rattle.fax_bits.specs.declared.error.DecodeError.TheVariants.{InvalidCode}
+use Rattle.fax_bits.specs.declared.settings.DecodeSettings.{DecodeSettings}
+use Rattle.hayro_ccitt.specs.Answers.{is_broken}
 use Rattle.hayro_ccitt.specs.Bits.{Bits}
 use Rattle.hayro_ccitt.specs.Lines.{Line}
 use Rattle.hayro_ccitt.specs.PlainReading.{Progress, gathered_of, line_of_turn, misses_eol, behind_row}
 
--- damage: the index of the row, the offset in bits of the first bit that is skipped, and the fault; a repaired line is skipped
--- from its first bit on, and an EOL is missed after a whole line
+-- damage: the index of the row, an offset in bits, and the fault. It is the offset of the line's first bit, where the line is
+-- repaired or a run of it is cut; or that at which an EOL is missed after a whole line.
 pub record Damaged : Type 0 where
   pub row : ℕ
   pub start : ℕ
@@ -40,6 +43,38 @@ repairs_by_line settings bits = if settings.columns == 0 then [] else gathered_o
 -- The rows that the plain reading repairs, in order (T.4, 4.1.2).
 abbrev pub repairs_of : DecodeSettings → Bits → List Damaged
 repairs_of settings bits = flat_map (λ repaired. repaired) (repairs_by_line settings bits)
+
+-- ---- Rows in which a run is cut
+
+-- A run of a line is cut, as it is read and as a strict reading has it: it is whole as it is read, and broken for the strict one.
+-- Only where a run or a vertical mode goes beyond the row's end do the two differ (T.4, 4.1.1 and 4.2.1.3).
+abbrev pub cuts_run : Line → Line → Bool
+cuts_run (Line.whole row rest) strict = is_broken strict
+cuts_run (Line.broken front fault) strict = false
+
+-- auxiliary: the line of a turn, as a strict reading has it
+abbrev pub strict_line_of_turn : DecodeSettings → Progress → Line
+strict_line_of_turn settings so_far = line_of_turn (record settings { strict = true }) so_far
+
+-- auxiliary: what is cut of the line of a turn
+abbrev pub cut_by_turn : DecodeSettings → Bits → Progress → List Damaged
+cut_by_turn settings bits so_far =
+    if cuts_run (line_of_turn settings so_far) (strict_line_of_turn settings so_far)
+    then record { row = length so_far.rows; start = length bits - length so_far.rest; fault = InvalidCode } ∷ []
+    else []
+
+-- What is cut of each line of the plain reading, in the order of `lines_of`: one row or none.
+abbrev pub cuts_by_line : DecodeSettings → Bits → List (List Damaged)
+cuts_by_line settings bits = if settings.columns == 0 then [] else gathered_of settings (cut_by_turn settings bits) bits
+
+-- The rows in which the plain reading cuts a run, in order (T.4, 4.1.1 and 4.2.1.3).
+abbrev pub cuts_of : DecodeSettings → Bits → List Damaged
+cuts_of settings bits = flat_map (λ cut. cut) (cuts_by_line settings bits)
+
+-- whether anything is cut of a line
+abbrev pub cut_in : List Damaged → Bool
+cut_in [] = false
+cut_in (cut ∷ more) = true
 
 -- ---- EOLs that are missed
 
@@ -82,10 +117,11 @@ missed_before settings bits (suc row) = start_in (get_or (misses_by_line setting
 
 -- auxiliary: of a turn
 abbrev pub damaged_by_turn : DecodeSettings → Bits → Progress → List Damaged
-damaged_by_turn settings bits so_far = repaired_by_turn settings bits so_far ++ missed_by_turn settings bits so_far
+damaged_by_turn settings bits so_far =
+    repaired_by_turn settings bits so_far ++ (cut_by_turn settings bits so_far ++ missed_by_turn settings bits so_far)
 
--- All damage that the plain reading passes, in order: each row that it repairs, and each row after which it misses the EOL
--- (T.4, 4.1.2).
+-- All damage that the plain reading passes, in order: each row that it repairs, each in which it cuts a run, and each after which
+-- it misses the EOL (T.4, 4.1.1 and 4.1.2).
 abbrev pub damage_of : DecodeSettings → Bits → List Damaged
 damage_of settings bits =
     if settings.columns == 0 then [] else flat_map (λ damaged. damaged)

@@ -1,20 +1,21 @@
 -- What decoding leaves: in the sink, in the context, and of the reading.
 use Rattle.std.specs.Prelude.{sum_by, ◌≡◌, ◌≢◌, ◌≤◌, ◌<◌, ℕ, ◌+◌, ◌-◌, ◌*◌, Bool, true, false, not, ◌&&◌, if◌then◌else◌, List, []}
-use Rattle.std.specs.Prelude.{length, take, get_or, Result, Ok, Err, OnOk, OnErr, IfOk, IfErr}
-use Rattle.hayro_ccitt.specs.declared.codes.Color.TheVariants.{White}
-use Rattle.hayro_ccitt.specs.declared.error.DecodeError.{DecodeError}
-use Rattle.hayro_ccitt.specs.declared.error.DecodeError.TheVariants.{OutOfMemory, Refused}
-use Rattle.hayro_ccitt.specs.Answers.{IsFault, OnAnswer, DrawsLine, HasBlack, PaintsBlack, front_of, meaning_after}
+use Rattle.std.specs.Prelude.{max, length, take, get_or, Result, Ok, Err, OnOk, OnErr, IfOk, IfErr}
+use Rattle.fax_bits.specs.declared.codes.Color.TheVariants.{White}
+use Rattle.fax_bits.specs.declared.error.DecodeError.{DecodeError}
+use Rattle.fax_bits.specs.declared.error.DecodeError.TheVariants.{OutOfMemory, Refused}
+use Rattle.hayro_ccitt.specs.Answers.{IsFault, OnAnswer, DrawsLine, HasBlack, PaintsBlack, front_of, is_broken, meaning_after}
 use Rattle.hayro_ccitt.specs.Bits.{Bits, BitsAt, here}
-use Rattle.hayro_ccitt.specs.Context.{Context, Held, Repairs, redrawn, with_missed}
-use Rattle.hayro_ccitt.specs.Damage.{Damaged, repaired_by_turn, missed_by_turn}
-use Rattle.hayro_ccitt.specs.declared.settings.DecodeSettings.{DecodeSettings}
-use Rattle.hayro_ccitt.specs.declared.settings.EncodingMode.{EncodingMode}
+use Rattle.hayro_ccitt.specs.Context.{Context, Held, Repairs, redrawn, with_cut, with_missed}
+use Rattle.hayro_ccitt.specs.Damage.{Damaged, repaired_by_turn, cut_by_turn, missed_by_turn}
+use Rattle.fax_bits.specs.declared.settings.DecodeSettings.{DecodeSettings}
+use Rattle.fax_bits.specs.declared.settings.EncodingMode.{EncodingMode}
 use Rattle.hayro_ccitt.specs.Lines.{Line, line_found}
 use Rattle.hayro_ccitt.specs.PlainReading.{Ending, Gap, end_of, gathered_of}
 use Rattle.hayro_ccitt.specs.PlainReading.{line_of_turn, failed_at}
 use Rattle.hayro_ccitt.specs.PlainReading.{misses_eol, line_by}
 use Rattle.hayro_ccitt.specs.Rows.{Row, changes}
+use Rattle.hayro_ccitt.specs.Space.{most_stored, room_for}
 use Rattle.hayro_ccitt.specs.Work.{CountsRun, words_of_turn, most_counted}
 
 -- auxiliary: what a sink means, whether it has refused a row, and which rows it refuses
@@ -55,15 +56,18 @@ pub record CountsDamage {A : Type 0} (by_line : List (List Damaged)) (taken coun
 
 -- ---- All rows of some bits: the contract of the drivers
 
--- What a run over rows leaves, from the end of its reading, its lines, their words, repairs and missed EOLs: the accepted rows,
--- why there are fewer if there are, how many were repaired, how many EOLs were missed, and at most this much work.
+-- What a run over rows leaves, from the end of its reading, its lines, their words, repairs, cut runs and missed EOLs: the
+-- accepted rows, why there are fewer if there are, how many were repaired, in how many a run was cut, how many EOLs were missed,
+-- and at most this much work.
 pub record TakesAll {M : Type 0} (end : Ending) (lines : List Line) (words : List (List Bits))
-    (repairs misses : List (List Damaged)) (most : ℕ) (step : M → List ℕ → M) (before after : SinkState M) (old new : Context)
+    (repairs cuts misses : List (List Damaged)) (most : ℕ) (step : M → List ℕ → M) (before after : SinkState M)
+    (old new : Context)
     (answer : Result Bits DecodeError) : Type 0 where
   pub settings : new.held.settings ≡ old.held.settings
   pub reading : TakesRows end.rows end.outcome end.has_eols step before after new.held answer
   pub short : StopsShort end.rows lines before after new.held answer
   pub repaired : CountsDamage repairs new.held.taken new.held.repairs.rows answer
+  pub cut : CountsDamage cuts new.held.taken new.held.repairs.cut answer
   pub missed : CountsDamage misses new.held.taken new.held.repairs.missed answer
   pub work : CountsRun words new.held.taken old.ticks new.ticks most
 
@@ -74,6 +78,7 @@ DecodesRows bits step before after old new answer =
     TakesAll (end_of old.held.settings bits) (gathered_of old.held.settings (line_of_turn old.held.settings) bits)
     (gathered_of old.held.settings (words_of_turn old.held.settings) bits)
     (gathered_of old.held.settings (repaired_by_turn old.held.settings bits) bits)
+    (gathered_of old.held.settings (cut_by_turn old.held.settings bits) bits)
     (gathered_of old.held.settings (missed_by_turn old.held.settings bits) bits)
     (most_counted old.held.settings.encoding (length bits))
     step before after old new answer
@@ -95,12 +100,14 @@ gap_said (Ok over) has_eols rest = elim over [ true ↦ Gap.over (Ok rest) | fal
 gap_said (Err e) has_eols rest = Gap.over (Err e)
 
 -- What a call leaves that reads the line here, in data of this encoding: what was drawn of the line, and of the context only
--- another front and colour. Its work is at least a tick for each word that the line finds, unless an allocation failed, and at
--- most four for each, one for each change of the reference row, and this many more (T.4, 4.1 and 4.2; T.6, 2.2).
+-- another front and colour, and whether a run was cut. Its work is at least a tick for each word that the line finds, unless an
+-- allocation failed, and at most four for each, one for each change of the reference row, and this many more. Its lists have no
+-- more room than they had, or than the changes stored account for (T.4, 4.1 and 4.2; T.6, 2.2).
 pub record ReadsLine (encoding : EncodingMode) (more : ℕ) (old new : Context) (answer : Result (Unit {0}) DecodeError)
     (before after : BitsAt) : Type 0 where
   pub drawn : DrawsLine (line_by encoding old.held.settings.strict old.held.settings.columns old.held.reference (here before))
       answer new.held.front (here after)
+  pub cut : OnOk answer (new.cut ≡ is_broken (line_by encoding true old.held.settings.columns old.held.reference (here before)))
   pub held : new.held ≡ redrawn old.held new.held.front new.held.color
   pub same_bits : after.bits ≡ before.bits
   pub counts : old.ticks ≤ new.ticks
@@ -109,6 +116,8 @@ pub record ReadsLine (encoding : EncodingMode) (more : ℕ) (old new : Context) 
   pub at_most : new.ticks ≤ old.ticks + 4 * length
       (line_found encoding old.held.settings.strict old.held.settings.columns old.held.reference (here before)) + more
       + length (changes old.held.reference)
+  pub space : new.space ≤ max old.space (room_for (most_stored old.held.reference
+      (line_by encoding old.held.settings.strict old.held.settings.columns old.held.reference (here before))))
 
 -- the context after one more row
 abbrev pub with_row_taken : Held → Row → Held
@@ -124,10 +133,16 @@ with_row_taken h row =
       settings = h.settings;
     }
 
--- what is repaired of this number of accepted rows, with the row of one more line: a broken line was repaired (T.4, 4.1.2)
-abbrev pub repairs_with : Line → ℕ → Repairs → Repairs
-repairs_with (Line.whole row rest) taken before = before
-repairs_with (Line.broken front fault) taken before = record before { rows = before.rows + 1; fault = fault; last = taken + 1 }
+-- what is counted with a row after this number of rows, given whether a run of it was cut
+abbrev pub cuts_with : Bool → ℕ → Repairs → Repairs
+cuts_with cut taken before = if cut then with_cut taken before else before
+
+-- What is counted of this number of accepted rows, with the row of one more line, given as a strict reading has it too: a broken
+-- line was repaired, and a run of one that only the strict reading breaks was cut (T.4, 4.1.1 and 4.1.2).
+abbrev pub repairs_with : Line → Line → ℕ → Repairs → Repairs
+repairs_with (Line.whole row rest) strict taken before = cuts_with (is_broken strict) taken before
+repairs_with (Line.broken front fault) strict taken before =
+    record before { rows = before.rows + 1; fault = fault; last = taken + 1 }
 
 -- what is counted after the gap behind the accepted rows, which begins here: a missed EOL, in lenient data (T.4, 4.1.2)
 abbrev pub repairs_behind : Held → Bits → Repairs
@@ -135,16 +150,16 @@ repairs_behind held here =
     if misses_eol held.settings held.taken held.has_eols here && not held.settings.strict then with_missed held.taken held.repairs
     else held.repairs
 
--- the row of a line was read, and these bits follow it
-pub record RowIsTaken (line : Line) (row : Result (Row × Bits) DecodeError) (old new : Held) (rest : Bits) : Type 0 where
+-- the row of a line was read, which a strict reading has like this, and these bits follow it
+pub record RowIsTaken (line strict : Line) (row : Result (Row × Bits) DecodeError) (old new : Held) (rest : Bits) : Type 0 where
   pub taken : Row
   pub is : row ≡ Ok (taken, rest)
-  pub held : new ≡ record (with_row_taken old taken) { repairs = repairs_with line old.taken old.repairs }
+  pub held : new ≡ record (with_row_taken old taken) { repairs = repairs_with line strict old.taken old.repairs }
 
 -- What a call leaves that reads a line, where the line yields this row.
-pub record TakesOneRow (line : Line) (row : Result (Row × Bits) DecodeError) (old new : Held)
+pub record TakesOneRow (line strict : Line) (row : Result (Row × Bits) DecodeError) (old new : Held)
     (answer : Result (Unit {0}) DecodeError) (rest : Bits) : Type 0 where
-  pub taken : OnOk answer (RowIsTaken line row old new rest)
+  pub taken : OnOk answer (RowIsTaken line strict row old new rest)
   pub fault : IfErr answer (λ e. IsFault e → row ≡ Err e)
   pub held : OnErr answer (new ≡ redrawn old new.front new.color)
   pub memory : answer ≡ Err OutOfMemory → HasBlack (front_of line)

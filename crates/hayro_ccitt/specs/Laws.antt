@@ -1,16 +1,18 @@
 -- The laws of the plain reading.
-use Rattle.std.specs.Prelude.{◌≡◌, ◌≢◌, ℕ, ◌+◌, ◌-◌, ◌*◌, ◌/◌, ◌^◌, ◌<◌, Bool, true, false, not, ◌&&◌, ◌||◌, nat_le, ◌⊎◌, Result}
+use Rattle.std.specs.Prelude.{◌≡◌, ◌≢◌, ◌↔◌, ℕ, ◌+◌, ◌-◌, ◌*◌, ◌/◌, ◌^◌, ◌<◌, Bool, true, false, not, ◌&&◌, ◌||◌, nat_le, ◌⊎◌}
+use Rattle.std.specs.Prelude.{Result}
 use Rattle.std.specs.Prelude.{Ok, Err, IsOk}
 use Rattle.std.specs.Prelude.{List, [], ◌∷◌, ◌++◌, length, take, replicate, reverse, All}
 use Rattle.std.specs.List.{fold, list_all, list_any}
-use Rattle.hayro_ccitt.specs.declared.codes.Color.{Color}
-use Rattle.hayro_ccitt.specs.declared.codes.Mode.{Mode}
-use Rattle.hayro_ccitt.specs.declared.error.DecodeError.{DecodeError}
-use Rattle.hayro_ccitt.specs.declared.settings.EncodingMode.{EncodingMode}
-use Rattle.hayro_ccitt.specs.declared.settings.EncodingMode.TheVariants.{Group4}
-use Rattle.hayro_ccitt.specs.declared.settings.DecodeSettings.{DecodeSettings}
-use Rattle.hayro_ccitt.specs.declared.bit_reader.BitOrder.{BitOrder}
-use Rattle.hayro_ccitt.specs.declared.bit_reader.BitOrder.TheVariants.{HighestFirst, LowestFirst}
+pub use Rattle.fax_bits.specs.Words.{AreWords, HoldsZeros, IsWord, each_word, joined}
+use Rattle.fax_bits.specs.declared.codes.Color.{Color}
+use Rattle.fax_bits.specs.declared.codes.Mode.{Mode}
+use Rattle.fax_bits.specs.declared.error.DecodeError.{DecodeError}
+use Rattle.fax_bits.specs.declared.settings.EncodingMode.{EncodingMode}
+use Rattle.fax_bits.specs.declared.settings.EncodingMode.TheVariants.{Group4}
+use Rattle.fax_bits.specs.declared.settings.DecodeSettings.{DecodeSettings}
+use Rattle.fax_bits.specs.declared.bit_reader.BitOrder.{BitOrder}
+use Rattle.fax_bits.specs.declared.bit_reader.BitOrder.TheVariants.{HighestFirst, LowestFirst}
 use Rattle.hayro_ccitt.specs.Answers.{meaning_after}
 use Rattle.hayro_ccitt.specs.Bits.{Bits, bits_of_byte, bits_in, AreWholeBytes, IsPrefix}
 use Rattle.hayro_ccitt.specs.CodeLists.{Code, mode_codes}
@@ -29,24 +31,6 @@ use Rattle.hayro_ccitt.specs.Lines.{Line, tag_at, line_found}
 use Rattle.hayro_ccitt.specs.Settings.{AreSettings}
 
 -- ---- synchronisation
-
--- a word of a run or of a mode (T.4, 4.1.1 and 4.2.1.2)
-abbrev pub IsWord : Bits → Type 0
-IsWord word = ((color : Color) × (n : ℕ) × Has (codes_of color) n word) ⊎ ((mode : Mode) × Has mode_codes mode word)
-
--- a list of such words (T.4, 4.1.1 and 4.2.1.2)
-abbrev pub AreWords : List Bits → Type 0
-AreWords [] = Unit {0}
-AreWords (word ∷ words) = IsWord word × AreWords words
-
--- auxiliary: consecutive words
-abbrev pub joined : List Bits → Bits
-joined [] = []
-joined (word ∷ words) = word ++ joined words
-
--- n consecutive zeros occur somewhere (T.4, 4.1.2)
-abbrev pub HoldsZeros : ℕ → Bits → Type 0
-HoldsZeros n bits = (before after : Bits) × (bits ≡ before ++ replicate n false ++ after)
 
 -- There are consecutive words here, after a tag or none; and where an EOL is here or later, they end before its one
 -- (T.4, 4.1.2).
@@ -71,10 +55,6 @@ pub record Synchronised : Type 0 where
       → here ≡ (tag_at encoding here ++ joined (line_found encoding strict columns reference here)) ++ rest
 
 -- ---- auxiliary: the zeros of a code word
-
--- each word of a list passes a test
-abbrev pub each_word : {V : Type 0} → (Bits → Bool) → List (Code V) → Bool
-each_word test list = list_all (λ c. test c.word) list
 
 -- the zeros at the end
 abbrev pub trailing_zeros : Bits → ℕ
@@ -114,10 +94,10 @@ StrictThenLenient = (settings : DecodeSettings) (whole : Bits) → AreSettings s
     → IsPrefix (plain (strictly settings) whole).rows (plain (leniently settings) whole).rows
     × (IsOk (plain (strictly settings) whole).outcome → plain (strictly settings) whole ≡ plain (leniently settings) whole)
 
--- Where the strict reading ends without a fault, the lenient one passes no damage.
+-- The strict reading ends without a fault exactly if the lenient one does, and passes no damage.
 abbrev pub StrictIsUndamaged : Type 0
 StrictIsUndamaged = (settings : DecodeSettings) (whole : Bits) → IsOk (plain (strictly settings) whole).outcome
-    → damage_of (leniently settings) whole ≡ []
+    ↔ (IsOk (plain (leniently settings) whole).outcome × (damage_of (leniently settings) whole ≡ []))
 
 -- With a row limit the rows are the first ones, as many as it allows; with that many rows the reading ends without a
 -- fault.

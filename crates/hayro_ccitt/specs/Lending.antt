@@ -4,7 +4,7 @@ use Rattle.std.specs.Prelude.{ℕ}
 use Rattle.std.specs.Borrow.{Lends, MutBor, Fml}
 use Rattle.hayro_ccitt.specs.Context.{Context}
 use Rattle.hayro_ccitt.specs.contracts.context.DecoderContext.{the_row}
-use Rattle.hayro_ccitt.specs.contracts.codes.Ticks.{the_row as ticks_row}
+use Rattle.fax_bits.specs.contracts.codes.Ticks.{the_row as ticks_row}
 
 -- a context with another tick count
 abbrev pub with_ticks : Context → ℕ → Context

@@ -1,13 +1,13 @@
 -- Two-dimensional lenient data of Group 3 with EOLs: damage ends at the next one-dimensional line.
 use Rattle.std.specs.Prelude.{◌≡◌, ℕ, zero, suc, ◌+◌, ◌<◌, ◌≤◌, ◌⊎◌, Option, Some, None, Result, Ok, Err, true, false, List, []}
 use Rattle.std.specs.Prelude.{◌∷◌, ◌++◌, length, take, drop}
-use Rattle.hayro_ccitt.specs.declared.codes.Color.{Color}
-use Rattle.hayro_ccitt.specs.declared.codes.Color.TheVariants.{White}
-use Rattle.hayro_ccitt.specs.declared.codes.Mode.{Mode}
-use Rattle.hayro_ccitt.specs.declared.codes.Mode.TheVariants.{Pass, Horizontal, Vertical}
-use Rattle.hayro_ccitt.specs.declared.error.DecodeError.{DecodeError}
-use Rattle.hayro_ccitt.specs.declared.settings.EncodingMode.TheVariants.{Group3_2D}
-use Rattle.hayro_ccitt.specs.declared.settings.DecodeSettings.{DecodeSettings}
+use Rattle.fax_bits.specs.declared.codes.Color.{Color}
+use Rattle.fax_bits.specs.declared.codes.Color.TheVariants.{White}
+use Rattle.fax_bits.specs.declared.codes.Mode.{Mode}
+use Rattle.fax_bits.specs.declared.codes.Mode.TheVariants.{Pass, Horizontal, Vertical}
+use Rattle.fax_bits.specs.declared.error.DecodeError.{DecodeError}
+use Rattle.fax_bits.specs.declared.settings.EncodingMode.TheVariants.{Group3_2D}
+use Rattle.fax_bits.specs.declared.settings.DecodeSettings.{DecodeSettings}
 use Rattle.hayro_ccitt.specs.Bits.{Bits, AreWholeBytes, IsPrefix}
 use Rattle.hayro_ccitt.specs.CodeLists.{mode_codes}
 use Rattle.hayro_ccitt.specs.CodeReading.{read_code}

@@ -1,7 +1,7 @@
 -- Pictures at the start of the data, in the terms of the reading.
 use Rattle.std.specs.Prelude.{◌≡◌, ◌≢◌, ℕ, ◌+◌, ◌-◌, ◌/◌, ◌<◌, ◌≤◌, ◌⊎◌, true, false, List, ◌++◌, length}
-use Rattle.hayro_ccitt.specs.declared.settings.EncodingMode.TheVariants.{Group4}
-use Rattle.hayro_ccitt.specs.declared.settings.DecodeSettings.{DecodeSettings}
+use Rattle.fax_bits.specs.declared.settings.EncodingMode.TheVariants.{Group4}
+use Rattle.fax_bits.specs.declared.settings.DecodeSettings.{DecodeSettings}
 use Rattle.hayro_ccitt.specs.Bits.{Bits, IsPrefix}
 use Rattle.hayro_ccitt.specs.Rows.{Row, white_row}
 use Rattle.hayro_ccitt.specs.Encodings.{EncodesRows, EncodesRowsWithEols, ClosesWithEols, IsPicture, PictureT6}

@@ -1,11 +1,12 @@
 -- The plain reading of whole data: rows, and how it ends.
 use Rattle.std.specs.Prelude.{ℕ, suc, ◌+◌, ◌-◌, ◌/◌, ◌%◌, Bool, true, false, not, ◌&&◌, ◌||◌, List, [], ◌∷◌, ◌++◌, length, drop}
 use Rattle.std.specs.Prelude.{get_or, nat_le, nat_lt, ◌==◌, Option, Some, None, Result, Ok, Err, if◌then◌else◌}
-use Rattle.hayro_ccitt.specs.declared.error.DecodeError.{DecodeError}
-use Rattle.hayro_ccitt.specs.declared.error.DecodeError.TheVariants.{UnexpectedEof, InvalidCode}
-use Rattle.hayro_ccitt.specs.declared.settings.EncodingMode.{EncodingMode}
-use Rattle.hayro_ccitt.specs.declared.settings.EncodingMode.TheVariants.{Group4, Group3_1D, Group3_2D}
-use Rattle.hayro_ccitt.specs.declared.settings.DecodeSettings.{DecodeSettings}
+pub use Rattle.fax_bits.specs.Bits.{aligned, at_end}
+use Rattle.fax_bits.specs.declared.error.DecodeError.{DecodeError}
+use Rattle.fax_bits.specs.declared.error.DecodeError.TheVariants.{UnexpectedEof, InvalidCode}
+use Rattle.fax_bits.specs.declared.settings.EncodingMode.{EncodingMode}
+use Rattle.fax_bits.specs.declared.settings.EncodingMode.TheVariants.{Group4, Group3_1D, Group3_2D}
+use Rattle.fax_bits.specs.declared.settings.DecodeSettings.{DecodeSettings}
 use Rattle.hayro_ccitt.specs.Bits.{Bits}
 use Rattle.hayro_ccitt.specs.Repetition.{Turn, repeated, gathered}
 use Rattle.hayro_ccitt.specs.Rows.{Row, white_row, repaired}
@@ -37,11 +38,6 @@ Move = Turn Progress Ending
 pub data Gap : Type 0 where
   line_at : Bool → Bits → Gap
   over : Result Bits DecodeError → Gap
-
--- auxiliary: no bit is left
-abbrev pub at_end : Bits → Bool
-at_end [] = true
-at_end (bit ∷ rest) = false
 
 -- auxiliary: the row limit is met; a limit of 0 is no limit
 abbrev pub limit_met : DecodeSettings → ℕ → Bool
@@ -111,10 +107,6 @@ abbrev pub row_before : ℕ → List Row → Row
 row_before columns [] = white_row columns
 row_before columns (row ∷ []) = row
 row_before columns (row ∷ next ∷ rows) = row_before columns (next ∷ rows)
-
--- auxiliary: the bits from the next whole byte on, if the data are whole bytes
-abbrev pub aligned : Bits → Bits
-aligned rest = drop (length rest % 8) rest
 
 -- The line here: one-dimensional; of the kind that its tag says in two-dimensional data of Group 3 (T.4, 4.2.2); or
 -- two-dimensional in Group 4.

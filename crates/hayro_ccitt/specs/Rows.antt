@@ -4,10 +4,11 @@ use Rattle.std.specs.Prelude.{replicate, filter, find, unwrap_or, min, nat_le, n
 use Rattle.std.specs.Prelude.{All}
 use mathlib.Core.Bool.{beq}
 use Rattle.std.specs.List.{range_with_len}
-use Rattle.hayro_ccitt.specs.declared.codes.Color.{Color}
-use Rattle.hayro_ccitt.specs.declared.codes.Color.TheVariants.{White, Black}
-use Rattle.hayro_ccitt.specs.declared.error.DecodeError.{DecodeError}
-use Rattle.hayro_ccitt.specs.declared.error.DecodeError.TheVariants.{InvalidCode}
+pub use Rattle.fax_bits.specs.Runs.{opposite}
+use Rattle.fax_bits.specs.declared.codes.Color.{Color}
+use Rattle.fax_bits.specs.declared.codes.Color.TheVariants.{White, Black}
+use Rattle.fax_bits.specs.declared.error.DecodeError.{DecodeError}
+use Rattle.fax_bits.specs.declared.error.DecodeError.TheVariants.{InvalidCode}
 
 -- the pixels of a row, or of a prefix of one, from the left: true is black (T.4, 4.1.1)
 abbrev pub Row : Type 0
@@ -30,11 +31,6 @@ repaired columns front = front ++ replicate (columns - length front) false
 abbrev pub is_black : Color → Bool
 is_black White = false
 is_black Black = true
-
--- the other colour: the colours of runs alternate (T.4, 4.1.1)
-abbrev pub opposite : Color → Color
-opposite White = Black
-opposite Black = White
 
 -- the pixel at a position; outside the row it is white (T.4, 4.2.1.1)
 abbrev pub pixel : Row → ℕ → Bool

@@ -1,25 +1,27 @@
 -- Rows one at a time: what a reader of rows has read, and what a call leaves that reads the next row.
 use Rattle.std.specs.Prelude.{sum_by, slice_get, take, ◌==◌, if◌then◌else◌, ◌≡◌, ◌≢◌, ◌≤◌, ◌<◌, ◌+◌, ◌-◌, ◌*◌, ◌/◌, ℕ, Bool}
 use Rattle.std.specs.Prelude.{true, false, not, drop, [], length, get_or, Option, None, Some, Result, Ok, Err, OnErr, IfOk}
-use Rattle.std.specs.Prelude.{IfErr}
-use Rattle.hayro_ccitt.specs.declared.codes.Color.TheVariants.{White}
-use Rattle.hayro_ccitt.specs.declared.error.DecodeError.{DecodeError}
-use Rattle.hayro_ccitt.specs.declared.error.DecodeError.TheVariants.{OutOfMemory, Refused}
+use Rattle.std.specs.Prelude.{IfErr, min, suc}
+use Rattle.fax_bits.specs.declared.codes.Color.TheVariants.{White}
+use Rattle.fax_bits.specs.declared.error.DecodeError.{DecodeError}
+use Rattle.fax_bits.specs.declared.error.DecodeError.TheVariants.{OutOfMemory, Refused}
 use Rattle.hayro_ccitt.specs.declared.row_reader.RowReader.TheInside.{Inside}
 use Rattle.hayro_ccitt.specs.declared.row_reader.RowState.{RowState}
 use Rattle.hayro_ccitt.specs.declared.row_reader.Stand.{Stand}
 use Rattle.hayro_ccitt.specs.declared.row_reader.Stand.TheVariants.{AtLine, BehindRow, AtEnd, AtFault}
-use Rattle.hayro_ccitt.specs.declared.settings.DecodeSettings.{DecodeSettings}
+use Rattle.fax_bits.specs.declared.settings.DecodeSettings.{DecodeSettings}
 use Rattle.hayro_ccitt.specs.Answers.{IsFault, PaintsBlack}
 use Rattle.hayro_ccitt.specs.Bits.{Bits, BitsAt}
 use Rattle.hayro_ccitt.specs.Context.{Context, Held, Repairs}
-use Rattle.hayro_ccitt.specs.Damage.{fault_in, missed_before, repairs_by_line, misses_by_line}
+use Rattle.hayro_ccitt.specs.Damage.{fault_in, cut_in, missed_before, repairs_by_line, cuts_by_line, misses_by_line}
 use Rattle.hayro_ccitt.specs.Decoding.{repairs_with}
 use Rattle.hayro_ccitt.specs.Lines.{Line}
 use Rattle.hayro_ccitt.specs.PlainReading.{Progress, row_before, with_row, first_gap, move_on, row_of_line, line_here}
-use Rattle.hayro_ccitt.specs.PlainReading.{end_of, line_of_turn, plain, lines_of, line_starts, failed_at}
+use Rattle.hayro_ccitt.specs.PlainReading.{end_of, line_of_turn, plain, lines_of, line_starts, row_ends, failed_at}
 use Rattle.hayro_ccitt.specs.Repetition.{Turn, Reaches}
-use Rattle.hayro_ccitt.specs.Rows.{Row, changes}
+use Rattle.fax_bits.specs.declared.settings.EncodingMode.TheVariants.{Group4}
+use Rattle.hayro_ccitt.specs.Rows.{Row, changes, pixels}
+use Rattle.hayro_ccitt.specs.Space.{most_room}
 use Rattle.hayro_ccitt.specs.Work.{IsPaidUpTo, found_here, most_counted, words_of}
 
 -- ---- What is visible of a reader of rows
@@ -38,9 +40,10 @@ is_at_line BehindRow = false
 is_at_line AtEnd = false
 is_at_line (AtFault error) = false
 
--- what is read and with which settings, the number of rows read, the last one, the offset of its line and its fault if it was
--- repaired, the offset at which the last gap lacked an EOL, how the reading has ended, whether there is a line here, the offset
--- of the next bit, and the work of all calls
+-- what is read and with which settings, the number of rows read, the last one, the offset of its line, its fault if it was
+-- repaired and whether a run of it was cut, the offset at which the last gap lacked an EOL, how the reading has ended, whether
+-- there is a line here, the offset of the next bit, the work of all calls, and for how many changes each of the two lists has
+-- room at most
 pub record RowsRead : Type 0 where
   pub settings : DecodeSettings
   pub bits : Bits
@@ -48,30 +51,34 @@ pub record RowsRead : Type 0 where
   pub row : Row
   pub line_start : ℕ
   pub damage : Option DecodeError
+  pub cut : Bool
   pub missed : Option ℕ
   pub end : Option (Result (Unit {0}) DecodeError)
   pub at_line : Bool
   pub place : ℕ
   pub ticks : ℕ
+  pub space : ℕ
 
-abbrev pub read_so_far : Held → ℕ → BitsAt → ℕ → Option DecodeError → Option ℕ → Stand → RowsRead
-read_so_far held ticks reader line_start damage missed stand = record {
+abbrev pub read_so_far : Held → ℕ → ℕ → BitsAt → ℕ → Option DecodeError → Bool → Option ℕ → Stand → RowsRead
+read_so_far held ticks space reader line_start damage cut missed stand = record {
   settings = held.settings;
   bits = reader.bits;
   taken = held.taken;
   row = held.reference;
   line_start = line_start;
   damage = damage;
+  cut = cut;
   missed = missed;
   end = ended stand;
   at_line = is_at_line stand;
   place = reader.place;
   ticks = ticks;
+  space = space;
 }
 
 -- what a reading keeps between two rows, and the bits from here on
 abbrev pub seen : RowState → Context → BitsAt → RowsRead
-seen rows ctx reader = read_so_far ctx.held ctx.ticks reader rows.started_at rows.damage rows.missed rows.stand
+seen rows ctx reader = read_so_far ctx.held ctx.ticks ctx.space reader rows.started_at rows.damage rows.cut rows.missed rows.stand
 
 abbrev pub rows_read_of : Inside → RowsRead
 rows_read_of r = seen r.rows r.ctx r.reader
@@ -95,6 +102,10 @@ stand_after (Err error) = AtFault error
 -- the fault of the last row, if it was repaired: if more rows are repaired now than before it
 abbrev pub damage_since : Repairs → ℕ → Option DecodeError
 damage_since repairs before = if repairs.rows == before then None else Some repairs.fault
+
+-- whether a run of the last row was cut: if runs are cut in more rows now than before it
+abbrev pub cut_since : Repairs → ℕ → Bool
+cut_since repairs before = not (repairs.cut == before)
 
 -- the offset of a gap if its EOL was missed: if more EOLs were missed after it than before
 abbrev pub missed_since : Repairs → ℕ → ℕ → Option ℕ
@@ -140,8 +151,12 @@ pub record ReadsNext (old new : RowsRead) (result : Result Bool DecodeError) : T
       × (new.taken ≤ length (plain old.settings old.bits).rows)
   pub row : result ≡ Ok true → new.row ≡ get_or (plain old.settings old.bits).rows old.taken []
   pub line_start : result ≡ Ok true → new.line_start ≡ get_or (line_starts old.settings old.bits) old.taken 0
+  -- the next bit is the first one after the row (T.4, 4.1.2 and 4.1.3)
+  pub place : result ≡ Ok true → new.place ≡ get_or (row_ends old.settings old.bits) old.taken 0
   -- its line was whole, or it was repaired after this fault (T.4, 4.1.2)
   pub damage : result ≡ Ok true → new.damage ≡ fault_in (get_or (repairs_by_line old.settings old.bits) old.taken [])
+  -- whether a run of it was cut at the row's end (T.4, 4.1.1 and 4.2.1.3)
+  pub cut : result ≡ Ok true → new.cut ≡ cut_in (get_or (cuts_by_line old.settings old.bits) old.taken [])
   -- there was none
   pub end : result ≡ Ok false → (new.end ≡ Some (Ok tt)) × (new.taken ≡ old.taken)
       × HasEnded old.settings old.bits new.taken new.place
@@ -150,8 +165,8 @@ pub record ReadsNext (old new : RowsRead) (result : Result Bool DecodeError) : T
   pub fault_start : old.end ≡ None → OnErr result (new.line_start ≡ failed_at old.settings old.bits old.taken)
   -- where the EOL was missed in the gap after the last row, if it was (T.4, 4.1.2)
   pub missed : new.missed ≡ missed_before old.settings old.bits old.taken
-  -- no row was read: the last row and its fault are unchanged, and at the end so is the offset of its line
-  pub last : result ≢ Ok true → (new.row ≡ old.row) × (new.damage ≡ old.damage)
+  -- no row was read: the last row and its damage are unchanged, and at the end so is the offset of its line
+  pub last : result ≢ Ok true → (new.row ≡ old.row) × (new.damage ≡ old.damage) × (new.cut ≡ old.cut)
   pub last_start : result ≡ Ok false → new.line_start ≡ old.line_start
 
 -- What a call that passes the gap before the next line leaves: it reaches a line, or the end.
@@ -166,8 +181,8 @@ pub record ReachesNextLine (old new : RowsRead) (result : Result Bool DecodeErro
   pub error : IfErr result (λ e. (new.end ≡ Some (Err e)) × HasFailed old.settings old.bits new.taken e)
   pub fault_start : OnErr result (new.line_start ≡ failed_at old.settings old.bits old.taken)
   pub missed : new.missed ≡ missed_before old.settings old.bits old.taken
-  -- the last row and its fault are unchanged, and so is the offset of its line if the gap has no fault
-  pub last : (new.row ≡ old.row) × (new.damage ≡ old.damage)
+  -- the last row and its damage are unchanged, and so is the offset of its line if the gap has no fault
+  pub last : (new.row ≡ old.row) × (new.damage ≡ old.damage) × (new.cut ≡ old.cut)
   pub last_start : IfOk result (λ line. new.line_start ≡ old.line_start)
 
 -- what a call returns after the end
@@ -220,6 +235,7 @@ pub record IsWhole (settings : DecodeSettings) (bits : Bits) (held : Held) (outc
   pub ends : (end_of settings bits).outcome ≡ outcome
   pub has_eols : held.has_eols ≡ (end_of settings bits).has_eols
   pub repaired : sum_by length (take held.taken (repairs_by_line settings bits)) ≡ sum_by length (repairs_by_line settings bits)
+  pub cut : sum_by length (take held.taken (cuts_by_line settings bits)) ≡ sum_by length (cuts_by_line settings bits)
   pub missed : sum_by length (take held.taken (misses_by_line settings bits)) ≡ sum_by length (misses_by_line settings bits)
 
 -- the state of a reader of rows
@@ -240,9 +256,10 @@ pub record MissesAreCounted (settings : DecodeSettings) (bits : Bits) (repairs :
 -- behind a row they were counted up to its line
 pub record MissesBehindRow (settings : DecodeSettings) (bits : Bits) (held : Held) : Type 0 where
   pub line : Line
+  pub strict : Line
   pub before : Repairs
   pub line_is : slice_get (lines_of settings bits) (held.taken - 1) ≡ Some line
-  pub repairs_are : held.repairs ≡ repairs_with line (held.taken - 1) before
+  pub repairs_are : held.repairs ≡ repairs_with line strict (held.taken - 1) before
   pub counted : MissesAreCounted settings bits before (held.taken - 1)
 
 abbrev pub Misses : Stand → DecodeSettings → Bits → Held → Type 0
@@ -251,10 +268,13 @@ Misses BehindRow settings bits held = MissesBehindRow settings bits held
 Misses AtEnd settings bits held = MissesAreCounted settings bits held.repairs held.taken
 Misses (AtFault error) settings bits held = MissesAreCounted settings bits held.repairs held.taken
 
--- the repaired rows among those read were counted, and the EOLs that were missed (T.4, 4.1.2)
+-- the repaired rows among those read were counted, those in which a run was cut, and the EOLs that were missed (T.4, 4.1.1 and
+-- 4.1.2)
 pub record DamageIsCounted (stand : Stand) (settings : DecodeSettings) (bits : Bits) (held : Held) : Type 0 where
   pub few : held.repairs.rows ≤ held.taken
   pub counted : held.repairs.rows ≡ sum_by length (take held.taken (repairs_by_line settings bits))
+  pub few_cut : held.repairs.cut ≤ held.taken
+  pub cut : held.repairs.cut ≡ sum_by length (take held.taken (cuts_by_line settings bits))
   pub misses : Misses stand settings bits held
 
 -- once a gap was passed, it is known where it lacked an EOL (T.4, 4.1.2)
@@ -265,7 +285,7 @@ MissIsTold AtEnd settings bits taken missed = missed ≡ missed_before settings 
 MissIsTold (AtFault error) settings bits taken missed = missed ≡ missed_before settings bits taken
 
 -- What was counted up to a line since a count is paid, from a first line before which this much was counted; where EOLs are
--- sought, what ceasing to seek them costs is left.
+-- sought, what ceasing to seek them costs is left. The row before has no more changes than columns, and but one more than bits.
 pub record PaidAtLine (from : ℕ) (settings : DecodeSettings) (bits : Bits) (held : Held) (rest : Bits) (ticks : ℕ) : Type 0 where
   pub begun : ℕ
   pub giving_up : ℕ
@@ -273,6 +293,7 @@ pub record PaidAtLine (from : ℕ) (settings : DecodeSettings) (bits : Bits) (he
   pub sought : held.has_eols ≡ true → 8 * length bits + 8 ≤ giving_up
   pub within : length rest ≤ length bits
   pub paid : IsPaidUpTo begun (length bits) giving_up settings.encoding held.has_eols ticks (length (changes held.reference)) rest
+  pub short : length (changes held.reference) ≤ suc (min settings.columns (length bits))
 
 -- What was counted up to the line of the last row is paid, and that line counted as much as it may.
 pub record PaidBehindRow (from : ℕ) (settings : DecodeSettings) (bits : Bits) (held : Held) (rest : Bits)
@@ -286,6 +307,7 @@ pub record PaidBehindRow (from : ℕ) (settings : DecodeSettings) (bits : Bits) 
   pub line : ticks ≤ ticks_before + 4 * length (found_here settings before.reference start) + 2
       + length (changes before.reference)
   pub stored : length (changes held.reference) ≤ length (found_here settings before.reference start) + 1
+  pub short : length (changes held.reference) ≤ suc (min settings.columns (length bits))
 
 -- the account of a reader of rows
 abbrev pub IsPaid : ℕ → Stand → DecodeSettings → Bits → Held → ℕ → ℕ → Type 0
@@ -300,6 +322,14 @@ pub record WorkIsPaid (from : ℕ) (stand : Stand) (settings : DecodeSettings) (
   pub words : from + sum_by length (take held.taken (words_of settings bits)) ≤ ticks
   pub paid : IsPaid from stand settings bits held place ticks
 
+-- each one that is next is a white line, V0 alone: in Group 4, below a white row, where lines begin anywhere
+pub record RepeatsWhite (held : Held) : Type 0 where
+  pub group4 : held.settings.encoding ≡ Group4
+  pub anywhere : held.settings.rows_are_byte_aligned ≡ false
+  pub white : held.reference ≡ pixels held.settings.columns []
+  pub wide : 0 < held.settings.columns
+  pub fits : held.settings.columns ≤ 4294967295
+
 -- it is there by the plain reading of these bits, and its work is counted from here on
 abbrev pub IsStanding : ℕ → RowState → Context → BitsAt → Type 0
 IsStanding from rows ctx reader =
@@ -312,5 +342,6 @@ IsStanding from rows ctx reader =
 abbrev pub IsStandingAtLine : ℕ → RowState → Context → BitsAt → Type 0
 IsStandingAtLine from rows ctx reader = (is_at_line rows.stand ≡ true) × (IsStanding from rows ctx reader)
 
+-- and it has no more room than its bits account for
 abbrev pub IsReading : Inside → Type 0
-IsReading r = IsStanding 0 r.rows r.ctx r.reader
+IsReading r = IsStanding 0 r.rows r.ctx r.reader × (r.ctx.space ≤ most_room r.ctx.held.settings r.reader.bits)

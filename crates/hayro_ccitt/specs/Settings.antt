@@ -1,6 +1,6 @@
 -- The settings of a reading.
 use Rattle.std.specs.Prelude.{◌^◌, ◌<◌}
-use Rattle.hayro_ccitt.specs.declared.settings.DecodeSettings.{DecodeSettings}
+use Rattle.fax_bits.specs.declared.settings.DecodeSettings.{DecodeSettings}
 
 -- ---- auxiliary: the range of the program's numbers
 

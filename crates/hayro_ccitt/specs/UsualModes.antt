@@ -1,8 +1,8 @@
 -- Modes that are drawn with the index of b1 at hand. This is not part of the trusted specification: no contract of a public
 -- call cites it.
-use Rattle.std.specs.Prelude.{◌≡◌, ◌+◌, ◌-◌, ◌*◌, ◌%◌, ◌<◌, ◌≤◌, ◌++◌, ◌∷◌, [], Bool, ℕ, List, length, take, get_or}
-use Rattle.hayro_ccitt.specs.declared.codes.Color.{Color}
-use Rattle.hayro_ccitt.specs.declared.codes.Color.TheVariants.{White, Black}
+use Rattle.std.specs.Prelude.{◌≡◌, ◌+◌, ◌-◌, ◌*◌, ◌%◌, ◌<◌, ◌≤◌, ◌++◌, ◌∷◌, [], Bool, true, ℕ, List, length, take, get_or}
+use Rattle.fax_bits.specs.declared.codes.Color.{Color}
+use Rattle.fax_bits.specs.declared.codes.Color.TheVariants.{White, Black}
 use Rattle.hayro_ccitt.specs.Lines.{Pen, draw_2d, drawn, words_drawn}
 use Rattle.hayro_ccitt.specs.Rows.{Row, AreChanges, pixels}
 
@@ -35,11 +35,13 @@ pub record IsB1 (columns : ℕ) (places : List ℕ) (painted index : ℕ) (color
   pub near : IsNear columns places painted index
   pub right : 0 < painted → painted < get_or places index columns
 
--- Drawing continues from one pen to another in a two-dimensional line: the line is the same, the words in between were counted,
--- and besides them no more than the reference changes that were passed and three more for each word.
+-- Drawing continues from one pen to another in a two-dimensional line: the line is the same, so is that of a strict reading, the
+-- words in between were counted, and besides them no more than the reference changes that were passed and three more for each
+-- word.
 pub record GoesOn2d (strict : Bool) (columns : ℕ) (reference : Row) (before after : Pen)
     (ticks now passed later : ℕ) : Type 0 where
   pub line : drawn (draw_2d strict columns reference) after ≡ drawn (draw_2d strict columns reference) before
+  pub strictly : drawn (draw_2d true columns reference) after ≡ drawn (draw_2d true columns reference) before
   pub counts : ticks ≤ now
   pub at_least : ticks + length (words_drawn (draw_2d strict columns reference) before) ≤ now
       + length (words_drawn (draw_2d strict columns reference) after)

@@ -1,8 +1,9 @@
 -- Runs that are drawn with bits at hand. This is not part of the trusted specification: no contract of a public call cites it.
-use Rattle.std.specs.Prelude.{◌≡◌, ◌⊎◌, ◌+◌, ◌-◌, ◌%◌, ◌^◌, ◌<◌, ◌≤◌, Bool, false, ℕ, List, [], Ok, length}
-use Rattle.hayro_ccitt.specs.declared.codes.Color.{Color}
-use Rattle.hayro_ccitt.specs.declared.codes.Color.TheVariants.{White}
-use Rattle.hayro_ccitt.specs.declared.settings.DecodeSettings.{DecodeSettings}
+use Rattle.std.specs.Prelude.{◌≡◌, ◌⊎◌, ◌+◌, ◌-◌, ◌%◌, ◌^◌, ◌<◌, ◌≤◌, Bool, true, ℕ, List, [], Ok, length}
+pub use Rattle.fax_bits.specs.WordsHere.{IsRunHere, IsWordHere, RunGoesOn}
+use Rattle.fax_bits.specs.declared.codes.Color.{Color}
+use Rattle.fax_bits.specs.declared.codes.Color.TheVariants.{White}
+use Rattle.fax_bits.specs.declared.settings.DecodeSettings.{DecodeSettings}
 use Rattle.hayro_ccitt.specs.declared.usual.TwoRuns.{TwoRuns}
 use Rattle.hayro_ccitt.specs.Bits.{Bits, BitsAt, here}
 use Rattle.hayro_ccitt.specs.CodeReading.{read_code}
@@ -11,17 +12,6 @@ use Rattle.hayro_ccitt.specs.Rows.{AreChanges, opposite, pixels}
 use Rattle.hayro_ccitt.specs.Runs.{codes_of, read_run, run_from}
 use Rattle.hayro_ccitt.specs.Ticks.{run_found}
 use Rattle.hayro_ccitt.specs.Window.{moved}
-
--- a word of a colour's list is here, for this run, and has this width
-pub record IsWordHere (color : Color) (at : BitsAt) (run width : ℕ) : Type 0 where
-  pub read : read_code (codes_of color) (here at) ≡ Ok (run, here (moved width at))
-  pub few : width ≤ 13
-
--- a run is here, with this number of bits and of words
-pub record IsRunHere (color : Color) (at : BitsAt) (run width words : ℕ) : Type 0 where
-  pub read : read_run color (here at) ≡ Ok (run, here (moved width at))
-  pub found : length (run_found color (0, here at)) ≡ words
-  pub few : width ≤ 26
 
 -- two runs are here, of a colour and of the other one, with this many bits and words in all
 pub record AreTwoRunsHere (color : Color) (at : BitsAt) (runs : TwoRuns) : Type 0 where
@@ -39,19 +29,15 @@ pub record IsShort (run : ℕ) : Type 0 where
   pub some : 0 < run
   pub below : run < 64
 
--- A run goes on after make-up words: it is the same, and the words between were counted.
-pub record RunGoesOn (color : Color) (before : ℕ) (from : Bits) (after : ℕ) (to : Bits) (ticks now : ℕ) : Type 0 where
-  pub run : run_from color (before, from) ≡ run_from color (after, to)
-  pub counted : now + length (run_found color (after, to)) ≡ ticks + length (run_found color (before, from))
-  pub onward : length to ≤ length from
-
 -- the pen of a row of changes
 abbrev pub pen_at : ℕ → List ℕ → Color → BitsAt → Pen
 pen_at place row color at = record { front = pixels place row; color = color; rest = here at }
 
--- Drawing continues from one pen to another: the line is the same, and the words between them were counted.
+-- Drawing continues from one pen to another: the line is the same, so is that of a strict reading, and the words between them
+-- were counted.
 pub record GoesOn (strict : Bool) (columns : ℕ) (before after : Pen) (ticks now : ℕ) : Type 0 where
   pub line : drawn (draw_1d strict columns) after ≡ drawn (draw_1d strict columns) before
+  pub strictly : drawn (draw_1d true columns) after ≡ drawn (draw_1d true columns) before
   pub counts : ticks ≤ now
   pub counted : now + length (words_drawn (draw_1d strict columns) after) ≡ ticks
       + length (words_drawn (draw_1d strict columns) before)
@@ -62,13 +48,13 @@ pub record IsOpen (columns place : ℕ) (row : List ℕ) : Type 0 where
   pub lawful : AreChanges (place + 1) row
   pub even : length row % 2 ≡ 0
 
--- Such a row goes on with a white run that ends before the row does, and a black one.
+-- Such a row goes on with a white run that ends before the row does, and a black one that isn't cut.
 pub record CanFollow (settings : DecodeSettings) (place : ℕ) (row : List ℕ) (runs : TwoRuns) : Type 0 where
   pub row_is_open : IsOpen settings.columns place row
   pub right : (0 < runs.first) ⊎ (row ≡ [])
   pub inside : runs.first < settings.columns - place
   pub some : 0 < runs.second
-  pub fits : (runs.second ≤ settings.columns - (place + runs.first)) ⊎ (settings.strict ≡ false)
+  pub fits : runs.second ≤ settings.columns - (place + runs.first)
   pub small : runs.first + runs.second < 2 ^ 32
 
 -- A row of changes reaches a position: if it isn't full it continues in white, and its last change may equal the

@@ -1,12 +1,13 @@
 //! Rows as lists of changes: the positions at which a row's colour turns, white at first.
 
 ghost use Rattle.std.specs.Prelude.{vec_len, vec_capacity, ◌≡◌, ◌≢◌, ◌+◌, ◌<◌, ◌≤◌, OnOk, OnErr, Err, IsOkUnless, false, length};
-ghost use Rattle.std.specs.Prelude.{get_or, ◌++◌, replicate};
+ghost use Rattle.std.specs.Prelude.{get_or, ◌++◌, ◌∷◌, [], replicate, true, max};
 ghost use Rattle.hayro_ccitt.specs.Rows.{AreChanges, pixels, b1, b2, is_black, last_pixel};
 ghost use Rattle.hayro_ccitt.specs.Context.{right_of_painted, ArePassed, passed_changes};
+ghost use Rattle.hayro_ccitt.specs.Space.{room_for};
 
-use crate::codes::{Color, Ticks};
 use crate::{DecodeError, Result};
+use fax_bits::codes::{Color, Ticks};
 
 /// Returns the index of b1 among the changes of a reference row, given the number of pixels painted and the colour of
 /// the next ones; b2 is the next change. `passed` is how many changes are known not to be right of a0; afterwards it is
@@ -56,6 +57,43 @@ pub fn change_or_end(changes: &[u32], index: usize, columns: u32) -> u32
     changes.get(index).copied().unwrap_or(columns)
 }
 
+/// Makes room for as many changes again, and for at least 64 more, and for no more than that; returns whether there is.
+#[cold]
+#[inline(never)]
+pub(crate) fn make_room(changes: &mut Vec<u32>) -> bool
+    ensures room { result ≡ true → vec_len changes.new + 64 ≤ vec_capacity changes.new }
+    ensures same { changes.new.items ≡ changes.old.items }
+    ensures full { result ≡ false → vec_capacity changes.old < vec_len changes.old + max 64 (vec_len changes.old) }
+    ensures space { vec_capacity changes.new ≤ max (vec_capacity changes.old) (room_for (vec_len changes.old)) }
+    ensures left { result ≡ false → vec_capacity changes.new ≡ vec_capacity changes.old }
+{
+    let more = changes.len().max(64);
+    changes.reserve_exact(more).is_ok()
+}
+
+/// Stores a change at a position.
+///
+/// # Errors
+///
+/// `OutOfMemory` if the list is full and can't grow. Then nothing has changed.
+#[inline(always)]
+fn push_change(changes: &mut Vec<u32>, place: u32) -> Result<()>
+    ensures items { OnOk result (changes.new.items ≡ changes.old.items ++ place ∷ []) }
+    ensures full { OnErr result (vec_capacity changes.old ≤ vec_len changes.old) }
+    ensures only_memory { IsOkUnless result DecodeError.OutOfMemory }
+    ensures unchanged { OnErr result (changes.new.items ≡ changes.old.items) }
+    ensures space { vec_capacity changes.new ≤ max (vec_capacity changes.old) (room_for (vec_len changes.old)) }
+    ensures left { OnErr result (vec_capacity changes.new ≡ vec_capacity changes.old) }
+{
+    if changes.len() == changes.capacity() {
+        if !make_room(changes) {
+            return Err(DecodeError::OutOfMemory);
+        }
+    }
+    changes.push_reserved(place);
+    Ok(())
+}
+
 /// Appends `count` pixels of a colour to the changes of a front of `painted` pixels. A change is stored only if the
 /// last pixel has another colour.
 ///
@@ -73,11 +111,14 @@ pub fn append_pixels(changes: &mut Vec<u32>, painted: u32, color: Color, count: 
     ensures full { OnErr result (vec_capacity changes.old ≤ vec_len changes.old) }
     ensures only_memory { IsOkUnless result DecodeError.OutOfMemory }
     ensures unchanged { OnErr result (changes.new.items ≡ changes.old.items) }
+    ensures few { length changes.new.items ≤ length changes.old.items + 1 }
+    ensures space { vec_capacity changes.new ≤ max (vec_capacity changes.old) (room_for (vec_len changes.old)) }
+    ensures left { OnErr result (vec_capacity changes.new ≡ vec_capacity changes.old) }
 {
     // The colours of a row alternate, so after an odd number of changes its last pixel is black.
     let last_is_white = changes.len().is_multiple_of(2);
     if count > 0 && last_is_white != color.is_white() {
-        changes.push(painted)?;
+        push_change(changes, painted)?;
     }
     Ok(())
 }

@@ -1,30 +1,37 @@
 //! What a decoder keeps from line to line, and the lines themselves.
 
 ghost use Rattle.std.specs.Prelude.{◌≡◌, ◌+◌, ◌-◌, ◌*◌, ◌^◌, ◌<◌, ◌≤◌, ◌⊎◌, ◌↔◌, ℕ, Ok, Err, OnOk, OnErr, IfOk, IfErr, true};
-ghost use Rattle.std.specs.Prelude.{false};
-ghost use Rattle.std.specs.Prelude.{IsOkUnless, IsTrue, if◌then◌else◌, is_some, option_map, length, get_or, []};
+ghost use Rattle.std.specs.Prelude.{false, suc, max, vec_capacity};
+ghost use Rattle.std.specs.Prelude.{◌||◌, IsOkUnless, IsTrue, if◌then◌else◌, is_some, option_map, length, get_or, []};
 ghost use Rattle.hayro_ccitt.specs.LocalityByK.{behind_mode};
 ghost use Rattle.hayro_ccitt.specs.{Ticks.run_found, Work.mode_found};
 ghost use Rattle.hayro_ccitt.specs.Runs.{read_run};
 ghost use Rattle.hayro_ccitt.specs.Rows.{AreChanges, right_of, b1, b2, changes, opposite};
 ghost use Rattle.hayro_ccitt.specs.Bits.{here};
 ghost use Rattle.hayro_ccitt.specs.Context.{redrawn, painted_front, taken_row, after_repair, passed_changes, with_missed};
+ghost use Rattle.hayro_ccitt.specs.Context.{exceeds, with_cut};
 ghost use Rattle.hayro_ccitt.specs.UsualModes.{GoesOn2d};
 ghost use Rattle.hayro_ccitt.specs.UsualRuns.{GoesOn};
+ghost use Rattle.hayro_ccitt.specs.RowsRead.{RepeatsWhite};
 ghost use Rattle.hayro_ccitt.specs.Answers.{DrawsLine, DrawsStep, OnAnswer, words_of_run, words_of_mode, words_from_1d};
 ghost use Rattle.hayro_ccitt.specs.Answers.{words_from_2d, StoresChange, RepairStoresChange, pen_of, step_of_run, step_of_mode};
-ghost use Rattle.hayro_ccitt.specs.Answers.{line_from_1d, line_from_2d};
+ghost use Rattle.hayro_ccitt.specs.Answers.{line_from_1d, line_from_2d, front_of, is_broken, strict_step_of_run};
+ghost use Rattle.hayro_ccitt.specs.Answers.{strict_step_of_mode, TellsCut};
+ghost use Rattle.hayro_ccitt.specs.Lines.{line_1d, line_2d};
+ghost use Rattle.hayro_ccitt.specs.Space.{room_for, most_stored};
 
-use crate::bit_reader::{BitOrder, BitReader, BitsAtHand};
 use crate::changes::{append_pixels, b1_index, change_or_end};
-use crate::codes::{Color, Mode, Ticks};
 use crate::modes::{
     draw_modes, has_mode, has_no_room, is_white_row, lay_down_row, put_ends, take_ends,
 };
-use crate::settings::DecodeSettings;
-use crate::tables::Tables;
 use crate::usual::{draw_runs, draw_two_runs, lay_down, pass_white_row, take_up};
 use crate::{DecodeError, Decoder, Result};
+use fax_bits::bit_reader::{
+    BitOrder, BitReader, BitsAtHand, at_hand, go_to, none_at_hand, window_at_hand,
+};
+use fax_bits::codes::{Color, Mode, Ticks, pass_v0};
+use fax_bits::tables::Tables;
+use fax_bits::{DecodeSettings, EncodingMode};
 use std::alloc::Global;
 use std::marker::Model;
 use std::mem;
@@ -34,6 +41,8 @@ use std::mem;
 fn exchange(reference: &mut Vec<u32>, coding: &mut Vec<u32>)
     ensures reference { reference.new.items ≡ coding.old.items }
     ensures coding { coding.new.items ≡ reference.old.items }
+    ensures space { max (vec_capacity reference.new) (vec_capacity coding.new)
+        ≡ max (vec_capacity reference.old) (vec_capacity coding.old) }
 {
     if is_white_row(reference) {
         if is_white_row(coding) {
@@ -43,7 +52,7 @@ fn exchange(reference: &mut Vec<u32>, coding: &mut Vec<u32>)
     mem::swap(reference, coding);
 }
 
-/// The state of decoding: the settings, the reference row and the coding row (T.4 section 4.2.1.1), the number of rows
+/// The state of decoding: the settings, the reference row and the coding row (T.4, 4.2.1.1), the number of rows
 /// decoded, and the lookup tables of the code words. One context may decode any number of images with the same
 /// settings, one after another.
 #[derive(Drop)]
@@ -54,6 +63,8 @@ pub struct DecoderContext {
     /// How many changes of the reference row are not right of a0, as far as b1 was searched for: it never decreases
     /// within a line.
     passed: usize,
+    /// Whether a run of the line was cut at the row's end.
+    is_cut: bool,
     color: Color,
     decoded_rows: u64,
     damaged_rows: u64,
@@ -61,6 +72,7 @@ pub struct DecoderContext {
     last_fault: DecodeError,
     /// The number of rows decoded with the last one that was repaired.
     last_damaged: u64,
+    cut_rows: u64,
     missed_eols: u64,
     has_eols: bool,
     fault_start: Option<usize>,
@@ -98,7 +110,7 @@ impl DecoderContext {
     /// let mut ctx = DecoderContext::new(rt.alloc(), settings)?;
     /// ```
     pub fn new(alloc: Global, settings: DecodeSettings) -> Result<DecoderContext>
-        ensures made { IfOk result (λ ctx. ctx ≡ record { held = fresh settings; passed = 0; ticks = 0 }) }
+        ensures made { IfOk result (λ ctx. ctx ≡ record { held = fresh settings; passed = 0; cut = false; ticks = 0; space = 0 }) }
         ensures only_memory { IsOkUnless result DecodeError.OutOfMemory }
     {
         Ok(DecoderContext {
@@ -106,11 +118,13 @@ impl DecoderContext {
             coding_changes: Vec::new(alloc),
             pixels_decoded: 0,
             passed: 0,
+            is_cut: false,
             color: Color::White,
             decoded_rows: 0,
             damaged_rows: 0,
             last_fault: DecodeError::UnexpectedEof,
             last_damaged: 0,
+            cut_rows: 0,
             missed_eols: 0,
             has_eols: false,
             fault_start: None,
@@ -147,8 +161,17 @@ impl DecoderContext {
         self.damaged_rows
     }
 
+    /// Returns the number of decoded rows in which a lenient reading cut a run, or a vertical mode, that goes beyond the row's
+    /// end, where a strict one fails (T.4, 4.1.1): after [`decode`](crate::decode), which resets it, those of that
+    /// image, even if it returned an error. A row that was repaired isn't counted here.
+    pub fn cut_rows(&self) -> u64
+        ensures { result ≡ self.now.held.repairs.cut }
+    {
+        self.cut_rows
+    }
+
     /// Returns the number of decoded rows after which a lenient reading of Group 3 skipped other bits up to the next EOL, or
-    /// found none (T.4 section 4.1.2): after [`decode`](crate::decode), which resets it, those of that image. After a repaired
+    /// found none (T.4, 4.1.2): after [`decode`](crate::decode), which resets it, those of that image. After a repaired
     /// row none is missed: there the search for the EOL is part of the repair.
     pub fn missed_eols(&self) -> u64
         ensures { result ≡ self.now.held.repairs.missed }
@@ -181,6 +204,29 @@ impl DecoderContext {
         self.last_damaged = self.decoded_rows;
     }
 
+    /// Returns whether a run of the line was cut at the row's end.
+    #[inline(always)]
+    pub(crate) fn is_cut(&self) -> bool
+        ensures { result ≡ self.now.cut }
+    {
+        self.is_cut
+    }
+
+    /// Counts the row of the line as one in which a run was cut.
+    #[cold]
+    #[inline(never)]
+    pub(crate) fn count_cut_row(&mut self)
+        requires rows { self.old.held.taken + 1 < 2 ^ 64 }
+        ensures frame { self.new ≡ record self.old {
+          held = record self.old.held { repairs = with_cut self.old.held.taken self.old.held.repairs };
+        } }
+    {
+        // At most one row is cut a row.
+        if self.cut_rows <= self.decoded_rows {
+            self.cut_rows += 1;
+        }
+    }
+
     /// Counts an EOL that is missed after the rows so far, unless the last of them was repaired.
     #[cold]
     #[inline(never)]
@@ -197,8 +243,8 @@ impl DecoderContext {
 
     /// Returns the offset of the fault in bits if the last [`decode`](crate::decode) returned an error, or `None`: that at which
     /// the line of the row with the index [`decoded_rows`](DecoderContext::decoded_rows) begins, after its EOL, in
-    /// two-dimensional data of Group 3 that of its tag bit (T.4 section 4.2.2); or the offset at which strict data lacks an
-    /// EOL (T.4 section 4.1.2). It is within the data.
+    /// two-dimensional data of Group 3 that of its tag bit (T.4, 4.2.2); or the offset at which strict data lacks an
+    /// EOL (T.4, 4.1.2). It is within the data.
     pub fn fault_start(&self) -> Option<usize>
         ensures { result ≡ self.now.held.fault_start }
     {
@@ -212,7 +258,7 @@ impl DecoderContext {
         self.fault_start = place;
     }
 
-    /// Returns whether EOLs are expected between the lines of Group 3 (T.4 section 4.1.2): at first if `end_of_line` is set or
+    /// Returns whether EOLs are expected between the lines of Group 3 (T.4, 4.1.2): at first if `end_of_line` is set or
     /// the data begins with an EOL, and no longer once none is left. After Group 4 it is false.
     pub fn has_eols(&self) -> bool
         ensures { result ≡ self.now.held.has_eols }
@@ -247,7 +293,7 @@ impl DecoderContext {
 
     /// Resets all but the settings and the count of work to what a new context has. It allocates nothing.
     pub fn reset(&mut self)
-        ensures frame { self.new ≡ record self.old { held = fresh self.old.held.settings; passed = 0 } }
+        ensures frame { self.new ≡ record self.old { held = fresh self.old.held.settings; passed = 0; cut = false } }
     {
         self.begin_line();
         self.ref_changes.clear();
@@ -255,6 +301,7 @@ impl DecoderContext {
         self.damaged_rows = 0;
         self.last_fault = DecodeError::UnexpectedEof;
         self.last_damaged = 0;
+        self.cut_rows = 0;
         self.missed_eols = 0;
         self.has_eols = false;
         self.fault_start = None;
@@ -262,20 +309,22 @@ impl DecoderContext {
 
     /// Resets all but the settings to what a new context has.
     pub(crate) fn restart(&mut self)
-        ensures frame { self.new ≡ record { held = fresh self.old.held.settings; passed = 0; ticks = 0 } }
+        ensures frame { self.new ≡ record { held = fresh self.old.held.settings; passed = 0; cut = false; ticks = 0; space = self.old.space } }
     {
         self.reset();
         self.ticks = Ticks::new();
     }
 
-    /// Empties the front and sets the colour to white, as each line begins.
+    /// Empties the front and sets the colour to white, as each line begins, where no run of it is cut.
     #[inline(always)]
     pub(crate) fn begin_line(&mut self)
-        ensures frame { self.new ≡ record self.old { held = redrawn self.old.held [] Color.White; passed = 0 } }
+        ensures frame { self.new ≡ record self.old { held = redrawn self.old.held [] Color.White; passed = 0; cut = false } }
+        ensures width { length self.old.held.reference ≡ self.old.held.settings.columns }
     {
         self.coding_changes.clear();
         self.pixels_decoded = 0;
         self.passed = 0;
+        self.is_cut = false;
         self.color = Color::White;
     }
 
@@ -289,7 +338,7 @@ impl DecoderContext {
     }
 
     /// Paints `count` pixels of the present colour at the end of the front. More than the row has room for are cut off
-    /// at its end.
+    /// at its end, and it is kept that a run of the line was cut.
     ///
     /// # Errors
     ///
@@ -298,13 +347,18 @@ impl DecoderContext {
     #[inline(always)]
     pub fn push_pixels(&mut self, count: u32) -> Result<()>
         ensures painted { OnOk result (painted_front self.old.held count ≡ Ok self.new.held.front) }
-        ensures frame { OnOk result (self.new ≡ record self.old
-            { held = redrawn self.old.held self.new.held.front self.old.held.color }) }
+        ensures frame { OnOk result (self.new ≡ record self.old {
+          held = redrawn self.old.held self.new.held.front self.old.held.color;
+          cut = self.old.cut || exceeds self.old.held count;
+          space = self.new.space;
+        }) }
         ensures too_many { (result ≡ Err DecodeError.InvalidCode)
             ↔ (painted_front self.old.held count ≡ Err DecodeError.InvalidCode) }
         ensures memory { result ≡ Err DecodeError.OutOfMemory → StoresChange self.old.held count }
         ensures only { IfErr result (λ e. (e ≡ DecodeError.InvalidCode) ⊎ (e ≡ DecodeError.OutOfMemory)) }
         ensures unchanged { OnErr result (self.new ≡ self.old) }
+        ensures few { length (changes self.new.held.front) ≤ suc (length (changes self.old.held.front)) }
+        ensures space { self.new.space ≤ max self.old.space (room_for (length (changes self.old.held.front))) }
     {
         let painted = self.pixels_decoded;
         let room = self.settings.columns - painted;
@@ -314,6 +368,9 @@ impl DecoderContext {
         }
         append_pixels(&mut self.coding_changes, painted, self.color, fitting)?;
         self.pixels_decoded = painted + fitting;
+        if fitting < count {
+            self.is_cut = true;
+        }
         Ok(())
     }
 
@@ -324,10 +381,11 @@ impl DecoderContext {
     /// `OutOfMemory` occurs only while a change is stored, so only if the row isn't full and its last pixel is black.
     /// Then nothing has changed.
     pub fn fill_white(&mut self) -> Result<()>
-        ensures frame { OnOk result (self.new ≡ record self.old { held = after_repair self.old.held }) }
+        ensures frame { OnOk result (self.new ≡ record self.old { held = after_repair self.old.held; space = self.new.space }) }
         ensures memory { result ≡ Err DecodeError.OutOfMemory → RepairStoresChange self.old.held }
         ensures only_memory { IsOkUnless result DecodeError.OutOfMemory }
         ensures unchanged { OnErr result (self.new ≡ self.old) }
+        ensures space { self.new.space ≤ max self.old.space (room_for (length (changes self.old.held.front))) }
     {
         let rest = self.settings.columns - self.pixels_decoded;
         append_pixels(
@@ -369,11 +427,13 @@ impl DecoderContext {
         ensures edge { length self.old.held.reference ≡ self.old.held.settings.columns }
         ensures within { length self.old.held.front ≤ self.old.held.settings.columns }
         ensures unchanged { self.new.held ≡ self.old.held }
+        ensures cut { self.new.cut ≡ self.old.cut }
         ensures passed { self.new.passed
             ≡ passed_changes (changes self.old.held.reference) (length self.old.held.front) }
         ensures passed_within { self.new.passed ≤ length (changes self.old.held.reference) }
         ensures forward { self.old.passed ≤ self.new.passed }
         ensures work { self.new.ticks + self.old.passed ≡ self.old.ticks + self.new.passed + 1 }
+        ensures space { self.new.space ≡ self.old.space }
     {
         b1_index(
             self.ref_changes.as_slice(),
@@ -394,25 +454,27 @@ impl DecoderContext {
     }
 
     /// Returns b1, the first changing element of the reference row right of a0 that turns the present colour to the
-    /// other one, or the row's end (T.4 section 4.2.1.1). It allocates nothing.
+    /// other one, or the row's end (T.4, 4.2.1.1). It allocates nothing.
     #[inline(always)]
     pub fn b1(&mut self) -> u32
         ensures value { result ≡ b1 self.old.held.reference (right_of self.old.held.front) self.old.held.color }
         ensures edge { length self.old.held.reference ≡ self.old.held.settings.columns }
         ensures within { length self.old.held.front ≤ self.old.held.settings.columns }
         ensures unchanged { self.new.held ≡ self.old.held }
+        ensures cut { self.new.cut ≡ self.old.cut }
         ensures passed { self.new.passed
             ≡ passed_changes (changes self.old.held.reference) (length self.old.held.front) }
         ensures passed_within { self.new.passed ≤ length (changes self.old.held.reference) }
         ensures forward { self.old.passed ≤ self.new.passed }
         ensures at_least { self.old.ticks + self.new.passed ≤ self.new.ticks + self.old.passed }
         ensures at_most { self.new.ticks + self.old.passed ≤ self.old.ticks + self.new.passed + 3 }
+        ensures space { self.new.space ≡ self.old.space }
     {
         let place = self.b1_place();
         self.reference_change(place)
     }
 
-    /// Returns b2, the next changing element of the reference row after b1, or the row's end (T.4 section 4.2.1.1). It
+    /// Returns b2, the next changing element of the reference row after b1, or the row's end (T.4, 4.2.1.1). It
     /// is not left of the end of the front. It allocates nothing.
     #[inline(always)]
     pub fn b2(&mut self) -> u32
@@ -421,12 +483,14 @@ impl DecoderContext {
         ensures within { length self.old.held.front ≤ self.old.held.settings.columns }
         ensures right { length self.old.held.front ≤ result }
         ensures unchanged { self.new.held ≡ self.old.held }
+        ensures cut { self.new.cut ≡ self.old.cut }
         ensures passed { self.new.passed
             ≡ passed_changes (changes self.old.held.reference) (length self.old.held.front) }
         ensures passed_within { self.new.passed ≤ length (changes self.old.held.reference) }
         ensures forward { self.old.passed ≤ self.new.passed }
         ensures at_least { self.old.ticks + self.new.passed ≤ self.new.ticks + self.old.passed }
         ensures at_most { self.new.ticks + self.old.passed ≤ self.old.ticks + self.new.passed + 3 }
+        ensures space { self.new.space ≡ self.old.space }
     {
         let place = self.b1_place();
         self.reference_change(place + 1)
@@ -462,7 +526,7 @@ impl DecoderContext {
         ensures width { D.width decoder.new ≡ D.width decoder.old }
         ensures taken { OnOk result (D.meaning decoder.new
             ≡ D.step (D.width decoder.old) (D.meaning decoder.old) (changes (taken_row self.old.held))) }
-        ensures frame { OnOk result (self.new ≡ record self.old { held = after_taking self.old.held; passed = 0 }) }
+        ensures frame { OnOk result (self.new ≡ record self.old { held = after_taking self.old.held; passed = 0; cut = false }) }
         ensures flag { OnOk result (D.has_refused decoder.new ≡ D.has_refused decoder.old) }
         ensures kept { OnErr result (D.meaning decoder.new ≡ D.meaning decoder.old) }
         ensures unchanged { OnErr result (self.new ≡ self.old) }
@@ -481,7 +545,8 @@ impl DecoderContext {
     #[inline(always)]
     pub(crate) fn end_line(&mut self)
         requires rows { self.old.held.taken + 1 < 2 ^ 64 }
-        ensures frame { self.new ≡ record self.old { held = after_taking self.old.held; passed = 0 } }
+        ensures frame { self.new ≡ record self.old { held = after_taking self.old.held; passed = 0; cut = false } }
+        ensures width { length self.new.held.reference ≡ self.new.held.settings.columns }
     {
         // The row that was drawn is whole.
         self.pixels_decoded = self.settings.columns;
@@ -492,20 +557,58 @@ impl DecoderContext {
         self.decoded_rows += 1;
     }
 
-    /// Takes back the last row, which the sink refused: it isn't counted, and this many rows are damaged.
+    /// Returns whether each one that is next is a white line: V0 below a white row of Group 4, whose lines may begin anywhere.
+    #[inline(always)]
+    pub(crate) fn repeats_white(&self) -> bool
+        ensures { result ≡ true → RepeatsWhite self.now.held }
+    {
+        match self.settings.encoding {
+            EncodingMode::Group4 => {}
+            EncodingMode::Group3_1D | EncodingMode::Group3_2D => return false,
+        }
+        if !is_white_row(&self.ref_changes) {
+            return false;
+        }
+        let columns = self.settings.columns;
+        if columns == 0 {
+            return false;
+        }
+        !self.settings.rows_are_byte_aligned
+    }
+
+    /// Counts one more row that is the reference row again, with three ticks: for the bit that was looked at before it, for its
+    /// mode and for b1.
+    #[inline(always)]
+    pub(crate) fn take_row_again(&mut self)
+        requires { self.old.held.taken + 1 < 2 ^ 64 }
+        ensures frame { self.new ≡ record self.old {
+          held = record self.old.held { taken = self.old.held.taken + 1 };
+          ticks = self.old.ticks + 3;
+        } }
+    {
+        let rows = self.decoded_rows;
+        self.decoded_rows = rows + 1;
+        self.ticks.tick();
+        self.ticks.tick();
+        self.ticks.tick();
+    }
+
+    /// Takes back the last row, which the sink refused: it isn't counted, and this many rows are damaged, and in this many a
+    /// run was cut.
     #[cold]
     #[inline(never)]
-    pub(crate) fn take_back_row(&mut self, damaged_rows: u64)
+    pub(crate) fn take_back_row(&mut self, damaged_rows: u64, cut_rows: u64)
         requires { 0 < self.old.held.taken }
         ensures frame { self.new ≡ record self.old {
           held = record self.old.held {
             taken = self.old.held.taken - 1;
-            repairs = record self.old.held.repairs { rows = damaged_rows };
+            repairs = record self.old.held.repairs { rows = damaged_rows; cut = cut_rows };
           };
         } }
     {
         self.decoded_rows -= 1;
         self.damaged_rows = damaged_rows;
+        self.cut_rows = cut_rows;
     }
 
     /// Passes a run of a colour without drawing it, and returns whether one is here. If there is none, the offset is
@@ -515,9 +618,11 @@ impl DecoderContext {
         ensures none { result ≡ false → (fault : DecodeError) × (read_run color (here reader.old) ≡ Err fault) }
         ensures same_bits { reader.new.bits ≡ reader.old.bits }
         ensures held { self.new.held ≡ self.old.held }
+        ensures cut { self.new.cut ≡ self.old.cut }
         ensures counts { self.old.ticks ≤ self.new.ticks }
         ensures at_most { self.new.ticks
             ≤ self.old.ticks + length (run_found color (0, here reader.old)) + (if result then 0 else 1) }
+        ensures space { self.new.space ≡ self.old.space }
     {
         match reader.decode_run(color, &self.tables, &mut self.ticks) {
             Ok(_) => true,
@@ -527,14 +632,16 @@ impl DecoderContext {
 
     /// Passes the mode here, in a line of this colour, with the runs of a horizontal one, without drawing it, and
     /// returns the colour after it. If there is none, or one of its runs is broken, it returns `None`, and the offset is
-    /// unspecified (T.4 section 4.2.1.3).
+    /// unspecified (T.4, 4.2.1.3).
     pub(crate) fn pass_mode(&mut self, color: Color, reader: &mut BitReader<'_>) -> Option<Color>
         ensures behind { option_map (λ behind. (behind, here reader.new)) result ≡ behind_mode color (here reader.old) }
         ensures same_bits { reader.new.bits ≡ reader.old.bits }
         ensures held { self.new.held ≡ self.old.held }
+        ensures cut { self.new.cut ≡ self.old.cut }
         ensures counts { self.old.ticks ≤ self.new.ticks }
         ensures at_most { self.new.ticks
             ≤ self.old.ticks + length (mode_found color (here reader.old)) + (if is_some result then 0 else 1) }
+        ensures space { self.new.space ≡ self.old.space }
     {
         let Ok(mode) = reader.decode_mode(&mut self.ticks) else {
             return None;
@@ -563,7 +670,11 @@ impl DecoderContext {
         ensures at_least { self.old.ticks + length (words_of_run self.old.held (here reader.old)) ≤ self.new.ticks }
         ensures at_most { self.new.ticks
             ≤ self.old.ticks + length (words_of_run self.old.held (here reader.old)) + 1 }
+        ensures cut { OnOk result (TellsCut (strict_step_of_run self.old.held (here reader.old))
+            (pen_of self.new.held (here reader.new)) self.old.cut self.new.cut) }
         ensures passed { self.new.passed ≡ self.old.passed }
+        ensures few { length (changes self.new.held.front) ≤ suc (length (changes self.old.held.front)) }
+        ensures space { self.new.space ≤ max self.old.space (room_for (length (changes self.old.held.front))) }
     {
         let run = reader.decode_run(self.color, &self.tables, &mut self.ticks)?;
         self.push_pixels(run)?;
@@ -577,8 +688,10 @@ impl DecoderContext {
         ensures drawn { GoesOn self.old.held.settings.strict self.old.held.settings.columns
             (pen_of self.old.held (here hand.old.at)) (pen_of self.new.held (here hand.new.at)) self.old.ticks self.new.ticks }
         ensures held { self.new.held ≡ redrawn self.old.held self.new.held.front self.new.held.color }
+        ensures cut { self.new.cut ≡ self.old.cut }
         ensures same_bits { hand.new.at.bits ≡ hand.old.at.bits }
         ensures onward { hand.old.at.place ≤ hand.new.at.place }
+        ensures space { self.new.space ≡ self.old.space }
     {
         if !self.color.is_white() {
             return;
@@ -609,8 +722,10 @@ impl DecoderContext {
         ensures drawn { GoesOn self.old.held.settings.strict self.old.held.settings.columns
             (pen_of self.old.held (here reader.old)) (pen_of self.new.held (here reader.new)) self.old.ticks self.new.ticks }
         ensures held { self.new.held ≡ redrawn self.old.held self.new.held.front self.new.held.color }
+        ensures cut { self.new.cut ≡ self.old.cut }
         ensures same_bits { reader.new.bits ≡ reader.old.bits }
         ensures onward { reader.old.place ≤ reader.new.place }
+        ensures space { self.new.space ≡ self.old.space }
     {
         if !self.color.is_white() {
             return;
@@ -618,14 +733,14 @@ impl DecoderContext {
         if self.pixels_decoded == self.settings.columns {
             return;
         }
-        if let Some(mut hand) = reader.at_hand(BitOrder::HighestFirst) {
+        if let Some(mut hand) = at_hand(reader, BitOrder::HighestFirst) {
             self.draw_by_twos(&mut hand);
-            reader.go_to(&hand);
+            go_to(reader, &hand);
             return;
         }
-        if let Some(mut hand) = reader.at_hand(BitOrder::LowestFirst) {
+        if let Some(mut hand) = at_hand(reader, BitOrder::LowestFirst) {
             self.draw_by_twos(&mut hand);
-            reader.go_to(&hand);
+            go_to(reader, &hand);
         }
     }
 
@@ -647,8 +762,10 @@ impl DecoderContext {
         ensures drawn { GoesOn self.old.held.settings.strict self.old.held.settings.columns
             (pen_of self.old.held (here reader.old)) (pen_of self.new.held (here reader.new)) self.old.ticks self.new.ticks }
         ensures held { self.new.held ≡ redrawn self.old.held self.new.held.front self.new.held.color }
+        ensures cut { self.new.cut ≡ self.old.cut }
         ensures same_bits { reader.new.bits ≡ reader.old.bits }
         ensures onward { reader.old.place ≤ reader.new.place }
+        ensures space { self.new.space ≡ self.old.space }
     {
         // After the first run of a line black is next, unless the row is full.
         if !self.color.is_white() {
@@ -672,9 +789,11 @@ impl DecoderContext {
         ensures drawn { GoesOn self.old.held.settings.strict self.old.held.settings.columns
             (pen_of self.old.held (here hand.old.at)) (pen_of self.new.held (here hand.new.at)) self.old.ticks self.new.ticks }
         ensures held { self.new.held ≡ redrawn self.old.held self.new.held.front self.new.held.color }
+        ensures cut { self.new.cut ≡ self.old.cut }
         ensures same_bits { hand.new.at.bits ≡ hand.old.at.bits }
         ensures onward { hand.old.at.place ≤ hand.new.at.place }
         ensures left { result ≡ false → hand.new.at ≡ hand.old.at }
+        ensures space { self.new.space ≡ self.old.space }
     {
         if !self.color.is_white() {
             return false;
@@ -714,12 +833,14 @@ impl DecoderContext {
         ensures drawn { GoesOn self.old.held.settings.strict self.old.held.settings.columns
             (pen_of self.old.held (here reader.old)) (pen_of self.new.held (here reader.new)) self.old.ticks self.new.ticks }
         ensures held { self.new.held ≡ redrawn self.old.held self.new.held.front self.new.held.color }
+        ensures cut { self.new.cut ≡ self.old.cut }
         ensures same_bits { reader.new.bits ≡ reader.old.bits }
         ensures onward { reader.old.place ≤ reader.new.place }
+        ensures space { self.new.space ≡ self.old.space }
     {
-        if let Some(mut hand) = reader.window_at_hand() {
+        if let Some(mut hand) = window_at_hand(reader) {
             if self.draw_window(&mut hand) {
-                reader.go_to(&hand);
+                go_to(reader, &hand);
             }
         }
     }
@@ -730,7 +851,9 @@ impl DecoderContext {
         ensures drawn { GoesOn self.old.held.settings.strict self.old.held.settings.columns
             (pen_of self.old.held (here reader.old)) (pen_of self.new.held (here reader.new)) self.old.ticks self.new.ticks }
         ensures held { self.new.held ≡ redrawn self.old.held self.new.held.front self.new.held.color }
+        ensures cut { self.new.cut ≡ self.old.cut }
         ensures same_bits { reader.new.bits ≡ reader.old.bits }
+        ensures space { self.new.space ≡ self.old.space }
     {
         let mut before = 0;
         'windows: while before < self.pixels_decoded {
@@ -751,8 +874,10 @@ impl DecoderContext {
         ensures drawn { result ≡ true → GoesOn self.old.held.settings.strict self.old.held.settings.columns
             (pen_of self.old.held (here reader.old)) (pen_of self.new.held (here reader.new)) self.old.ticks self.new.ticks }
         ensures held { self.new.held ≡ redrawn self.old.held self.new.held.front self.new.held.color }
+        ensures cut { self.new.cut ≡ self.old.cut }
         ensures same_bits { reader.new.bits ≡ reader.old.bits }
         ensures unchanged { result ≡ false → (self.new ≡ self.old) × (reader.new ≡ reader.old) }
+        ensures space { self.new.space ≡ self.old.space }
     {
         if !is_white_row(&self.ref_changes) {
             return false;
@@ -761,17 +886,17 @@ impl DecoderContext {
         if columns == 0 {
             return false;
         }
-        let Some(mut hand) = reader.window_at_hand() else {
+        let Some(mut hand) = window_at_hand(reader) else {
             return false;
         };
         let white = self.tables.lookup(Color::White);
         let ticks = &mut self.ticks;
-        if !pass_white_row(&mut hand, columns, self.settings.strict, white, ticks) {
+        if !pass_white_row(&mut hand, columns, white, ticks) {
             return false;
         }
         self.pixels_decoded = columns;
         self.color = Color::Black;
-        reader.go_to(&hand);
+        go_to(reader, &hand);
         true
     }
 
@@ -785,7 +910,9 @@ impl DecoderContext {
         ensures drawn { GoesOn self.old.held.settings.strict self.old.held.settings.columns
             (pen_of self.old.held (here reader.old)) (pen_of self.new.held (here reader.new)) self.old.ticks self.new.ticks }
         ensures held { self.new.held ≡ redrawn self.old.held self.new.held.front self.new.held.color }
+        ensures cut { self.new.cut ≡ self.old.cut }
         ensures same_bits { reader.new.bits ≡ reader.old.bits }
+        ensures space { self.new.space ≡ self.old.space }
     {
         if self.settings.columns > 64 {
             if self.draw_white_row(reader) {
@@ -815,8 +942,11 @@ impl DecoderContext {
             (pen_of self.old.held (here hand.old.at)) (pen_of self.new.held (here hand.new.at)) self.old.ticks self.new.ticks
             self.old.passed self.new.passed }
         ensures held { self.new.held ≡ redrawn self.old.held self.new.held.front self.new.held.color }
+        ensures cut { self.new.cut ≡ self.old.cut }
         ensures within { self.new.passed ≤ length (changes self.old.held.reference) }
         ensures same_bits { hand.new.at.bits ≡ hand.old.at.bits }
+        ensures space { self.new.space ≤ max self.old.space (room_for
+            (max (length (changes self.old.held.reference)) (suc (length (changes self.new.held.front))))) }
     {
         if self.settings.columns == 0 {
             return;
@@ -856,12 +986,15 @@ impl DecoderContext {
             (pen_of self.old.held (here reader.old)) (pen_of self.new.held (here reader.new)) self.old.ticks self.new.ticks
             self.old.passed self.new.passed }
         ensures held { self.new.held ≡ redrawn self.old.held self.new.held.front self.new.held.color }
+        ensures cut { self.new.cut ≡ self.old.cut }
         ensures within { self.new.passed ≤ length (changes self.old.held.reference) }
         ensures same_bits { reader.new.bits ≡ reader.old.bits }
+        ensures space { self.new.space ≤ max self.old.space (room_for
+            (max (length (changes self.old.held.reference)) (suc (length (changes self.new.held.front))))) }
     {
-        let mut hand = reader.none_at_hand();
+        let mut hand = none_at_hand(reader);
         self.draw_modes_at_hand(&mut hand);
-        reader.go_to(&hand);
+        go_to(reader, &hand);
     }
 
     /// Draws a white line under a white row, which is V0 alone, and returns whether there is one here; otherwise nothing
@@ -875,9 +1008,11 @@ impl DecoderContext {
             (pen_of self.old.held (here reader.old)) (pen_of self.new.held (here reader.new)) self.old.ticks self.new.ticks
             self.old.passed self.new.passed }
         ensures held { self.new.held ≡ redrawn self.old.held self.new.held.front self.new.held.color }
+        ensures cut { self.new.cut ≡ self.old.cut }
         ensures none { self.new.passed ≡ 0 }
         ensures same_bits { reader.new.bits ≡ reader.old.bits }
         ensures unchanged { result ≡ false → (self.new ≡ self.old) × (reader.new ≡ reader.old) }
+        ensures space { self.new.space ≡ self.old.space }
     {
         if !is_white_row(&self.ref_changes) {
             return false;
@@ -886,7 +1021,7 @@ impl DecoderContext {
         if columns == 0 {
             return false;
         }
-        if !reader.pass_v0() {
+        if !pass_v0(reader) {
             return false;
         }
         // One tick for the mode, and one for b1.
@@ -907,8 +1042,11 @@ impl DecoderContext {
             (pen_of self.old.held (here reader.old)) (pen_of self.new.held (here reader.new)) self.old.ticks self.new.ticks
             self.old.passed self.new.passed }
         ensures held { self.new.held ≡ redrawn self.old.held self.new.held.front self.new.held.color }
+        ensures cut { self.new.cut ≡ self.old.cut }
         ensures within { self.new.passed ≤ length (changes self.old.held.reference) }
         ensures same_bits { reader.new.bits ≡ reader.old.bits }
+        ensures space { self.new.space ≤ max self.old.space (room_for
+            (max (length (changes self.old.held.reference)) (suc (length (changes self.new.held.front))))) }
     {
         if self.draw_white_line(reader) {
             return;
@@ -920,7 +1058,7 @@ impl DecoderContext {
         self.draw_modes_of(reader);
     }
 
-    /// Draws a mode (T.4 section 4.2.1.3).
+    /// Draws a mode (T.4, 4.2.1.3).
     #[inline(never)]
     fn draw_mode(&mut self, mode: Mode, reader: &mut BitReader<'_>) -> Result<()>
         ensures step { DrawsStep (step_of_mode self.old.held (here reader.old) mode)
@@ -934,6 +1072,9 @@ impl DecoderContext {
             ≤ self.old.ticks + length (words_of_mode self.old.held (here reader.old) mode) + self.new.passed + 3 }
         ensures within { self.old.passed ≤ length (changes self.old.held.reference)
             → self.new.passed ≤ length (changes self.old.held.reference) }
+        ensures cut { OnOk result (TellsCut (strict_step_of_mode self.old.held (here reader.old) mode)
+            (pen_of self.new.held (here reader.new)) self.old.cut self.new.cut) }
+        ensures space { self.new.space ≤ max self.old.space (room_for (suc (length (changes self.old.held.front)))) }
     {
         match mode {
             Mode::Pass => {
@@ -960,7 +1101,7 @@ impl DecoderContext {
     }
 }
 
-/// Decodes a one-dimensional line, whatever the front was before (T.4 section 4.1.1). Of what the context holds, only
+/// Decodes a one-dimensional line, whatever the front was before (T.4, 4.1.1). Of what the context holds, only
 /// the front and the colour change.
 ///
 /// # Errors
@@ -972,6 +1113,7 @@ impl DecoderContext {
 pub fn decode_1d_line(ctx: &mut DecoderContext, reader: &mut BitReader<'_>) -> Result<()>
     ensures line { DrawsLine (line_from_1d ctx.old.held (here reader.old))
         result ctx.new.held.front (here reader.new) }
+    ensures cut { OnOk result (ctx.new.cut ≡ is_broken (line_1d true ctx.old.held.settings.columns (here reader.old))) }
     ensures held { ctx.new.held ≡ redrawn ctx.old.held ctx.new.held.front ctx.new.held.color }
     ensures same_bits { reader.new.bits ≡ reader.old.bits }
     ensures counts { ctx.old.ticks ≤ ctx.new.ticks }
@@ -980,6 +1122,8 @@ pub fn decode_1d_line(ctx: &mut DecoderContext, reader: &mut BitReader<'_>) -> R
     ensures at_least { OnAnswer result (ctx.old.ticks
         + length (words_from_1d ctx.old.held (here reader.old)) ≤ ctx.new.ticks) }
     ensures at_most { ctx.new.ticks ≤ ctx.old.ticks + length (words_from_1d ctx.old.held (here reader.old)) + 1 }
+    ensures space { ctx.new.space ≤ max ctx.old.space (room_for
+        (length (changes (front_of (line_from_1d ctx.old.held (here reader.old)))))) }
 {
     ctx.begin_line(); // The first run is white.
     ctx.draw_first_runs(reader);
@@ -990,7 +1134,7 @@ pub fn decode_1d_line(ctx: &mut DecoderContext, reader: &mut BitReader<'_>) -> R
     Ok(())
 }
 
-/// Decodes a two-dimensional line against the reference row, whatever the front was before (T.4 section 4.2, T.6
+/// Decodes a two-dimensional line against the reference row, whatever the front was before (T.4, 4.2, T.6
 /// section 2.2). Of what the context holds, only the front and the colour change.
 ///
 /// # Errors
@@ -1002,6 +1146,8 @@ pub fn decode_1d_line(ctx: &mut DecoderContext, reader: &mut BitReader<'_>) -> R
 pub fn decode_2d_line(ctx: &mut DecoderContext, reader: &mut BitReader<'_>) -> Result<()>
     ensures line { DrawsLine (line_from_2d ctx.old.held (here reader.old))
         result ctx.new.held.front (here reader.new) }
+    ensures cut { OnOk result (ctx.new.cut
+        ≡ is_broken (line_2d true ctx.old.held.settings.columns ctx.old.held.reference (here reader.old))) }
     ensures held { ctx.new.held ≡ redrawn ctx.old.held ctx.new.held.front ctx.new.held.color }
     ensures same_bits { reader.new.bits ≡ reader.old.bits }
     ensures counts { ctx.old.ticks ≤ ctx.new.ticks }
@@ -1010,6 +1156,8 @@ pub fn decode_2d_line(ctx: &mut DecoderContext, reader: &mut BitReader<'_>) -> R
     ensures at_most { ctx.new.ticks ≤ ctx.old.ticks + 4 * length (words_from_2d ctx.old.held (here reader.old)) + 1
         + length (changes ctx.old.held.reference) }
     ensures no_words { length (words_from_2d ctx.old.held (here reader.old)) ≡ 0 → ctx.new.ticks ≤ ctx.old.ticks + 1 }
+    ensures space { ctx.new.space ≤ max ctx.old.space (room_for
+        (most_stored ctx.old.held.reference (line_from_2d ctx.old.held (here reader.old)))) }
 {
     ctx.begin_line(); // The place a0 is left of the row.
     ctx.draw_usual_modes(reader);

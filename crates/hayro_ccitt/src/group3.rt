@@ -1,20 +1,22 @@
 //! Group 3: EOLs at the start of the data, between the lines and at the end, and repair of damaged lines (T.4).
 
 ghost use Rattle.std.specs.Prelude.{◌≡◌, ◌≢◌, ◌↔◌, ◌<◌, ◌≤◌, ◌+◌, ◌*◌, Err, OnOk, OnErr, IfOk, IfErr, IsOkUnless, IsTrue, true};
-ghost use Rattle.std.specs.Prelude.{nat_lt, ◌||◌, length};
+ghost use Rattle.std.specs.Prelude.{nat_lt, ◌||◌, length, max};
 ghost use Rattle.hayro_ccitt.specs.Answers.{IsFault, IsRepairable, RepairStoresChange};
 ghost use Rattle.hayro_ccitt.specs.Bits.{here};
 ghost use Rattle.hayro_ccitt.specs.Context.{after_repair, fresh};
 ghost use Rattle.hayro_ccitt.specs.EndOfLine.{all_eols};
 ghost use Rattle.hayro_ccitt.specs.Decoding.{DecodesRows, FailsHere, leaving, gap_said, repairs_behind};
 ghost use Rattle.hayro_ccitt.specs.PlainReading.{gap_behind_row};
+ghost use Rattle.hayro_ccitt.specs.Rows.{changes};
+ghost use Rattle.hayro_ccitt.specs.Space.{most_room, room_for};
 ghost use Rattle.hayro_ccitt.specs.Ticks.{looked, looked_ahead};
 
-use crate::bit_reader::BitReader;
 use crate::context::DecoderContext;
 use crate::push_rows::push_rows;
 use crate::rows::pass_gap;
 use crate::{DecodeError, Decoder, EncodingMode, Result};
+use fax_bits::bit_reader::BitReader;
 
 /// Returns whether an error is a fault of the data, not an allocation failure or a refusal of the sink.
 fn is_fault(error: DecodeError) -> bool
@@ -26,7 +28,7 @@ fn is_fault(error: DecodeError) -> bool
     )
 }
 
-/// Repairs a line that failed with this error and began at `line_start` (T.4 section 4.1.2). In lenient data with EOLs,
+/// Repairs a line that failed with this error and began at `line_start` (T.4, 4.1.2). In lenient data with EOLs,
 /// after a fault of the data, the rest of the row is white, and the reader goes back to the line's start, to look for
 /// the next EOL from there.
 ///
@@ -41,13 +43,14 @@ pub fn recover<'a>(
     error: DecodeError,
 ) -> Result<()>
     ensures only_damage { OnOk result (IsRepairable ctx.old.held error) }
-    ensures frame { OnOk result (ctx.new ≡ record ctx.old { held = after_repair ctx.old.held }) }
+    ensures frame { OnOk result (ctx.new ≡ record ctx.old { held = after_repair ctx.old.held; space = ctx.new.space }) }
     ensures put_back { OnOk result (reader.new ≡ line_start.entry) }
     ensures only_memory { IsRepairable ctx.old.held error → IsOkUnless result DecodeError.OutOfMemory }
     ensures memory { IsRepairable ctx.old.held error → result ≡ Err DecodeError.OutOfMemory
         → RepairStoresChange ctx.old.held }
     ensures otherwise { (IsRepairable ctx.old.held error → ⊥) → result ≡ Err error }
     ensures unchanged { OnErr result ((ctx.new ≡ ctx.old) × (reader.new ≡ reader.old)) }
+    ensures space { ctx.new.space ≤ max ctx.old.space (room_for (length (changes ctx.old.held.front))) }
 {
     if ctx.settings().strict || !ctx.has_eols() || !is_fault(error) {
         return Err(error);
@@ -57,7 +60,7 @@ pub fn recover<'a>(
     Ok(())
 }
 
-/// Returns whether the image ends after a row (T.4 sections 4.1.2 and 4.1.4): true at RTC, the row limit or the end of
+/// Returns whether the image ends after a row (T.4, 4.1.2 and 4.1.4): true at RTC, the row limit or the end of
 /// the data. It counts the EOLs there. If there are none although the data has EOLs, the next one is looked for, and if
 /// none is left EOLs are no longer sought; in lenient data an EOL is counted as missed then, unless the last row was
 /// repaired. It allocates nothing. Each bit that is examined is a tick: one that is consumed at most four times.
@@ -86,6 +89,7 @@ pub fn check_eob(ctx: &mut DecoderContext, reader: &mut BitReader<'_>) -> Result
         + looked_ahead ctx.old.held.settings.encoding (here reader.new)) }
     ensures work_given_up { OnOk result (ctx.new.held.has_eols ≢ ctx.old.held.has_eols
         → ctx.new.ticks ≤ ctx.old.ticks + 2 * length (here reader.old)) }
+    ensures space { ctx.new.space ≡ ctx.old.space }
 {
     pass_gap(ctx, reader)
 }
@@ -101,13 +105,14 @@ pub(crate) fn read_leading_eols(ctx: &mut DecoderContext, reader: &mut BitReader
     ensures counts { ctx.old.ticks ≤ ctx.new.ticks }
     ensures work { ctx.new.ticks + length (here reader.new)
         ≤ ctx.old.ticks + length (here reader.old) + looked (here reader.new) }
+    ensures space { ctx.new.space ≡ ctx.old.space }
 {
     let count = reader.read_eol_if_available(ctx.ticks());
     let end_of_line = ctx.settings().end_of_line;
     ctx.set_has_eols(count > 0 || end_of_line);
 }
 
-/// Decodes the rows of one-dimensional data of Group 3 (T.4 section 4.1) until RTC (with `end_of_block`), the row limit
+/// Decodes the rows of one-dimensional data of Group 3 (T.4, 4.1) until RTC (with `end_of_block`), the row limit
 /// or the end of the data.
 ///
 /// # Errors
@@ -131,11 +136,12 @@ pub fn decode_1d<D: Decoder>(
         ctx.old ctx.new (leaving result (here reader.new)) }
     ensures fails { OnErr result (FailsHere ctx.old.held.settings reader.old.bits ctx.new.held.taken (here reader.new)) }
     ensures same_bits { reader.new.bits ≡ reader.old.bits }
+    ensures space { ctx.new.space ≤ max ctx.old.space (most_room ctx.old.held.settings reader.old.bits) }
 {
     push_rows(ctx, reader, decoder) // No line has a tag.
 }
 
-/// Decodes the rows of two-dimensional data of Group 3 (T.4 section 4.2), each after its tag, until RTC (with
+/// Decodes the rows of two-dimensional data of Group 3 (T.4, 4.2), each after its tag, until RTC (with
 /// `end_of_block`), the row limit or the end of the data.
 ///
 /// # Errors
@@ -159,6 +165,7 @@ pub fn decode_2d<D: Decoder>(
         ctx.old ctx.new (leaving result (here reader.new)) }
     ensures fails { OnErr result (FailsHere ctx.old.held.settings reader.old.bits ctx.new.held.taken (here reader.new)) }
     ensures same_bits { reader.new.bits ≡ reader.old.bits }
+    ensures space { ctx.new.space ≤ max ctx.old.space (most_room ctx.old.held.settings reader.old.bits) }
 {
     push_rows(ctx, reader, decoder) // Each line has its tag.
 }

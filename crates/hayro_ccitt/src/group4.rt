@@ -1,14 +1,15 @@
 //! Group 4: every line is two-dimensional (T.6).
 
-ghost use Rattle.std.specs.Prelude.{◌≡◌, ◌<◌, ◌≤◌, OnErr, false};
+ghost use Rattle.std.specs.Prelude.{◌≡◌, ◌<◌, ◌≤◌, OnErr, false, max};
 ghost use Rattle.hayro_ccitt.specs.Bits.{here};
 ghost use Rattle.hayro_ccitt.specs.Context.{fresh};
 ghost use Rattle.hayro_ccitt.specs.Decoding.{DecodesRows, FailsHere, leaving};
+ghost use Rattle.hayro_ccitt.specs.Space.{most_room};
 
-use crate::bit_reader::BitReader;
 use crate::context::DecoderContext;
 use crate::push_rows::push_rows;
 use crate::{Decoder, EncodingMode, Result};
+use fax_bits::bit_reader::BitReader;
 
 /// Decodes the rows of Group 4 data until EOFB (with `end_of_block`), the row limit or the end of the data.
 ///
@@ -33,6 +34,7 @@ pub fn decode<D: Decoder>(
     ensures fails { OnErr result (FailsHere ctx.old.held.settings reader.old.bits ctx.new.held.taken (here reader.new)) }
     ensures no_eols { ctx.new.held.has_eols ≡ false }
     ensures same_bits { reader.new.bits ≡ reader.old.bits }
+    ensures space { ctx.new.space ≤ max ctx.old.space (most_room ctx.old.held.settings reader.old.bits) }
 {
     push_rows(ctx, reader, decoder) // Each line is two-dimensional.
 }

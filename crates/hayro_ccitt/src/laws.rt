@@ -4,7 +4,7 @@ ghost use Rattle.std.specs.Prelude.{IsTrue};
 ghost use Rattle.hayro_ccitt.specs.CodeLists.{white_codes, black_codes, mode_codes};
 ghost use Rattle.hayro_ccitt.specs.CodeReading.{is_prefix_free, ReadsCodes};
 ghost use Rattle.hayro_ccitt.specs.Runs.{codes_of};
-ghost use Rattle.hayro_ccitt.specs.declared.codes.Color.{Color};
+ghost use Rattle.fax_bits.specs.declared.codes.Color.{Color};
 ghost use Rattle.hayro_ccitt.specs.Laws.{each_word, has_few_zeros, Synchronised, StrictThenLenient, RowLimit};
 ghost use Rattle.hayro_ccitt.specs.Laws.{ReadsClosedPictures, ReadsLimitedPictures, StrictIsUndamaged, PicturesAreUndamaged};
 ghost use Rattle.hayro_ccitt.specs.Laws.{ReadsPictureT6, ReadsLimitedRowsT6, ReadsPictureT4, ReadsLimitedPictureT4};
@@ -77,8 +77,8 @@ pub fn pictures()
     ensures limited { ReadsLimitedPictures }
 {}
 
-/// If the strict reading ends without a fault, the lenient one repairs no row and misses no EOL; so in a picture of any kind
-/// there is no damage.
+/// The strict reading ends without a fault exactly if the lenient one does, and repairs no row, cuts no run and misses no EOL.
+/// In a picture of any kind there is no damage.
 pub fn no_damage()
     ensures strict { StrictIsUndamaged }
     ensures pictures { PicturesAreUndamaged }
@@ -100,7 +100,7 @@ pub fn after_eofb()
 
 /// One-dimensional lenient data with EOLs, read without a row limit and without looking for RTC. If each line that is
 /// whole ends before the last twelve bits of the next EOL, the first rows are those of the lines that begin after EOLs,
-/// each read by itself (T.4 section 4.1.2).
+/// each read by itself (T.4, 4.1.2).
 pub fn lines_by_eols()
     ensures rows { LinesByEols }
     ensures starts { StartsAre }
@@ -119,7 +119,7 @@ pub fn locality()
 /// first, with its tag; behind the tag is a one, no EOL is in between, and the line as it is read, if it is whole, ends before
 /// the last twelve bits of the EOL after it. If the two-dimensional lines that follow it, up to the next one-dimensional
 /// one, are lines of encodings, then another such line instead of it changes at most its row and theirs, and the reading
-/// ends alike. Each line of an encoding is such a line (T.4 sections 4.1.2 and 4.2).
+/// ends alike. Each line of an encoding is such a line (T.4, 4.1.2 and 4.2).
 pub fn locality_by_k()
     ensures rows { LocalityByK }
     ensures bodies { EncodedLinesAreBodies }
@@ -127,7 +127,7 @@ pub fn locality_by_k()
 
 /// Damage changes no row before it, in any encoding: if two data begin with the same bits up to the start of a line of the
 /// one, the rows before that line are the same in both. The line is one that the reading reaches without having given up
-/// EOLs, which it does where it misses one and there is none in the rest of the data (T.4 section 4.1.2).
+/// EOLs, which it does where it misses one and there is none in the rest of the data (T.4, 4.1.2).
 pub fn rows_before()
     ensures { RowsBefore }
 {}
@@ -135,19 +135,19 @@ pub fn rows_before()
 /// Whatever damage there is between two EOLs of lenient Group 3 data, bits that are changed, lost or added, the rows are the
 /// same again behind the next EOL. The line between that EOL and the damage is broken or ends before the last twelve bits of
 /// the EOL, whatever row it is read against; the damage makes no RTC; and in two-dimensional data a one-dimensional line
-/// follows the EOL. The readings have no row limit, seek EOLs, and end alike (T.4 section 4.1.2).
+/// follows the EOL. The readings have no row limit, seek EOLs, and end alike (T.4, 4.1.2).
 pub fn rows_behind()
     ensures { RowsBehind }
 {}
 
-/// Lawful lists of changes and rows of pixels correspond one to one (T.4 section 4.2.1.1).
+/// Lawful lists of changes and rows of pixels correspond one to one (T.4, 4.2.1.1).
 pub fn changes_are_rows()
     ensures pixels { RowsOfChanges }
     ensures changes { ChangesOfRows }
 {}
 
 /// A sink whose step depends on the pixels of a row's changes: over rows of its width it means what a fold of the step
-/// over these rows yields (T.4 section 4.2.1.1).
+/// over these rows yields (T.4, 4.2.1.1).
 pub fn steps_on_rows<D: Decoder>()
     ensures { StepsOnRows D.Meaning }
 {}

@@ -10,7 +10,7 @@
 #![tactic(auto)]
 
 ghost use Rattle.std.specs.Prelude.{◌≡◌, ◌*◌, ◌<◌, ◌≤◌, ◌↔◌, ◌-◌, ℕ, List, Bool, true, false, None, Some, Ok, OnOk, OnErr, IfOk};
-ghost use Rattle.std.specs.Prelude.{IsOkUnless, IsTrue, length};
+ghost use Rattle.std.specs.Prelude.{IsOkUnless, IsTrue, length, max};
 ghost use Rattle.hayro_ccitt.specs.Answers.{OnAnswer};
 ghost use Rattle.hayro_ccitt.specs.Bits.{AreWholeBytes, BitsFit, bits_in, bits_of, low_first_bits_of, here};
 ghost use Rattle.hayro_ccitt.specs.Context.{fresh};
@@ -18,37 +18,40 @@ ghost use Rattle.hayro_ccitt.specs.Contract.{Decodes};
 ghost use Rattle.hayro_ccitt.specs.Decoding.{DecodesRows, FailsHere, leaving};
 ghost use Rattle.hayro_ccitt.specs.PlainReading.{end_of, gathered_of, plain};
 ghost use Rattle.hayro_ccitt.specs.Rows.{AreChanges};
+ghost use Rattle.hayro_ccitt.specs.Space.{most_room};
 ghost use Rattle.hayro_ccitt.specs.Work.{CountsRun, CountsWork, words_of_turn, most_counted};
 
-pub mod bit_reader;
+/// The bits of a slice of bytes, read from the start.
+pub mod bit_reader {
+    pub use fax_bits::bit_reader::{BitOrder, BitReader};
+}
+
+/// Colours, modes, and the count of work.
+pub mod codes {
+    pub use fax_bits::codes::{Color, Mode, Ticks};
+}
+
 pub mod changes;
-pub mod codes;
 pub mod context;
-mod entries;
-mod error;
 pub mod group3;
 pub mod group4;
 pub mod laws;
 mod locality;
 mod modes;
-mod pairs;
 mod push_rows;
 mod reach;
 mod row_cursor;
 mod row_reader;
 mod rows;
-mod settings;
-pub mod tables;
 mod usual;
 
 use bit_reader::{BitOrder, BitReader};
 pub use context::DecoderContext;
-pub use error::{DecodeError, Result};
+pub use fax_bits::{DecodeError, DecodeSettings, EncodingMode, Result, bits_fit, tables};
 pub use locality::body_is_local;
 pub use reach::rows_reached;
 pub use row_cursor::RowCursor;
 pub use row_reader::RowReader;
-pub use settings::{DecodeSettings, EncodingMode};
 
 /// A sink for the rows of an image. [`decode`] calls `push_row` once for each row, from the top.
 ///
@@ -76,7 +79,7 @@ pub trait Decoder {
     ghost refuses: { Self → List ℕ → Type 0 } = { λ _ _. Unit {0} };
 
     /// Accepts a row of pixels, given by its changes: the positions, counted from 0 at the left, at which the colour
-    /// changes (T.4 section 4.2.1.1), in strictly ascending order and each below the width. Each row starts white, so
+    /// changes (T.4, 4.2.1.1), in strictly ascending order and each below the width. Each row starts white, so
     /// the pixels from `changes[0]` up to `changes[1]` are black, those from `changes[2]` up to `changes[3]` again, and
     /// so on; after an odd number of changes the row ends black. Its only error is `Refused`, and then the sink means
     /// what it meant before.
@@ -91,14 +94,6 @@ pub trait Decoder {
         ensures refused { OnErr result (has_refused self.new ≡ true) }
         ensures refused_row { OnErr result (refuses self.new changes.now) }
         ensures only_refused { IsOkUnless result DecodeError.Refused };
-}
-
-/// Returns whether eight times the length and 64 more fit in a `usize`, as [`decode`] requires of its data: whether it
-/// has at most `(usize::MAX - 64) / 8` bytes, far more than a 64-bit machine has.
-pub fn bits_fit(data: &[u8]) -> bool
-    ensures { IsTrue result ↔ BitsFit «data».now }
-{
-    data.len() <= (usize::MAX - 64) / 8
 }
 
 /// Decodes the rows of an image according to its encoding.
@@ -126,6 +121,7 @@ fn decode_rows<D: Decoder>(
     ensures fails { OnErr result (FailsHere ctx.old.held.settings reader.old.bits ctx.new.held.taken (here reader.new)) }
     ensures no_eols { ctx.old.held.settings.encoding ≡ EncodingMode.Group4 → ctx.new.held.has_eols ≡ false }
     ensures same_bits { reader.new.bits ≡ reader.old.bits }
+    ensures space { ctx.new.space ≤ max ctx.old.space (most_room ctx.old.held.settings reader.old.bits) }
 {
     match ctx.settings().encoding {
         EncodingMode::Group4 => group4::decode(ctx, reader, decoder),
@@ -166,6 +162,7 @@ fn decode_bits<D: Decoder>(
         (record { meaning = D.meaning decoder.old; refused = D.has_refused decoder.old; refuses = D.refuses decoder.old })
         (record { meaning = D.meaning decoder.new; refused = D.has_refused decoder.new; refuses = D.refuses decoder.new })
         ctx.new.held ctx.new.ticks result }
+    ensures space { ctx.new.space ≤ max ctx.old.space (most_room ctx.old.held.settings reader.old.bits) }
 {
     ctx.restart();
     if ctx.settings().columns == 0 {
@@ -182,7 +179,7 @@ fn decode_bits<D: Decoder>(
 /// byte's highest bit comes first. The context is reset first, so what it decoded before has no effect; it may be used
 /// again, even after an error.
 ///
-/// The image ends at EOFB or RTC with `end_of_block` (T.6 section 2.4.1.1, T.4 section 4.1.4), at the row limit, or at
+/// The image ends at EOFB or RTC with `end_of_block` (T.6, 2.4.1.1, T.4, 4.1.4), at the row limit, or at
 /// the end of the data, whichever comes first.
 ///
 /// # Errors
@@ -228,6 +225,10 @@ pub fn decode<D: Decoder>(data: &[u8], decoder: &mut D, ctx: &mut DecoderContext
     ensures row_number { OnAnswer result (ctx.new.held.taken
         ≡ length (plain ctx.old.held.settings (bits_of «data».now)).rows) }
 
+    // Each of the context's two lists has room for no more changes than before, or than twice the columns, or the bits if these
+    // are fewer, and 66.
+    ensures space { ctx.new.space ≤ max ctx.old.space (most_room ctx.old.held.settings (bits_of «data».now)) }
+
     // All that it leaves, over the bits in this order, is stated field by field in `specs/Contract.antt`.
     ensures decodes { Decodes ctx.old.held.settings (bits_of «data».now) (D.step (D.width decoder.old))
         (record { meaning = D.meaning decoder.old; refused = D.has_refused decoder.old; refuses = D.refuses decoder.old })
@@ -259,6 +260,7 @@ pub fn decode_low_first<D: Decoder>(
     ensures count { IfOk result (λ n. (plain ctx.old.held.settings (low_first_bits_of «data».now)).outcome ≡ Ok n) }
     ensures row_number { OnAnswer result (ctx.new.held.taken
         ≡ length (plain ctx.old.held.settings (low_first_bits_of «data».now)).rows) }
+    ensures space { ctx.new.space ≤ max ctx.old.space (most_room ctx.old.held.settings (low_first_bits_of «data».now)) }
 
     // All that it leaves, over the bits in this order, is stated field by field in `specs/Contract.antt`.
     ensures decodes { Decodes ctx.old.held.settings (low_first_bits_of «data».now) (D.step (D.width decoder.old))
@@ -286,6 +288,7 @@ pub fn decode_in<D: Decoder>(
     ensures width { D.width decoder.new ≡ D.width decoder.old }
     ensures settings { ctx.new.held.settings ≡ ctx.old.held.settings }
     ensures within { IfOk result (λ n. n ≤ length «data».now) }
+    ensures space { ctx.new.space ≤ max ctx.old.space (most_room ctx.old.held.settings (bits_in order «data».now)) }
 
     // All that it leaves, over the bits in this order, is stated field by field in `specs/Contract.antt`.
     ensures decodes { Decodes ctx.old.held.settings (bits_in order «data».now) (D.step (D.width decoder.old))

@@ -1,19 +1,20 @@
 //! Whether damage to a line stays in that line.
 
 ghost use Rattle.std.specs.Prelude.{◌≡◌, ◌≢◌, ◌+◌, ◌-◌, ◌*◌, ◌≤◌, ◌⊎◌, ◌↔◌, Err, Some, IsTrue, IfOk, IfSome, IsOkUnless, is_some};
-ghost use Rattle.std.specs.Prelude.{option_map, false, length, take, drop, replicate};
+ghost use Rattle.std.specs.Prelude.{max, option_map, false, length, take, drop, replicate};
 ghost use Rattle.hayro_ccitt.specs.Answers.{HasBlack, front_of};
 ghost use Rattle.hayro_ccitt.specs.Bits.{BitsFit, bits_of};
 ghost use Rattle.hayro_ccitt.specs.EndOfLine.{after_eol, next_eol};
 ghost use Rattle.hayro_ccitt.specs.Lines.{line_1d, found_1d};
 ghost use Rattle.hayro_ccitt.specs.Locality.{IsLocal, IsEolAt, EndsBefore};
+ghost use Rattle.hayro_ccitt.specs.Space.{most_room};
 ghost use Rattle.hayro_ccitt.specs.Ticks.{looked};
 ghost use Rattle.hayro_ccitt.specs.Work.{most_for_body};
 
-use crate::bit_reader::BitReader;
-use crate::codes::Ticks;
 use crate::context::{DecoderContext, decode_1d_line};
 use crate::{DecodeError, DecodeSettings, EncodingMode, Result};
+use fax_bits::bit_reader::starting_at;
+use fax_bits::codes::Ticks;
 
 /// Returns whether these settings are those of lenient one-dimensional data of Group 3.
 fn is_lenient_1d(settings: DecodeSettings) -> bool
@@ -41,7 +42,7 @@ fn is_behind_eol(data: &[u8], place: usize, ticks: &mut Ticks) -> bool
     if place < 12 {
         return place == 0;
     }
-    let before = BitReader::starting_at(data, place - 12);
+    let before = starting_at(data, place - 12);
     let (zeros, after) = before.zero_run(ticks);
     match after {
         Some(_) => zeros == 11,
@@ -58,7 +59,7 @@ fn holds_one(data: &[u8], from: usize, to: usize, ticks: &mut Ticks) -> bool
         ↔ (take (to - from) (drop from (bits_of «data».now)) ≢ replicate (to - from) false) }
     ensures work { ticks.new ≡ ticks.old + looked (drop from (bits_of «data».now)) }
 {
-    let (zeros, _) = BitReader::starting_at(data, from).zero_run(ticks);
+    let (zeros, _) = starting_at(data, from).zero_run(ticks);
     zeros < to - from
 }
 
@@ -71,7 +72,7 @@ fn end_of_eol(data: &[u8], place: usize, ticks: &mut Ticks) -> Option<usize>
     ensures within { IfSome result (λ end. end ≤ 8 * length «data».now) }
     ensures work { ticks.new ≡ ticks.old + looked (drop place (bits_of «data».now)) }
 {
-    let mut reader = BitReader::starting_at(data, place);
+    let mut reader = starting_at(data, place);
     if reader.read_eols(1, ticks) == 0 {
         return None;
     }
@@ -89,7 +90,7 @@ fn holds_eol(data: &[u8], from: usize, to: usize, ticks: &mut Ticks) -> bool
     ensures counts { ticks.old ≤ ticks.new }
     ensures at_most { ticks.new ≤ ticks.old + 2 * (to - from) + 2 * looked (drop to (bits_of «data».now)) }
 {
-    let mut reader = BitReader::starting_at(data, from);
+    let mut reader = starting_at(data, from);
     if !reader.skip_to_eol(ticks) {
         return false;
     }
@@ -115,9 +116,10 @@ fn line_ends_before(data: &[u8], ctx: &mut DecoderContext, from: usize, end: usi
     ensures counts { ctx.old.ticks ≤ ctx.new.ticks }
     ensures at_most { ctx.new.ticks ≤ ctx.old.ticks
         + length (found_1d ctx.old.held.settings.strict ctx.old.held.settings.columns (drop from (bits_of «data».now))) + 1 }
+    ensures space { ctx.new.space ≤ max ctx.old.space (most_room ctx.old.held.settings (bits_of «data».now)) }
 {
     ctx.reset();
-    let mut reader = BitReader::starting_at(data, from);
+    let mut reader = starting_at(data, from);
     match decode_1d_line(ctx, &mut reader) {
         Ok(()) => Ok(reader.bit_pos() + 12 <= end),
         Err(error) if wants_memory(error) => Err(error),
@@ -126,7 +128,7 @@ fn line_ends_before(data: &[u8], ctx: &mut DecoderContext, from: usize, end: usi
 }
 
 /// Returns whether damage to the bits from `from` to `to` stays in one line: in lenient one-dimensional data of Group 3
-/// they are the body of a line (T.4 section 4.1). An EOL ends at `from`, or it is 0; the bits contain a one and no EOL;
+/// they are the body of a line (T.4, 4.1). An EOL ends at `from`, or it is 0; the bits contain a one and no EOL;
 /// an EOL begins at `to`; and the line that is read at `from`, with the context's `columns`, is broken or ends before
 /// the last twelve bits of that EOL. Offsets are counted in bits; if they are out of range or order, and with other
 /// settings, the result is false.
@@ -150,6 +152,7 @@ pub fn body_is_local(data: &[u8], ctx: &mut DecoderContext, from: usize, to: usi
     ensures counts { ctx.old.ticks ≤ ctx.new.ticks }
     ensures at_most { ctx.new.ticks
         ≤ ctx.old.ticks + most_for_body ctx.old.held.settings (bits_of «data».now) from to }
+    ensures space { ctx.new.space ≤ max ctx.old.space (most_room ctx.old.held.settings (bits_of «data».now)) }
 {
     if !is_lenient_1d(ctx.settings()) || from > to || to > data.len() * 8 {
         return Ok(false);

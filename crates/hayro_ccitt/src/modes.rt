@@ -2,34 +2,25 @@
 //! others.
 
 ghost use Rattle.std.specs.Prelude.{vec_len, vec_capacity, get_or, ◌≡◌, ◌≢◌, ◌+◌, ◌-◌, ◌%◌, ◌<◌, ◌≤◌, ◌⊎◌, ℕ, Ok, Some, IfSome};
-ghost use Rattle.std.specs.Prelude.{IfNone, true, false, pos, negsuc, length, ◌++◌, ◌∷◌, []};
+ghost use Rattle.std.specs.Prelude.{max, IfNone, true, false, pos, negsuc, length, ◌++◌, ◌∷◌, []};
 ghost use Rattle.hayro_ccitt.specs.Bits.{here};
 ghost use Rattle.hayro_ccitt.specs.CodeLists.{mode_codes};
 ghost use Rattle.hayro_ccitt.specs.CodeReading.{read_code};
 ghost use Rattle.hayro_ccitt.specs.LookUps.{AreEntries};
 ghost use Rattle.hayro_ccitt.specs.Rows.{AreChanges, pixels, opposite};
 ghost use Rattle.hayro_ccitt.specs.Runs.{codes_of};
+ghost use Rattle.hayro_ccitt.specs.Space.{room_for};
 ghost use Rattle.hayro_ccitt.specs.UsualModes.{AreEnded, changes_in, row_in, IsB1, IsStroke, GoesOn2d};
 ghost use Rattle.hayro_ccitt.specs.UsualRuns.{AreTwoRunsHere, pen_at};
 ghost use Rattle.hayro_ccitt.specs.Window.{moved};
 
-use crate::bit_reader::BitsAtHand;
-use crate::changes::change_or_end;
-use crate::codes::{Color, Mode, Ticks, mode_of};
+use crate::changes::{change_or_end, make_room};
 use crate::usual::{
     TwoRuns, b1_after_left, change_at, has_room, is_next, lay_down, pair_at_hand, run_at_hand,
     seek_b1, turn_at,
 };
-
-/// Asks for room for as many changes as the window has bits, and returns whether there is.
-#[cold]
-#[inline(never)]
-fn make_room_for_window(row: &mut Vec<u32>) -> bool
-    ensures room { result ≡ true → vec_len row.new + 64 ≤ vec_capacity row.new }
-    ensures same { row.new.items ≡ row.old.items }
-{
-    row.reserve(64).is_ok()
-}
+use fax_bits::bit_reader::BitsAtHand;
+use fax_bits::codes::{Color, Mode, Ticks, mode_of, tick_times};
 
 /// Returns whether there is room for as many changes as the window has bits: a code word stores no more changes than it has
 /// bits.
@@ -48,6 +39,7 @@ pub(crate) fn has_mode(hand: &mut BitsAtHand<'_>, row: &mut Vec<u32>) -> bool
     ensures same_row { row.new.items ≡ row.old.items }
     ensures enough { result ≡ true → 32 ≤ hand.new.left }
     ensures room { result ≡ true → vec_len row.new + hand.new.left ≤ vec_capacity row.new }
+    ensures space { vec_capacity row.new ≤ max (vec_capacity row.old) (room_for (vec_len row.old)) }
 {
     if hand.left() >= 32 {
         return true;
@@ -55,7 +47,7 @@ pub(crate) fn has_mode(hand: &mut BitsAtHand<'_>, row: &mut Vec<u32>) -> bool
     if !hand.refill() {
         return false;
     }
-    has_room_for_window(row) || make_room_for_window(row)
+    has_room_for_window(row) || make_room(row)
 }
 
 /// Returns the mode whose code word is here, if there is one, and the number of its bits.
@@ -109,15 +101,16 @@ fn draw_v0(
     ensures onward { IfSome result (λ reached. (hand.old.at.place < hand.new.at.place)
         × (vec_len row.new + hand.new.left ≤ vec_capacity row.new)) }
     ensures left { IfNone result ((hand.new.at ≡ hand.old.at) × (row.new.items ≡ row.old.items) × (ticks.new ≡ ticks.old)) }
+    ensures space { (vec_capacity row.new ≡ vec_capacity row.old) × (vec_len row.old ≤ vec_len row.new) }
 {
     let place = change_at(places, index, columns);
     if place >= columns {
         hand.pass(1);
-        ticks.tick_times(2);
+        tick_times(ticks, 2);
         return Some((columns, index, color.opposite()));
     }
     hand.pass(1);
-    ticks.tick_times(2);
+    tick_times(ticks, 2);
     turn_at(row, place);
     Some((place, index + 1, color.opposite()))
 }
@@ -152,13 +145,14 @@ fn draw_to_end(
     ensures onward { IfSome result (λ reached. (hand.old.at.place < hand.new.at.place)
         × (vec_len row.new + hand.new.left ≤ vec_capacity row.new)) }
     ensures left { IfNone result ((hand.new.at ≡ hand.old.at) × (row.new.items ≡ row.old.items) × (ticks.new ≡ ticks.old)) }
+    ensures space { (vec_capacity row.new ≡ vec_capacity row.old) × (vec_len row.old ≤ vec_len row.new) }
 {
     let b1 = change_at(places, index, columns);
     if columns - b1 != more {
         return None;
     }
     hand.pass(width);
-    ticks.tick_times(2);
+    tick_times(ticks, 2);
     Some((columns, index, color.opposite()))
 }
 
@@ -193,6 +187,7 @@ fn draw_right(
     ensures onward { IfSome result (λ reached. (hand.old.at.place < hand.new.at.place)
         × (vec_len row.new + hand.new.left ≤ vec_capacity row.new)) }
     ensures left { IfNone result ((hand.new.at ≡ hand.old.at) × (row.new.items ≡ row.old.items) × (ticks.new ≡ ticks.old)) }
+    ensures space { (vec_capacity row.new ≡ vec_capacity row.old) × (vec_len row.old ≤ vec_len row.new) }
 {
     let b1 = change_at(places, index, columns);
     if columns - b1 <= more {
@@ -202,7 +197,7 @@ fn draw_right(
     }
     let place = b1 + more;
     hand.pass(width);
-    ticks.tick_times(2);
+    tick_times(ticks, 2);
     turn_at(row, place);
     let next = seek_b1(places, place, columns, index + 1, ticks);
     Some((place, next, color.opposite()))
@@ -239,6 +234,7 @@ fn draw_to_edge(
     ensures onward { IfSome result (λ reached. (hand.old.at.place < hand.new.at.place)
         × (vec_len row.new + hand.new.left ≤ vec_capacity row.new)) }
     ensures left { IfNone result ((hand.new.at ≡ hand.old.at) × (row.new.items ≡ row.old.items) × (ticks.new ≡ ticks.old)) }
+    ensures space { (vec_capacity row.new ≡ vec_capacity row.old) × (vec_len row.old ≤ vec_len row.new) }
 {
     if painted > 0 {
         return None;
@@ -251,7 +247,7 @@ fn draw_to_edge(
         return None;
     }
     hand.pass(width);
-    ticks.tick_times(2);
+    tick_times(ticks, 2);
     turn_at(row, painted);
     Some((painted, index + 1, color.opposite()))
 }
@@ -287,6 +283,7 @@ fn draw_left(
     ensures onward { IfSome result (λ reached. (hand.old.at.place < hand.new.at.place)
         × (vec_len row.new + hand.new.left ≤ vec_capacity row.new)) }
     ensures left { IfNone result ((hand.new.at ≡ hand.old.at) × (row.new.items ≡ row.old.items) × (ticks.new ≡ ticks.old)) }
+    ensures space { (vec_capacity row.new ≡ vec_capacity row.old) × (vec_len row.old ≤ vec_len row.new) }
 {
     let b1 = change_at(places, index, columns);
     if b1 - painted <= less {
@@ -296,7 +293,7 @@ fn draw_left(
     }
     let place = b1 - less;
     hand.pass(width);
-    ticks.tick_times(3);
+    tick_times(ticks, 3);
     turn_at(row, place);
     let next = b1_after_left(places, painted, columns, color, index, place);
     Some((place, next, color.opposite()))
@@ -329,10 +326,11 @@ fn draw_pass(
     ensures onward { IfSome result (λ reached. (hand.old.at.place < hand.new.at.place)
         × (vec_len row.new + hand.new.left ≤ vec_capacity row.new)) }
     ensures left { IfNone result ((hand.new.at ≡ hand.old.at) × (row.new.items ≡ row.old.items) × (ticks.new ≡ ticks.old)) }
+    ensures space { (vec_capacity row.new ≡ vec_capacity row.old) × (vec_len row.old ≤ vec_len row.new) }
 {
     let b2 = change_or_end(places, index + 1, columns);
     hand.pass(4);
-    ticks.tick_times(2);
+    tick_times(ticks, 2);
     if b2 >= columns {
         return Some((columns, index, color));
     }
@@ -388,6 +386,107 @@ fn runs_at_hand(
     })
 }
 
+/// Draws two runs of one code word each that end before the row does: the most frequent case. Returns `None`, and changes
+/// nothing, if they aren't of that kind.
+#[inline(always)]
+fn draw_short_runs(
+    hand: &mut BitsAtHand<'_>,
+    row: &mut Vec<u32>,
+    painted: u32,
+    columns: u32,
+    _strict: bool,
+    color: Color,
+    places: &[u32],
+    index: usize,
+    ticks: &mut Ticks,
+) -> Option<(u32, usize, Color)>
+    requires mode { read_code mode_codes (here hand.old.at) ≡ Ok (Mode.Horizontal, here (moved 3 hand.old.at)) }
+    requires room { (32 ≤ hand.old.left) × (vec_len row.old + hand.old.left ≤ vec_capacity row.old) }
+    requires open { painted < columns }
+    requires ended { AreEnded columns places.now }
+    requires stroke { IsStroke columns (changes_in places.now) painted index color row.old.items }
+    ensures drawn { IfSome result (λ reached. GoesOn2d _strict columns (row_in columns places.now)
+        (pen_at painted row.old.items color hand.old.at)
+        (pen_at reached.0 row.new.items reached.2 hand.new.at) ticks.old ticks.new (index - 1) (reached.1 - 1)) }
+    ensures stroke { IfSome result (λ reached. IsStroke columns (changes_in places.now) reached.0 reached.1 reached.2 row.new.items) }
+    ensures same_bits { hand.new.at.bits ≡ hand.old.at.bits }
+    ensures onward { IfSome result (λ reached. (hand.old.at.place < hand.new.at.place)
+        × (vec_len row.new + hand.new.left ≤ vec_capacity row.new)) }
+    ensures left { IfNone result ((hand.new ≡ hand.old) × (row.new ≡ row.old) × (ticks.new ≡ ticks.old)) }
+    ensures space { (vec_capacity row.new ≡ vec_capacity row.old) × (vec_len row.old ≤ vec_len row.new) }
+{
+    let runs = pair_at_hand(hand, 3, color)?;
+    if runs.first + runs.second >= columns - painted {
+        return None;
+    }
+    let place = painted + runs.first + runs.second;
+    hand.pass(3);
+    hand.pass(runs.width);
+    ticks.tick();
+    tick_times(ticks, runs.words);
+    turn_at(row, painted + runs.first);
+    turn_at(row, place);
+    let next = seek_b1(places, place, columns, index, ticks);
+    Some((place, next, color))
+}
+
+/// Draws two runs of one or two code words each. Returns `None`, and draws nothing, if they aren't of the usual kind.
+#[inline(always)]
+fn draw_runs_of_words(
+    hand: &mut BitsAtHand<'_>,
+    row: &mut Vec<u32>,
+    painted: u32,
+    columns: u32,
+    _strict: bool,
+    color: Color,
+    places: &[u32],
+    index: usize,
+    own: &[u16],
+    other: &[u16],
+    ticks: &mut Ticks,
+) -> Option<(u32, usize, Color)>
+    requires mode { read_code mode_codes (here hand.old.at) ≡ Ok (Mode.Horizontal, here (moved 3 hand.old.at)) }
+    requires room { (32 ≤ hand.old.left) × (vec_len row.old + hand.old.left ≤ vec_capacity row.old) }
+    requires own { AreEntries (codes_of color) own.now }
+    requires other { AreEntries (codes_of (opposite color)) other.now }
+    requires open { painted < columns }
+    requires ended { AreEnded columns places.now }
+    requires stroke { IsStroke columns (changes_in places.now) painted index color row.old.items }
+    ensures drawn { IfSome result (λ reached. GoesOn2d _strict columns (row_in columns places.now)
+        (pen_at painted row.old.items color hand.old.at)
+        (pen_at reached.0 row.new.items reached.2 hand.new.at) ticks.old ticks.new (index - 1) (reached.1 - 1)) }
+    ensures stroke { IfSome result (λ reached. IsStroke columns (changes_in places.now) reached.0 reached.1 reached.2 row.new.items) }
+    ensures same_bits { hand.new.at.bits ≡ hand.old.at.bits }
+    ensures onward { IfSome result (λ reached. (hand.old.at.place < hand.new.at.place)
+        × (vec_len row.new + hand.new.left ≤ vec_capacity row.new)) }
+    ensures left { IfNone result ((hand.new.at ≡ hand.old.at) × (row.new.items ≡ row.old.items) × (ticks.new ≡ ticks.old)) }
+    ensures space { (vec_capacity row.new ≡ vec_capacity row.old) × (vec_len row.old ≤ vec_len row.new) }
+{
+    let runs = runs_at_hand(hand, row, color, own, other)?;
+    if !is_next(row, runs.first) {
+        return None;
+    }
+    if runs.second == 0 {
+        return None;
+    }
+    let room = columns - painted;
+    if runs.first + runs.second > room {
+        return None;
+    }
+    hand.pass(3);
+    hand.pass(runs.width);
+    ticks.tick();
+    tick_times(ticks, runs.words);
+    turn_at(row, painted + runs.first);
+    if runs.first + runs.second == room {
+        return Some((columns, index, color));
+    }
+    let place = painted + runs.first + runs.second;
+    turn_at(row, place);
+    let next = seek_b1(places, place, columns, index, ticks);
+    Some((place, next, color))
+}
+
 /// Draws two runs. Returns `None`, and draws nothing, if they aren't of the usual kind.
 #[inline(always)]
 fn draw_horizontal(
@@ -418,30 +517,16 @@ fn draw_horizontal(
     ensures onward { IfSome result (λ reached. (hand.old.at.place < hand.new.at.place)
         × (vec_len row.new + hand.new.left ≤ vec_capacity row.new)) }
     ensures left { IfNone result ((hand.new.at ≡ hand.old.at) × (row.new.items ≡ row.old.items) × (ticks.new ≡ ticks.old)) }
+    ensures space { (vec_capacity row.new ≡ vec_capacity row.old) × (vec_len row.old ≤ vec_len row.new) }
 {
-    let runs = runs_at_hand(hand, row, color, own, other)?;
-    if !is_next(row, runs.first) {
-        return None;
+    match draw_short_runs(
+        hand, row, painted, columns, _strict, color, places, index, ticks,
+    ) {
+        None => draw_runs_of_words(
+            hand, row, painted, columns, _strict, color, places, index, own, other, ticks,
+        ),
+        Some(reached) => Some(reached),
     }
-    if runs.second == 0 {
-        return None;
-    }
-    let room = columns - painted;
-    if runs.first + runs.second > room {
-        return None;
-    }
-    hand.pass(3);
-    hand.pass(runs.width);
-    ticks.tick();
-    ticks.tick_times(runs.words);
-    turn_at(row, painted + runs.first);
-    if runs.first + runs.second == room {
-        return Some((columns, index, color));
-    }
-    let place = painted + runs.first + runs.second;
-    turn_at(row, place);
-    let next = seek_b1(places, place, columns, index, ticks);
-    Some((place, next, color))
 }
 
 /// Draws the mode that is here, in a colour. Returns `None`, and draws nothing, if it isn't of the usual kind.
@@ -474,6 +559,7 @@ fn draw_mode_at_hand(
         × (vec_len row.new + hand.new.left ≤ vec_capacity row.new)) }
     ensures there { IfSome result (λ reached. hand.old.at.place < length hand.old.at.bits) }
     ensures left { IfNone result ((hand.new.at ≡ hand.old.at) × (row.new.items ≡ row.old.items) × (ticks.new ≡ ticks.old)) }
+    ensures space { (vec_capacity row.new ≡ vec_capacity row.old) × (vec_len row.old ≤ vec_len row.new) }
 {
     let (mode, width) = mode_at_hand(hand);
     match mode? {
@@ -556,6 +642,8 @@ fn draw_in_color(
     ensures turned { result.3 ≡ false → (result.0 < columns) × (result.2 ≡ opposite color)
         × (hand.old.at.place < hand.new.at.place) × (hand.old.at.place < length hand.old.at.bits)
         × (vec_len row.new + hand.new.left ≤ vec_capacity row.new) }
+    ensures longer { vec_len row.old ≤ vec_len row.new }
+    ensures space { vec_capacity row.new ≤ max (vec_capacity row.old) (room_for (vec_len row.new)) }
 {
     let mut place = painted;
     let mut at = index;
@@ -604,6 +692,7 @@ pub(crate) fn draw_modes(
         (pen_at result.0 row.new.items result.2 hand.new.at) ticks.old ticks.new 0 (result.1 - 1) }
     ensures stroke { IsStroke columns (changes_in places.now) result.0 result.1 result.2 row.new.items }
     ensures same_bits { hand.new.at.bits ≡ hand.old.at.bits }
+    ensures space { vec_capacity row.new ≤ max (vec_capacity row.old) (room_for (vec_len row.new)) }
 {
     // A copy of the window, so that its fields are values of this call.
     let mut bits = hand.copy();
@@ -656,6 +745,8 @@ pub(crate) fn lay_down_row(changes: &mut Vec<u32>, painted: u32, columns: u32)
     requires whole { columns ≤ painted → AreChanges painted changes.old.items }
     ensures lawful { AreChanges painted changes.new.items }
     ensures same { pixels painted changes.new.items ≡ pixels painted changes.old.items }
+    ensures few { vec_len changes.old ≤ vec_len changes.new + 1 }
+    ensures space { vec_capacity changes.new ≡ vec_capacity changes.old }
 {
     if painted < columns {
         lay_down(changes, painted);
@@ -668,8 +759,9 @@ pub(crate) fn lay_down_row(changes: &mut Vec<u32>, painted: u32, columns: u32)
 pub(crate) fn put_ends(changes: &mut Vec<u32>, columns: u32) -> bool
     ensures ended { result ≡ true → changes.new.items ≡ changes.old.items ++ columns ∷ columns ∷ [] }
     ensures unchanged { result ≡ false → changes.new.items ≡ changes.old.items }
+    ensures space { vec_capacity changes.new ≤ max (vec_capacity changes.old) (room_for (vec_len changes.old)) }
 {
-    if !has_room(changes) && !make_room_for_window(changes) {
+    if !has_room(changes) && !make_room(changes) {
         return false;
     }
     turn_at(changes, columns);
@@ -681,7 +773,8 @@ pub(crate) fn put_ends(changes: &mut Vec<u32>, columns: u32) -> bool
 #[inline(always)]
 pub(crate) fn take_ends(changes: &mut Vec<u32>)
     requires { 2 ≤ length changes.old.items }
-    ensures { changes.new.items ≡ changes_in changes.old.items }
+    ensures items { changes.new.items ≡ changes_in changes.old.items }
+    ensures space { vec_capacity changes.new ≡ vec_capacity changes.old }
 {
     let _end = changes.take_last();
     let _other = changes.take_last();

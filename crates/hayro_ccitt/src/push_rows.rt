@@ -1,14 +1,15 @@
 //! Decoding into a sink: the rows of a reading one at a time, each passed to the sink.
 
-ghost use Rattle.std.specs.Prelude.{◌≡◌, ◌<◌, ◌≤◌, OnErr, false};
+ghost use Rattle.std.specs.Prelude.{◌≡◌, ◌<◌, ◌≤◌, OnErr, false, max};
 ghost use Rattle.hayro_ccitt.specs.Bits.{here};
 ghost use Rattle.hayro_ccitt.specs.Context.{fresh};
 ghost use Rattle.hayro_ccitt.specs.Decoding.{DecodesRows, FailsHere, leaving};
+ghost use Rattle.hayro_ccitt.specs.Space.{most_room};
 
-use crate::bit_reader::BitReader;
 use crate::context::DecoderContext;
 use crate::row_reader::{RowState, first_stand, has_ended};
 use crate::{Decoder, EncodingMode, Result};
+use fax_bits::bit_reader::{BitReader, at_bit};
 
 /// Reads the rows of an image and passes each to the sink, in every encoding, until EOFB or RTC (with `end_of_block`), the row
 /// limit or the end of the data. The errors are those of a line that isn't repaired, `InvalidCode` if strict data misses an
@@ -31,21 +32,34 @@ pub(crate) fn push_rows<D: Decoder>(
     ensures fails { OnErr result (FailsHere ctx.old.held.settings reader.old.bits ctx.new.held.taken (here reader.new)) }
     ensures no_eols { ctx.old.held.settings.encoding ≡ EncodingMode.Group4 → ctx.new.held.has_eols ≡ false }
     ensures same_bits { reader.new.bits ≡ reader.old.bits }
+    ensures space { ctx.new.space ≤ max ctx.old.space (most_room ctx.old.held.settings reader.old.bits) }
 {
     let mut rows = RowState::new(first_stand(ctx, reader));
     if has_ended(rows.stand) {
         return Ok(());
     }
     'rows: loop {
-        if !rows.come_to_line(ctx, reader)? {
-            return Ok(());
-        }
         let damaged_rows = ctx.damaged_rows();
+        let cut_rows = ctx.cut_rows();
         rows.read_line(ctx, reader)?;
         if let Err(refusal) = decoder.push_row(ctx.reference_row()) {
-            ctx.take_back_row(damaged_rows);
-            *reader = reader.at_bit(rows.started_at);
+            ctx.take_back_row(damaged_rows, cut_rows);
+            *reader = at_bit(reader, rows.started_at);
             return Err(refusal);
+        }
+        let repeats = ctx.repeats_white();
+        'white: while rows.read_white_row(repeats, ctx, reader) {
+            if let Err(refusal) = decoder.push_row(ctx.reference_row()) {
+                let damage = ctx.damaged_rows();
+                let cuts = ctx.cut_rows();
+                ctx.take_back_row(damage, cuts);
+                let start = rows.started_at;
+                *reader = at_bit(reader, start);
+                return Err(refusal);
+            }
+        }
+        if !rows.come_to_line(ctx, reader)? {
+            return Ok(());
         }
     }
 }

@@ -7,10 +7,10 @@ ghost use Rattle.hayro_ccitt.specs.EndOfLine.{after_eol, next_eol};
 ghost use Rattle.hayro_ccitt.specs.LocalityByK.{ComeBefore1D, IsFollowedBy, IsLine2D, ReadsModes};
 ghost use Rattle.hayro_ccitt.specs.{Ticks.looked, Work.most_for_lines};
 
-use crate::bit_reader::BitReader;
-use crate::codes::Color;
 use crate::context::DecoderContext;
 use crate::{DecodeSettings, EncodingMode};
+use fax_bits::bit_reader::{BitReader, copy, starting_at};
+use fax_bits::codes::{Color, pass_eol};
 
 /// Passes the modes of a line, with their runs, as many as can be read.
 fn pass_modes(ctx: &mut DecoderContext, reader: &mut BitReader<'_>)
@@ -21,10 +21,11 @@ fn pass_modes(ctx: &mut DecoderContext, reader: &mut BitReader<'_>)
     ensures counts { ctx.old.ticks ≤ ctx.new.ticks }
     ensures at_most { (next after : Bits) → next_eol (here reader.old) ≡ Some next → after_eol 0 next ≡ Some after
         → ctx.new.ticks + length after ≤ ctx.old.ticks + length (here reader.old) }
+    ensures space { ctx.new.space ≡ ctx.old.space }
 {
     let mut color = Color::White;
     'modes: loop {
-        let mut next = reader.copy();
+        let mut next = copy(reader);
         match ctx.pass_mode(color, &mut next) {
             Some(behind) => {
                 color = behind;
@@ -47,21 +48,22 @@ fn pass_line(ctx: &mut DecoderContext, reader: &mut BitReader<'_>) -> bool
     ensures at_most { ctx.new.ticks ≤ ctx.old.ticks + 3 * length (here reader.old) }
     ensures to_eol { result ≡ true → ctx.new.ticks + 3 * length (here reader.new)
         ≤ ctx.old.ticks + 3 * length (here reader.old) + 3 * looked (here reader.new) }
+    ensures space { ctx.new.space ≡ ctx.old.space }
 {
-    let mut modes = reader.copy();
+    let mut modes = copy(reader);
     match modes.read_bit() {
         Ok(0) => {}
         _ => return false,
     }
-    let mut end = reader.copy();
-    if end.pass_eol(ctx.ticks()) {
+    let mut end = copy(reader);
+    if pass_eol(&mut end, ctx.ticks()) {
         return false;
     }
     if !reader.skip_to_eol(ctx.ticks()) {
         return false;
     }
-    end = reader.copy();
-    let _ = end.pass_eol(ctx.ticks());
+    end = copy(reader);
+    let _ = pass_eol(&mut end, ctx.ticks());
     pass_modes(ctx, &mut modes);
     modes.bit_pos() + 12 <= end.bit_pos()
 }
@@ -71,7 +73,7 @@ fn is_at_zero(reader: &BitReader<'_>) -> bool
     ensures zero { result ≡ true → (line : Bits) × (here reader.now ≡ false ∷ line) }
     ensures other { result ≡ false → ((line : Bits) × (here reader.now ≡ true ∷ line)) ⊎ (here reader.now ≡ []) }
 {
-    matches!(reader.copy().read_bit(), Ok(0))
+    matches!(copy(reader).read_bit(), Ok(0))
 }
 
 /// Returns whether a one-dimensional line, RTC or the end follows EOLs that were counted; else a two-dimensional line does.
@@ -98,14 +100,15 @@ fn rows_before_1d(ctx: &mut DecoderContext, reader: &mut BitReader<'_>) -> Optio
     ensures held { ctx.new.held ≡ ctx.old.held }
     ensures counts { ctx.old.ticks ≤ ctx.new.ticks }
     ensures at_most { ctx.new.ticks ≤ ctx.old.ticks + most_for_lines (length (here reader.old)) }
+    ensures space { ctx.new.space ≡ ctx.old.space }
 {
     let mut rows: u64 = 1;
     'lines: loop {
-        let mut line = reader.copy();
-        if !line.pass_eol(ctx.ticks()) {
+        let mut line = copy(reader);
+        if !pass_eol(&mut line, ctx.ticks()) {
             return None;
         }
-        let mut behind = reader.copy();
+        let mut behind = copy(reader);
         let count = behind.read_tagged_eols(ctx.ticks());
         if is_before_1d(ctx.settings(), count, &behind) {
             return Some(rows);
@@ -126,7 +129,7 @@ fn is_lenient_2d(settings: DecodeSettings) -> bool
 }
 
 /// Returns how many rows damage to the line whose body ends at `to`, where its EOL begins, may change in lenient
-/// two-dimensional data of Group 3 (T.4 section 4.2): its own, and one for each two-dimensional line that follows up to
+/// two-dimensional data of Group 3 (T.4, 4.2): its own, and one for each two-dimensional line that follows up to
 /// the next one-dimensional line, RTC with `end_of_block`, or the end of the data. It is `None`, and nothing is said, with
 /// other settings, if no EOL begins at `to`, and if one of the lines that follow has no EOL behind it, or reaches into it
 /// with its modes and their runs.
@@ -144,6 +147,7 @@ pub fn rows_reached(data: &[u8], ctx: &mut DecoderContext, to: usize) -> Option<
     ensures held { ctx.new.held ≡ ctx.old.held }
     ensures counts { ctx.old.ticks ≤ ctx.new.ticks }
     ensures at_most { ctx.new.ticks ≤ ctx.old.ticks + most_for_lines (length (drop to (bits_of «data».now))) }
+    ensures space { ctx.new.space ≡ ctx.old.space }
 {
     if !is_lenient_2d(ctx.settings()) {
         return None;
@@ -151,6 +155,6 @@ pub fn rows_reached(data: &[u8], ctx: &mut DecoderContext, to: usize) -> Option<
     if to > data.len() * 8 {
         return None;
     }
-    let mut reader = BitReader::starting_at(data, to);
+    let mut reader = starting_at(data, to);
     rows_before_1d(ctx, &mut reader)
 }

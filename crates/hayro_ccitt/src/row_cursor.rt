@@ -1,17 +1,18 @@
 //! Rows one at a time, from data that is passed to each call.
 
-ghost use Rattle.std.specs.Prelude.{◌≡◌, ◌+◌, ◌/◌, None, Some, IfOk, IsOkUnless, Result, length};
+ghost use Rattle.std.specs.Prelude.{◌≡◌, ◌≤◌, ◌+◌, ◌*◌, ◌/◌, None, Some, IfOk, IsOkUnless, Result, length, max};
 ghost use Rattle.hayro_ccitt.specs.Bits.{BitsFit, bits_in};
 ghost use Rattle.hayro_ccitt.specs.Rows.{AreChanges, changes};
+ghost use Rattle.hayro_ccitt.specs.Space.{most_room};
 ghost use Rattle.hayro_ccitt.specs.Work.{CountsWork};
 ghost use Rattle.hayro_ccitt.specs.RowsRead.{ReadsNext, at_end_of_rows, ended};
 ghost use Rattle.hayro_ccitt.specs.RowCursors.{IsReadingOf, rows_over};
 
-use crate::bit_reader::{BitOrder, BitReader};
 use crate::context::DecoderContext;
 use crate::row_reader::{RowState, Stand, first_stand};
-use crate::settings::DecodeSettings;
 use crate::{DecodeError, Result};
+use fax_bits::DecodeSettings;
+use fax_bits::bit_reader::{BitOrder, at_place, placed_at};
 use std::alloc::Global;
 use std::marker::Model;
 
@@ -55,9 +56,10 @@ impl RowCursor {
         ensures none_read { IfOk result (λ rows. rows.held.taken ≡ 0) }
         ensures work { IfOk result (λ rows. CountsWork settings (bits_in order «data».now) rows.held.taken rows.ticks) }
         ensures only_memory { IsOkUnless result DecodeError.OutOfMemory }
+        ensures space { IfOk result (λ rows. rows.space ≡ 0) }
     {
         let mut ctx = DecoderContext::new(alloc, settings)?;
-        let mut reader = BitReader::at_place(data, order, 0);
+        let mut reader = at_place(data, order, 0);
         let stand = first_stand(&mut ctx, &mut reader);
         Ok(RowCursor {
             ctx,
@@ -77,11 +79,12 @@ impl RowCursor {
             → IsReadingOf (bits_in self.old.order «data».now) self.new }
         ensures settings { self.new.held.settings ≡ self.old.held.settings }
         ensures order { self.new.order ≡ self.old.order }
+        ensures most { self.new.space ≤ max self.old.space (2 * self.old.held.settings.columns + 66) }
     {
         if self.place > data.len() * 8 {
             return Err(DecodeError::UnexpectedEof);
         }
-        let mut reader = BitReader::placed_at(data, self.order, self.place);
+        let mut reader = placed_at(data, self.order, self.place);
         let answer = self.rows.next_row(&mut self.ctx, &mut reader);
         self.place = reader.bit_pos();
         answer
@@ -107,6 +110,9 @@ impl RowCursor {
             → (self.new ≡ self.old) × (result ≡ at_end_of_rows end) }
         ensures settings { self.new.held.settings ≡ self.old.held.settings }
         ensures order { self.new.order ≡ self.old.order }
+        ensures space { IsReadingOf (bits_in self.old.order «data».now) self.old
+            → self.new.space ≤ most_room self.new.held.settings (bits_in self.old.order «data».now) }
+        ensures most { self.new.space ≤ max self.old.space (2 * self.old.held.settings.columns + 66) }
     {
         match self.rows.stand {
             Stand::AtEnd => Ok(false),
@@ -140,7 +146,7 @@ impl RowCursor {
     }
 
     /// Returns the offset in bits at which the line of the last row begins, after its EOL; in two-dimensional data of Group
-    /// 3 that of its tag bit (T.4 section 4.2.2).
+    /// 3 that of its tag bit (T.4, 4.2.2).
     pub fn line_start(&self) -> usize
         ensures { result ≡ self.now.line_start }
     {
@@ -148,7 +154,7 @@ impl RowCursor {
     }
 
     /// Returns the fault of the last row if its line was damaged and repaired, as in a lenient reading of Group 3 with EOLs
-    /// (T.4 section 4.1.2); `None` if the line was whole, and before the first row.
+    /// (T.4, 4.1.2); `None` if the line was whole, and before the first row.
     pub fn damage(&self) -> Option<DecodeError>
         ensures { result ≡ self.now.damage }
     {
@@ -162,12 +168,35 @@ impl RowCursor {
         self.ctx.damaged_rows()
     }
 
-    /// Returns the number of rows read after which the EOL was missed (T.4 section 4.1.2): of the last row it is known when
+    /// Returns whether a run of the last row, or a vertical mode, goes beyond the row's end and was cut there, where a strict
+    /// reading fails (T.4, 4.1.1); false before the first row, and for a row that was repaired.
+    pub fn is_cut(&self) -> bool
+        ensures { result ≡ self.now.cut }
+    {
+        self.rows.cut
+    }
+
+    /// Returns the number of rows read in which a run was cut.
+    pub fn cut_rows(&self) -> u64
+        ensures { result ≡ self.now.held.repairs.cut }
+    {
+        self.ctx.cut_rows()
+    }
+
+    /// Returns the number of rows read after which the EOL was missed (T.4, 4.1.2): of the last row it is known when
     /// the next call of [`next_row`](RowCursor::next_row) returns.
     pub fn missed_eols(&self) -> u64
         ensures { result ≡ self.now.held.repairs.missed }
     {
         self.ctx.missed_eols()
+    }
+
+    /// Returns the offset in bits at which the last call of [`next_row`](RowCursor::next_row) missed an EOL (T.4, 4.1.2):
+    /// the first bit after the row that had been the last one before. `None` if none was missed there.
+    pub fn missed_eol(&self) -> Option<usize>
+        ensures { result ≡ self.now.missed }
+    {
+        self.rows.missed
     }
 
     /// Returns the number of bytes consumed so far, the last one rounded up.

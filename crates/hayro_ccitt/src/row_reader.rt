@@ -2,22 +2,28 @@
 
 ghost use Rattle.std.specs.Prelude.{sum_by, take, length, ◌≡◌, ◌≢◌, ◌≤◌, ◌+◌, ◌-◌, ◌/◌, ℕ, [], true, false, None, Some, Err};
 ghost use Rattle.std.specs.Prelude.{IfOk, OnOk};
-ghost use Rattle.std.specs.Prelude.{OnErr, IsOkUnless, Result, is_some};
+ghost use Rattle.std.specs.Prelude.{OnErr, IsOkUnless, Result, is_some, max, ◌*◌};
 ghost use Rattle.hayro_ccitt.specs.Bits.{BitsFit, bits_in, here};
 ghost use Rattle.hayro_ccitt.specs.Context.{fresh};
 ghost use Rattle.hayro_ccitt.specs.Rows.{changes};
-ghost use Rattle.hayro_ccitt.specs.Damage.{repairs_by_line, misses_by_line};
+ghost use Rattle.hayro_ccitt.specs.Damage.{repairs_by_line, cuts_by_line, misses_by_line};
+ghost use Rattle.hayro_ccitt.specs.PlainReading.{line_here};
+ghost use Rattle.hayro_ccitt.specs.Space.{most_room, most_stored, room_for};
 ghost use Rattle.hayro_ccitt.specs.Work.{CountsWork};
-ghost use Rattle.hayro_ccitt.specs.RowsRead.{damage_since, missed_since, start_after, ReaderStands, IsPaid, ReachesNextLine};
+ghost use Rattle.hayro_ccitt.specs.RowsRead.{damage_since, cut_since, missed_since, start_after, ReaderStands, IsPaid};
+ghost use Rattle.hayro_ccitt.specs.RowsRead.{ReachesNextLine};
 ghost use Rattle.hayro_ccitt.specs.RowsRead.{stand_after, line_after, is_at_line, at_end_of_rows, ended, seen, IsStanding};
+ghost use Rattle.hayro_ccitt.specs.PlainReading.{failed_at};
+ghost use Rattle.hayro_ccitt.specs.RowsRead.{RepeatsWhite};
+ghost use Rattle.std.specs.Prelude.{drop, Ok};
 ghost use Rattle.hayro_ccitt.specs.RowsRead.{IsStandingAtLine, DamageIsCounted, ReadsNext, gaps_passed, row_came};
 
-use crate::bit_reader::{BitOrder, BitReader};
 use crate::context::DecoderContext;
 use crate::group3::read_leading_eols;
-use crate::rows::{pass_gap, read_row};
-use crate::settings::{DecodeSettings, EncodingMode};
+use crate::rows::{limit_met, pass_gap, read_row};
 use crate::{DecodeError, Result};
+use fax_bits::bit_reader::{BitOrder, BitReader, bit_len, pass_one};
+use fax_bits::{DecodeSettings, EncodingMode};
 use std::alloc::Global;
 use std::marker::Model;
 
@@ -75,6 +81,14 @@ fn damage_since(ctx: &DecoderContext, damaged_rows: u64) -> Option<DecodeError>
     Some(ctx.last_fault())
 }
 
+/// Returns whether a run of the last row was cut: whether runs are cut in more rows now than before it.
+#[inline(always)]
+fn cut_since(ctx: &DecoderContext, cut_rows: u64) -> bool
+    ensures { result ≡ cut_since ctx.now.held.repairs cut_rows }
+{
+    ctx.cut_rows() != cut_rows
+}
+
 /// Returns the offset of a gap if its EOL was missed: if more EOLs are missed now than before it.
 fn missed_since(ctx: &DecoderContext, missed_eols: u64, gap_start: usize) -> Option<usize>
     ensures { result ≡ missed_since ctx.now.held.repairs missed_eols gap_start }
@@ -99,7 +113,7 @@ pub(crate) fn has_ended(stand: Stand) -> bool
     matches!(&stand, Stand::AtEnd | Stand::AtFault(_))
 }
 
-/// Passes what is before the first line: EOFB in Group 4, EOLs in Group 3 (T.6 section 2.4.1.1, T.4 section 4.1.2).
+/// Passes what is before the first line: EOFB in Group 4, EOLs in Group 3 (T.6, 2.4.1.1, T.4, 4.1.2).
 pub(crate) fn first_stand(ctx: &mut DecoderContext, reader: &mut BitReader<'_>) -> Stand
     requires fresh { ctx.old.held ≡ fresh ctx.old.held.settings }
     requires start { reader.old.place ≡ 0 }
@@ -109,10 +123,12 @@ pub(crate) fn first_stand(ctx: &mut DecoderContext, reader: &mut BitReader<'_>) 
     ensures same_bits { reader.new.bits ≡ reader.old.bits }
     ensures stands { ReaderStands result ctx.old.held.settings reader.old.bits ctx.new.held reader.new.place }
     ensures unfailed { (error : DecodeError) → ended result ≢ Some (Err error) }
+    ensures at_line { is_some (ended result) ≡ false → is_at_line result ≡ true }
     ensures paid { (from : ℕ) → ctx.old.ticks ≡ from
         → IsPaid from result ctx.old.held.settings reader.old.bits ctx.new.held reader.new.place ctx.new.ticks }
     ensures counts { ctx.old.ticks ≤ ctx.new.ticks }
     ensures no_eols { ctx.old.held.settings.encoding ≡ EncodingMode.Group4 → ctx.new.held.has_eols ≡ false }
+    ensures space { ctx.new.space ≡ ctx.old.space }
 {
     if ctx.settings().columns == 0 {
         return Stand::AtEnd;
@@ -139,7 +155,7 @@ fn has_room(ctx: &DecoderContext, reader: &BitReader<'_>) -> bool
         → ctx.now.held.repairs.rows ≤ ctx.now.held.taken → result ≡ true }
 {
     let rows = ctx.decoded_rows();
-    rows <= reader.bit_len() as u64 + 1 && ctx.damaged_rows() <= rows
+    rows <= bit_len(reader) as u64 + 1 && ctx.damaged_rows() <= rows
 }
 
 /// What a reading keeps between two rows, besides its context and the bits.
@@ -147,6 +163,7 @@ fn has_room(ctx: &DecoderContext, reader: &BitReader<'_>) -> bool
 pub(crate) struct RowState {
     pub(crate) started_at: usize,
     pub(crate) damage: Option<DecodeError>,
+    pub(crate) cut: bool,
     pub(crate) missed: Option<usize>,
     pub(crate) stand: Stand,
 }
@@ -154,11 +171,12 @@ pub(crate) struct RowState {
 impl RowState {
     /// Creates the state before the first row, where what is before it was passed.
     pub(crate) fn new(stand: Stand) -> RowState
-        ensures { result ≡ record { started_at = 0; damage = None; missed = None; stand = stand } }
+        ensures { result ≡ record { started_at = 0; damage = None; cut = false; missed = None; stand = stand } }
     {
         RowState {
             started_at: 0,
             damage: None,
+            cut: false,
             missed: None,
             stand,
         }
@@ -179,6 +197,7 @@ impl RowState {
         ensures same_bits { reader.new.bits ≡ reader.old.bits }
         ensures fails { OnErr result (length reader.new.bits - length (here reader.new) ≡ self.new.started_at) }
         ensures unsought { ctx.old.held.has_eols ≡ false → ctx.new.held.has_eols ≡ false }
+        ensures space { ctx.new.space ≡ ctx.old.space }
     {
         if is_at_line(self.stand) {
             return Ok(true);
@@ -214,12 +233,18 @@ impl RowState {
         ensures put_back { OnErr result (reader.new ≡ reader.old) }
         ensures started { (self.new.started_at ≡ reader.old.place) × (reader.old.place ≤ length reader.old.bits) }
         ensures has_eols { ctx.new.held.has_eols ≡ ctx.old.held.has_eols }
+        ensures space { ctx.new.space ≤ max ctx.old.space (room_for (most_stored ctx.old.held.reference
+            (line_here ctx.old.held.settings ctx.old.held.reference (here reader.old)))) }
     {
         self.started_at = reader.bit_pos();
         let damaged_rows = ctx.damaged_rows();
+        let cut_rows = ctx.cut_rows();
         match read_row(ctx, reader) {
             Ok(()) => {
+                // An offset is known to be within the data once it is read.
+                let _place = reader.bit_pos();
                 self.damage = damage_since(ctx, damaged_rows);
+                self.cut = cut_since(ctx, cut_rows);
                 self.stand = Stand::BehindRow;
                 Ok(())
             }
@@ -228,6 +253,49 @@ impl RowState {
                 Err(error)
             }
         }
+    }
+
+    /// If each one that is next is a white row, reads such a row, and returns whether one is here; otherwise nothing is read.
+    #[inline(always)]
+    pub(crate) fn read_white_row(
+        &mut self,
+        repeats: bool,
+        ctx: &mut DecoderContext,
+        reader: &mut BitReader<'_>,
+    ) -> bool
+        requires behind_row { self.old.stand ≡ Stand.BehindRow }
+        requires white { repeats ≡ true → RepeatsWhite ctx.old.held × (ctx.old.held.has_eols ≡ false) }
+        requires rows { ctx.old.held.taken ≤ length reader.old.bits + 2 }
+        ensures reads { (from : ℕ) → IsStanding from self.old ctx.old reader.old → result ≡ true
+            → ReadsNext (seen self.old ctx.old reader.old) (seen self.new ctx.new reader.new) (Ok true) }
+        ensures stands { (from : ℕ) → IsStanding from self.old ctx.old reader.old → IsStanding from self.new ctx.new reader.new }
+        ensures starts { (from : ℕ) → IsStanding from self.old ctx.old reader.old → result ≡ true
+            → length reader.old.bits - length (drop self.new.started_at reader.old.bits)
+            ≡ failed_at ctx.old.held.settings reader.old.bits ctx.old.held.taken }
+        ensures behind_row { self.new.stand ≡ Stand.BehindRow }
+        ensures space { ctx.new.space ≡ ctx.old.space }
+        ensures kept { ctx.new.held ≡ record ctx.old.held { taken = ctx.new.held.taken } }
+        ensures same_bits { reader.new.bits ≡ reader.old.bits }
+        ensures within { result ≡ true → self.new.started_at ≤ length reader.old.bits }
+        ensures none { result ≡ false → ctx.new.held.taken ≡ ctx.old.held.taken }
+    {
+        if !repeats {
+            return false;
+        }
+        if limit_met(ctx) {
+            return false;
+        }
+        let start = reader.bit_pos();
+        if !pass_one(reader) {
+            return false;
+        }
+        ctx.take_row_again();
+        self.started_at = start;
+        self.damage = None;
+        self.cut = false;
+        self.missed = None;
+        self.stand = Stand::BehindRow;
+        true
     }
 
     /// Reads the next row, and returns whether there was one. It is `UnexpectedEof` if more rows were read than these bits
@@ -243,6 +311,9 @@ impl RowState {
         ensures stands { IsStanding 0 self.old ctx.old reader.old → IsStanding 0 self.new ctx.new reader.new }
         ensures settings { ctx.new.held.settings ≡ ctx.old.held.settings }
         ensures same_bits { reader.new.bits ≡ reader.old.bits }
+        ensures space { IsStanding 0 self.old ctx.old reader.old
+            → ctx.new.space ≤ max ctx.old.space (most_room ctx.old.held.settings reader.old.bits) }
+        ensures most { ctx.new.space ≤ max ctx.old.space (2 * ctx.old.held.settings.columns + 66) }
     {
         if !self.come_to_line(ctx, reader)? {
             return Ok(false);
@@ -309,6 +380,7 @@ impl<'a> RowReader<'a> {
         ensures unfailed { IfOk result (λ rows. (error : DecodeError) → rows.end ≢ Some (Err error)) }
         ensures work { IfOk result (λ rows. CountsWork rows.settings rows.bits rows.taken rows.ticks) }
         ensures only_memory { IsOkUnless result DecodeError.OutOfMemory }
+        ensures space { IfOk result (λ rows. rows.space ≡ 0) }
     {
         let mut ctx = DecoderContext::new(alloc, settings)?;
         let mut reader = match order {
@@ -335,6 +407,7 @@ impl<'a> RowReader<'a> {
         ensures work { CountsWork self.new.settings self.new.bits self.new.taken self.new.ticks }
         ensures ended { (end : Result (Unit {0}) DecodeError) → self.old.end ≡ Some end
             → (self.new ≡ self.old) × (result ≡ at_end_of_rows end) }
+        ensures space { self.new.space ≤ most_room self.new.settings self.new.bits }
     {
         match self.rows.stand {
             Stand::AtEnd => Ok(false),
@@ -359,7 +432,7 @@ impl<'a> RowReader<'a> {
     }
 
     /// Returns the offset in bits at which the line of the last row begins, after its EOL; in two-dimensional data of Group
-    /// 3 that of its tag bit (T.4 section 4.2.2). After an error, returns that of the line that couldn't be read, or the
+    /// 3 that of its tag bit (T.4, 4.2.2). After an error, returns that of the line that couldn't be read, or the
     /// offset at which strict data lacks an EOL.
     pub fn line_start(&self) -> usize
         ensures { result ≡ self.now.line_start }
@@ -368,7 +441,7 @@ impl<'a> RowReader<'a> {
     }
 
     /// Returns the fault of the last row if its line was damaged and repaired, as in a lenient reading of Group 3 with EOLs
-    /// (T.4 section 4.1.2); `None` if the line was whole, and before the first row.
+    /// (T.4, 4.1.2); `None` if the line was whole, and before the first row.
     pub fn damage(&self) -> Option<DecodeError>
         ensures { result ≡ self.now.damage }
     {
@@ -382,7 +455,22 @@ impl<'a> RowReader<'a> {
         self.ctx.damaged_rows()
     }
 
-    /// Returns the number of rows read after which the EOL was missed (T.4 section 4.1.2), as
+    /// Returns whether a run of the last row, or a vertical mode, goes beyond the row's end and was cut there, where a strict
+    /// reading fails (T.4, 4.1.1); false before the first row, and for a row that was repaired.
+    pub fn is_cut(&self) -> bool
+        ensures { result ≡ self.now.cut }
+    {
+        self.rows.cut
+    }
+
+    /// Returns the number of rows read in which a run was cut, as [`DecoderContext::cut_rows`] does.
+    pub fn cut_rows(&self) -> u64
+        ensures { result ≡ sum_by length (take self.now.taken (cuts_by_line self.now.settings self.now.bits)) }
+    {
+        self.ctx.cut_rows()
+    }
+
+    /// Returns the number of rows read after which the EOL was missed (T.4, 4.1.2), as
     /// [`DecoderContext::missed_eols`] does: of the last row it is known when the next call of
     /// [`next_row`](RowReader::next_row) returns.
     pub fn missed_eols(&self) -> u64
@@ -391,7 +479,7 @@ impl<'a> RowReader<'a> {
         self.ctx.missed_eols()
     }
 
-    /// Returns the offset in bits at which the last call of [`next_row`](RowReader::next_row) missed an EOL (T.4 section 4.1.2):
+    /// Returns the offset in bits at which the last call of [`next_row`](RowReader::next_row) missed an EOL (T.4, 4.1.2):
     /// the first bit after the row that had been the last one before. `None` if none was missed there.
     pub fn missed_eol(&self) -> Option<usize>
         ensures { result ≡ self.now.missed }
@@ -399,7 +487,8 @@ impl<'a> RowReader<'a> {
         self.rows.missed
     }
 
-    /// Returns the number of bytes consumed so far, the last one rounded up.
+    /// Returns the number of bytes consumed so far, the last one rounded up: after a row those up to its end, where a repaired
+    /// line ends where it begins, and at the end of the image those that [`decode`](crate::decode) returns.
     pub fn bytes_read(&self) -> usize
         ensures { result ≡ (self.now.place + 7) / 8 }
     {

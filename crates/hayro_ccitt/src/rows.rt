@@ -1,24 +1,25 @@
-//! A row and the gap after it, in every encoding (T.4 section 4.1, T.6 section 2).
+//! A row and the gap after it, in every encoding (T.4, 4.1, T.6, 2).
 
 ghost use Rattle.std.specs.Prelude.{false, ◌≡◌, ◌≢◌, ◌<◌, ◌≤◌, ◌+◌, ◌*◌, Err, OnOk, OnErr, IfOk, IfErr, IsOkUnless, true, ◌||◌};
-ghost use Rattle.std.specs.Prelude.{[], length, ◌^◌};
+ghost use Rattle.std.specs.Prelude.{[], length, ◌^◌, max};
 ghost use Rattle.hayro_ccitt.specs.Answers.{IsRepairable, RepairStoresChange};
 ghost use Rattle.hayro_ccitt.specs.Bits.{here};
 ghost use Rattle.hayro_ccitt.specs.Context.{after_repair};
-ghost use Rattle.hayro_ccitt.specs.Decoding.{ReadsLine, TakesOneRow, gap_said, repairs_behind, with_row_taken};
+ghost use Rattle.hayro_ccitt.specs.Decoding.{ReadsLine, TakesOneRow, cuts_with, gap_said, repairs_behind, with_row_taken};
 ghost use Rattle.hayro_ccitt.specs.PlainReading.{eols_by, eols_here, is_end_of_block, is_over, gap_behind_row, row_of_line};
 ghost use Rattle.hayro_ccitt.specs.PlainReading.{behind_row, limit_met, line_here};
 ghost use Rattle.hayro_ccitt.specs.Rows.{changes};
+ghost use Rattle.hayro_ccitt.specs.Space.{room_for, most_stored};
 ghost use Rattle.hayro_ccitt.specs.Ticks.{looked, looked_ahead, tag_tests};
 ghost use Rattle.hayro_ccitt.specs.Work.{found_here};
 
-use crate::bit_reader::BitReader;
 use crate::context::{DecoderContext, decode_1d_line, decode_2d_line};
 use crate::group3::recover;
 use crate::{DecodeError, EncodingMode, Result};
+use fax_bits::bit_reader::{BitReader, at_bit, copy};
 
 /// Returns whether the row limit is met; a limit of 0 is no limit.
-fn limit_met(ctx: &DecoderContext) -> bool
+pub(crate) fn limit_met(ctx: &DecoderContext) -> bool
     ensures { result ≡ limit_met ctx.now.held.settings ctx.now.held.taken }
 {
     let limit = u64::from(ctx.settings().rows);
@@ -44,9 +45,31 @@ fn take_row(ctx: &mut DecoderContext, reader: &mut BitReader<'_>)
     ensures rest { here reader.new ≡ behind_row ctx.old.held.settings ctx.old.held.has_eols (here reader.old) }
     ensures same_bits { reader.new.bits ≡ reader.old.bits }
     ensures count { ctx.new.ticks ≡ ctx.old.ticks }
+    ensures space { ctx.new.space ≡ ctx.old.space }
+    ensures width { length ctx.new.held.reference ≡ ctx.old.held.settings.columns }
 {
     ctx.end_line();
     align_row(ctx, reader);
+}
+
+/// Takes the row of a whole line, as `take_row` does, and counts it if a run of it was cut.
+#[inline(always)]
+fn take_whole_row(ctx: &mut DecoderContext, reader: &mut BitReader<'_>)
+    requires full { ctx.old.held.settings.columns ≤ length ctx.old.held.front }
+    requires rows { ctx.old.held.taken + 1 < 2 ^ 64 }
+    ensures taken { ctx.new.held ≡ record (with_row_taken ctx.old.held ctx.old.held.front) {
+      repairs = cuts_with ctx.old.cut ctx.old.held.taken ctx.old.held.repairs;
+    } }
+    ensures rest { here reader.new ≡ behind_row ctx.old.held.settings ctx.old.held.has_eols (here reader.old) }
+    ensures width { length ctx.new.held.reference ≡ ctx.old.held.settings.columns }
+    ensures space { ctx.new.space ≡ ctx.old.space }
+    ensures same_bits { reader.new.bits ≡ reader.old.bits }
+    ensures count { ctx.new.ticks ≡ ctx.old.ticks }
+{
+    if ctx.is_cut() {
+        ctx.count_cut_row();
+    }
+    take_row(ctx, reader);
 }
 
 /// Takes the row of a line that was repaired after this fault, as `take_row` does, and counts it as damaged.
@@ -65,12 +88,14 @@ fn take_damaged_row(ctx: &mut DecoderContext, reader: &mut BitReader<'_>, fault:
     ensures rest { here reader.new ≡ behind_row ctx.old.held.settings ctx.old.held.has_eols (here reader.old) }
     ensures same_bits { reader.new.bits ≡ reader.old.bits }
     ensures count { ctx.new.ticks ≡ ctx.old.ticks }
+    ensures space { ctx.new.space ≡ ctx.old.space }
+    ensures width { length ctx.new.held.reference ≡ ctx.old.held.settings.columns }
 {
     take_row(ctx, reader);
     ctx.count_damaged_row(fault);
 }
 
-/// Reads the EOLs of T.6 data here, with `end_of_block` at most the two of EOFB (T.6 section 2.4.1.1), and returns their
+/// Reads the EOLs of T.6 data here, with `end_of_block` at most the two of EOFB (T.6, 2.4.1.1), and returns their
 /// number.
 #[inline(always)]
 fn read_eols_of_t6(ctx: &mut DecoderContext, reader: &mut BitReader<'_>) -> usize
@@ -84,6 +109,7 @@ fn read_eols_of_t6(ctx: &mut DecoderContext, reader: &mut BitReader<'_>) -> usiz
     ensures work { ctx.new.ticks + length (here reader.new)
         ≤ ctx.old.ticks + length (here reader.old) + looked (here reader.new) }
     ensures forward { length (here reader.new) ≤ length (here reader.old) }
+    ensures space { ctx.new.space ≡ ctx.old.space }
 {
     if ctx.settings().end_of_block {
         reader.read_eols(2, ctx.ticks())
@@ -104,6 +130,7 @@ fn read_eols(ctx: &mut DecoderContext, reader: &mut BitReader<'_>) -> usize
     ensures work { ctx.new.ticks + 2 * length (here reader.new) ≤ ctx.old.ticks + 2 * length (here reader.old)
         + tag_tests ctx.old.held.settings.encoding + looked_ahead ctx.old.held.settings.encoding (here reader.new) }
     ensures work_none { result ≡ 0 → ctx.new.ticks ≡ ctx.old.ticks + looked (here reader.old) }
+    ensures space { ctx.new.space ≡ ctx.old.space }
 {
     match ctx.settings().encoding {
         EncodingMode::Group3_2D => reader.read_tagged_eols(ctx.ticks()),
@@ -112,7 +139,7 @@ fn read_eols(ctx: &mut DecoderContext, reader: &mut BitReader<'_>) -> usize
     }
 }
 
-/// Returns whether this number of EOLs ends the image: EOFB (T.6 section 2.4.1.1) or RTC (T.4 section 4.1.4), with
+/// Returns whether this number of EOLs ends the image: EOFB (T.6, 2.4.1.1) or RTC (T.4, 4.1.4), with
 /// `end_of_block`.
 #[inline(always)]
 fn is_end_of_block(ctx: &DecoderContext, count: usize) -> bool
@@ -138,7 +165,7 @@ fn is_over(ctx: &DecoderContext, reader: &BitReader<'_>, count: usize) -> bool
 }
 
 /// Passes the gap before a line, and returns whether the image ends there: at EOFB or RTC with `end_of_block`, at the row
-/// limit or at the end of the data (T.4 sections 4.1.2 and 4.1.4, T.6 section 2.4.1.1). It counts the EOLs there. If there
+/// limit or at the end of the data (T.4, 4.1.2 and 4.1.4, T.6, 2.4.1.1). It counts the EOLs there. If there
 /// are none, although the data has EOLs, strict data fails with `InvalidCode`; otherwise it searches for the next one, and
 /// counts it as missed unless the last row was repaired. If none is left, it no longer expects EOLs. It allocates nothing.
 /// Each bit that is looked at is a tick: a bit that is passed counts at most four times.
@@ -160,6 +187,7 @@ pub(crate) fn pass_gap(ctx: &mut DecoderContext, reader: &mut BitReader<'_>) -> 
     ensures work_given_up { OnOk result (ctx.new.held.has_eols ≢ ctx.old.held.has_eols
         → ctx.new.ticks ≤ ctx.old.ticks + 2 * length (here reader.old)) }
     ensures work_refused { OnErr result (ctx.new.ticks ≡ ctx.old.ticks + looked (here reader.old)) }
+    ensures space { ctx.new.space ≡ ctx.old.space }
 {
     let count = read_eols(ctx, reader);
     if count > 0 || !ctx.has_eols() || limit_met(ctx) || reader.at_end() {
@@ -186,7 +214,7 @@ fn decode_2d_line_apart(ctx: &mut DecoderContext, reader: &mut BitReader<'_>) ->
     decode_2d_line(ctx, reader)
 }
 
-/// Decodes a line of the kind that its tag selects (T.4 section 4.2.2). A missing tag is `UnexpectedEof`, with nothing
+/// Decodes a line of the kind that its tag selects (T.4, 4.2.2). A missing tag is `UnexpectedEof`, with nothing
 /// painted.
 #[inline(always)]
 fn decode_tagged_line(ctx: &mut DecoderContext, reader: &mut BitReader<'_>) -> Result<()>
@@ -227,16 +255,17 @@ fn recover_from(
 ) -> Result<()>
     requires within { line_start ≤ length reader.old.bits }
     ensures only_damage { OnOk result (IsRepairable ctx.old.held error) }
-    ensures frame { OnOk result (ctx.new ≡ record ctx.old { held = after_repair ctx.old.held }) }
+    ensures frame { OnOk result (ctx.new ≡ record ctx.old { held = after_repair ctx.old.held; space = ctx.new.space }) }
     ensures put_back { reader.new ≡ record reader.old { place = line_start } }
     ensures only_memory { IsRepairable ctx.old.held error → IsOkUnless result DecodeError.OutOfMemory }
     ensures memory { IsRepairable ctx.old.held error → result ≡ Err DecodeError.OutOfMemory
         → RepairStoresChange ctx.old.held }
     ensures otherwise { (IsRepairable ctx.old.held error → ⊥) → result ≡ Err error }
     ensures unchanged { OnErr result (ctx.new ≡ ctx.old) }
+    ensures space { ctx.new.space ≤ max ctx.old.space (room_for (length (changes ctx.old.held.front))) }
 {
-    *reader = reader.at_bit(line_start);
-    let start = reader.copy();
+    *reader = at_bit(reader, line_start);
+    let start = copy(reader);
     recover(ctx, reader, start, error)
 }
 
@@ -248,6 +277,7 @@ pub(crate) fn read_row(ctx: &mut DecoderContext, reader: &mut BitReader<'_>) -> 
     requires damaged { ctx.old.held.repairs.rows ≤ ctx.old.held.taken }
     requires begun { ctx.old.held.front ≡ [] }
     ensures row { TakesOneRow (line_here ctx.old.held.settings ctx.old.held.reference (here reader.old))
+        (line_here (record ctx.old.held.settings { strict = true }) ctx.old.held.reference (here reader.old))
         (row_of_line ctx.old.held.settings ctx.old.held.has_eols (here reader.old)
         (line_here ctx.old.held.settings ctx.old.held.reference (here reader.old)))
         ctx.old.held ctx.new.held result (here reader.new) }
@@ -261,6 +291,9 @@ pub(crate) fn read_row(ctx: &mut DecoderContext, reader: &mut BitReader<'_>) -> 
         + length (changes ctx.old.held.reference) }
     ensures stored { OnOk result (length (changes ctx.new.held.reference)
         ≤ length (found_here ctx.old.held.settings ctx.old.held.reference (here reader.old)) + 1) }
+    ensures width { OnOk result (length ctx.new.held.reference ≡ ctx.old.held.settings.columns) }
+    ensures space { ctx.new.space ≤ max ctx.old.space (room_for (most_stored ctx.old.held.reference
+        (line_here ctx.old.held.settings ctx.old.held.reference (here reader.old)))) }
 {
     let line_start = reader.bit_pos();
     if let Err(error) = decode_line(ctx, reader) {
@@ -268,6 +301,6 @@ pub(crate) fn read_row(ctx: &mut DecoderContext, reader: &mut BitReader<'_>) -> 
         take_damaged_row(ctx, reader, error);
         return Ok(());
     }
-    take_row(ctx, reader);
+    take_whole_row(ctx, reader);
     Ok(())
 }

@@ -1,7 +1,8 @@
 //! Runs whose code words are all in the window, drawn with the line's own values. The functions of `context` draw the
 //! others.
 
-ghost use Rattle.std.specs.Prelude.{vec_len, vec_capacity, get_or, ◌≡◌, ◌≢◌, ◌+◌, ◌-◌, ◌%◌, ◌<◌, ◌≤◌, ◌⊎◌, ℕ, IfSome, IfNone};
+ghost use Rattle.std.specs.Prelude.{vec_len, vec_capacity, get_or, ◌≡◌, ◌≢◌, ◌+◌, ◌-◌, ◌%◌, ◌<◌, ◌≤◌, ◌⊎◌, ℕ, Bool, IfSome};
+ghost use Rattle.std.specs.Prelude.{IfNone};
 ghost use Rattle.std.specs.Prelude.{min, true, false, length, ◌++◌, ◌∷◌, []};
 ghost use Rattle.hayro_ccitt.specs.Bits.{here};
 ghost use Rattle.hayro_ccitt.specs.LookUps.{AreEntries};
@@ -9,34 +10,16 @@ ghost use Rattle.hayro_ccitt.specs.Rows.{AreChanges, pixels, opposite};
 ghost use Rattle.hayro_ccitt.specs.UsualModes.{AreEnded, changes_in, IsNear, IsB1};
 ghost use Rattle.hayro_ccitt.specs.Runs.{codes_of};
 ghost use Rattle.hayro_ccitt.specs.UsualRuns.{IsWordHere, IsRunHere, IsShort, AreTwoRunsHere, IsOpen, CanFollow, IsReached};
-ghost use Rattle.hayro_ccitt.specs.UsualRuns.{GoesOn, RunGoesOn, pen_at};
+ghost use Rattle.hayro_ccitt.specs.UsualRuns.{GoesOn, pen_at};
 ghost use Rattle.hayro_ccitt.specs.Window.{moved};
 
-use crate::bit_reader::BitsAtHand;
-use crate::codes::{Color, Ticks};
-use crate::pairs::pairs_of;
-use crate::settings::DecodeSettings;
-use crate::tables::{LOOKUP_INVALID, Tables};
+use fax_bits::DecodeSettings;
+use fax_bits::bit_reader::BitsAtHand;
+use fax_bits::codes::{Color, Ticks, tick_times};
+use fax_bits::pairs::pairs_of;
+use fax_bits::tables::Tables;
+use fax_bits::words_at_hand::word_at_hand;
 use std::mem;
-
-/// Returns the run and the number of bits of the code word at an offset in the window; the run is `LOOKUP_INVALID` if there
-/// is none.
-#[inline(always)]
-pub(crate) fn word_at_hand(
-    hand: &BitsAtHand<'_>,
-    skip: usize,
-    _color: Color,
-    words: &[u16],
-) -> (u32, usize)
-    requires within { skip + 13 ≤ hand.now.left }
-    requires entries { AreEntries (codes_of _color) words.now }
-    ensures word { result.0 ≢ 4095 → IsWordHere _color (moved skip hand.now.at) result.0 result.1 }
-    ensures below { result.0 ≤ 4095 }
-    ensures narrow { result.1 ≤ 15 }
-{
-    let entry = words[hand.thirteen(skip)];
-    (u32::from(entry & LOOKUP_INVALID), usize::from(entry >> 12))
-}
 
 /// Returns the run at an offset in the window: its pixels, its bits and its number of code words. Returns `None` if it is
 /// neither a terminating word nor a make-up word and a terminating word.
@@ -113,14 +96,6 @@ fn has_room_for_pair(changes: &Vec<u32>) -> bool
     ensures { result ≡ true → vec_len changes.now + 2 ≤ vec_capacity changes.now }
 {
     changes.len() + 2 <= changes.capacity()
-}
-
-/// Returns whether a run is no fault with this much room: it fits, or the reading is lenient.
-#[inline(always)]
-fn fits(run: u32, room: u32, strict: bool) -> bool
-    ensures { result ≡ true → (run ≤ room) ⊎ (strict ≡ false) }
-{
-    run <= room || !strict
 }
 
 /// Fills the window if it has fewer than twelve bits; returns false if it can't be filled.
@@ -218,10 +193,11 @@ fn draw_both(
     ensures taken { IsReached settings.columns result.0 result.1 row.new.items }
     ensures place { result.0 ≡ painted + runs.first + min runs.second (settings.columns - (painted + runs.first)) }
     ensures moved { hand.new.at ≡ moved runs.width hand.old.at }
+    ensures space { vec_capacity row.new ≡ vec_capacity row.old }
 {
     let place = painted + runs.first;
     hand.pass(runs.width);
-    ticks.tick_times(runs.words);
+    tick_times(ticks, runs.words);
     turn_at(row, place);
     if runs.first + runs.second >= settings.columns - painted {
         return (settings.columns, Color::White);
@@ -249,6 +225,7 @@ fn draw_pair(
     ensures same_bits { hand.new.at.bits ≡ hand.old.at.bits }
     ensures onward { hand.old.at.place ≤ hand.new.at.place }
     ensures left { IfNone result ((hand.new.at ≡ hand.old.at) × (row.new.items ≡ row.old.items) × (ticks.new ≡ ticks.old)) }
+    ensures space { vec_capacity row.new ≡ vec_capacity row.old }
 {
     if !has_pair(hand) {
         return None;
@@ -285,15 +262,17 @@ pub(crate) fn draw_two_runs(
     ensures same_bits { hand.new.at.bits ≡ hand.old.at.bits }
     ensures onward { hand.old.at.place ≤ hand.new.at.place }
     ensures left { IfNone result ((hand.new.at ≡ hand.old.at) × (row.new.items ≡ row.old.items) × (ticks.new ≡ ticks.old)) }
+    ensures space { vec_capacity row.new ≡ vec_capacity row.old }
 {
     let (first, width, words) = run_at_hand(hand, 0, Color::White, tables.lookup(Color::White))?;
     let room = settings.columns - painted;
-    if !fits(first, room, settings.strict) {
+    // A run that is cut is left to the plain calls.
+    if first > room {
         return None;
     }
-    if first >= room {
+    if first == room {
         hand.pass(width);
-        ticks.tick_times(words);
+        tick_times(ticks, words);
         return Some((settings.columns, Color::Black));
     }
     if !is_next(row, first) {
@@ -311,7 +290,7 @@ pub(crate) fn draw_two_runs(
     if second == 0 {
         return None;
     }
-    if !fits(second, room - first, settings.strict) {
+    if second > room - first {
         return None;
     }
     let runs = TwoRuns {
@@ -341,6 +320,7 @@ fn draw_pairs(
     ensures forward { painted ≤ result.0 }
     ensures same_bits { hand.new.at.bits ≡ hand.old.at.bits }
     ensures onward { hand.old.at.place ≤ hand.new.at.place }
+    ensures space { vec_capacity row.new ≡ vec_capacity row.old }
 {
     let mut place = painted;
     'runs: loop {
@@ -380,6 +360,7 @@ pub(crate) fn draw_runs(
     ensures forward { painted ≤ result.0 }
     ensures same_bits { hand.new.at.bits ≡ hand.old.at.bits }
     ensures onward { hand.old.at.place ≤ hand.new.at.place }
+    ensures space { vec_capacity row.new ≡ vec_capacity row.old }
 {
     let mut own = Vec::new(*row.allocator());
     mem::swap(row, &mut own);
@@ -388,87 +369,18 @@ pub(crate) fn draw_runs(
     reached
 }
 
-/// Fills the window if it has fewer than 28 bits; returns false if it can't be filled.
-#[inline(always)]
-fn has_two_words(hand: &mut BitsAtHand<'_>) -> bool
-    ensures same { hand.new.at ≡ hand.old.at }
-    ensures enough { result ≡ true → 28 ≤ hand.new.left }
-{
-    if hand.left() >= 28 {
-        return true;
-    }
-    hand.refill()
-}
-
-/// Passes a make-up word of a run whose words before it sum to `total`, and returns the sum with it; or `None`, passing
-/// nothing, if none is at hand or the sum may exceed 32 bits.
-#[inline(always)]
-fn pass_makeup_word(
-    hand: &mut BitsAtHand<'_>,
-    color: Color,
-    words: &[u16],
-    total: u32,
-    ticks: &mut Ticks,
-) -> Option<u32>
-    requires entries { AreEntries (codes_of color) words.now }
-    ensures on { IfSome result (λ sum. RunGoesOn color total (here hand.old.at) sum (here hand.new.at) ticks.old ticks.new) }
-    ensures shorter { IfSome result (λ sum. length (here hand.new.at) < length (here hand.old.at)) }
-    ensures same_bits { hand.new.at.bits ≡ hand.old.at.bits }
-    ensures left { IfNone result ((hand.new.at ≡ hand.old.at) × (ticks.new ≡ ticks.old)) }
-{
-    if !has_two_words(hand) {
-        return None;
-    }
-    let (run, width) = word_at_hand(hand, 0, color, words);
-    if run < 64 {
-        return None;
-    }
-    if run == 4095 {
-        return None;
-    }
-    if total > u32::MAX - 4095 {
-        return None;
-    }
-    hand.pass(width);
-    ticks.tick();
-    Some(total + run)
-}
-
-/// Passes the make-up words at hand of a run whose words before them sum to `start`, and returns the sum with them.
-#[inline(always)]
-pub(crate) fn pass_makeup_words(
-    hand: &mut BitsAtHand<'_>,
-    color: Color,
-    words: &[u16],
-    start: u32,
-    ticks: &mut Ticks,
-) -> u32
-    requires entries { AreEntries (codes_of color) words.now }
-    ensures on { RunGoesOn color start (here hand.old.at) result (here hand.new.at) ticks.old ticks.new }
-    ensures same_bits { hand.new.at.bits ≡ hand.old.at.bits }
-{
-    let mut total = start;
-    'words: loop {
-        match pass_makeup_word(hand, color, words, total, ticks) {
-            None => return total,
-            Some(sum) => total = sum,
-        }
-    }
-}
-
 /// Passes a white row: one run as long as the row. Returns whether there is one in the window; otherwise nothing changes.
 #[inline(always)]
 pub(crate) fn pass_white_row(
     hand: &mut BitsAtHand<'_>,
     columns: u32,
-    strict: bool,
     white: &[u16],
     ticks: &mut Ticks,
 ) -> bool
     requires open { 0 < columns }
     requires within { 32 ≤ hand.old.left }
     requires white { AreEntries (codes_of Color.White) white.now }
-    ensures drawn { result ≡ true → GoesOn strict columns (pen_at 0 [] Color.White hand.old.at)
+    ensures drawn { result ≡ true → (strict : Bool) → GoesOn strict columns (pen_at 0 [] Color.White hand.old.at)
         (pen_at columns [] Color.Black hand.new.at) ticks.old ticks.new }
     ensures same_bits { hand.new.at.bits ≡ hand.old.at.bits }
     ensures left { result ≡ false → (hand.new.at ≡ hand.old.at) × (ticks.new ≡ ticks.old) }
@@ -476,14 +388,11 @@ pub(crate) fn pass_white_row(
     let Some((run, width, words)) = run_at_hand(hand, 0, Color::White, white) else {
         return false;
     };
-    if run < columns {
-        return false;
-    }
-    if !fits(run, columns, strict) {
+    if run != columns {
         return false;
     }
     hand.pass(width);
-    ticks.tick_times(words);
+    tick_times(ticks, words);
     true
 }
 
@@ -496,6 +405,7 @@ pub(crate) fn take_up(changes: &mut Vec<u32>, painted: u32) -> bool
     ensures even { result ≡ true → length changes.new.items % 2 ≡ 0 }
     ensures same { pixels painted changes.new.items ≡ pixels painted changes.old.items }
     ensures left { result ≡ false → changes.new.items ≡ changes.old.items }
+    ensures space { vec_capacity changes.new ≡ vec_capacity changes.old }
 {
     if changes.len() % 2 == 0 {
         return true;
@@ -513,6 +423,8 @@ pub(crate) fn lay_down(changes: &mut Vec<u32>, painted: u32)
     requires { AreChanges (painted + 1) changes.old.items }
     ensures lawful { AreChanges painted changes.new.items }
     ensures same { pixels painted changes.new.items ≡ pixels painted changes.old.items }
+    ensures space { vec_capacity changes.new ≡ vec_capacity changes.old }
+    ensures few { vec_len changes.old ≤ vec_len changes.new + 1 }
 {
     if changes.is_empty() {
         return;

@@ -2,17 +2,19 @@
 use Rattle.std.specs.Prelude.{◌≡◌, ◌≤◌, ◌<◌, ℕ, ◌%◌, ◌*◌, ◌==◌, ◌&&◌, not, Bool, nat_lt, List, length, take, drop, Option, Some}
 use Rattle.std.specs.Prelude.{None, option_map, if◌then◌else◌}
 use Rattle.hayro_ccitt.specs.Bits.{Bits, bits_in}
-use Rattle.hayro_ccitt.specs.declared.bit_reader.BitOrder.{BitOrder}
-use Rattle.hayro_ccitt.specs.declared.bit_reader.BitOrder.TheVariants.{HighestFirst, LowestFirst}
-use Rattle.hayro_ccitt.specs.declared.settings.EncodingMode.{EncodingMode}
+use Rattle.hayro_ccitt.specs.BitOrder.{BitOrder}
+use Rattle.hayro_ccitt.specs.BitOrder.TheVariants.{HighestFirst, LowestFirst}
+use Rattle.hayro_ccitt.specs.EncodingMode.{EncodingMode}
 use Rattle.fax_encode.specs.Chosen.{filled_up}
 use Rattle.fax_encode.specs.Packed.{bytes_of_row, shown}
 use Rattle.fax_encode.specs.Settings.{chosen, names_encoding, needs_row}
+use Rattle.fax_encode.specs.declared.settings.Effort.TheVariants.{Procedure, Shortest}
 use Rattle.fax_encode.specs.declared.settings.EncodeSettings.{EncodeSettings as EncoderSettings}
 use Rattle.hayro_ccitt_c.specs.Settings.{encoding_of, has_flag}
 use Rattle.hayro_ccitt_c.specs.declared.encoding.EncodeSettings.{EncodeSettings}
 
--- the settings of the encoder with this encoding: flags as for decoding, and 32 if EOLs end at whole bytes
+-- the settings of the encoder with this encoding: flags as for decoding, 32 if EOLs end at whole bytes, and 64 if
+-- two-dimensional lines have the fewest bits
 abbrev pub encoder_with : EncodeSettings → EncodingMode → EncoderSettings
 encoder_with s encoding = record {
   encoding = encoding;
@@ -22,13 +24,14 @@ encoder_with s encoding = record {
   rows_are_byte_aligned = has_flag s.flags 4;
   end_of_block = has_flag s.flags 1;
   order = if has_flag s.flags 16 then LowestFirst else HighestFirst;
+  effort = if has_flag s.flags 64 then Shortest else Procedure;
 }
 
 -- the settings of the encoder that C passes, or None if they are invalid: an encoding or a flag that isn't known. 8 is a flag
 -- of decoding alone.
 abbrev pub encoder_of : EncodeSettings → Option EncoderSettings
 encoder_of s =
-    if nat_lt s.flags 64 && not (has_flag s.flags 8) then option_map (encoder_with s) (encoding_of s.encoding) else None
+    if nat_lt s.flags 128 && not (has_flag s.flags 8) then option_map (encoder_with s) (encoding_of s.encoding) else None
 
 -- settings, if they are valid and name an encoding of rows of at least one column
 abbrev pub naming : ℕ → Option EncoderSettings → Option EncoderSettings

@@ -1,12 +1,12 @@
 -- What C gets of a decoding.
 use Rattle.std.specs.Prelude.{sum_by, ◌≡◌, ◌≤◌, ◌<◌, ◌⊎◌, ℕ, ◌*◌, List, length, map, take, drop, sum, min, IfSome, Result, Ok}
 use Rattle.std.specs.Prelude.{Err}
-use Rattle.hayro_ccitt.specs.declared.error.DecodeError.{DecodeError}
-use Rattle.hayro_ccitt.specs.declared.error.DecodeError.TheVariants.{UnexpectedEof, InvalidCode, Overflow, OutOfMemory, Refused}
-use Rattle.hayro_ccitt.specs.declared.settings.DecodeSettings.{DecodeSettings}
+use Rattle.hayro_ccitt.specs.DecodeError.{DecodeError}
+use Rattle.hayro_ccitt.specs.DecodeError.TheVariants.{UnexpectedEof, InvalidCode, Overflow, OutOfMemory, Refused}
+use Rattle.hayro_ccitt.specs.DecodeSettings.{DecodeSettings}
 use Rattle.hayro_ccitt.specs.Answers.{PaintsBlack}
 use Rattle.hayro_ccitt.specs.Bits.{Bits, BitsFit, bits_of, bits_in}
-use Rattle.hayro_ccitt.specs.Damage.{repairs_by_line, misses_by_line}
+use Rattle.hayro_ccitt.specs.Damage.{repairs_by_line, cuts_by_line, misses_by_line}
 use Rattle.hayro_ccitt.specs.PlainReading.{plain, lines_of, failed_at}
 use Rattle.hayro_ccitt.specs.Rows.{changes}
 use Rattle.fax_encode.specs.Packed.{packed}
@@ -73,15 +73,20 @@ damaged_taken settings bits taken = sum_by length (take taken (repairs_by_line s
 abbrev pub missed_taken : DecodeSettings → Bits → ℕ → ℕ
 missed_taken settings bits taken = sum_by length (take taken (misses_by_line settings bits))
 
+-- the number of those in which a run was cut (T.4, 4.1.1 and 4.2.1.3)
+abbrev pub cut_taken : DecodeSettings → Bits → ℕ → ℕ
+cut_taken settings bits taken = sum_by length (take taken (cuts_by_line settings bits))
+
 -- what C gets
-abbrev pub outcome_of : ℕ → ℕ → ℕ → ℕ → ℕ → ℕ → Outcome
-outcome_of rows changes bytes_read damaged_rows fault_start missed_eols = record {
+abbrev pub outcome_of : ℕ → ℕ → ℕ → ℕ → ℕ → ℕ → ℕ → Outcome
+outcome_of rows changes bytes_read damaged_rows fault_start missed_eols cut_rows = record {
   rows = rows;
   changes = changes;
   bytes_read = bytes_read;
   damaged_rows = damaged_rows;
   fault_start = fault_start;
   missed_eols = missed_eols;
+  cut_rows = cut_rows;
 }
 
 -- a statement about the settings that C passes, if they are valid, and about the bits of the data in the order that C

@@ -1,10 +1,11 @@
 -- Rows that C reads one at a time.
-use Rattle.std.specs.Prelude.{◌≡◌, ◌≤◌, ◌⊎◌, ◌+◌, ◌/◌, ℕ, Bool, true, false, List, length, take, drop, Option, None, Some}
+use Rattle.std.specs.Prelude.{max, ◌*◌, ◌≡◌, ◌≤◌, ◌⊎◌, ◌+◌, ◌/◌, ℕ, Bool, true, false, List, length, take, drop, Option, None}
+use Rattle.std.specs.Prelude.{Some}
 use Rattle.std.specs.Prelude.{Result, Ok, Err}
-use Rattle.hayro_ccitt.specs.declared.bit_reader.BitOrder.{BitOrder}
-use Rattle.hayro_ccitt.specs.declared.error.DecodeError.{DecodeError}
-use Rattle.hayro_ccitt.specs.declared.error.DecodeError.TheVariants.{UnexpectedEof, InvalidCode, Overflow, OutOfMemory, Refused}
-use Rattle.hayro_ccitt.specs.declared.settings.DecodeSettings.{DecodeSettings}
+use Rattle.hayro_ccitt.specs.BitOrder.{BitOrder}
+use Rattle.hayro_ccitt.specs.DecodeError.{DecodeError}
+use Rattle.hayro_ccitt.specs.DecodeError.TheVariants.{UnexpectedEof, InvalidCode, Overflow, OutOfMemory, Refused}
+use Rattle.hayro_ccitt.specs.DecodeSettings.{DecodeSettings}
 use Rattle.hayro_ccitt.specs.Bits.{Bits, bits_in, bits_of}
 use Rattle.hayro_ccitt.specs.RowCursors.{Paused, IsReadingOf, rows_over}
 use Rattle.hayro_ccitt.specs.Rows.{Row, changes}
@@ -30,12 +31,13 @@ status_of_row (Err OutOfMemory) = 4
 status_of_row (Err Refused) = 6
 
 -- What a call that reads the next row leaves of a reading of these bits: the row of the plain reading, or its end; and after
--- the end nothing changes. Nothing is said of other bits.
+-- the end nothing changes. Of other bits nothing is said but that the lists of changes grow no further than a row needs.
 pub record ReadsRow (bits : Bits) (old new : Paused) (answer : Result Bool DecodeError) : Type 0 where
   pub reading : IsReadingOf bits old → IsReadingOf bits new
   pub reads : IsReadingOf bits old → ended old.stand ≡ None → ReadsNext (rows_over bits old) (rows_over bits new) answer
   pub over : (end : Result (Unit {0}) DecodeError) → ended old.stand ≡ Some end → (new ≡ old) × (answer ≡ at_end_of_rows end)
   pub order : new.order ≡ old.order
+  pub most : new.space ≤ max old.space (2 * old.held.settings.columns + 66)
 
 -- the same, but if the last row is still to be returned nothing is read
 abbrev pub TurnsTo : Bool → Bits → Paused → Paused → Result Bool DecodeError → Type 0
@@ -72,7 +74,9 @@ told_nothing = record {
   damaged_rows = 0;
   damage = 0;
   missed_eols = 0;
-  reserved = 0;
+  cut_rows = 0;
+  is_cut = 0;
+  missed_eol = 0;
 }
 
 -- the status of the fault of a row that was repaired, 0 for one that was whole
@@ -80,8 +84,19 @@ abbrev pub damage_told : Option DecodeError → ℕ
 damage_told None = 0
 damage_told (Some error) = status_of_row (Err error)
 
+-- 1 if a run of a row was cut, else 0
+abbrev pub cut_told : Bool → ℕ
+cut_told true = 1
+cut_told false = 0
+
+-- the offset of an EOL that was missed, 0 if none was
+abbrev pub miss_told : Option ℕ → ℕ
+miss_told None = 0
+miss_told (Some place) = place
+
 -- What C gets of a reading: the number of rows read, the number of changes of the last one, the offset of its line, the bytes
--- consumed so far, the number of repaired rows, the fault of the last one, and the number of missed EOLs.
+-- consumed so far, the number of repaired rows, the fault of the last one, the number of missed EOLs, the number of rows in
+-- which a run was cut, whether one was in the last row, and the offset at which the last gap lacked an EOL.
 pub record TellsOf (paused : Paused) (told : RowOutcome) : Type 0 where
   pub rows : told.rows ≡ paused.held.taken
   pub changes : told.changes ≡ length (changes paused.held.reference)
@@ -90,6 +105,9 @@ pub record TellsOf (paused : Paused) (told : RowOutcome) : Type 0 where
   pub damaged_rows : told.damaged_rows ≡ paused.held.repairs.rows
   pub damage : told.damage ≡ damage_told paused.damage
   pub missed_eols : told.missed_eols ≡ paused.held.repairs.missed
+  pub cut_rows : told.cut_rows ≡ paused.held.repairs.cut
+  pub is_cut : told.is_cut ≡ cut_told paused.cut
+  pub missed_eol : told.missed_eol ≡ miss_told paused.missed
 
 -- A reading of these bits by these settings before the first row.
 pub record IsOpened (settings : DecodeSettings) (bits : Bits) (order : BitOrder) (opened : Reading) : Type 0 where

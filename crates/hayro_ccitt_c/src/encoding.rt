@@ -6,7 +6,7 @@ ghost use Rattle.fax_encode.specs.Packed.{bytes_of_row};
 ghost use Rattle.hayro_ccitt_c.specs.Encoding.{asked, bits_asked, can_encode, encoder_of, of_rows};
 
 use crate::settings::encoding_of;
-use fax_encode::{EncodeError, encode_bitmap, names_encoding};
+use fax_encode::{Effort, EncodeError, encode_bitmap, names_encoding};
 use hayro_ccitt::bit_reader::BitOrder;
 use std::alloc::Global;
 
@@ -19,7 +19,7 @@ pub struct EncodeSettings {
     /// 0 for Group 4, 1 for Group 3 in one dimension, 2 for Group 3 in two.
     pub encoding: u32,
     /// A sum: 1 if EOFB or RTC follows the last row, 2 if an EOL precedes each line, 4 if rows are aligned to whole bytes, 16 if
-    /// each byte's lowest bit comes first, 32 if EOLs end at whole bytes.
+    /// each byte's lowest bit comes first, 32 if EOLs end at whole bytes, 64 if two-dimensional lines have the fewest bits.
     pub flags: u32,
     /// K of Group 3 in two dimensions, at least 1: at most K - 1 two-dimensional lines follow a one-dimensional one (T.4 section
     /// 4.2.1). It has no effect in the other encodings.
@@ -49,7 +49,7 @@ pub(crate) enum Unencoded {
 fn encoder_of(settings: &EncodeSettings) -> Option<fax_encode::EncodeSettings>
     ensures meant { result ≡ encoder_of settings.now }
 {
-    if settings.flags >= 64 || settings.flags / 8 % 2 == 1 {
+    if settings.flags >= 128 || settings.flags / 8 % 2 == 1 {
         return None;
     }
     let encoding = encoding_of(settings.encoding)?;
@@ -64,6 +64,11 @@ fn encoder_of(settings: &EncodeSettings) -> Option<fax_encode::EncodeSettings>
             BitOrder::LowestFirst
         } else {
             BitOrder::HighestFirst
+        },
+        effort: if settings.flags / 64 % 2 == 1 {
+            Effort::Shortest
+        } else {
+            Effort::Procedure
         },
     })
 }

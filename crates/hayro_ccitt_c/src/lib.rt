@@ -14,7 +14,8 @@ ghost use Rattle.fax_encode.specs.RowByRow.{no_rows};
 ghost use Rattle.hayro_ccitt_c.specs.Encoding.{asked, bits_asked, of_rows, AreEncoded, HaveNoRoom};
 ghost use Rattle.hayro_ccitt_c.specs.Owned.{OnReading, OnReadings, OnStrip, OnStrips};
 ghost use Rattle.hayro_ccitt_c.specs.Packing.{bytes_of_row};
-ghost use Rattle.hayro_ccitt_c.specs.Reports.{OnSettings, IsReport, changes_taken, damaged_taken, missed_taken, outcome_of};
+ghost use Rattle.hayro_ccitt_c.specs.Reports.{OnSettings, IsReport, changes_taken, cut_taken, damaged_taken, missed_taken};
+ghost use Rattle.hayro_ccitt_c.specs.Reports.{outcome_of};
 ghost use Rattle.hayro_ccitt_c.specs.Reports.{ArePacked, AreListed, numbers_taken};
 ghost use Rattle.hayro_ccitt_c.specs.RowsGiven.{GivesRow, IsListed, IsOpened, IsPacked, TellsOf, told_nothing};
 ghost use Rattle.hayro_ccitt_c.specs.RowsTaken.{Finishes, IfFinished, IsGiven, TakesRow, strip_told};
@@ -70,9 +71,11 @@ pub extern "C" fn hayro_ccitt_measure(
         outcome.new.damaged_rows ≡ damaged_taken s bits outcome.new.rows) }
     ensures missed { OnSettings settings.now «data».now (λ s bits.
         outcome.new.missed_eols ≡ missed_taken s bits outcome.new.rows) }
+    ensures cut { OnSettings settings.now «data».now (λ s bits.
+        outcome.new.cut_rows ≡ cut_taken s bits outcome.new.rows) }
     ensures never_refused { result ≢ 5 }
     ensures untaken { (settings_of settings.now ≡ None) ⊎ (¬ (BitsFit «data».now))
-        → (result ≡ 6) × (outcome.new ≡ outcome_of 0 0 0 0 0 0) }
+        → (result ≡ 6) × (outcome.new ≡ outcome_of 0 0 0 0 0 0 0) }
 {
     let Some(meant) = settings_for(data, settings) else {
         return untaken(outcome);
@@ -105,12 +108,14 @@ pub extern "C" fn hayro_ccitt_decode_packed(
         outcome.new.damaged_rows ≡ damaged_taken s bits outcome.new.rows) }
     ensures missed { OnSettings settings.now «data».now (λ s bits.
         outcome.new.missed_eols ≡ missed_taken s bits outcome.new.rows) }
+    ensures cut { OnSettings settings.now «data».now (λ s bits.
+        outcome.new.cut_rows ≡ cut_taken s bits outcome.new.rows) }
     ensures packed { OnSettings settings.now «data».now (λ s bits.
         ArePacked s bits outcome.new.rows bitmap.old bitmap.new) }
     ensures refused { result ≡ 5 → OnSettings settings.now «data».now (λ s bits.
         length bitmap.new < (outcome.new.rows + 1) * bytes_of_row s.columns) }
     ensures untaken { (settings_of settings.now ≡ None) ⊎ (¬ (BitsFit «data».now))
-        → (result ≡ 6) × (outcome.new ≡ outcome_of 0 0 0 0 0 0)
+        → (result ≡ 6) × (outcome.new ≡ outcome_of 0 0 0 0 0 0 0)
         × (bitmap.new ≡ bitmap.old) }
 {
     let Some(meant) = settings_for(data, settings) else {
@@ -143,13 +148,15 @@ pub extern "C" fn hayro_ccitt_decode_changes(
         outcome.new.damaged_rows ≡ damaged_taken s bits outcome.new.rows) }
     ensures missed { OnSettings settings.now «data».now (λ s bits.
         outcome.new.missed_eols ≡ missed_taken s bits outcome.new.rows) }
+    ensures cut { OnSettings settings.now «data».now (λ s bits.
+        outcome.new.cut_rows ≡ cut_taken s bits outcome.new.rows) }
     ensures listed { OnSettings settings.now «data».now (λ s bits.
         AreListed s bits outcome.new.rows lists.old lists.new) }
     ensures refused { result ≡ 5 → OnSettings settings.now «data».now (λ s bits.
         length lists.new < numbers_taken s bits outcome.new.rows + 1
         + length (changes (get_or (plain s bits).rows outcome.new.rows []))) }
     ensures untaken { (settings_of settings.now ≡ None) ⊎ (¬ (BitsFit «data».now))
-        → (result ≡ 6) × (outcome.new ≡ outcome_of 0 0 0 0 0 0)
+        → (result ≡ 6) × (outcome.new ≡ outcome_of 0 0 0 0 0 0 0)
         × (lists.new ≡ lists.old) }
 {
     let Some(meant) = settings_for(data, settings) else {

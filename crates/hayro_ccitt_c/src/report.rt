@@ -5,7 +5,8 @@ ghost use Rattle.hayro_ccitt.specs.Rows.{changes};
 ghost use Rattle.hayro_ccitt.specs.Answers.{meaning_after};
 ghost use Rattle.hayro_ccitt.specs.Bits.{BitsFit, bits_in};
 ghost use Rattle.hayro_ccitt.specs.PlainReading.{plain};
-ghost use Rattle.hayro_ccitt_c.specs.Reports.{IsReport, damaged_taken, missed_taken, outcome_of, status_of, bytes_read_of};
+ghost use Rattle.hayro_ccitt_c.specs.Reports.{IsReport, cut_taken, damaged_taken, missed_taken, outcome_of, status_of};
+ghost use Rattle.hayro_ccitt_c.specs.Reports.{bytes_read_of};
 
 use hayro_ccitt::bit_reader::BitOrder;
 use hayro_ccitt::{DecodeError, DecodeSettings, Decoder, DecoderContext, Result, decode_in};
@@ -27,6 +28,8 @@ pub struct Outcome {
     pub fault_start: u64,
     /// The number of rows after which the EOL was missed.
     pub missed_eols: u64,
+    /// The number of rows in which a run was cut at the row's end.
+    pub cut_rows: u64,
 }
 
 /// How a decoding ended.
@@ -44,12 +47,14 @@ pub(crate) struct Report {
     pub fault_start: u64,
     /// The number of rows after which the EOL was missed.
     pub missed_eols: u64,
+    /// The number of rows in which a run was cut at the row's end.
+    pub cut_rows: u64,
 }
 
 /// Returns the status of data that is too long or settings that are invalid, and sets all of `outcome` to zeros.
 pub(crate) fn untaken(outcome: &mut Outcome) -> u32
     ensures status { result ≡ 6 }
-    ensures outcome { outcome.new ≡ outcome_of 0 0 0 0 0 0 }
+    ensures outcome { outcome.new ≡ outcome_of 0 0 0 0 0 0 0 }
 {
     *outcome = Outcome {
         rows: 0,
@@ -58,6 +63,7 @@ pub(crate) fn untaken(outcome: &mut Outcome) -> u32
         damaged_rows: 0,
         fault_start: 0,
         missed_eols: 0,
+        cut_rows: 0,
     };
     6
 }
@@ -67,7 +73,7 @@ pub(crate) fn told(report: &Report, changes: u64, outcome: &mut Outcome) -> u32
     ensures status { result ≡ report.now.status }
     ensures outcome { outcome.new
         ≡ outcome_of report.now.rows changes report.now.bytes_read report.now.damaged_rows report.now.fault_start
-        report.now.missed_eols }
+        report.now.missed_eols report.now.cut_rows }
 {
     *outcome = Outcome {
         rows: report.rows,
@@ -76,6 +82,7 @@ pub(crate) fn told(report: &Report, changes: u64, outcome: &mut Outcome) -> u32
         damaged_rows: report.damaged_rows,
         fault_start: report.fault_start,
         missed_eols: report.missed_eols,
+        cut_rows: report.cut_rows,
     };
     report.status
 }
@@ -117,6 +124,7 @@ pub(crate) fn decoded<D: Decoder>(
     ensures report { IsReport settings (bits_in order «data».now) result.status result.rows result.bytes_read result.fault_start }
     ensures damaged { result.damaged_rows ≡ damaged_taken settings (bits_in order «data».now) result.rows }
     ensures missed { result.missed_eols ≡ missed_taken settings (bits_in order «data».now) result.rows }
+    ensures cut { result.cut_rows ≡ cut_taken settings (bits_in order «data».now) result.rows }
     ensures meaning { D.meaning sink.new ≡ meaning_after (D.step (D.width sink.old)) (D.meaning sink.old)
         (take result.rows (plain settings (bits_in order «data».now)).rows) }
     ensures width { D.width sink.new ≡ D.width sink.old }
@@ -132,6 +140,7 @@ pub(crate) fn decoded<D: Decoder>(
             damaged_rows: 0,
             fault_start: 0,
             missed_eols: 0,
+            cut_rows: 0,
         };
     };
     let answer = decode_in(order, data, sink, &mut ctx);
@@ -142,5 +151,6 @@ pub(crate) fn decoded<D: Decoder>(
         damaged_rows: ctx.damaged_rows(),
         fault_start: ctx.fault_start().unwrap_or(0) as u64,
         missed_eols: ctx.missed_eols(),
+        cut_rows: ctx.cut_rows(),
     }
 }

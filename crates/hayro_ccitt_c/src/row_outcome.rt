@@ -2,7 +2,7 @@
 
 ghost use Rattle.std.specs.Prelude.{◌≡◌, ◌+◌, ◌/◌, length};
 ghost use Rattle.hayro_ccitt.specs.Rows.{changes};
-ghost use Rattle.hayro_ccitt_c.specs.RowsGiven.{TellsOf, damage_told, told_nothing};
+ghost use Rattle.hayro_ccitt_c.specs.RowsGiven.{TellsOf, damage_told, miss_told, told_nothing};
 
 use crate::reading::{Reading, status_of_row};
 use hayro_ccitt::DecodeError;
@@ -25,8 +25,12 @@ pub struct RowOutcome {
     pub damage: u64,
     /// The number of rows read so far after which the EOL was missed: of the last one it is known after the next call.
     pub missed_eols: u64,
-    /// Zero.
-    pub reserved: u64,
+    /// The number of rows read so far in which a run was cut at the row's end.
+    pub cut_rows: u64,
+    /// 1 if a run of the last row was cut, else 0.
+    pub is_cut: u64,
+    /// The offset in bits at which the last call missed an EOL, after the row before; 0 if it missed none.
+    pub missed_eol: u64,
 }
 
 /// Returns an outcome of zeros.
@@ -41,7 +45,9 @@ pub(crate) fn nothing_told() -> RowOutcome
         damaged_rows: 0,
         damage: 0,
         missed_eols: 0,
-        reserved: 0,
+        cut_rows: 0,
+        is_cut: 0,
+        missed_eol: 0,
     }
 }
 
@@ -52,6 +58,16 @@ fn damage_told(damage: Option<DecodeError>) -> u64
     match damage {
         None => 0,
         Some(error) => u64::from(status_of_row(Err(error))),
+    }
+}
+
+/// Returns the offset of an EOL that was missed, 0 if none was.
+fn miss_told(missed: Option<usize>) -> u64
+    ensures { result ≡ miss_told missed }
+{
+    match missed {
+        None => 0,
+        Some(place) => place as u64,
     }
 }
 
@@ -67,6 +83,8 @@ pub(crate) fn told_of(reading: &Reading) -> RowOutcome
         damaged_rows: reading.rows.damaged_rows(),
         damage: damage_told(reading.rows.damage()),
         missed_eols: reading.rows.missed_eols(),
-        reserved: 0,
+        cut_rows: reading.rows.cut_rows(),
+        is_cut: u64::from(reading.rows.is_cut()),
+        missed_eol: miss_told(reading.rows.missed_eol()),
     }
 }

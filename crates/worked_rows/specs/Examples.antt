@@ -3,12 +3,12 @@ use Rattle.std.specs.Prelude.{ℕ, ◌+◌, ◌-◌, ◌*◌, ◌==◌, ◌≡�
 use Rattle.std.specs.Prelude.{Result, if◌then◌else◌}
 use Rattle.std.specs.List.{list_any}
 use Prim.Native.String.{String}
-use Rattle.hayro_ccitt.specs.declared.error.DecodeError.{DecodeError}
-use Rattle.hayro_ccitt.specs.declared.settings.EncodingMode.{EncodingMode}
-use Rattle.hayro_ccitt.specs.declared.settings.EncodingMode.TheVariants.{Group4, Group3_1D, Group3_2D}
-use Rattle.hayro_ccitt.specs.declared.settings.DecodeSettings.{DecodeSettings}
+use Rattle.hayro_ccitt.specs.DecodeError.{DecodeError}
+use Rattle.hayro_ccitt.specs.EncodingMode.{EncodingMode}
+use Rattle.hayro_ccitt.specs.EncodingMode.TheVariants.{Group4, Group3_1D, Group3_2D}
+use Rattle.hayro_ccitt.specs.DecodeSettings.{DecodeSettings}
 use Rattle.hayro_ccitt.specs.Bits.{bits_of, low_first_bits_of}
-use Rattle.hayro_ccitt.specs.Damage.{Damaged, damage_of, repairs_of, misses_of}
+use Rattle.hayro_ccitt.specs.Damage.{cuts_of, Damaged, damage_of, repairs_of, misses_of}
 use Rattle.hayro_ccitt.specs.Rows.{Row, changes, pixels, white_row}
 use Rattle.hayro_ccitt.specs.Encodings.{EncodesRows, PictureT4}
 use Rattle.hayro_ccitt.specs.Locality.{IsLocal, EndAlike}
@@ -74,6 +74,10 @@ damage_in settings text = damage_of settings (bits_of (hex text))
 -- the rows among it that are repaired
 abbrev pub repairs_in : DecodeSettings → String → List Damaged
 repairs_in settings text = repairs_of settings (bits_of (hex text))
+
+-- those in which a run is cut
+abbrev pub cuts_in : DecodeSettings → String → List Damaged
+cuts_in settings text = cuts_of settings (bits_of (hex text))
 
 -- and the EOLs that are missed
 abbrev pub misses_in : DecodeSettings → String → List Damaged

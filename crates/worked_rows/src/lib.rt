@@ -5,7 +5,7 @@
 #![tactic(auto)]
 
 ghost use Rattle.std.specs.Prelude.{◌≡◌, [], ◌∷◌, Ok, Err};
-ghost use Rattle.worked_rows.specs.Examples.{damage_in, repairs_in, misses_in, reading_of, low_first_reading_of, group4};
+ghost use Rattle.worked_rows.specs.Examples.{damage_in, repairs_in, cuts_in, misses_in, reading_of, low_first_reading_of, group4};
 ghost use Rattle.worked_rows.specs.Examples.{group3_1d, group3_2d};
 ghost use Rattle.worked_rows.specs.Examples.{EncodesTwoLines, EncodesTaggedRows, HaveLocalBodies, ReadsDamage};
 ghost use Rattle.worked_rows.specs.Examples.{LimitBehindTheBody};
@@ -50,7 +50,7 @@ pub fn low_first_examples()
     ensures cut_in_a_black_word { low_first_reading_of (group4 8 1 "") "8C" ≡ ([], Err DecodeError.UnexpectedEof) }
 {}
 
-/// Group 3, one-dimensional (T.4 section 4.1).
+/// Group 3, one-dimensional (T.4, 4.1).
 pub fn group3_1d_examples()
     ensures no_columns_2 { reading_of (group3_1d 0 1 "") "00" ≡ ([], Ok 0) }
     ensures cut_make_up_word { reading_of (group3_1d 8 1 "") "01" ≡ ([], Err DecodeError.UnexpectedEof) }
@@ -108,7 +108,7 @@ pub fn group3_1d_examples()
     ensures line_ends_alone_one_dimensional { reading_of (group3_1d 8 0 "") "001001" ≡ (([] ∷ []), Ok 3) }
 {}
 
-/// Group 3, two-dimensional (T.4 section 4.2).
+/// Group 3, two-dimensional (T.4, 4.2).
 pub fn group3_2d_examples()
     ensures no_columns_3 { reading_of (group3_2d 0 0 "bals") "FF" ≡ ([], Ok 0) }
     ensures no_columns_4 { reading_of (group3_2d 0 3 "") "" ≡ ([], Ok 0) }
@@ -126,7 +126,7 @@ pub fn group3_2d_examples()
         ≡ (([] ∷ [] ∷ []), Err DecodeError.UnexpectedEof) }
 {}
 
-/// Damage: a line that is repaired, bits that stand before an EOL, and what strict data and data without EOLs have.
+/// Damage: a line that is repaired, bits that stand before an EOL, a run that is cut, and what strict data and data without EOLs have.
 pub fn damage_examples()
     ensures no_damage { damage_in (group3_1d 8 0 "l") "0019800C700033" ≡ [] }
     ensures middle_line { damage_in (group3_1d 8 0 "l") "0019800C400033"
@@ -144,6 +144,10 @@ pub fn damage_examples()
     ensures a_missed_eol { misses_in (group3_1d 8 2 "l") "0019F800CC"
         ≡ record { row = 0; start = 17; fault = DecodeError.InvalidCode } ∷ [] }
     ensures no_eol_is_left { misses_in (group3_1d 2 0 "l") "7770" ≡ record { row = 0; start = 4; fault = DecodeError.InvalidCode } ∷ [] }
+    ensures a_cut_run { damage_in (group3_1d 8 1 "l") "001380"
+        ≡ record { row = 0; start = 12; fault = DecodeError.InvalidCode } ∷ [] }
+    ensures a_cut_run_in_group4 { cuts_in (group4 8 1 "") "34C0" ≡ record { row = 0; start = 0; fault = DecodeError.InvalidCode } ∷ [] }
+    ensures none_is_cut { cuts_in (group4 8 1 "") "31C0" ≡ [] }
     ensures none_behind_a_repair { misses_in (group3_1d 8 0 "l") "0019800C400033" ≡ [] }
 {}
 

@@ -81,6 +81,7 @@ fn reads_next(
         entry.as_str(),
     );
     let missed = reader.missed_eol();
+    same(rt, cursor.missed_eol(), missed);
     let found = format!(in rt.alloc(); "{found:?} {entry} {missed:?}").expect(rt, "memory");
     same_text(rt, "by a reader", found.as_str(), expected);
 }
@@ -150,6 +151,21 @@ fn missed_eols_are_told(rt: HostRuntime) {
          Ok(true) ([], 4, None, [2, 0, 1], 1) Some(4); Ok(true) ([], 8, None, [3, 0, 1], 2) None; \
          Err(UnexpectedEof) ([], 12, None, [3, 0, 1], 2) None",
     );
+}
+
+/// An EOL, and a run of ten in eight columns, which is cut.
+#[test]
+fn cut_rows_are_told(rt: HostRuntime) {
+    let settings = settings_in(&rt, "Group3_1D 8 columns 1 rows l");
+    let data = &bytes_of(&rt, "001380");
+    let mut reader = reader_of(&rt, data, settings);
+    let mut cursor = cursor_of(&rt, data, settings);
+    same(&rt, reader.is_cut(), false);
+    same(&rt, next_in(&rt, &mut cursor, data), next_of(&mut reader));
+    same(&rt, reader.is_cut(), true);
+    same(&rt, cursor.is_cut(), true);
+    same(&rt, reader.cut_rows(), 1);
+    same(&rt, cursor.cut_rows(), 1);
 }
 
 /// Horizontal mode, 3 white pixels, 2 black ones, V0; then EOFB, or padding that is no mode.

@@ -3,6 +3,7 @@ use Rattle.hayro_ccitt.proofs.Names.{◌≡◌, ◌≢◌, ℕ, ◌+◌, ◌-◌
 use Rattle.hayro_ccitt.proofs.Names.{Option, Some, None, Ok, refl, sym, ap, ◌∙◌, arith, and_parts, ltb-true, Color}
 use Rattle.hayro_ccitt.proofs.Names.{Bits, BitsAt, here, opposite, word_at, read_code, codes_of, padded, is_short, pair_entry}
 use Rattle.hayro_ccitt.proofs.Names.{append_assoc, length-append, drop-drop, moved, IsWordHere, IsShort}
+use Rattle.hayro_ccitt.proofs.Names.{TwoRuns, AreTwoRunsHere, subst}
 use Rattle.hayro_ccitt.proofs.{BitReading.ZerosInWords.codes_free, CodeWords.LooksAhead.length-padded}
 use Rattle.hayro_ccitt.proofs.CodeWords.LooksAhead.{stands_in_padded}
 use Rattle.hayro_ccitt.proofs.CodeWords.ReadCodes.{read_code_again, word_at_found}
@@ -112,3 +113,10 @@ pub pair_there : (color : Color) (at : BitsAt) (entry : ℕ) → entry ≡ pair_
     → 12 ≤ length (here at) → AreBothHere color at (entry % 64) (entry / 64 % 64) (entry / 4096)
 pair_there color at entry e other enough =
     words_there color at entry (words_of_entry color (padded 12 (here at)) entry e other) enough
+
+-- two runs after no bits are here
+pub two_here_too : (color : Color) (at : BitsAt) (runs : TwoRuns) → AreTwoRunsHere color (moved 0 at) runs
+    → AreTwoRunsHere color at runs
+two_here_too color at runs there =
+    let none : at.place + 0 ≡ at.place = omega arith in
+    subst (λ (p : ℕ). AreTwoRunsHere color (record { bits = at.bits; place = p }) runs) none there

@@ -7,7 +7,8 @@ use Rattle.hayro_ccitt.proofs.Names.{leb-true, eqb-true, eq-eqb, none-some, leng
 use Rattle.hayro_ccitt.proofs.Names.{take-append-drop, drop-drop, DecodeError, OutOfMemory, DecodeSettings, Group3_1D, DrawsLine}
 use Rattle.hayro_ccitt.proofs.Names.{line_from_1d, Bits, BitsAt, here, leading_zeros, Held, fresh, after_eol, next_eol, Line}
 use Rattle.hayro_ccitt.proofs.Names.{line_1d, EndsBefore, IsLocal, Row, common_steps}
-use Rattle.hayro_ccitt.proofs.{DamagedLines.LinesByEols.past_shorter, Readings.TurnsMoveOn.next_eol_found}
+use Rattle.hayro_ccitt.proofs.DamagedLines.LinesByEols.{past_shorter}
+use Rattle.fax_bits.proofs.BitReading.ConsecutiveEols.{next_eol_found}
 use Rattle.hayro_ccitt.proofs.DamagedLines.LocalByTests.{local_by_tests}
 use Rattle.hayro_ccitt.proofs.DamagedLines.PastEol.{past, past_is, then_after}
 

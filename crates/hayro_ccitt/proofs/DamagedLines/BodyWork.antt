@@ -3,7 +3,7 @@ use Rattle.hayro_ccitt.proofs.Names.{◌≡◌, ℕ, zero, suc, ◌+◌, ◌-◌
 use Rattle.hayro_ccitt.proofs.Names.{Option, Some, None, refl, sym, ap, ◌∙◌, arith, none-some, length-drop, drop-drop, Bits}
 use Rattle.hayro_ccitt.proofs.Names.{after_eol, eols, next_eol, looked, common_steps}
 use Rattle.hayro_ccitt.proofs.{BitReading.SoughtEols.next_eol-here, BitReading.ZeroRuns.looked_eol}
-use Rattle.hayro_ccitt.proofs.Readings.TurnsMoveOn.{next_eol_found}
+use Rattle.fax_bits.proofs.BitReading.ConsecutiveEols.{next_eol_found}
 
 -- further on no fewer bits are looked at but for those between
 looked_further : (k : ℕ) (here : Bits) → looked here ≤ k + looked (drop k here)

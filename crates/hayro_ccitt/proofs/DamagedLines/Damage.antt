@@ -13,7 +13,8 @@ use Rattle.hayro_ccitt.proofs.{Readings.GapsAndRows.ending_t4, Readings.Repeated
 use Rattle.hayro_ccitt.proofs.DamagedLines.EolsAlike.{Closes, RestAlike, leaves_length, all_eols_alike}
 use Rattle.hayro_ccitt.proofs.DamagedLines.LineTails.{after_eol_is, drop_at, is_tail, stays_1d}
 use Rattle.hayro_ccitt.proofs.DamagedLines.LinesByEols.{past_shorter, seeks}
-use Rattle.hayro_ccitt.proofs.DamagedLines.PastEol.{past, all_eols-none, all_tagged}
+use Rattle.hayro_ccitt.proofs.DamagedLines.PastEol.{past}
+use Rattle.fax_bits.proofs.BitReading.ConsecutiveEols.{all_eols-none, all_tagged}
 use Rattle.hayro_ccitt.proofs.DamagedLines.RunsAlike.{IsGroup3, Settles, RowsAlike, EndsAlike, RunsAlike, IsTail, moves_alike}
 use Rattle.hayro_ccitt.proofs.DamagedLines.SoughtTurns.{sought, rest_of, sought_line_is}
 use Rattle.hayro_ccitt.proofs.DrawingLines.LinesLeaveBits.{LeavesBits, leaves_trans}

@@ -10,11 +10,13 @@ use Rattle.hayro_ccitt.proofs.Names.{IsLine2D, ComeBefore1D, RowsDiffer, DamageE
 use Rattle.hayro_ccitt.proofs.DamagedLines.AnyReference.{quiet_line, scan_past, modes_read, encoded_ends}
 use Rattle.hayro_ccitt.proofs.DamagedLines.Damage.{LinesDiffer, damage}
 use Rattle.hayro_ccitt.proofs.DamagedLines.LineTails.{after_eol_is, past_before, line_past_by, is_tagged_tail, stays_2d}
-use Rattle.hayro_ccitt.proofs.DamagedLines.PastEol.{past, past_is, then_after, all_tagged-some, all_tagged-none}
+use Rattle.hayro_ccitt.proofs.DamagedLines.PastEol.{past, past_is, then_after}
+use Rattle.fax_bits.proofs.BitReading.ConsecutiveEols.{all_tagged-some, all_tagged-none}
 use Rattle.hayro_ccitt.proofs.DamagedLines.RunsAlike.{RowsAlike, Settles, Unreferred, IsTail}
 use Rattle.hayro_ccitt.proofs.DamagedLines.SoughtTurns.{sought, rest_of, found_next, eols_here_same}
 use Rattle.hayro_ccitt.proofs.EncodedPictures.PicturesT4.{line_2d_after_tag}
-use Rattle.hayro_ccitt.proofs.Readings.TurnsMoveOn.{after_eol_shorter, eols_end, next_eol_found}
+use Rattle.hayro_ccitt.proofs.Readings.TurnsMoveOn.{eols_end}
+use Rattle.fax_bits.proofs.BitReading.ConsecutiveEols.{after_eol_shorter, next_eol_found}
 
 -- ---- The lines that follow
 

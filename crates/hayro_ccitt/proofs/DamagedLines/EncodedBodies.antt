@@ -11,9 +11,10 @@ use Rattle.hayro_ccitt.proofs.{EncodedPictures.EncodedRuns.line_1d_again, Encode
 use Rattle.hayro_ccitt.proofs.BitReading.ZerosInWords.{holds_a_one, word_one}
 use Rattle.hayro_ccitt.proofs.DamagedLines.AnyReference.{Quiet, quiet_append, quiet_run, quiet_line, leaves_next, scan_past}
 use Rattle.hayro_ccitt.proofs.DamagedLines.LineTails.{drop_front, drop_at, after_eol_is, after_eol_more, first_one, past_before}
-use Rattle.hayro_ccitt.proofs.DamagedLines.PastEol.{past, past-eol, all_tagged, all_tagged-some, all_tagged-none}
+use Rattle.hayro_ccitt.proofs.DamagedLines.PastEol.{past, past-eol}
+use Rattle.fax_bits.proofs.BitReading.ConsecutiveEols.{all_tagged, all_tagged-some, all_tagged-none}
 use Rattle.hayro_ccitt.proofs.DrawingLines.LinesLeaveBits.{LeavesBits, leaves_trans}
-use Rattle.hayro_ccitt.proofs.Readings.TurnsMoveOn.{after_eol_shorter, past_tag_shorter}
+use Rattle.fax_bits.proofs.BitReading.ConsecutiveEols.{after_eol_shorter, past_tag_shorter}
 
 -- ---- Suffixes
 

@@ -4,9 +4,10 @@ use Rattle.hayro_ccitt.proofs.Names.{Option, Some, None, refl, sym, ap, ◌∙�
 use Rattle.hayro_ccitt.proofs.Names.{length-append, Bits, after_eol, all_eols, past_tag, pass_last_tag, common_steps}
 use Rattle.hayro_ccitt.proofs.BitReading.ZerosInWords.{scan, scan_holds}
 use Rattle.hayro_ccitt.proofs.DamagedLines.LinesBeforeEol.{Inside}
-use Rattle.hayro_ccitt.proofs.DamagedLines.PastEol.{past, all_tagged}
+use Rattle.hayro_ccitt.proofs.DamagedLines.PastEol.{past}
+use Rattle.fax_bits.proofs.BitReading.ConsecutiveEols.{all_tagged}
 use Rattle.hayro_ccitt.proofs.DrawingLines.LinesLeaveBits.{LeavesBits, leaves_trans}
-use Rattle.hayro_ccitt.proofs.Readings.TurnsMoveOn.{CountsEols, count_all-some, counts_plain, counts_tagged}
+use Rattle.fax_bits.proofs.BitReading.ConsecutiveEols.{CountsEols, count_all-some, counts_plain, counts_tagged}
 
 -- bits that end with the zeros of an EOL
 abbrev pub Closes : Bits → Type 0

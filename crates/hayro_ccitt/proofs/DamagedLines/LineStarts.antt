@@ -1,5 +1,6 @@
 -- Where lines begin, by positions.
-use Rattle.hayro_ccitt.proofs.Readings.TurnsMoveOn.{at_end_length, after_eol_shorter, eol_of}
+use Rattle.hayro_ccitt.proofs.Readings.TurnsMoveOn.{at_end_length}
+use Rattle.fax_bits.proofs.BitReading.ConsecutiveEols.{after_eol_shorter, eol_of}
 use Rattle.hayro_ccitt.proofs.Names.{◌≡◌, ℕ, zero, suc, ◌+◌, ◌<◌, ◌≤◌, Bool, true, false, cond, not, ◌&&◌, leb, List, [], ◌∷◌}
 use Rattle.hayro_ccitt.proofs.Names.{◌++◌, length, take, drop, replicate, Option, Some, None, refl, sym, ap, subst, ◌∙◌}
 use Rattle.hayro_ccitt.proofs.Names.{append_assoc, arith, ◌⊎◌, inl, inr, Contains, All, is_some, cases_lt, le-leb, leb-true}
@@ -9,7 +10,7 @@ use Rattle.hayro_ccitt.proofs.Names.{Contains-append_cases, All-nil, All-append,
 use Rattle.hayro_ccitt.proofs.Names.{begins_line, later_starts, starts, IsStart, Descends, StartsAre, common_steps}
 use Rattle.hayro_ccitt.proofs.{BitReading.ZerosInWords.prefix_of_prefix, DrawingLines.LinesLeaveBits.LeavesBits}
 use Rattle.hayro_ccitt.proofs.DamagedLines.LineTails.{after_eol_is, first_one, drop_at}
-use Rattle.hayro_ccitt.proofs.DamagedLines.PastEol.{all_eols-some, all_eols-none}
+use Rattle.fax_bits.proofs.BitReading.ConsecutiveEols.{all_eols-some, all_eols-none}
 
 -- ---- Later starts come in order
 later_below : (seen : ℕ) (here : Bits) → All (λ other. length other < length here) (later_starts seen here)

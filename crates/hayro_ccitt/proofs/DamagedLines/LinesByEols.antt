@@ -7,12 +7,14 @@ use Rattle.hayro_ccitt.proofs.Names.{cond-false, UnexpectedEof, Group3_1D, Decod
 use Rattle.hayro_ccitt.proofs.Names.{line_1d, after_eol, all_eols, Progress, Ending, Move, limit_met, at_end, ends_with, move_on}
 use Rattle.hayro_ccitt.proofs.Names.{begins_line, later_starts, starts, row_at, StaysBefore, IsEolAt, LinesByEols, common_steps}
 use Rattle.hayro_ccitt.proofs.{Readings.GapsAndRows.ending_t4, Readings.RowsAndGaps.after_row, Readings.RowsAndGaps.unless_over}
-use Rattle.hayro_ccitt.proofs.DamagedLines.PastEol.{past, past-eol, all_eols-some}
+use Rattle.hayro_ccitt.proofs.DamagedLines.PastEol.{past, past-eol}
+use Rattle.fax_bits.proofs.BitReading.ConsecutiveEols.{all_eols-some}
 use Rattle.hayro_ccitt.proofs.DamagedLines.LineTails.{line_past_of}
 use Rattle.hayro_ccitt.proofs.DamagedLines.SoughtTurns.{sought, rest_of, found_next, after_row_past, move_line}
 use Rattle.hayro_ccitt.proofs.DrawingLines.LinesLeaveBits.{line_1d_leaves}
 use Rattle.hayro_ccitt.proofs.Readings.Repeated.{after_turn, repeated_turn, repeated_same}
-use Rattle.hayro_ccitt.proofs.Readings.TurnsMoveOn.{eols_end, after_eol_shorter, count_shorter, counts_plain, left_to_read}
+use Rattle.hayro_ccitt.proofs.Readings.TurnsMoveOn.{eols_end, left_to_read}
+use Rattle.fax_bits.proofs.BitReading.ConsecutiveEols.{after_eol_shorter, count_shorter, counts_plain}
 use Rattle.hayro_ccitt.proofs.Readings.TurnsMoveOn.{left_below, move_shrinks}
 
 -- what follows the next EOL is shorter

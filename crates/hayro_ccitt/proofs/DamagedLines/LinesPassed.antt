@@ -7,7 +7,7 @@ use Rattle.hayro_ccitt.proofs.Names.{IsLine2D, ComesBefore1D, ComeBefore1D, IsFo
 use Rattle.hayro_ccitt.proofs.Names.{behind_first_run, behind_second_run, opposite, read_run}
 use Rattle.hayro_ccitt.proofs.CodeWords.ReadRuns.{read_code_shorter, run_shorter}
 use Rattle.hayro_ccitt.proofs.DamagedLines.AnyReference.{LeftBehind, left_behind}
-use Rattle.hayro_ccitt.proofs.DamagedLines.PastEol.{all_tagged-some, all_tagged-none}
+use Rattle.fax_bits.proofs.BitReading.ConsecutiveEols.{all_tagged-some, all_tagged-none}
 use Rattle.hayro_ccitt.proofs.DrawingLines.ReadLines.{modes_not_empty}
 
 -- ---- A mode that is read takes bits

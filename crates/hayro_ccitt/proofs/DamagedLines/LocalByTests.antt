@@ -7,7 +7,7 @@ use Rattle.hayro_ccitt.proofs.Names.{IsLocalByTests, LocalByTests, common_steps}
 use Rattle.hayro_ccitt.proofs.{DamagedLines.EolsAlike.no_one_in_zeros, DamagedLines.PastEol.past_is}
 use Rattle.hayro_ccitt.proofs.DamagedLines.PastEol.{then_after}
 use Rattle.hayro_ccitt.proofs.DamagedLines.LineTails.{after_eol_is, drop_at, none_in_body, body_1d}
-use Rattle.hayro_ccitt.proofs.Readings.TurnsMoveOn.{next_eol_found, eol_of}
+use Rattle.fax_bits.proofs.BitReading.ConsecutiveEols.{next_eol_found, eol_of}
 
 -- bits that aren't all zeros contain a one
 holds_one : (bits : Bits) → bits ≢ replicate (length bits) false → (before after : Bits) × (bits ≡ before ++ true ∷ after)

@@ -10,8 +10,8 @@ use Rattle.hayro_ccitt.proofs.BitReading.ZeroRuns.{looked_eol}
 use Rattle.hayro_ccitt.proofs.CodeWords.WordsFound.{WordsStand, RunEnds, stands_none, stands_append, word_stands, no_word_stands}
 use Rattle.hayro_ccitt.proofs.CodeWords.WordsFound.{run_stands}
 use Rattle.hayro_ccitt.proofs.DamagedLines.LineTails.{after_eol_more}
-use Rattle.hayro_ccitt.proofs.DamagedLines.PastEol.{all_tagged-some, all_tagged-none}
-use Rattle.hayro_ccitt.proofs.Readings.TurnsMoveOn.{next_eol_found}
+use Rattle.fax_bits.proofs.BitReading.ConsecutiveEols.{all_tagged-some, all_tagged-none}
+use Rattle.fax_bits.proofs.BitReading.ConsecutiveEols.{next_eol_found}
 use Rattle.hayro_ccitt.proofs.Work.EolsPassed.{looked_most, next_eol_within}
 use Rattle.hayro_ccitt.proofs.Work.WordsPay.{stands_count, stands_before_eol}
 

@@ -1,9 +1,10 @@
 -- What follows the next EOL.
 use Rattle.hayro_ccitt.proofs.Names.{◌≡◌, ℕ, suc, ◌+◌, ◌≤◌, true, false, cond, leb, [], ◌∷◌, ◌++◌, length, Option, Some, None}
-use Rattle.hayro_ccitt.proofs.Names.{refl, ap, arith, cases_lt, lt-leb, le-leb, length-append, Bits, after_eol, one_more}
-use Rattle.hayro_ccitt.proofs.Names.{all_eols, next_eol, past_tag, eols_with_tags, common_steps, Bool, DecodeSettings}
+use Rattle.hayro_ccitt.proofs.Names.{refl, ap, arith, cases_lt, lt-leb, le-leb, length-append, Bits, after_eol}
+use Rattle.hayro_ccitt.proofs.Names.{next_eol, common_steps, Bool, DecodeSettings}
 use Rattle.hayro_ccitt.proofs.Names.{EncodingMode, Group4, Group3_1D, Group3_2D, pass_last_tag, eols_by, eols_here, ◌∙◌}
-use Rattle.hayro_ccitt.proofs.Readings.TurnsMoveOn.{eols-none, eols_with_tags-none, count_all-some, counts_plain, counts_tagged}
+use Rattle.fax_bits.proofs.BitReading.ConsecutiveEols.{eols-none}
+use Rattle.fax_bits.proofs.BitReading.ConsecutiveEols.{all_eols-none, all_tagged-none}
 
 -- what follows the next EOL that ends further on, given the number of zeros just before
 abbrev pub past : ℕ → Bits → Option Bits
@@ -37,26 +38,6 @@ past_is (false ∷ here) = by_after_eol (past_is here) (after_eol 0 (false ∷ h
     by_after_eol : past 0 here ≡ then_after (next_eol here) → (o : Option Bits) → after_eol 0 (false ∷ here) ≡ o
         → past 0 (false ∷ here) ≡ then_after (next_eol (false ∷ here))
     by_after_eol same given e = grind (arith, common_steps, past-eol, past-none)
-
--- if there is an EOL, it is counted, and those after it
-pub all_eols-some : (here rest : Bits) → after_eol 0 here ≡ Some rest → all_eols here ≡ one_more (all_eols rest)
-all_eols-some here rest e = count_all-some counts_plain here rest e
-
--- if there is none, none is counted
-pub all_eols-none : (here : Bits) → after_eol 0 here ≡ None → all_eols here ≡ (0, here)
-all_eols-none here e = eols-none (length here) here e
-
--- all EOLs here, with the tags between them
-abbrev pub all_tagged : Bits → ℕ × Bits
-all_tagged here = eols_with_tags (length here) here
-
--- if there is an EOL, it is counted, and those after its tag
-pub all_tagged-some : (here rest : Bits) → after_eol 0 here ≡ Some rest → all_tagged here ≡ one_more (all_tagged (past_tag rest))
-all_tagged-some here rest e = count_all-some counts_tagged here rest e
-
--- if there is none, none is counted
-pub all_tagged-none : (here : Bits) → after_eol 0 here ≡ None → all_tagged here ≡ (0, here)
-all_tagged-none here e = eols_with_tags-none (length here) here e
 
 -- no EOL is counted where there is none
 pub eols_here-none : (settings : DecodeSettings) (here : Bits) → after_eol 0 here ≡ None → eols_here settings here ≡ (0, here)

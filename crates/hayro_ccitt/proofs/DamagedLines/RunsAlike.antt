@@ -12,16 +12,18 @@ use Rattle.hayro_ccitt.proofs.DamagedLines.EolsAlike.{Closes, closes_inside, ins
 use Rattle.hayro_ccitt.proofs.DamagedLines.EolsAlike.{past_alike, PastAlike, CountAlike, RestAlike, all_eols_alike, eols_found}
 use Rattle.hayro_ccitt.proofs.DamagedLines.EolsAlike.{all_tagged_alike, tagged_found, last_tag_alike, last_tag_few}
 use Rattle.hayro_ccitt.proofs.DamagedLines.LinesBeforeEol.{Inside, LineAlike, line_1d_alike, line_2d_alike}
-use Rattle.hayro_ccitt.proofs.DamagedLines.PastEol.{past, all_eols-some, all_eols-none, all_tagged, all_tagged-some}
-use Rattle.hayro_ccitt.proofs.DamagedLines.PastEol.{all_tagged-none}
+use Rattle.hayro_ccitt.proofs.DamagedLines.PastEol.{past}
+use Rattle.fax_bits.proofs.BitReading.ConsecutiveEols.{all_eols-some, all_eols-none, all_tagged, all_tagged-some}
+use Rattle.fax_bits.proofs.BitReading.ConsecutiveEols.{all_tagged-none}
 use Rattle.hayro_ccitt.proofs.DamagedLines.SoughtTurns.{sought, rest_of, not_past_end, eols_here_same, row_past, move_sought}
 use Rattle.hayro_ccitt.proofs.DamagedLines.SoughtTurns.{sought_done}
 use Rattle.hayro_ccitt.proofs.DrawingLines.LinesLeaveBits.{LeavesBits, LineLeaves, line_by_leaves}
 use Rattle.hayro_ccitt.proofs.EncodedPictures.PictureLines.{row_before_push}
 use Rattle.hayro_ccitt.proofs.Readings.RowsAndGaps.{unless_over, seek_from, seek_eol, after_row, row_added, after_whole-is}
 use Rattle.hayro_ccitt.proofs.Readings.RowsAndGaps.{after_damage-is}
-use Rattle.hayro_ccitt.proofs.Readings.TurnsMoveOn.{cond_le, length-one_more, count_shorter, counts_plain, counts_tagged}
-use Rattle.hayro_ccitt.proofs.Readings.TurnsMoveOn.{past_tag_shorter, last_tag_shorter, next_eol_found, eols_here_counted}
+use Rattle.fax_bits.proofs.BitReading.ConsecutiveEols.{cond_le, length-one_more, count_shorter, counts_plain, counts_tagged}
+use Rattle.hayro_ccitt.proofs.Readings.TurnsMoveOn.{eols_here_counted}
+use Rattle.fax_bits.proofs.BitReading.ConsecutiveEols.{past_tag_shorter, last_tag_shorter, next_eol_found}
 
 -- ---- Rows of which some may differ
 

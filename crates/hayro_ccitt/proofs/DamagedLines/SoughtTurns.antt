@@ -5,12 +5,15 @@ use Rattle.hayro_ccitt.proofs.Names.{EncodingMode, Group4, Group3_1D, Group3_2D,
 use Rattle.hayro_ccitt.proofs.Names.{after_eol, one_more, all_eols, next_eol, pass_last_tag, Progress, row_before, line_by}
 use Rattle.hayro_ccitt.proofs.Names.{eols_by, line_here, limit_met, at_end, ends_with, eols_here, after_line, move_on}
 use Rattle.hayro_ccitt.proofs.Names.{line_of_turn, row_of, row_at, misses_eol, repaired, ◌||◌, common_steps}
-use Rattle.hayro_ccitt.proofs.DamagedLines.PastEol.{past, past-eol, past_is, then_after, all_eols-some, eols_here-none}
-use Rattle.hayro_ccitt.proofs.DamagedLines.PastEol.{all_tagged-some, next_eol_leaves}
+use Rattle.hayro_ccitt.proofs.DamagedLines.PastEol.{past, past-eol, past_is, then_after, eols_here-none}
+use Rattle.fax_bits.proofs.BitReading.ConsecutiveEols.{all_eols-some}
+use Rattle.hayro_ccitt.proofs.DamagedLines.PastEol.{next_eol_leaves}
+use Rattle.fax_bits.proofs.BitReading.ConsecutiveEols.{all_tagged-some}
 use Rattle.hayro_ccitt.proofs.DrawingLines.LinesLeaveBits.{LeavesBits}
 use Rattle.hayro_ccitt.proofs.Readings.RowsAndGaps.{unless_over, seek_from, after_row, row_added, after_whole-is, after_damage-is}
 use Rattle.hayro_ccitt.proofs.Readings.RowsAndGaps.{behind_with_eols}
-use Rattle.hayro_ccitt.proofs.Readings.TurnsMoveOn.{eols-some, eols_here_some}
+use Rattle.hayro_ccitt.proofs.Readings.TurnsMoveOn.{eols_here_some}
+use Rattle.fax_bits.proofs.BitReading.ConsecutiveEols.{eols-some}
 
 -- a run that seeks EOLs
 abbrev pub sought : List Row → Bits → Progress

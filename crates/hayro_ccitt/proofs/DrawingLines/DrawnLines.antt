@@ -15,6 +15,7 @@ use Rattle.hayro_ccitt.proofs.DrawingLines.Drawings.{step_1d_is, step_2d_is, hor
 use Rattle.hayro_ccitt.proofs.DrawingLines.ReadLines.{draw_mode_next, modes_not_empty, drawn1, drawn2, step_1d_shrinks}
 use Rattle.hayro_ccitt.proofs.DrawingLines.ReadLines.{step_2d_shrinks, pen_left}
 use Rattle.hayro_ccitt.proofs.Readings.Repeated.{Shrinks, after_turn}
+use Rattle.fax_bits.proofs.CodeWords.ReadRuns.{some_where}
 
 -- ---- What painting yields.
 
@@ -32,17 +33,14 @@ paint_ok strict columns front color n row e = elim (chosen (strict && ltb (colum
 
 -- ---- A front that ends at a change.
 
--- a row that continues further has the same change
-later_change : (row front more : Row) → StopsAtChange row front → StopsAtChange (row ++ more) front
-later_change row front more stops =
-    (stops.0, stops.1 ++ more, ap (λ (r : Row). r ++ more) stops.2 ∙ append_assoc front (stops.0 ∷ stops.1) more, stops.3)
+-- the rows that go on with a change after a front
+abbrev stopping_at : Row → Row → Type 0
+stopping_at front row = StopsAtChange row front
 
--- painting keeps what was painted
-paint_keeps : (stood : Row) (strict : Bool) (columns : ℕ) (front : Row) (color : Color) (n : ℕ) (row : Row)
-    → paint strict columns front color n ≡ Ok row → StopsAtChange front stood → StopsAtChange row stood
-paint_keeps stood strict columns front color n row e stops =
-    let p = paint_ok strict columns front color n row e in
-    subst (λ (r : Row). StopsAtChange r stood) p.1 (later_change front stood (replicate p.0 (is_black color)) stops)
+-- a row that continues further has the same change
+later_change : (front row more : Row) → StopsAtChange row front → StopsAtChange (row ++ more) front
+later_change front row more stops =
+    (stops.0, stops.1 ++ more, ap (λ (r : Row). r ++ more) stops.2 ∙ append_assoc front (stops.0 ∷ stops.1) more, stops.3)
 
 -- pixels of another colour than the last make a change
 other_pixels : (front : Row) (color : Color) (k : ℕ) → length front < length (front ++ replicate k (is_black color))
@@ -143,11 +141,6 @@ pass_draws old held new count rest r same counts draws =
 pub place_ok : (painted p : ℕ) (z : ℤ) → z ≡ pos p → p ≤ 4294967295 → painted ≤ p → place_from painted z ≡ Ok p
 place_ok painted p z is fits above = rw (is, le-leb painted p above, le-leb p 4294967295 fits) refl
 
--- what is known of a value for which a fact is true
-pub some_where : {P : Type 0} {v : ℕ} (o : Option ℕ) (x : ℕ) → SomeIff o P v → o ≡ Some x → P × (x ≡ v)
-some_where None x iff is = absurd (let f : ◌≡◌ {A = Option ℕ} None (Some x) = is in cc)
-some_where {P} {v} (Some y) x iff is = let same : y ≡ x = cc in (iff.0, sym same ∙ iff.1)
-
 -- a sum that fits in 32 bits unsigned is a position
 pub place_of : (z : ℤ) (o : Option ℕ) (p : ℕ) → SomeIff o (FitsUnsigned w32 z) (nat_abs z) → o ≡ Some p → (z ≡ pos p)
     × (p ≤ 4294967295)
@@ -181,85 +174,108 @@ run_unpainted held new n rest after e reads same unpainted =
     subst (λ (s : Step). DrawsStep s (Err e) (pen_of new after)) (sym whole)
     (paint_fails held n go_on e (pen_of new after) (ap (λ (h : Held). h.front) same) unpainted (λ row stops. stops))
 
--- ---- A step keeps what is painted: a change after the earlier front is in the finished row.
+-- ---- A step keeps what is painted: what is true of a front, however the row continues, is true of the finished row.
 
--- if a front has a change after the earlier front, a step from it has it too
-abbrev KeepsChange : Row → (Pen → Step) → Type 0
-KeepsChange stood go_on = (pen : Pen) → StopsAtChange pen.front stood → StopsAtChange (front_after (go_on pen)) stood
+-- what is true of a front is true of each row that continues it
+abbrev pub Stays : (Row → Type 0) → Type 0
+Stays P = (row more : Row) → P row → P (row ++ more)
 
-pub try_keeps : {A : Type 0} (stood : Row) (front : Row) (r : Result A DecodeError) (go_on : A → Step) → StopsAtChange front stood
-    → ((x : A) → r ≡ Ok x → StopsAtChange (front_after (go_on x)) stood) → StopsAtChange (front_after (try front r go_on)) stood
-try_keeps stood front (Ok x) go_on stops keeps = keeps x refl
-try_keeps stood front (Err fault) go_on stops keeps = stops
+-- if it is true of a front, it is after a step from it
+abbrev pub KeepsFront : (Row → Type 0) → (Pen → Step) → Type 0
+KeepsFront P go_on = (pen : Pen) → P pen.front → P (front_after (go_on pen))
 
-pub draw_run_keeps : (stood : Row) (strict : Bool) (columns : ℕ) (pen : Pen) (go_on : Pen → Step)
-    → ((p : Pen) → StopsAtChange p.front stood → StopsAtChange (front_after (go_on p)) stood) → StopsAtChange pen.front stood
-    → StopsAtChange (front_after (run_then strict columns pen go_on)) stood
-draw_run_keeps stood strict columns pen go_on keeps stops =
-    try_keeps stood pen.front (run_from pen.color (0, pen.rest)) _ stops (λ run e. try_keeps stood pen.front (paint strict columns
-    pen.front pen.color run.0) _ stops (λ front f. keeps (record { front = front; color = opposite pen.color; rest = run.1 })
-    (paint_keeps stood strict columns pen.front pen.color run.0 front f stops)))
+-- painting keeps what was painted
+paint_keeps : (P : Row → Type 0) → Stays P → (strict : Bool) (columns : ℕ) (front : Row) (color : Color) (n : ℕ) (row : Row)
+    → paint strict columns front color n ≡ Ok row → P front → P row
+paint_keeps P on strict columns front color n row e holds =
+    let p = paint_ok strict columns front color n row e in
+    subst P p.1 (on front (replicate p.0 (is_black color)) holds)
 
-draw_mode_keeps : (stood : Row) (strict : Bool) (columns : ℕ) (reference : Row) (pen : Pen) (mode : Mode)
-    → StopsAtChange pen.front stood → StopsAtChange (front_after (mode_step strict columns reference pen mode)) stood
-draw_mode_keeps stood strict columns reference pen Pass stops =
+try_keeps : {A : Type 0} (P : Row → Type 0) (front : Row) (r : Result A DecodeError) (go_on : A → Step) → P front
+    → ((x : A) → r ≡ Ok x → P (front_after (go_on x))) → P (front_after (try front r go_on))
+try_keeps P front (Ok x) go_on holds keeps = keeps x refl
+try_keeps P front (Err fault) go_on holds keeps = holds
+
+draw_run_keeps : (P : Row → Type 0) → Stays P → (strict : Bool) (columns : ℕ) (pen : Pen) (go_on : Pen → Step)
+    → ((p : Pen) → P p.front → P (front_after (go_on p))) → P pen.front
+    → P (front_after (run_then strict columns pen go_on))
+draw_run_keeps P on strict columns pen go_on keeps holds =
+    try_keeps P pen.front (run_from pen.color (0, pen.rest)) _ holds (λ run e. try_keeps P pen.front (paint strict columns
+    pen.front pen.color run.0) _ holds (λ front f. keeps (record { front = front; color = opposite pen.color; rest = run.1 })
+    (paint_keeps P on strict columns pen.front pen.color run.0 front f holds)))
+
+draw_mode_keeps : (P : Row → Type 0) → Stays P → (strict : Bool) (columns : ℕ) (reference : Row) (pen : Pen) (mode : Mode)
+    → P pen.front → P (front_after (mode_step strict columns reference pen mode))
+draw_mode_keeps P on strict columns reference pen Pass holds =
     let n : ℕ = b2 reference (right_of pen.front) pen.color - length pen.front in
-    try_keeps stood pen.front (paint strict columns pen.front pen.color n) (λ front. Turn.next (record pen { front = front }))
-    stops (λ front f. paint_keeps stood strict columns pen.front pen.color n front f stops)
-draw_mode_keeps stood strict columns reference pen Horizontal stops =
-    subst (λ (step : Step). StopsAtChange (front_after step) stood) (horizontal_is strict columns reference pen)
-    (draw_run_keeps stood strict columns pen (λ pen. run_then strict columns pen Turn.next)
-    (λ p h. draw_run_keeps stood strict columns p Turn.next (λ q g. g) h) stops)
-draw_mode_keeps stood strict columns reference pen (Vertical k) stops =
+    try_keeps P pen.front (paint strict columns pen.front pen.color n) (λ front. Turn.next (record pen { front = front }))
+    holds (λ front f. paint_keeps P on strict columns pen.front pen.color n front f holds)
+draw_mode_keeps P on strict columns reference pen Horizontal holds =
+    subst (λ (step : Step). P (front_after step)) (horizontal_is strict columns reference pen)
+    (draw_run_keeps P on strict columns pen (λ pen. run_then strict columns pen Turn.next)
+    (λ p h. draw_run_keeps P on strict columns p Turn.next (λ q g. g) h) holds)
+draw_mode_keeps P on strict columns reference pen (Vertical k) holds =
     let paints : ℕ → Step = λ place. try pen.front (paint strict columns pen.front pen.color (place - length pen.front))
     (λ front. Turn.next (record { front = front; color = opposite pen.color; rest = pen.rest })) in
-    try_keeps stood pen.front (place_from (length pen.front) (pos (b1 reference (right_of pen.front) pen.color) +ℤ k))
-    paints stops (λ place e. try_keeps stood pen.front (paint strict columns pen.front pen.color (place - length pen.front))
-    (λ front. Turn.next (record { front = front; color = opposite pen.color; rest = pen.rest })) stops
-    (λ front f. paint_keeps stood strict columns pen.front pen.color (place - length pen.front) front f stops))
+    try_keeps P pen.front (place_from (length pen.front) (pos (b1 reference (right_of pen.front) pen.color) +ℤ k))
+    paints holds (λ place e. try_keeps P pen.front (paint strict columns pen.front pen.color (place - length pen.front))
+    (λ front. Turn.next (record { front = front; color = opposite pen.color; rest = pen.rest })) holds
+    (λ front f. paint_keeps P on strict columns pen.front pen.color (place - length pen.front) front f holds))
 
-keeps_either : (stood : Row) (b : Bool) (x y : Step) → StopsAtChange (front_after x) stood → StopsAtChange (front_after y) stood
-    → StopsAtChange (front_after (cond b x y)) stood
-keeps_either stood true x y one other = one
-keeps_either stood false x y one other = other
+keeps_either : (P : Row → Type 0) (b : Bool) (x y : Step) → P (front_after x) → P (front_after y)
+    → P (front_after (cond b x y))
+keeps_either P true x y one other = one
+keeps_either P false x y one other = other
 
-step_2d_keeps : (stood : Row) (strict : Bool) (columns : ℕ) (reference : Row)
-    → KeepsChange stood (step_2d strict columns reference)
-step_2d_keeps stood strict columns reference pen stops =
+step_2d_keeps : (P : Row → Type 0) → Stays P → (strict : Bool) (columns : ℕ) (reference : Row)
+    → KeepsFront P (step_2d strict columns reference)
+step_2d_keeps P on strict columns reference pen holds =
     let modes : Step = try pen.front (read_code mode_codes pen.rest)
     (λ mode. mode_step strict columns reference (record pen { rest = mode.1 }) mode.0) in
-    subst (λ (step : Step). StopsAtChange (front_after step) stood) (sym (step_2d_is strict columns reference pen))
-    (keeps_either stood (leb columns (length pen.front)) (Turn.done (Line.whole pen.front pen.rest)) modes stops (try_keeps stood
+    subst (λ (step : Step). P (front_after step)) (sym (step_2d_is strict columns reference pen))
+    (keeps_either P (leb columns (length pen.front)) (Turn.done (Line.whole pen.front pen.rest)) modes holds (try_keeps P
     pen.front (read_code mode_codes pen.rest) (λ mode. mode_step strict columns reference (record pen { rest = mode.1 }) mode.0)
-    stops (λ mode e. draw_mode_keeps stood strict columns reference (record pen { rest = mode.1 }) mode.0 stops)))
+    holds (λ mode e. draw_mode_keeps P on strict columns reference (record pen { rest = mode.1 }) mode.0 holds)))
 
-step_1d_keeps : (stood : Row) (strict : Bool) (columns : ℕ) → KeepsChange stood (step_1d strict columns)
-step_1d_keeps stood strict columns pen stops =
-    subst (λ (step : Step). StopsAtChange (front_after step) stood) (sym (step_1d_is strict columns pen))
-    (keeps_either stood (leb columns (length pen.front)) (Turn.done (Line.whole pen.front pen.rest))
-    (run_then strict columns pen Turn.next) stops (draw_run_keeps stood strict columns pen Turn.next (λ q h. h) stops))
+step_1d_keeps : (P : Row → Type 0) → Stays P → (strict : Bool) (columns : ℕ) → KeepsFront P (step_1d strict columns)
+step_1d_keeps P on strict columns pen holds =
+    subst (λ (step : Step). P (front_after step)) (sym (step_1d_is strict columns pen))
+    (keeps_either P (leb columns (length pen.front)) (Turn.done (Line.whole pen.front pen.rest))
+    (run_then strict columns pen Turn.next) holds (draw_run_keeps P on strict columns pen Turn.next (λ q h. h) holds))
 
--- a line keeps the change that it continues from
-keeps_on : (stood : Row) (step : Pen → Step) → Shrinks step pen_left → KeepsChange stood step → (n : ℕ) (pen : Pen)
-    → pen_left pen < n → StopsAtChange pen.front stood → StopsAtChange
-    (front_of (repeated step (Line.broken [] UnexpectedEof) n pen)) stood
-keeps_on stood step shrinks keeps zero pen lt stops = absurd (omega arith)
-keeps_on stood step shrinks keeps (suc n) pen lt stops =
-    by_step (λ p small h. keeps_on stood step shrinks keeps n p small h) (step pen) refl (keeps pen stops)
+-- a line keeps what is true of the front that it continues from
+keeps_on : (P : Row → Type 0) (step : Pen → Step) → Shrinks step pen_left → KeepsFront P step → (n : ℕ) (pen : Pen)
+    → pen_left pen < n → P pen.front → P (front_of (repeated step (Line.broken [] UnexpectedEof) n pen))
+keeps_on P step shrinks keeps zero pen lt holds = absurd (omega arith)
+keeps_on P step shrinks keeps (suc n) pen lt holds =
+    by_step (λ p small h. keeps_on P step shrinks keeps n p small h) (step pen) refl (keeps pen holds)
   where
-    by_step : ((p : Pen) → pen_left p < n → StopsAtChange p.front stood → StopsAtChange (front_of (repeated step
-        (Line.broken [] UnexpectedEof) n p)) stood) → (turn : Step) → step pen ≡ turn → StopsAtChange (front_after turn) stood
-        → StopsAtChange (front_of (after_turn (repeated step (Line.broken [] UnexpectedEof) n) turn)) stood
+    by_step : ((p : Pen) → pen_left p < n → P p.front → P (front_of (repeated step
+        (Line.broken [] UnexpectedEof) n p))) → (turn : Step) → step pen ≡ turn → P (front_after turn)
+        → P (front_of (after_turn (repeated step (Line.broken [] UnexpectedEof) n) turn))
     by_step on (Turn.next p) e h = on p (omega (arith, shrinks pen p e)) h
     by_step on (Turn.done line) e h = h
 
+-- so what is true of a front is true of the row of the line that continues it, or of the front of a broken one
+pub drawn_1d_keeps : (P : Row → Type 0) → Stays P → (strict : Bool) (columns : ℕ) (pen : Pen) → P pen.front
+    → P (front_of (drawn_by (step_1d strict columns) pen))
+drawn_1d_keeps P on strict columns pen holds =
+    keeps_on P (step_1d strict columns) (step_1d_shrinks strict columns) (step_1d_keeps P on strict columns)
+    (suc (length pen.rest)) pen (omega arith) holds
+
+pub drawn_2d_keeps : (P : Row → Type 0) → Stays P → (strict : Bool) (columns : ℕ) (reference : Row) (pen : Pen) → P pen.front
+    → P (front_of (drawn_by (step_2d strict columns reference) pen))
+drawn_2d_keeps P on strict columns reference pen holds =
+    keeps_on P (step_2d strict columns reference) (step_2d_shrinks strict columns reference)
+    (step_2d_keeps P on strict columns reference) (suc (length pen.rest)) pen (omega arith) holds
+
 -- ---- The rule of one step of a line.
 
-keeps_after : (stood : Row) (step : Pen → Step) → Shrinks step pen_left → KeepsChange stood step → (turn : Step)
-    → StopsAtChange (front_after turn) stood → StopsAtChange (front_of (after_turn (drawn_by step) turn)) stood
-keeps_after stood step shrinks keeps (Turn.next pen) stops =
-    keeps_on stood step shrinks keeps (suc (length pen.rest)) pen (omega arith) stops
-keeps_after stood step shrinks keeps (Turn.done line) stops = stops
+keeps_after : (P : Row → Type 0) (step : Pen → Step) → Shrinks step pen_left → KeepsFront P step → (turn : Step)
+    → P (front_after turn) → P (front_of (after_turn (drawn_by step) turn))
+keeps_after P step shrinks keeps (Turn.next pen) holds =
+    keeps_on P step shrinks keeps (suc (length pen.rest)) pen (omega arith) holds
+keeps_after P step shrinks keeps (Turn.done line) holds = holds
 
 -- a line that isn't full continues with a run, or with a mode
 pub run_open : (strict : Bool) (columns : ℕ) (pen : Pen) → length pen.front < columns → drawn_by (step_1d strict columns) pen
@@ -288,26 +304,27 @@ line_mode strict columns reference pen mode rest open_row reads = line_open stri
 -- ---- What a line returns.
 
 -- an error of a step is that of the line
-fails_by : (step : Pen → Step) → Shrinks step pen_left → ((stood : Row) → KeepsChange stood step)
+fails_by : (step : Pen → Step) → Shrinks step pen_left → ((P : Row → Type 0) → Stays P → KeepsFront P step)
     → (line : Line) (turn : Step) (e : DecodeError) (pen : Pen) → line ≡ after_turn (drawn_by step) turn
     → DrawsStep turn (Err e) pen → DrawsLine line (Err e) pen.front pen.rest
 fails_by step shrinks keeps line turn UnexpectedEof pen is draws = is ∙ rw draws refl
 fails_by step shrinks keeps line turn InvalidCode pen is draws = is ∙ rw draws refl
 fails_by step shrinks keeps line turn Overflow pen is draws = is ∙ rw draws refl
 fails_by step shrinks keeps line turn OutOfMemory pen is draws = subst (λ (l : Line). StopsAtChange (front_of l) pen.front)
-    (sym is) (keeps_after pen.front step shrinks (keeps pen.front) turn draws)
+    (sym is) (keeps_after (stopping_at pen.front) step shrinks (keeps (stopping_at pen.front)
+    (later_change pen.front)) turn draws)
 fails_by step shrinks keeps line turn Refused pen is draws = absurd draws
 
 pub line_1d_fails : (strict : Bool) (columns : ℕ) (line : Line) (step : Step) (e : DecodeError) (pen : Pen) → line
     ≡ after_turn (drawn_by (step_1d strict columns)) step → DrawsStep step (Err e) pen → DrawsLine line (Err e) pen.front pen.rest
 line_1d_fails strict columns =
-    fails_by (step_1d strict columns) (step_1d_shrinks strict columns) (λ stood. step_1d_keeps stood strict columns)
+    fails_by (step_1d strict columns) (step_1d_shrinks strict columns) (λ P on. step_1d_keeps P on strict columns)
 
 pub line_2d_fails : (strict : Bool) (columns : ℕ) (reference : Row) (line : Line) (step : Step) (e : DecodeError) (pen : Pen)
     → line ≡ after_turn (drawn_by (step_2d strict columns reference)) step → DrawsStep step (Err e) pen
     → DrawsLine line (Err e) pen.front pen.rest
 line_2d_fails strict columns reference = fails_by (step_2d strict columns reference) (step_2d_shrinks strict columns reference)
-    (λ stood. step_2d_keeps stood strict columns reference)
+    (λ P on. step_2d_keeps P on strict columns reference)
 
 -- if the row isn't full, the line of a context is what comes of the run that is drawn
 pub line_by_run : (before now : Held) (line : Line) (at : Bits) → now ≡ redrawn before now.front now.color → drawn_by
@@ -354,7 +371,7 @@ mode_shorter strict columns reference pen t at mode reads draws =
 -- ---- Two runs.
 
 -- an error of the first step is that of both, if what follows keeps what is painted
-pub behind_fails : (behind : Pen → Step) (step : Step) (e : DecodeError) (pen : Pen) → KeepsChange pen.front behind
+pub behind_fails : (behind : Pen → Step) (step : Step) (e : DecodeError) (pen : Pen) → KeepsFront (stopping_at pen.front) behind
     → DrawsStep step (Err e) pen → DrawsStep (turn_behind step behind) (Err e) pen
 behind_fails behind step UnexpectedEof pen keeps draws = rw draws refl
 behind_fails behind step InvalidCode pen keeps draws = rw draws refl
@@ -368,7 +385,8 @@ pub first_run_fails : (held : Held) (rest : Bits) (left : Pen) (e : DecodeError)
     → DrawsStep (step_of_mode held rest Horizontal) (Err e) left
 first_run_fails held rest left e draws =
     behind_fails (λ pen. run_then held.settings.strict held.settings.columns pen Turn.next) (step_of_run held rest) e left
-    (λ p stops. draw_run_keeps left.front held.settings.strict held.settings.columns p Turn.next (λ q g. g) stops) draws
+    (λ p stops. draw_run_keeps (stopping_at left.front) (later_change left.front) held.settings.strict held.settings.columns
+    p Turn.next (λ q g. g) stops) draws
 
 -- Between two steps of a line: the line from the pen on is the whole line; nothing but the front and the colour of the
 -- context has changed.

@@ -6,25 +6,26 @@ use Rattle.hayro_ccitt.proofs.Names.{RepairStoresChange, HasBlack, front_of, Bit
 use Rattle.hayro_ccitt.proofs.Names.{Row, row_of_line}
 use Rattle.hayro_ccitt.proofs.DrawingLines.DrawnLines.{memory_has_black, last_black}
 
-module _ (line : Line) (row : Result (Row × Bits) DecodeError) (old new : Held) (held : new ≡ redrawn old new.front new.color)
+module _ (line strict : Line) (row : Result (Row × Bits) DecodeError) (old new : Held) (held : new
+    ≡ redrawn old new.front new.color)
     (rest : Bits) where
   -- a fault of the data is the row's
   pub at_fault : (e : DecodeError) → row ≡ Err e → ◌≢◌ {A = Result (Unit {0}) DecodeError} (Err e) (Err OutOfMemory)
-      → ◌≢◌ {A = Result (Unit {0}) DecodeError} (Err e) (Err Refused) → TakesOneRow line row old new (Err e) rest
+      → ◌≢◌ {A = Result (Unit {0}) DecodeError} (Err e) (Err Refused) → TakesOneRow line strict row old new (Err e) rest
   at_fault e is memory refused =
       record { taken = tt; fault = λ f. is; held = held; memory = λ k. absurd (memory k); not_refused = refused }
 
   -- an allocation fails only if the line, or what is repaired of it, paints a black pixel
-  wants_rest : HasBlack (front_of line) → TakesOneRow line row old new (Err OutOfMemory) rest
+  wants_rest : HasBlack (front_of line) → TakesOneRow line strict row old new (Err OutOfMemory) rest
   wants_rest black = record { taken = tt; fault = λ f. absurd f; held = held; memory = λ k. black; not_refused = λ k. cc }
 
   pub unread_row_wants_memory : DrawsLine line (Err OutOfMemory) new.front rest
-      → TakesOneRow line row old new (Err OutOfMemory) rest
+      → TakesOneRow line strict row old new (Err OutOfMemory) rest
   unread_row_wants_memory draws = wants_rest (memory_has_black line new.front rest draws)
 
   -- a line that isn't read, and whose fault is the row's
   pub is_unread : (e : DecodeError) → ((fault : DecodeError) → line ≡ Line.broken new.front fault → row ≡ Err fault)
-      → DrawsLine line (Err e) new.front rest → TakesOneRow line row old new (Err e) rest
+      → DrawsLine line (Err e) new.front rest → TakesOneRow line strict row old new (Err e) rest
   is_unread UnexpectedEof fails draws = at_fault UnexpectedEof (fails UnexpectedEof draws) (λ k. cc) (λ k. cc)
   is_unread InvalidCode fails draws = at_fault InvalidCode (fails InvalidCode draws) (λ k. cc) (λ k. cc)
   is_unread Overflow fails draws = at_fault Overflow (fails Overflow draws) (λ k. cc) (λ k. cc)
@@ -33,7 +34,7 @@ module _ (line : Line) (row : Result (Row × Bits) DecodeError) (old new : Held)
 
 -- ---- A line of Group 3 that isn't repaired
 
-module _ (line : Line) (start : Bits) (old new : Held) (held : new ≡ redrawn old new.front new.color) (rest : Bits) where
+module _ (line strict : Line) (start : Bits) (old new : Held) (held : new ≡ redrawn old new.front new.color) (rest : Bits) where
   abbrev row : Result (Row × Bits) DecodeError
   row = row_of_line old.settings old.has_eols start line
 
@@ -41,7 +42,7 @@ module _ (line : Line) (start : Bits) (old new : Held) (held : new ≡ redrawn o
   pub isnt_repaired : (e answer : DecodeError) → DrawsLine line (Err e) new.front rest → (IsRepairable new e
       → answer ≡ OutOfMemory) → (IsRepairable new e → ◌≡◌ {A = Result (Unit {0}) DecodeError} (Err answer) (Err OutOfMemory)
       → RepairStoresChange new) → ((IsRepairable new e → ⊥) → ◌≡◌ {A = Result (Unit {0}) DecodeError} (Err answer) (Err e))
-      → TakesOneRow line row old new (Err answer) rest
+      → TakesOneRow line strict row old new (Err answer) rest
   isnt_repaired e answer draws only_memory memory otherwise = by_strict (old.settings.strict || not old.has_eols) refl
     where
       same_strict : new.settings.strict ≡ old.settings.strict
@@ -52,20 +53,20 @@ module _ (line : Line) (start : Bits) (old new : Held) (held : new ≡ redrawn o
 
       itself : (e : DecodeError) → DrawsLine line (Err e) new.front rest
           → ((fault : DecodeError) → line ≡ Line.broken new.front fault → row ≡ Err fault) → ◌≡◌
-          {A = Result (Unit {0}) DecodeError} (Err answer) (Err e) → TakesOneRow line row old new (Err answer) rest
+          {A = Result (Unit {0}) DecodeError} (Err answer) (Err e) → TakesOneRow line strict row old new (Err answer) rest
       itself e draws fails is =
-          subst (λ (r : Result (Unit {0}) DecodeError). TakesOneRow line row old new r rest) (sym is)
-          (is_unread line row old new held rest e fails draws)
+          subst (λ (r : Result (Unit {0}) DecodeError). TakesOneRow line strict row old new r rest) (sym is)
+          (is_unread line strict row old new held rest e fails draws)
 
-      stores : line ≡ Line.broken new.front e → IsRepairable new e → TakesOneRow line row old new (Err answer) rest
+      stores : line ≡ Line.broken new.front e → IsRepairable new e → TakesOneRow line strict row old new (Err answer) rest
       stores is repairable =
           let wants : ◌≡◌ {A = Result (Unit {0}) DecodeError} (Err answer) (Err OutOfMemory) =
           ap (λ (x : DecodeError). Err x) (only_memory repairable) in
           let change = memory repairable wants in
           let black : HasBlack new.front =
           last_black false new.front refl (λ none. absurd (let both : true ≡ false = sym change.1 ∙ none in cc)) in
-          subst (λ (r : Result (Unit {0}) DecodeError). TakesOneRow line row old new r rest) (sym wants)
-          (wants_rest line row old new held rest (subst (λ (l : Line). HasBlack (front_of l)) (sym is) black))
+          subst (λ (r : Result (Unit {0}) DecodeError). TakesOneRow line strict row old new r rest) (sym wants)
+          (wants_rest line strict row old new held rest (subst (λ (l : Line). HasBlack (front_of l)) (sym is) black))
 
       repairs : (e : DecodeError) → IsFault e → (old.settings.strict || not old.has_eols) ≡ false → IsRepairable new e
       repairs e fault is =
@@ -80,19 +81,19 @@ module _ (line : Line) (start : Bits) (old new : Held) (held : new ≡ redrawn o
       broken Refused draws f = absurd f
 
       lenient : (e : DecodeError) → DrawsLine line (Err e) new.front rest → (old.settings.strict || not old.has_eols) ≡ false
-          → (IsRepairable new e → TakesOneRow line row old new (Err answer) rest)
+          → (IsRepairable new e → TakesOneRow line strict row old new (Err answer) rest)
           → ((IsRepairable new e → ⊥) → ◌≡◌ {A = Result (Unit {0}) DecodeError} (Err answer) (Err e))
-          → TakesOneRow line row old new (Err answer) rest
+          → TakesOneRow line strict row old new (Err answer) rest
       lenient UnexpectedEof draws is one two = one (repairs UnexpectedEof tt is)
       lenient InvalidCode draws is one two = one (repairs InvalidCode tt is)
       lenient Overflow draws is one two = one (repairs Overflow tt is)
       lenient OutOfMemory draws is one two =
-          subst (λ (r : Result (Unit {0}) DecodeError). TakesOneRow line row old new r rest)
-          (sym (two (λ r. r.fault))) (unread_row_wants_memory line row old new held rest draws)
+          subst (λ (r : Result (Unit {0}) DecodeError). TakesOneRow line strict row old new r rest)
+          (sym (two (λ r. r.fault))) (unread_row_wants_memory line strict row old new held rest draws)
       lenient Refused draws is one two = absurd draws
 
       by_strict : (b : Bool) → (old.settings.strict || not old.has_eols) ≡ b
-          → TakesOneRow line row old new (Err answer) rest
+          → TakesOneRow line strict row old new (Err answer) rest
       by_strict true is =
           itself e draws (λ fault broken. ap (row_of_line old.settings old.has_eols start) broken ∙ cond-true (old.settings.strict
           || not old.has_eols) _ _ is) (otherwise (λ r. let both : true ≡ false = sym is ∙ or_from old.settings.strict

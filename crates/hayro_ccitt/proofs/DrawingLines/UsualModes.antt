@@ -1,6 +1,7 @@
 -- Modes that are drawn by their changes alone.
 use Rattle.hayro_ccitt.proofs.PixelRows.ReferencePlaces.{opposite_twice}
-use Rattle.hayro_ccitt.proofs.Names.{◌≡◌, ℕ, suc, ◌+◌, ◌-◌, ◌*◌, ◌%◌, ◌<◌, ◌≤◌, ◌⊎◌, inl, inr, Bool, false, min, List, [], ◌∷◌}
+use Rattle.hayro_ccitt.proofs.Names.{◌≡◌, ℕ, suc, ◌+◌, ◌-◌, ◌*◌, ◌%◌, ◌<◌, ◌≤◌, ◌⊎◌, inl, inr, Bool, true, false, min, List, []}
+use Rattle.hayro_ccitt.proofs.Names.{◌∷◌}
 use Rattle.hayro_ccitt.proofs.Names.{◌++◌, length, replicate, get_or, Ok, refl, sym, ap, subst, ◌∙◌, arith, ℤ, pos, negsuc, ◌+ℤ◌}
 use Rattle.hayro_ccitt.proofs.Names.{ints, cases_lt, length-append, get_or_default_zero, Color, White, Black, Mode, Pass}
 use Rattle.hayro_ccitt.proofs.Names.{Horizontal, Vertical, Step, pen_of, words_from_2d, Bits, BitsAt, here, mode_codes, read_code}
@@ -24,6 +25,7 @@ pub twice_2d : {strict : Bool} {columns : ℕ} {reference : Row} {a b c : Pen} {
     a b m n p q → GoesOn2d strict columns reference b c n o q r → GoesOn2d strict columns reference a c m o p r
 twice_2d first second = record {
   line = second.line ∙ first.line;
+  strictly = second.strictly ∙ first.strictly;
   counts = omega (arith, first.counts, second.counts);
   at_least = omega (arith, first.at_least, second.at_least);
   at_most = omega (arith, first.at_most, second.at_most);
@@ -33,16 +35,17 @@ twice_2d first second = record {
 -- a mode that is read and drawn
 mode_on : {strict : Bool} {columns : ℕ} {reference : Row} (pen next : Pen) {mode : Mode} {rest : Bits} (words : ℕ)
     {ticks now passed later : ℕ} → length pen.front < columns → read_code mode_codes pen.rest ≡ Ok (mode, rest)
-    → (draw_mode strict columns reference (record pen { rest = rest }) mode).turn ≡ Turn.next next
+    → ((s : Bool) → (draw_mode s columns reference (record pen { rest = rest }) mode).turn ≡ Turn.next next)
     → length (draw_mode strict columns reference (record pen { rest = rest }) mode).words ≡ words → ticks + 1 + words ≤ now
     → now + passed ≤ ticks + 4 + 4 * words + later → GoesOn2d strict columns reference pen next ticks now passed later
 mode_on {strict} {columns} {reference} pen next {mode} {rest} words open_row reads draws counted least most =
-    let line = line_mode strict columns reference pen mode rest open_row reads
-    ∙ ap (after_turn (drawn_by (step_2d strict columns reference))) draws in
+    let line = λ (s : Bool). line_mode s columns reference pen mode rest open_row reads
+    ∙ ap (after_turn (drawn_by (step_2d s columns reference))) (draws s) in
     let found = found_2d_on strict columns reference pen mode rest open_row reads in
-    let on = ap (λ (s : Step). length (found_after (found_2d_from strict columns reference) s)) draws in
+    let on = ap (λ (s : Step). length (found_after (found_2d_from strict columns reference) s)) (draws strict) in
     record {
-      line = sym line;
+      line = sym (line strict);
+      strictly = sym (line true);
       counts = omega (arith, least);
       at_least = omega (arith, found, on, counted, least);
       at_most = omega (arith, found, on, counted, most);
@@ -140,10 +143,11 @@ module _ {columns : ℕ} {places : List ℕ} {painted index : ℕ} {color : Colo
       ap (λ (n : ℕ). pos n +ℤ k) changes_here.0 ∙ named in
       let placed = place_ok (length front) place (pos (b1 (pixels columns places) (right_of front) color) +ℤ k) is
       (omega (arith, within, fits)) above in
-      let paints : paint strict columns front color (place - length front) ≡ Ok (pixels place row) = paint_on strict columns
+      let paints : (s : Bool) → paint s columns front color (place - length front) ≡ Ok
+      (pixels place row) = λ s. paint_on s columns
       painted place row color (place - length front) lawful (stroke.colored open_row) forward within (omega (arith, len)) in
       mode_on (pen_at painted row color at) (pen_at place row (opposite color) (moved width at)) 0 open_front reads
-      (rw (placed, paints) refl) (rw (placed, paints) refl) (omega (arith, least)) (omega (arith, most))
+      (λ s. rw (placed, paints s) refl) (rw (placed, paints strict) refl) (omega (arith, least)) (omega (arith, most))
 
   -- pass mode
   pub pass_on : {strict : Bool} (at : BitsAt) (later width : ℕ)
@@ -155,11 +159,11 @@ module _ {columns : ℕ} {places : List ℕ} {painted index : ℕ} {color : Colo
       let place : ℕ = get_or places (index + 1) columns in
       let named : b2 (pixels columns places) (right_of front) color - length front ≡ place - painted =
       omega (arith, changes_here.1, len) in
-      let paints : paint strict columns front color (b2 (pixels columns places) (right_of front) color - length front)
+      let paints : (s : Bool) → paint s columns front color (b2 (pixels columns places) (right_of front) color - length front)
       ≡ Ok (pixels place row) =
-      paint_on strict columns painted place row color _ lawful (stroke.colored open_row) b2_onward b2_within named in
+      λ s. paint_on s columns painted place row color _ lawful (stroke.colored open_row) b2_onward b2_within named in
       mode_on (pen_at painted row color at) (pen_at place row color (moved width at))
-      0 open_front reads (rw paints refl) (rw paints refl) (omega (arith, least)) (omega (arith, most))
+      0 open_front reads (λ s. rw (paints s) refl) (rw (paints strict) refl) (omega (arith, least)) (omega (arith, most))
 
   -- ---- The row that is reached.
 
@@ -289,28 +293,30 @@ module _ {columns : ℕ} {places : List ℕ} {painted index : ℕ} {color : Colo
       let between : ℕ = painted + run in
       let place : ℕ = painted + run + run2 in
       let one : List ℕ = row ++ between ∷ [] in
-      let behind : Pen → Step = λ pen. (draw_run strict columns pen).turn in
+      let behind : Bool → Pen → Step = λ s pen. (draw_run s columns pen).turn in
       let colored : TurnsFrom (length row) color = stroke.colored open_row in
       let last : Pen = pen_at place one color (moved width2 (moved width (moved 3 at))) in
       let middle : Pen = pen_at between row (opposite color) (moved width (moved 3 at)) in
-      let first = run_draws strict columns painted row lawful colored refl (omega (arith, within)) one_here in
+      let first = λ (s : Bool). run_draws s columns painted row lawful colored refl (omega (arith, within)) one_here in
       let lawful_one : AreChanges (suc between) one = AreChanges-wider
       (between + 1) (suc between) one (omega arith) (AreChanges-push between 1 row (omega arith) (first_lawful run some)) in
-      let second = run_draws strict columns between one lawful_one (one_turn row between color colored) refl within two_here in
-      let turn2 : behind middle ≡ Turn.next last = subst (λ (front : Row).
-      behind (record { front = front; color = opposite color; rest = here (moved width (moved 3 at)) }) ≡ Turn.next last)
-      (pixels-pending between row) (subst (λ (c : Color). behind (pen_at between one (opposite color) (moved width (moved 3 at)))
-      ≡ Turn.next (pen_at place one c (moved width2 (moved width (moved 3 at))))) (opposite_twice color) second.0) in
+      let second = λ (s : Bool). run_draws s columns between one lawful_one
+      (one_turn row between color colored) refl within two_here in
+      let turn2 : (s : Bool) → behind s middle ≡ Turn.next last = λ s. subst (λ (front : Row).
+      behind s (record { front = front; color = opposite color; rest = here (moved width (moved 3 at)) }) ≡ Turn.next last)
+      (pixels-pending between row) (subst (λ (c : Color). behind s (pen_at between one (opposite color) (moved width
+      (moved 3 at)))
+      ≡ Turn.next (pen_at place one c (moved width2 (moved width (moved 3 at))))) (opposite_twice color) (second s).0) in
       let words_second : length (draw_run strict columns middle).words ≡ words2 = subst (λ (front : Row). length
       (draw_run strict columns (record { front = front; color = opposite color; rest = here (moved width (moved 3 at)) })).words
-      ≡ words2) (pixels-pending between row) second.1 in
+      ≡ words2) (pixels-pending between row) (second strict).1 in
       let pen : Pen = pen_at painted row color (moved 3 at) in
       let first_words : List Bits = (draw_run strict columns pen).words in
-      let turns : (draw_mode strict columns reference pen Horizontal).turn ≡ Turn.next last =
-      ap (λ (s : Step). turn_behind s behind) first.0 ∙ turn2 in
+      let turns : (s : Bool) → (draw_mode s columns reference pen Horizontal).turn ≡ Turn.next last =
+      λ s. ap (λ (t : Step). turn_behind t (behind s)) (first s).0 ∙ turn2 s in
       let counted : length (draw_mode strict columns reference pen Horizontal).words ≡ words + words2 =
-      ap (λ (s : Step). length (first_words ++ words_behind s (λ p. (draw_run strict columns p).words))) first.0
-      ∙ omega (arith, length-append first_words (draw_run strict columns middle).words, first.1, words_second) in
+      ap (λ (s : Step). length (first_words ++ words_behind s (λ p. (draw_run strict columns p).words))) (first strict).0
+      ∙ omega (arith, length-append first_words (draw_run strict columns middle).words, (first strict).1, words_second) in
       mode_on (pen_at painted row color at) last (words + words2) open_front reads turns counted least most
 
   pub horizontal_on : {strict : Bool} (at : BitsAt) (later : ℕ) {runs : TwoRuns} {ticks now : ℕ}

@@ -5,7 +5,8 @@ use Rattle.hayro_ccitt.proofs.Names.{length-append, length-drop, length-replicat
 use Rattle.hayro_ccitt.proofs.Names.{words_from_1d, Bits, BitsAt, here, Context, Held, redrawn, DecodeSettings, Pen, draw_run}
 use Rattle.hayro_ccitt.proofs.Names.{Turn, Row, AscendFrom, AreChanges, pixels, is_black, opposite, paint, run_from, run_found}
 use Rattle.hayro_ccitt.proofs.Names.{TwoRuns, AreTwoRunsHere, CanFollow, IsOpen, IsRunHere, IsReached, GoesOn, pen_at, moved}
-use Rattle.hayro_ccitt.proofs.{CodeWords.UsualRuns.run_here_too, Readings.Repeated.after_turn}
+use Rattle.hayro_ccitt.proofs.Readings.Repeated.{after_turn}
+use Rattle.fax_bits.proofs.CodeWords.WordsHere.{run_here_too}
 use Rattle.hayro_ccitt.proofs.DrawingLines.CountedLines.{found_1d_from, found_after, found_1d_on, words_run}
 use Rattle.hayro_ccitt.proofs.DrawingLines.Drawings.{drawn_by, step_1d, run_then}
 use Rattle.hayro_ccitt.proofs.DrawingLines.DrawnLines.{IsDrawnSoFar, run_open}
@@ -17,6 +18,7 @@ pub goes_on_twice : (strict : Bool) (columns : ℕ) (a b c : Pen) (m n o : ℕ) 
     → GoesOn strict columns b c n o → GoesOn strict columns a c m o
 goes_on_twice strict columns a b c m n o first second = record {
   line = second.line ∙ first.line;
+  strictly = second.strictly ∙ first.strictly;
   counts = omega (arith, first.counts, second.counts);
   counted = omega (arith, first.counted, second.counted);
 }
@@ -31,20 +33,22 @@ paint_fits false columns front color n fits = refl
 -- a run that is read and painted
 run_on : (strict : Bool) (columns : ℕ) (pen : Pen) (run words : ℕ) (rest : Bits) (front : Row) (ticks : ℕ)
     → length pen.front < columns → run_from pen.color (0, pen.rest) ≡ Ok (run, rest)
-    → length (run_found pen.color (0, pen.rest)) ≡ words → paint strict columns pen.front pen.color run ≡ Ok front
+    → length (run_found pen.color (0, pen.rest)) ≡ words → ((s : Bool) → paint s columns pen.front pen.color run ≡ Ok front)
     → GoesOn strict columns pen (record { front = front; color = opposite pen.color; rest = rest }) ticks (ticks + words)
 run_on strict columns pen run words rest front ticks open_row reads found paints =
     let next : Pen = record { front = front; color = opposite pen.color; rest = rest } in
-    let step : run_then strict columns pen Turn.next ≡ Turn.next next = rw (reads, paints) refl in
-    let line : drawn_by (step_1d strict columns) pen ≡ drawn_by (step_1d strict columns) next
-    = run_open strict columns pen open_row ∙ ap (after_turn (drawn_by (step_1d strict columns))) step in
+    let steps : (s : Bool) → run_then s columns pen Turn.next ≡ Turn.next next = λ s. rw (reads, paints s) refl in
+    let step : run_then strict columns pen Turn.next ≡ Turn.next next = steps strict in
+    let line : (s : Bool) → drawn_by (step_1d s columns) pen ≡ drawn_by (step_1d s columns) next
+    = λ s. run_open s columns pen open_row ∙ ap (after_turn (drawn_by (step_1d s columns))) (steps s) in
     let words_on = found_1d_on strict columns pen open_row in
     let behind : List Bits = found_after (found_1d_from strict columns) (draw_run strict columns pen).turn in
     let on : length behind ≡ length (found_1d_from strict columns next) =
     ap (λ (s : Step). length (found_after (found_1d_from strict columns) s)) step in
     let first : length (draw_run strict columns pen).words ≡ words = ap length (words_run strict columns pen) ∙ found in
     record {
-      line = sym line;
+      line = sym (line strict);
+      strictly = sym (line true);
       counts = omega arith;
       counted = omega (arith, ap length words_on, length-append (draw_run strict columns pen).words behind, on, first);
     }
@@ -86,36 +90,39 @@ pixels-pending place row =
 -- ---- The runs of a one-dimensional line, by twos.
 pub white_on : (strict : Bool) (columns painted place : ℕ) (row : List ℕ) (at : BitsAt) (run width words ticks : ℕ)
     → AreChanges (suc painted) row → length row % 2 ≡ 0 → painted < columns → IsRunHere White at run width words
-    → (run ≤ columns - painted) ⊎ (strict ≡ false) → place ≡ painted + min run (columns - painted)
+    → run ≤ columns - painted → place ≡ painted + min run (columns - painted)
     → GoesOn strict columns (pen_at painted row White at) (pen_at place row Black (moved width at)) ticks (ticks + words)
 white_on strict columns painted place row at run width words ticks lawful even open_row here_run fits reach =
     let front : Row = pixels painted row in
     let len : length front ≡ painted = length-pixels-on painted row lawful in
-    let some : (run ≤ columns - length front) ⊎ (strict ≡ false) = rw len fits in
+    let some : run ≤ columns - length front = rw len fits in
     let more : ℕ = min run (columns - painted) in
-    let paints : paint strict columns front White run ≡ Ok (front ++ replicate more false) =
-    paint_fits strict columns front White run some ∙ ap (λ (m : ℕ). Ok (front ++ replicate (min run (columns - m)) false)) len in
+    let paints : (s : Bool) → paint s columns front White run ≡ Ok (front ++ replicate more false) =
+    λ s. paint_fits s columns front White run (inl some) ∙ ap (λ (m : ℕ). Ok (front ++ replicate (min run
+    (columns - m)) false)) len in
     let row_on : pixels place row ≡ front ++ replicate more false =
     rw reach
     (pixels-on painted more row lawful ∙ ap (λ (color : Bool). front ++ replicate more color) (even_is_white row even)) in
     run_on strict columns (pen_at painted row White at) run words (here (moved width at)) (pixels place row) ticks
-    (omega (arith, len)) here_run.read here_run.found (paints ∙ ap Ok (sym row_on))
+    (omega (arith, len)) here_run.read here_run.found (λ s. paints s ∙ ap Ok (sym row_on))
 
 pub black_on : (strict : Bool) (columns painted place : ℕ) (row : List ℕ) (at : BitsAt) (run width words ticks : ℕ)
     → AreChanges (suc painted) row → length row % 2 ≡ 0 → painted < columns → IsRunHere Black at run width words
-    → (run ≤ columns - painted) ⊎ (strict ≡ false) → place ≡ painted + min run (columns - painted) → GoesOn strict columns
+    → run ≤ columns - painted → place ≡ painted + min run (columns - painted) → GoesOn strict columns
     (pen_at painted row Black at) (pen_at place (row ++ painted ∷ []) White (moved width at)) ticks (ticks + words)
 black_on strict columns painted place row at run width words ticks lawful even open_row here_run fits reach =
     let front : Row = pixels painted row in
     let len : length front ≡ painted = length-pixels-on painted row lawful in
-    let some : (run ≤ columns - length front) ⊎ (strict ≡ false) = rw len fits in
+    let some : run ≤ columns - length front = rw len fits in
     let more : ℕ = min run (columns - painted) in
-    let paints : paint strict columns front Black run ≡ Ok (front ++ replicate more true)
-    = paint_fits strict columns front Black run some ∙ ap (λ (m : ℕ). Ok (front ++ replicate (min run (columns - m)) true)) len in
+    let paints : (s : Bool) → paint s columns front Black run ≡ Ok (front ++ replicate more true)
+    = λ s. paint_fits s columns front Black run (inl some) ∙ ap (λ (m : ℕ). Ok (front ++ replicate (min run
+    (columns - m)) true)) len in
     let row_on : pixels place (row ++ painted ∷ []) ≡ front ++ replicate more true =
     rw reach (pixels-turned painted more row even) in
     run_on strict columns (pen_at painted row Black at) run words (here (moved width at))
-    (pixels place (row ++ painted ∷ [])) ticks (omega (arith, len)) here_run.read here_run.found (paints ∙ ap Ok (sym row_on))
+    (pixels place (row ++ painted ∷ [])) ticks (omega (arith, len)) here_run.read here_run.found (λ s. paints s ∙ ap Ok
+    (sym row_on))
 
 -- ---- What a call that draws them returns.
 
@@ -126,7 +133,7 @@ wider_by_one painted row lawful = AreChanges-wider (painted + 1) (suc painted) r
 -- a white run up to the row's end
 pub white_ends : (strict : Bool) (columns painted : ℕ) (row : List ℕ) (at first next : BitsAt) (run width words ticks now : ℕ)
     → painted < columns → AreChanges (painted + 1) row → length row % 2 ≡ 0 → first ≡ at → IsRunHere White (moved 0 first) run
-    width words → (run ≤ columns - painted) ⊎ (strict ≡ false) → columns - painted ≤ run → next ≡ moved width first
+    width words → run ≤ columns - painted → columns - painted ≤ run → next ≡ moved width first
     → now ≡ ticks + words → GoesOn strict columns (pen_at painted row White at) (pen_at columns row Black next) ticks now
 white_ends strict columns painted row at first next run width words ticks now open_row lawful even same there fits far on counts =
     rw (on, counts, ← same) (white_on strict columns painted columns row first run width words ticks
@@ -153,7 +160,7 @@ two_runs settings painted place row at last runs ticks now there follow reach on
     (pen_at place (row ++ turn ∷ []) White (moved there.width2 between)) ticks (ticks + there.words)
     (ticks + there.words + there.words2)
     (white_on settings.strict columns painted turn row at runs.first there.width there.words ticks
-    (wider_by_one painted row lawful) even follow.row_is_open.inside there.first (inl (omega (arith, short)))
+    (wider_by_one painted row lawful) even follow.row_is_open.inside there.first (omega (arith, short))
     (omega (arith, short)))
     (black_on settings.strict columns turn place row between runs.second there.width2 there.words2 (ticks + there.words)
     (AreChanges-wider (painted + 1) (suc turn) row (omega arith) lawful) even (omega (arith, short)) there.second follow.fits
@@ -265,6 +272,7 @@ IsDrawn1d before now begun at =
 pub begun_1d : (before now : Context) (begun : BitsAt) → now ≡ record before {
   held = redrawn before.held [] Color.White;
   passed = 0;
+  cut = false;
 } → IsDrawn1d before now begun begun
 begun_1d before now begun frame =
     rw frame (record { line = refl; held = refl; same_bits = refl; counts = omega arith }, refl)

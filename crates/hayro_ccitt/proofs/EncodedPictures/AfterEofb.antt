@@ -12,7 +12,7 @@ use Rattle.hayro_ccitt.proofs.{DrawingLines.WhatFollows.line_2d_found, EncodedPi
 use Rattle.hayro_ccitt.proofs.EncodedPictures.PictureLines.{IsLineStart, mode_starts, between, plain_ends}
 use Rattle.hayro_ccitt.proofs.Readings.GapsAndRows.{gap_unsought, t6_end}
 use Rattle.hayro_ccitt.proofs.Readings.RowsAndGaps.{unless_over}
-use Rattle.hayro_ccitt.proofs.Readings.TurnsMoveOn.{eols-none}
+use Rattle.fax_bits.proofs.BitReading.ConsecutiveEols.{eols-none}
 use Rattle.hayro_ccitt.proofs.Readings.Repeated.{next_is, not_next}
 
 -- ---- EOLs.

@@ -6,7 +6,8 @@ use Rattle.hayro_ccitt.proofs.Names.{All-tail, White, DecodeSettings, EncodingMo
 use Rattle.hayro_ccitt.proofs.Names.{Reaches, Row, Line, cond-true, is_over, eols, eols_here, Progress, row_before, limit_met}
 use Rattle.hayro_ccitt.proofs.Names.{ends_with, line_here, pass_gap, ending_behind, end_of, EncodesLine, IsPicture, EncodesRows}
 use Rattle.hayro_ccitt.proofs.Names.{Allows, gap_and_row, row_behind, ReadsLimitedRowsT4, common_steps}
-use Rattle.hayro_ccitt.proofs.{EncodedPictures.EncodedLines.line_2d_again, Readings.TurnsMoveOn.eols-none}
+use Rattle.hayro_ccitt.proofs.EncodedPictures.EncodedLines.{line_2d_again}
+use Rattle.fax_bits.proofs.BitReading.ConsecutiveEols.{eols-none}
 use Rattle.hayro_ccitt.proofs.EncodedPictures.PictureLines.{IsLineStart, line_2d_starts, allows_sum, not_met, row_before_push}
 use Rattle.hayro_ccitt.proofs.EncodedPictures.PictureLines.{plain_ends, fill, aligned_again, aligned_on, between, ended_with}
 use Rattle.hayro_ccitt.proofs.EncodedPictures.PicturesT4.{line_t4_again, line_t4_starts}

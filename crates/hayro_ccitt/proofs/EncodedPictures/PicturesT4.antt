@@ -17,8 +17,9 @@ use Rattle.hayro_ccitt.proofs.EncodedPictures.PictureLines.{closed_settings, beg
 use Rattle.hayro_ccitt.proofs.EncodedPictures.PictureLines.{IsLineStart, not_met, row_before_push, plain_ends}
 use Rattle.hayro_ccitt.proofs.Readings.GapsAndRows.{first_gap_t4, ending_t4}
 use Rattle.hayro_ccitt.proofs.Readings.RowsAndGaps.{unless_over, after_row, after_whole-is}
-use Rattle.hayro_ccitt.proofs.Readings.TurnsMoveOn.{eols_end, eols-none, one_more-count, eol_of, eols_with_tags-some}
-use Rattle.hayro_ccitt.proofs.Readings.TurnsMoveOn.{eols_with_tags-none, last_tag_count}
+use Rattle.hayro_ccitt.proofs.Readings.TurnsMoveOn.{eols_end}
+use Rattle.fax_bits.proofs.BitReading.ConsecutiveEols.{eols-none, one_more-count, eol_of, eols_with_tags-some}
+use Rattle.fax_bits.proofs.BitReading.ConsecutiveEols.{eols_with_tags-none, last_tag_count}
 
 -- ---- What a line begins with.
 codes_miss : (color : Color) → each_word (begins_no_eol 0) (codes_of color) ≡ true

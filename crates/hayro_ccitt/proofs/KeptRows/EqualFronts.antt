@@ -5,10 +5,11 @@ use Rattle.hayro_ccitt.proofs.Names.{false≢true, Bits, after_eol, all_eols, eo
 use Rattle.hayro_ccitt.proofs.Names.{EncodingMode, Group4, Group3_1D, Group3_2D, eols_by}
 use Rattle.hayro_ccitt.proofs.BitReading.ZerosInWords.{holds_a_one}
 use Rattle.hayro_ccitt.proofs.DamagedLines.LinesByEols.{past_shorter}
-use Rattle.hayro_ccitt.proofs.DamagedLines.PastEol.{past, all_eols-some, all_eols-none, all_tagged, all_tagged-some}
-use Rattle.hayro_ccitt.proofs.DamagedLines.PastEol.{all_tagged-none}
-use Rattle.hayro_ccitt.proofs.Readings.TurnsMoveOn.{after_eol_shorter, length-one_more, count_shorter, counts_plain}
-use Rattle.hayro_ccitt.proofs.Readings.TurnsMoveOn.{counts_tagged, eols-some, eols-none, past_tag_shorter}
+use Rattle.hayro_ccitt.proofs.DamagedLines.PastEol.{past}
+use Rattle.fax_bits.proofs.BitReading.ConsecutiveEols.{all_eols-some, all_eols-none, all_tagged, all_tagged-some}
+use Rattle.fax_bits.proofs.BitReading.ConsecutiveEols.{all_tagged-none}
+use Rattle.fax_bits.proofs.BitReading.ConsecutiveEols.{after_eol_shorter, length-one_more, count_shorter, counts_plain}
+use Rattle.fax_bits.proofs.BitReading.ConsecutiveEols.{counts_tagged, eols-some, eols-none, past_tag_shorter}
 
 -- ---- The bits of a line contain a one
 

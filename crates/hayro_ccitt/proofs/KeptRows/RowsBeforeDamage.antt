@@ -31,8 +31,10 @@ use Rattle.hayro_ccitt.proofs.Readings.RowsAndGaps.{after_damage-is, unmissed}
 use Rattle.hayro_ccitt.proofs.Readings.TurnsAddRows.{Keeps, after_row_keeps, first_gap_keeps, turn_extends, repeated_adds}
 use Rattle.hayro_ccitt.proofs.Readings.TurnsAddRows.{move_adds}
 use Rattle.hayro_ccitt.proofs.Readings.TurnsMoveOn.{left_to_read, left_below, move_shrinks, unless_over_next, unless_over_open}
-use Rattle.hayro_ccitt.proofs.Readings.TurnsMoveOn.{next_eol_found, count_past, count_shorter, counts_plain, counts_tagged}
-use Rattle.hayro_ccitt.proofs.Readings.TurnsMoveOn.{last_tag_shorter, eols-some, length-one_more, eols_here_counted}
+use Rattle.fax_bits.proofs.BitReading.ConsecutiveEols.{next_eol_found, count_past, count_shorter, counts_plain}
+use Rattle.fax_bits.proofs.BitReading.ConsecutiveEols.{counts_tagged}
+use Rattle.hayro_ccitt.proofs.Readings.TurnsMoveOn.{eols_here_counted}
+use Rattle.fax_bits.proofs.BitReading.ConsecutiveEols.{last_tag_shorter, eols-some, length-one_more}
 
 -- ---- The gap
 

@@ -21,8 +21,9 @@ use Rattle.hayro_ccitt.proofs.DamagedLines.EolsAlike.{eols_found, tagged_found, 
 use Rattle.hayro_ccitt.proofs.DamagedLines.LinesBeforeEol.{Inside, LineAlike}
 use Rattle.hayro_ccitt.proofs.DamagedLines.LinesByEols.{seeks}
 use Rattle.hayro_ccitt.proofs.DamagedLines.LineTails.{after_eol_is, line_past_by}
-use Rattle.hayro_ccitt.proofs.DamagedLines.PastEol.{past, past_is, then_after, all_tagged, all_eols-some, all_eols-none}
-use Rattle.hayro_ccitt.proofs.DamagedLines.PastEol.{all_tagged-some, all_tagged-none}
+use Rattle.hayro_ccitt.proofs.DamagedLines.PastEol.{past, past_is, then_after}
+use Rattle.fax_bits.proofs.BitReading.ConsecutiveEols.{all_tagged, all_eols-some, all_eols-none}
+use Rattle.fax_bits.proofs.BitReading.ConsecutiveEols.{all_tagged-some, all_tagged-none}
 use Rattle.hayro_ccitt.proofs.DamagedLines.RunsAlike.{IsGroup3, IsTail, run_at}
 use Rattle.hayro_ccitt.proofs.DamagedLines.SoughtTurns.{sought, rest_of, not_past_end, eols_here_same, row_past, move_sought}
 use Rattle.hayro_ccitt.proofs.DrawingLines.LinesLeaveBits.{LeavesBits, leaves_trans, LineLeaves, line_by_leaves}
@@ -31,9 +32,11 @@ use Rattle.hayro_ccitt.proofs.KeptRows.LinesAgain.{line_alike}
 use Rattle.hayro_ccitt.proofs.Readings.Repeated.{Follows, after_turn, repeated_turn, repeated_follows, reaches_on}
 use Rattle.hayro_ccitt.proofs.Readings.RowsAndGaps.{unless_over, seek_from, seek_eol, after_row, row_added, after_whole-is}
 use Rattle.hayro_ccitt.proofs.Readings.RowsAndGaps.{after_damage-is}
-use Rattle.hayro_ccitt.proofs.Readings.TurnsMoveOn.{left_to_read, move_shrinks, cond_le, next_eol_found}
-use Rattle.hayro_ccitt.proofs.Readings.TurnsMoveOn.{eols_here_counted, last_tag_count, one_more-count}
-use Rattle.hayro_ccitt.proofs.Readings.TurnsMoveOn.{count_some, counts_plain, counts_tagged, after_eol_shorter}
+use Rattle.hayro_ccitt.proofs.Readings.TurnsMoveOn.{left_to_read, move_shrinks}
+use Rattle.fax_bits.proofs.BitReading.ConsecutiveEols.{cond_le, next_eol_found}
+use Rattle.hayro_ccitt.proofs.Readings.TurnsMoveOn.{eols_here_counted}
+use Rattle.fax_bits.proofs.BitReading.ConsecutiveEols.{last_tag_count, one_more-count}
+use Rattle.fax_bits.proofs.BitReading.ConsecutiveEols.{count_some, counts_plain, counts_tagged, after_eol_shorter}
 
 -- bits before a one aren't the end
 not_end : (bits z : Bits) → at_end (bits ++ true ∷ z) ≡ false

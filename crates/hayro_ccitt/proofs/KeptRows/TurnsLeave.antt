@@ -12,7 +12,8 @@ use Rattle.hayro_ccitt.proofs.DrawingLines.LinesLeaveBits.{LeavesBits, leaves_tr
 use Rattle.hayro_ccitt.proofs.Readings.Repeated.{next_is, not_next}
 use Rattle.hayro_ccitt.proofs.Readings.RowsAndGaps.{seek_from, unless_over, after_row, row_added, after_whole-is}
 use Rattle.hayro_ccitt.proofs.Readings.RowsAndGaps.{after_damage-is}
-use Rattle.hayro_ccitt.proofs.Readings.TurnsMoveOn.{CountsEols, counts_plain, counts_tagged, unless_over_next}
+use Rattle.hayro_ccitt.proofs.Readings.TurnsMoveOn.{unless_over_next}
+use Rattle.fax_bits.proofs.BitReading.ConsecutiveEols.{CountsEols, counts_plain, counts_tagged}
 
 -- ---- EOLs
 

@@ -1,22 +1,67 @@
--- The damage that a run passes is counted: the rows that it repairs, and the EOLs that it misses.
+-- The damage that a run passes is counted: the rows that it repairs, those in which it cuts a run, and the EOLs that it misses.
 use Rattle.hayro_ccitt.proofs.Names.{◌≡◌, ◌+◌, ◌-◌, ◌<◌, ◌≤◌, ℕ, Bool, true, false, cond, eqb, leb, not, ◌&&◌, ◌||◌, List}
 use Rattle.hayro_ccitt.proofs.Names.{[], ◌∷◌, ◌++◌, length, Ok, Err, refl, sym, ap, ◌∙◌, arith}
-use Rattle.hayro_ccitt.proofs.Names.{cond-true, cond-false, eq-eqb, ne_eqb, lt-leb, length-append, DecodeError}
+use Rattle.hayro_ccitt.proofs.Names.{cond-true, cond-false, eq-eqb, ne_eqb, lt-leb, le-leb, length-append, DecodeError}
 use Rattle.hayro_ccitt.proofs.Names.{InvalidCode, DecodeSettings, Bits, Held, Repairs, fresh, no_repairs}
-use Rattle.hayro_ccitt.proofs.Names.{with_missed, Damaged, repaired_in, missed_behind}
+use Rattle.hayro_ccitt.proofs.Names.{with_missed, Damaged, repaired_in, missed_behind, is_broken, cuts_run, cut_in, cut_since}
+use Rattle.hayro_ccitt.proofs.Names.{cuts_with}
 use Rattle.hayro_ccitt.proofs.Names.{repairs_with, repairs_behind, Line, Progress}
 use Rattle.hayro_ccitt.proofs.Names.{row_of_line, behind_row, with_row, misses_eol}
 use Rattle.hayro_ccitt.proofs.Names.{context_at, Row, missed_since, start_in, None, Some}
 use Rattle.hayro_ccitt.proofs.Readings.RowsAndGaps.{unmissed}
 
+-- ---- Rows in which a run is cut
+
+-- counting one changes nothing else
+pub cuts_keep : (cut : Bool) (taken : ℕ) (before : Repairs)
+    → cuts_with cut taken before ≡ record before { cut = (cuts_with cut taken before).cut }
+cuts_keep true taken before = either_way (leb before.cut taken)
+  where
+    either_way : (b : Bool) → cond b (record before { cut = before.cut + 1 }) before
+        ≡ record before { cut = (cond b (record before { cut = before.cut + 1 }) before).cut }
+    either_way true = refl
+    either_way false = refl
+cuts_keep false taken before = refl
+
+-- an accepted row is counted, if a run of it was cut
+pub cut_counts : (line strict : Line) (taken : ℕ) (before : Repairs) (x : Damaged) → before.cut ≤ taken →
+    (repairs_with line strict
+    taken before).cut ≡ before.cut + length (cond {A = List Damaged} (cuts_run line strict) (x ∷ []) [])
+cut_counts (Line.broken front fault) strict taken before x few = omega arith
+cut_counts (Line.whole row rest) (Line.whole other behind) taken before x few = omega arith
+cut_counts (Line.whole row rest) (Line.broken front fault) taken before x few =
+    ap (λ (r : Repairs). r.cut) (cond-true (leb before.cut taken) _ before (le-leb before.cut taken few))
+
+-- it is one row at most
+pub cut_once : (line strict : Line) (x : Damaged) → length (cond {A = List Damaged} (cuts_run line strict) (x ∷ []) []) ≤ 1
+cut_once line strict x = either_way (cuts_run line strict)
+  where
+    either_way : (b : Bool) → length (cond {A = List Damaged} b (x ∷ []) []) ≤ 1
+    either_way true = omega arith
+    either_way false = omega arith
+
+-- and it is told
+pub cut_is_told : (cut : Bool) (x : Damaged) (now : Repairs) (before : ℕ)
+    → now.cut ≡ before + length (cond {A = List Damaged} cut (x ∷ []) [])
+    → cut_since now before ≡ cut_in (cond {A = List Damaged} cut (x ∷ []) [])
+cut_is_told true x now before more = ap not (ne_eqb now.cut before (λ same. absurd (omega (arith, same, more))))
+cut_is_told false x now before more = ap not (eq-eqb now.cut before (omega (arith, more)))
+
+-- where there is no row, none is cut
+pub cut_none : (settings : DecodeSettings) (has_eols : Bool) (start : Bits) (line strict : Line) (e : DecodeError)
+    → row_of_line settings has_eols start line ≡ Err e → cuts_run line strict ≡ false
+cut_none settings has_eols start (Line.whole row rest) strict e is = cc
+cut_none settings has_eols start (Line.broken front fault) strict e is = refl
+
 -- ---- Rows that are repaired
 
 -- an accepted row is counted, if its line was repaired
-pub repaired_counts : (settings : DecodeSettings) (has_eols : Bool) (index offset : ℕ) (start : Bits) (line : Line)
+pub repaired_counts : (settings : DecodeSettings) (has_eols : Bool) (index offset : ℕ) (start : Bits) (line strict : Line)
     (row : Row) (rest : Bits) (taken : ℕ) (before : Repairs) → row_of_line settings has_eols start line ≡ Ok (row, rest)
-    → (repairs_with line taken before).rows ≡ before.rows + length (repaired_in settings has_eols index offset line)
-repaired_counts settings has_eols index offset start (Line.whole pixels behind) row rest taken before is = omega arith
-repaired_counts settings has_eols index offset start (Line.broken front fault) row rest taken before is =
+    → (repairs_with line strict taken before).rows ≡ before.rows + length (repaired_in settings has_eols index offset line)
+repaired_counts settings has_eols index offset start (Line.whole pixels behind) strict row rest taken before is =
+    omega (arith, ap (λ (r : Repairs). r.rows) (cuts_keep (is_broken strict) taken before))
+repaired_counts settings has_eols index offset start (Line.broken front fault) strict row rest taken before is =
     by_strict (settings.strict || not has_eols) refl
   where
     by_strict : (b : Bool) → (settings.strict || not has_eols) ≡ b
@@ -43,9 +88,9 @@ repaired_none settings has_eols index offset start (Line.broken front fault) e i
 
 -- ---- EOLs that are missed
 
--- the gap after a row repairs none
+-- the gap after a row repairs none, and cuts none
 pub repaired_behind : (held : Held) (here : Bits) → ((repairs_behind held here).rows ≡ held.repairs.rows)
-    × ((repairs_behind held here).last ≡ held.repairs.last)
+    × ((repairs_behind held here).last ≡ held.repairs.last) × ((repairs_behind held here).cut ≡ held.repairs.cut)
 repaired_behind held here =
     either_way (misses_eol held.settings held.taken held.has_eols here && not held.settings.strict)
     (eqb held.repairs.last held.taken || leb held.taken held.repairs.missed)
@@ -53,9 +98,11 @@ repaired_behind held here =
     either_way : (b c : Bool) → ((cond b (cond c held.repairs (record held.repairs { missed = held.repairs.missed + 1 }))
         held.repairs).rows ≡ held.repairs.rows) × ((cond b
         (cond c held.repairs (record held.repairs { missed = held.repairs.missed + 1 })) held.repairs).last ≡ held.repairs.last)
-    either_way true true = (refl, refl)
-    either_way true false = (refl, refl)
-    either_way false c = (refl, refl)
+        × ((cond b (cond c held.repairs (record held.repairs { missed = held.repairs.missed + 1 })) held.repairs).cut
+        ≡ held.repairs.cut)
+    either_way true true = (refl, refl, refl)
+    either_way true false = (refl, refl, refl)
+    either_way false c = (refl, refl, refl)
 
 -- where no EOLs are sought, none is missed
 unsought_behind : (held : Held) (here : Bits) → held.has_eols ≡ false → repairs_behind held here ≡ held.repairs
@@ -96,15 +143,18 @@ missed_same before taken last =
     (either (eqb before.last taken) (leb taken before.missed) (eq-eqb before.last taken last))
 
 -- the EOL behind one more row is counted, if it was missed and the row wasn't repaired
-pub missed_counts : (settings : DecodeSettings) (bits : Bits) (so_far : Progress) (line : Line) (row : Row) (rest : Bits)
+pub missed_counts : (settings : DecodeSettings) (bits : Bits) (so_far : Progress) (line strict : Line) (row : Row) (rest : Bits)
     (before : Repairs) → row_of_line settings so_far.has_eols so_far.rest line ≡ Ok (row, rest) → before.last ≤ length so_far.rows
     → before.missed ≤ length so_far.rows → (repairs_behind (context_at settings (with_row so_far row rest) (repairs_with line
-    (length so_far.rows) before)) rest).missed ≡ before.missed + length (missed_behind settings bits so_far line)
-missed_counts settings bits so_far (Line.whole pixels behind) row rest before is last few =
+    strict (length so_far.rows) before)) rest).missed ≡ before.missed + length (missed_behind settings bits so_far line)
+missed_counts settings bits so_far (Line.whole pixels behind) strict row rest before is last few =
     let more : length (so_far.rows ++ row ∷ []) ≡ length so_far.rows + 1 = length-append so_far.rows (row ∷ []) in
     let same : ◌≡◌ {A = Row × Bits} (pixels, behind_row settings so_far.has_eols behind) (row, rest) = cc in
     let here : rest ≡ behind_row settings so_far.has_eols behind = sym (ap (λ (x : Row × Bits). x.1) same) in
-    by_b (misses_eol settings (length (so_far.rows ++ row ∷ [])) so_far.has_eols rest && not settings.strict) (misses_eol settings
+    let kept = cuts_keep (is_broken strict) (length so_far.rows) before in
+    by_b (cuts_with (is_broken strict) (length so_far.rows) before) (ap (λ (r : Repairs). r.last) kept)
+    (ap (λ (r : Repairs). r.missed) kept) (misses_eol settings (length
+    (so_far.rows ++ row ∷ [])) so_far.has_eols rest && not settings.strict) (misses_eol settings
     (length so_far.rows + 1) so_far.has_eols (behind_row settings so_far.has_eols behind) && not settings.strict) (ap
     (λ (k : ℕ). misses_eol settings k so_far.has_eols rest && not settings.strict) more ∙ ap (λ (b : Bits). misses_eol settings
     (length so_far.rows + 1) so_far.has_eols b && not settings.strict) here) (length (so_far.rows ++ row ∷ [])) more (record {
@@ -113,14 +163,19 @@ missed_counts settings bits so_far (Line.whole pixels behind) row rest before is
       fault = InvalidCode;
     })
   where
-    by_b : (b c : Bool) → b ≡ c → (taken : ℕ) → taken ≡ length so_far.rows + 1 → (x : Damaged)
-        → (cond b (with_missed taken before) before).missed ≡ before.missed + length (cond {A = List Damaged} c (x ∷ []) [])
-    by_b true true same taken more x = missed_by_one_more before taken (omega (arith, last, more)) (omega (arith, few, more))
-    by_b true false same taken more x = absurd cc
-    by_b false true same taken more x = absurd cc
-    by_b false false same taken more x = omega arith
-missed_counts settings bits so_far (Line.broken front fault) row rest before is last few =
-    by_length (repairs_with (Line.broken front fault) (length so_far.rows) before) refl refl
+    by_b : (now : Repairs) → now.last ≡ before.last → now.missed ≡ before.missed → (b c : Bool) → b ≡ c → (taken : ℕ)
+        → taken ≡ length so_far.rows + 1 → (x : Damaged)
+        → (cond b (with_missed taken now) now).missed ≡ before.missed + length (cond {A = List Damaged} c (x ∷ []) [])
+    by_b now at kept true true same taken more x = omega (
+      arith,
+      kept,
+      missed_by_one_more now taken (omega (arith, last, more, at)) (omega (arith, few, more, kept)),
+    )
+    by_b now at kept true false same taken more x = absurd cc
+    by_b now at kept false true same taken more x = absurd cc
+    by_b now at kept false false same taken more x = omega (arith, kept)
+missed_counts settings bits so_far (Line.broken front fault) strict row rest before is last few =
+    by_length (repairs_with (Line.broken front fault) strict (length so_far.rows) before) refl refl
     (misses_eol settings (length (so_far.rows ++ row ∷ [])) so_far.has_eols rest && not settings.strict)
     (length (so_far.rows ++ row ∷ [])) (sym (length-append so_far.rows (row ∷ [])))
   where
@@ -177,22 +232,26 @@ missed_none settings bits so_far (Line.whole row rest) e is = cc
 missed_none settings bits so_far (Line.broken front fault) e is = refl
 
 -- the last repaired row is one of them
-last_with : (line : Line) (taken : ℕ) (before : Repairs) → before.last ≤ taken → (repairs_with line taken before).last ≤ taken + 1
-last_with (Line.whole row rest) taken before within = omega (arith, within)
-last_with (Line.broken front fault) taken before within = omega arith
+last_with : (line strict : Line) (taken : ℕ) (before : Repairs) → before.last ≤ taken
+    → (repairs_with line strict taken before).last ≤ taken + 1
+last_with (Line.whole row rest) strict taken before within =
+    omega (arith, within, ap (λ (r : Repairs). r.last) (cuts_keep (is_broken strict) taken before))
+last_with (Line.broken front fault) strict taken before within = omega arith
 
-module _ (settings : DecodeSettings) (bits : Bits) (so_far : Progress) (line : Line) (row : Row) (rest : Bits) (before : Repairs)
+module _ (settings : DecodeSettings) (bits : Bits) (so_far : Progress) (line strict : Line) (row : Row) (rest : Bits)
+    (before : Repairs)
     (is : row_of_line settings so_far.has_eols so_far.rest line ≡ Ok (row, rest)) (last : before.last ≤ length so_far.rows)
     (few : before.missed ≤ length so_far.rows) where
   -- what is counted behind one more row
   abbrev then : Repairs
-  then = repairs_behind (context_at settings (with_row so_far row rest) (repairs_with line (length so_far.rows) before)) rest
+  then = repairs_behind (context_at settings (with_row so_far row rest) (repairs_with line strict
+      (length so_far.rows) before)) rest
 
   pub few_behind : then.missed ≤ length so_far.rows + 1
   few_behind = omega (
     arith,
     few,
-    missed_counts settings bits so_far line row rest before is last few,
+    missed_counts settings bits so_far line strict row rest before is last few,
     missed_once settings bits so_far line,
   )
 
@@ -201,6 +260,6 @@ module _ (settings : DecodeSettings) (bits : Bits) (so_far : Progress) (line : L
       omega (
         arith,
         (repaired_behind
-            (context_at settings (with_row so_far row rest) (repairs_with line (length so_far.rows) before)) rest).1,
-        last_with line (length so_far.rows) before last,
+            (context_at settings (with_row so_far row rest) (repairs_with line strict (length so_far.rows) before)) rest).1,
+        last_with line strict (length so_far.rows) before last,
       )

@@ -16,12 +16,15 @@ use Rattle.hayro_ccitt.proofs.Names.{EncodingMode, Group4, RowsRead, ReadsNext, 
 use Rattle.hayro_ccitt.proofs.Names.{ReachesNextLine, read_so_far, line_after, DamageIsCounted, MissesAreCounted, MissesBehindRow}
 use Rattle.hayro_ccitt.proofs.Names.{Misses, ReaderStands, ended, stand_after, is_at_line, StandsAtLine, StandsBehindRow}
 use Rattle.hayro_ccitt.proofs.Names.{zero, redrawn, White, sum_by-append, sum_by-take-drop, end_of, ends_with, add_row}
-use Rattle.hayro_ccitt.proofs.Names.{IsWhole, IsFault}
+use Rattle.hayro_ccitt.proofs.Names.{IsWhole, IsFault, cut_by_turn, cuts_by_line, cut_in, cut_since, cuts_with, is_broken}
+use Rattle.hayro_ccitt.proofs.Names.{cuts_run}
+use Rattle.hayro_ccitt.proofs.Names.{strict_line_of_turn}
 use Rattle.hayro_ccitt.proofs.Names.{HasEnded, HasFailed, MissIsTold, context_at, missed_before, missed_since, start_in}
 use Rattle.hayro_ccitt.proofs.{Readings.GapsAndRows.first_gap_t4, Readings.Gathered.gathered_after}
 use Rattle.hayro_ccitt.proofs.Readings.Repeated.{reaches_on}
 use Rattle.hayro_ccitt.proofs.Readings.DamageCounted.{repaired_counts, repaired_none, missed_counts, missed_none, missed_starts}
-use Rattle.hayro_ccitt.proofs.Readings.DamageCounted.{few_behind, last_behind}
+use Rattle.hayro_ccitt.proofs.Readings.DamageCounted.{few_behind, last_behind, cuts_keep, cut_counts, cut_once, cut_is_told}
+use Rattle.hayro_ccitt.proofs.Readings.DamageCounted.{cut_none}
 use Rattle.hayro_ccitt.proofs.Readings.PlainAnswers.{some_columns, bytes_before-place}
 use Rattle.hayro_ccitt.proofs.Readings.RowsAndGaps.{unmissed}
 use Rattle.hayro_ccitt.proofs.Readings.RunsOverRows.{by_rows_left, row_of_turn, row_adds, turn_is, lines, lines_on, Comes}
@@ -105,7 +108,7 @@ module _ (settings : DecodeSettings) (wide : 0 < settings.columns) (bits : Bits)
         ∙ no_value_behind settings wide first none_first reaches ends (start_of_turn bits) other
 
     -- the offset of the bits after its row
-    row_end_is : (other : ℕ) → get_or (row_ends settings bits) (length so_far.rows) other ≡ end_of_turn settings bits so_far
+    pub row_end_is : (other : ℕ) → get_or (row_ends settings bits) (length so_far.rows) other ≡ end_of_turn settings bits so_far
     row_end_is other =
         let gives = end_of_turn settings bits in
         get_or-there (row_ends settings bits) (length so_far.rows) (gives so_far) other (ap (λ (xs : List ℕ). slice_get xs (length
@@ -185,6 +188,25 @@ module _ (settings : DecodeSettings) (wide : 0 < settings.columns) (bits : Bits)
       pub repaired_more : sum_by length (take (rows + 1) by_line) ≡ sum_by length (take rows by_line) + length repaired
       repaired_more = gathered_more by_line (repaired_by_turn settings bits) repairs_are
 
+      -- what is cut of it
+      abbrev cut_damage : Damaged
+      cut_damage = record { row = length so_far.rows; start = length bits - length so_far.rest; fault = InvalidCode }
+
+      cuts_are : cuts_by_line settings bits ≡ gathered_from (move_on settings) (one_each (cut_by_turn settings bits)) first
+      cuts_are = cond-false (eqb settings.columns 0) _ _ (has_columns settings wide) ∙ gathered_is (cut_by_turn settings bits)
+
+      pub cut_by_row_is : get_or (cuts_by_line settings bits) rows [] ≡ cut_by_turn settings bits so_far
+      cut_by_row_is =
+          let gives = cut_by_turn settings bits in
+          get_or-there (cuts_by_line settings bits) rows (gives so_far) []
+          (ap (λ (n : ℕ). slice_get (cuts_by_line settings bits) n) taken
+          ∙ ap (λ (xs : List (List Damaged)). slice_get xs (length so_far.rows)) cuts_are
+          ∙ comes_line (by_rows_left settings wide) none_first (comes gives) (gives so_far) refl)
+
+      pub cut_more : sum_by length (take (rows + 1) (cuts_by_line settings bits))
+          ≡ sum_by length (take rows (cuts_by_line settings bits)) + length (cut_by_turn settings bits so_far)
+      cut_more = gathered_more (cuts_by_line settings bits) (cut_by_turn settings bits) cuts_are
+
       -- so is the gap after it
       misses_are : misses_by_line settings bits ≡ gathered_from (move_on settings) (one_each (missed_by_turn settings bits)) first
       misses_are =
@@ -218,6 +240,7 @@ module _ (settings : DecodeSettings) (wide : 0 < settings.columns) (bits : Bits)
     whole_behind ends held more rows eols =
         let at = ap (λ (e : Ending). length e.rows) (ends_with_turn ends) in
         let by_line = repairs_by_line settings bits in
+        let cuts = cuts_by_line settings bits in
         let misses = misses_by_line settings bits in
         record {
           rows = more ∙ sym (at ∙ rows);
@@ -225,6 +248,8 @@ module _ (settings : DecodeSettings) (wide : 0 < settings.columns) (bits : Bits)
           has_eols = eols ∙ sym (ap (λ (e : Ending). e.has_eols) (ends_with_turn ends));
           repaired = ap (λ (n : ℕ). sum_by length (take n by_line)) more ∙ repaired_more refl
               ∙ sym (gathered_whole refl by_line (repaired_by_turn settings bits) (repairs_are refl) ends);
+          cut = ap (λ (n : ℕ). sum_by length (take n cuts)) more ∙ cut_more refl
+              ∙ sym (gathered_whole refl cuts (cut_by_turn settings bits) (cuts_are refl) ends);
           missed = ap (λ (n : ℕ). sum_by length (take n misses)) more ∙ missed_more refl
               ∙ sym (gathered_whole refl misses (missed_by_turn settings bits) (misses_are refl) ends);
         }
@@ -244,6 +269,12 @@ module _ (settings : DecodeSettings) (wide : 0 < settings.columns) (bits : Bits)
             arith,
             gathered_whole taken (repairs_by_line settings bits) (repaired_by_turn settings bits) (repairs_are taken) ends,
             ap length (repaired_none settings so_far.has_eols (length so_far.rows) offset so_far.rest line e is),
+          );
+          cut = omega (
+            arith,
+            gathered_whole taken (cuts_by_line settings bits) (cut_by_turn settings bits) (cuts_are taken) ends,
+            ap (λ (b : Bool). length (cond {A = List Damaged} b (cut_damage taken ∷ []) []))
+                (cut_none settings so_far.has_eols so_far.rest line (strict_line_of_turn settings so_far) e is),
           );
           missed = omega (
             arith,
@@ -267,30 +298,39 @@ module _ {settings : DecodeSettings} {bits : Bits} {held : Held} {here : Bits}
 
   -- the line here is that of the turn
   module _ {new : Held} {left_over : Bits} {answer : Result (Unit {0}) DecodeError}
-      (takes : TakesOneRow (line_here held.settings held.reference here) (row_of_line held.settings held.has_eols here
+      (takes : TakesOneRow (line_here held.settings held.reference here)
+      (line_here (record held.settings { strict = true }) held.reference here) (row_of_line held.settings held.has_eols here
       (line_here held.settings held.reference here)) held new answer left_over) where
-    takes_turn : TakesOneRow (line_of_turn settings so_far) (row_of_turn settings so_far)
+    takes_turn : TakesOneRow (line_of_turn settings so_far) (strict_line_of_turn settings so_far) (row_of_turn settings so_far)
         (context_at settings so_far held.repairs) new answer left_over
     takes_turn =
+        let strictly = record settings { strict = true } in
         let known : TakesOneRow (line_here settings (row_before settings.columns so_far.rows) here)
+        (line_here strictly (row_before settings.columns so_far.rows) here)
         (row_of_line settings so_far.has_eols here (line_here settings (row_before settings.columns so_far.rows) here))
         (context_at settings so_far held.repairs) new answer left_over =
-        subst (λ (h : Held). TakesOneRow (line_here h.settings h.reference here) (row_of_line h.settings h.has_eols here
+        subst (λ (h : Held). TakesOneRow (line_here h.settings h.reference here)
+        (line_here (record h.settings { strict = true }) h.reference here) (row_of_line h.settings h.has_eols here
         (line_here h.settings h.reference here)) h new answer left_over) stands.held_is takes in
         subst (λ (x : Bits). TakesOneRow (line_here settings (row_before settings.columns so_far.rows) x)
+        (line_here strictly (row_before settings.columns so_far.rows) x)
         (row_of_line settings so_far.has_eols x (line_here settings (row_before settings.columns so_far.rows) x))
         (context_at settings so_far held.repairs) new answer left_over) stands.rest_is known
 
 -- what is repaired of a line is reported
-repaired_told : (settings : DecodeSettings) (has_eols : Bool) (index offset : ℕ) (start : Bits) (line : Line)
+repaired_told : (settings : DecodeSettings) (has_eols : Bool) (index offset : ℕ) (start : Bits) (line strict : Line)
     (row : Row) (rest : Bits) (taken : ℕ) (before : Repairs) → row_of_line settings has_eols start line ≡ Ok (row, rest)
-    → damage_since (repairs_with line taken before) before.rows ≡ fault_in (repaired_in settings has_eols index offset line)
-repaired_told settings has_eols index offset start (Line.whole pixels behind) row rest taken before is =
-    cond-true (eqb before.rows before.rows) None (Some before.fault) (eq-eqb before.rows before.rows refl)
-repaired_told settings has_eols index offset start (Line.broken front fault) row rest taken before is =
+    → damage_since (repairs_with line strict taken before) before.rows ≡ fault_in
+    (repaired_in settings has_eols index offset line)
+repaired_told settings has_eols index offset start (Line.whole pixels behind) strict row rest taken before is =
+    let now = cuts_with (is_broken strict) taken before in
+    cond-true (eqb now.rows before.rows) None (Some now.fault)
+    (eq-eqb now.rows before.rows (ap (λ (r : Repairs). r.rows) (cuts_keep (is_broken strict) taken before)))
+repaired_told settings has_eols index offset start (Line.broken front fault) strict row rest taken before is =
     by_strict (settings.strict || not has_eols) refl
   where
-    by_strict : (b : Bool) → (settings.strict || not has_eols) ≡ b → damage_since (repairs_with (Line.broken front fault) taken
+    by_strict : (b : Bool) → (settings.strict || not has_eols) ≡ b → damage_since (repairs_with
+        (Line.broken front fault) strict taken
         before) before.rows ≡ fault_in (repaired_in settings has_eols index offset (Line.broken front fault))
     by_strict true e = let never = sym (cond-true (settings.strict || not has_eols) _ _ e) ∙ is in cc
     by_strict false e =
@@ -317,8 +357,15 @@ pub record IsRead (settings : DecodeSettings) (bits : Bits) (held new : Held) (h
   pub within : new.taken ≤ length (plain settings bits).rows
   pub row : new.reference ≡ get_or (plain settings bits).rows held.taken []
   pub line_start : length bits - length here ≡ get_or (line_starts settings bits) held.taken 0
+  pub row_end : length bits - length left_over ≡ get_or (row_ends settings bits) held.taken 0
   pub damage : damage_since new.repairs held.repairs.rows ≡ fault_in (get_or (repairs_by_line settings bits) held.taken [])
   pub few : held.repairs.rows ≤ held.taken → new.repairs.rows ≤ new.taken
+  pub cut : held.repairs.cut ≤ held.taken
+      → cut_since new.repairs held.repairs.cut ≡ cut_in (get_or (cuts_by_line settings bits) held.taken [])
+  pub few_cut : held.repairs.cut ≤ held.taken → new.repairs.cut ≤ new.taken
+  pub cut_counted : held.repairs.cut ≤ held.taken → held.repairs.cut ≡ sum_by length (take held.taken
+      (cuts_by_line settings bits))
+      → new.repairs.cut ≡ sum_by length (take new.taken (cuts_by_line settings bits))
   pub words : sum_by length (take new.taken (words_of settings bits))
       ≡ sum_by length (take held.taken (words_of settings bits)) + length (found_here settings held.reference here)
   pub counted : held.repairs.rows ≡ sum_by length (take held.taken (repairs_by_line settings bits))
@@ -327,7 +374,8 @@ pub record IsRead (settings : DecodeSettings) (bits : Bits) (held new : Held) (h
 
 pub is_read : {settings : DecodeSettings} {bits : Bits} {held : Held} {here : Bits} → StandsAtLine settings bits held here
     → {new : Held} {left_over : Bits} → TakesOneRow (line_here held.settings held.reference here)
-    (row_of_line held.settings held.has_eols here (line_here held.settings held.reference here)) held new (Ok tt) left_over
+    (line_here (record held.settings { strict = true }) held.reference here) (row_of_line held.settings held.has_eols here
+    (line_here held.settings held.reference here)) held new (Ok tt) left_over
     → IsRead settings bits held new here left_over
 is_read {settings} {bits} {held} {here} stands {new} {left_over} takes =
     let so_far = stands.so_far in
@@ -335,11 +383,15 @@ is_read {settings} {bits} {held} {here} stands {new} {left_over} takes =
     let before : held.taken ≡ length so_far.rows = ap (λ (h : Held). h.taken) stands.held_is in
     let after : new.taken ≡ length so_far.rows + 1 = ap (λ (h : Held). h.taken) taken.held in
     let line = line_of_turn settings so_far in
-    let with_line : Repairs = repairs_with line (length so_far.rows) held.repairs in
+    let strict = strict_line_of_turn settings so_far in
+    let with_line : Repairs = repairs_with line strict (length so_far.rows) held.repairs in
     let repaired : new.repairs ≡ with_line = ap (λ (h : Held). h.repairs) taken.held in
     let offset = length bits - length so_far.rest in
-    let one = repaired_counts settings so_far.has_eols (length so_far.rows) offset so_far.rest line taken.taken left_over
+    let one = repaired_counts settings so_far.has_eols (length so_far.rows) offset so_far.rest line strict taken.taken left_over
     (length so_far.rows) held.repairs taken.is in
+    let its : Damaged = record { row = length so_far.rows; start = offset; fault = InvalidCode } in
+    let one_cut = λ (so : held.repairs.cut ≤ held.taken). cut_counts line strict (length so_far.rows) held.repairs its
+    (omega (arith, so, before)) in
     let there = row_is_there settings stands.wide bits stands.begins stands.reaches taken.is in
     let found : length (found_here settings held.reference here) ≡ length (words_of_turn settings so_far)
     = ap (λ (h : Held). length (found_here settings h.reference here)) stands.held_is
@@ -364,8 +416,11 @@ is_read {settings} {bits} {held} {here} stands {new} {left_over} takes =
           row_is_next settings stands.wide bits stands.begins stands.reaches taken.is);
       line_start = ap (λ (x : Bits). length bits - length x) stands.rest_is ∙ sym (ap (λ (n : ℕ). get_or (line_starts settings
           bits) n 0) before ∙ line_start_is settings stands.wide bits stands.begins stands.reaches 0);
+      row_end = sym (ap (λ (n : ℕ). get_or (row_ends settings bits) n 0) before
+          ∙ row_end_is settings stands.wide bits stands.begins stands.reaches 0 ∙ ap (end_of_row bits so_far) taken.is);
       damage = ap (λ (r : Repairs). damage_since r held.repairs.rows) repaired ∙ repaired_told settings so_far.has_eols
-          (length so_far.rows) offset so_far.rest line taken.taken left_over (length so_far.rows) held.repairs taken.is ∙ sym (ap
+          (length so_far.rows) offset so_far.rest line strict taken.taken left_over
+          (length so_far.rows) held.repairs taken.is ∙ sym (ap
           fault_in (repaired_is settings stands.wide bits stands.begins stands.reaches before));
       few = λ so. omega (
         arith,
@@ -375,6 +430,26 @@ is_read {settings} {bits} {held} {here} stands {new} {left_over} takes =
         one,
         ap (λ (r : Repairs). r.rows) repaired,
         repaired_once settings so_far.has_eols (length so_far.rows) offset line,
+      );
+      cut = λ so. cut_is_told (cuts_run line strict) its new.repairs held.repairs.cut
+          (ap (λ (r : Repairs). r.cut) repaired ∙ one_cut so)
+          ∙ sym (ap cut_in (cut_by_row_is settings stands.wide bits stands.begins stands.reaches before));
+      few_cut = λ so. omega (
+        arith,
+        so,
+        before,
+        after,
+        one_cut so,
+        ap (λ (r : Repairs). r.cut) repaired,
+        cut_once line strict its,
+      );
+      cut_counted = λ few so. omega (
+        arith,
+        so,
+        one_cut few,
+        ap (λ (r : Repairs). r.cut) repaired,
+        cut_more settings stands.wide bits stands.begins stands.reaches before,
+        ap (λ (n : ℕ). sum_by length (take n (cuts_by_line settings bits))) (after ∙ ap (λ (n : ℕ). n + 1) (sym before)),
       );
       words = ap (λ (n : ℕ). sum_by length (take n (words_of settings bits))) (after ∙ ap (λ (n : ℕ). n + 1) (sym before))
           ∙ words_more settings stands.wide bits stands.begins stands.reaches before
@@ -391,10 +466,11 @@ is_read {settings} {bits} {held} {here} stands {new} {left_over} takes =
           let here : new.taken - 1 ≡ length so_far.rows = omega (arith, after) in
           record {
             line = line;
+            strict = strict;
             before = held.repairs;
             line_is = ap (slice_get (lines_of settings bits)) here
                 ∙ line_is settings stands.wide bits stands.begins stands.reaches;
-            repairs_are = repaired ∙ ap (λ (n : ℕ). repairs_with line n held.repairs) (sym here);
+            repairs_are = repaired ∙ ap (λ (n : ℕ). repairs_with line strict n held.repairs) (sym here);
             counted = subst (MissesAreCounted settings bits held.repairs) (before ∙ sym here) so;
           };
     }
@@ -409,7 +485,8 @@ reader_fails_at_line {settings} {bits} stands =
 -- no row was read there
 pub isnt_read : {settings : DecodeSettings} {bits : Bits} {held : Held} {here : Bits} → StandsAtLine settings bits held here
     → {new : Held} {left_over : Bits} {e : DecodeError} → TakesOneRow (line_here held.settings held.reference here)
-    (row_of_line held.settings held.has_eols here (line_here held.settings held.reference here)) held new (Err e) left_over
+    (line_here (record held.settings { strict = true }) held.reference here) (row_of_line held.settings held.has_eols here
+    (line_here held.settings held.reference here)) held new (Err e) left_over
     → HasFailed settings bits new.taken e × (0 < settings.columns → IsFault e → IsWhole settings bits new (Err e))
 isnt_read {settings} {bits} {held} stands {new} {e = e} takes =
     let so_far = stands.so_far in
@@ -596,6 +673,7 @@ module _ (settings : DecodeSettings) (wide : 0 < settings.columns) (bits : Bits)
       → last.has_eols ≡ false → IsWhole settings bits last outcome
   whole_front ends unsought =
       let repaired : repairs_by_line settings bits ≡ [] = no_lines (repaired_by_turn settings bits) ends in
+      let cut : cuts_by_line settings bits ≡ [] = no_lines (cut_by_turn settings bits) ends in
       let missed : misses_by_line settings bits ≡ [] = no_lines (missed_by_turn settings bits) ends in
       record {
         rows = none ∙ sym (ap (λ (e : Ending). length e.rows) (first_ended ends));
@@ -603,6 +681,7 @@ module _ (settings : DecodeSettings) (wide : 0 < settings.columns) (bits : Bits)
         has_eols = unsought ∙ sym (ap (λ (e : Ending). e.has_eols) (first_ended ends));
         repaired = ap (λ (n : ℕ). sum_by length (take n (repairs_by_line settings bits))) none
             ∙ sym (ap (sum_by length) repaired);
+        cut = ap (λ (n : ℕ). sum_by length (take n (cuts_by_line settings bits))) none ∙ sym (ap (sum_by length) cut);
         missed = ap (λ (n : ℕ). sum_by length (take n (misses_by_line settings bits))) none ∙ sym (ap (sum_by length) missed);
       }
 
@@ -661,9 +740,11 @@ first_line_stands settings wide bits other last rest frame is room = record {
 }
 
 -- a row adds no missed EOL
-pub repairs_with_missed : (line : Line) (taken : ℕ) (before : Repairs) → (repairs_with line taken before).missed ≡ before.missed
-repairs_with_missed (Line.whole row rest) taken before = refl
-repairs_with_missed (Line.broken front fault) taken before = refl
+pub repairs_with_missed : (line strict : Line) (taken : ℕ) (before : Repairs)
+    → (repairs_with line strict taken before).missed ≡ before.missed
+repairs_with_missed (Line.whole row rest) strict taken before =
+    ap (λ (r : Repairs). r.missed) (cuts_keep (is_broken strict) taken before)
+repairs_with_missed (Line.broken front fault) strict taken before = refl
 
 -- the gap behind a row tells of its EOL
 module _ (settings : DecodeSettings) (bits : Bits) (held : Held) (here : Bits) (stands : StandsBehindRow settings bits held here)
@@ -686,16 +767,17 @@ module _ (settings : DecodeSettings) (bits : Bits) (held : Held) (here : Bits) (
   known : MissesAreCounted settings bits misses.before read
   known = subst (MissesAreCounted settings bits misses.before) index misses.counted
 
-  read_with : held.repairs ≡ repairs_with its_line read misses.before
+  read_with : held.repairs ≡ repairs_with its_line misses.strict read misses.before
   read_with =
       let found : ◌≡◌ {A = Option Line} (Some misses.line) (Some its_line) = sym misses.line_is ∙ ap (slice_get
       (lines_of settings bits)) index ∙ line_is settings stands.wide bits stands.begins stands.reaches in
       let same : misses.line ≡ its_line = cc in
-      misses.repairs_are ∙ ap (λ (k : ℕ). repairs_with misses.line k misses.before) index
-      ∙ ap (λ (l : Line). repairs_with l read misses.before) same
+      misses.repairs_are ∙ ap (λ (k : ℕ). repairs_with misses.line misses.strict k misses.before) index
+      ∙ ap (λ (l : Line). repairs_with l misses.strict read misses.before) same
 
   then : last.repairs
-      ≡ repairs_behind (context_at settings (with_row there stands.row here) (repairs_with its_line read misses.before)) here
+      ≡ repairs_behind (context_at settings (with_row there stands.row here)
+      (repairs_with its_line misses.strict read misses.before)) here
   then =
       counts ∙ ap (λ (h : Held). repairs_behind h here) (stands.held_is
       ∙ ap (context_at settings (with_row there stands.row here)) read_with)
@@ -703,7 +785,7 @@ module _ (settings : DecodeSettings) (bits : Bits) (held : Held) (here : Bits) (
   one : last.repairs.missed ≡ misses.before.missed + length (missed_by_turn settings bits there)
   one =
       ap (λ (r : Repairs). r.missed) then
-      ∙ missed_counts settings bits there its_line stands.row here misses.before stands.row_is known.last known.few
+      ∙ missed_counts settings bits there its_line misses.strict stands.row here misses.before stands.row_is known.last known.few
 
   -- it is counted
   pub misses_passed : last.taken ≡ held.taken → MissesAreCounted settings bits last.repairs last.taken
@@ -714,14 +796,14 @@ module _ (settings : DecodeSettings) (bits : Bits) (held : Held) (here : Bits) (
           taken,
           one_more,
           ap (λ (r : Repairs). r.missed) then,
-          few_behind settings bits there its_line stands.row here misses.before stands.row_is known.last known.few,
+          few_behind settings bits there its_line misses.strict stands.row here misses.before stands.row_is known.last known.few,
         );
         last = omega (
           arith,
           taken,
           one_more,
           ap (λ (r : Repairs). r.last) then,
-          last_behind settings bits there its_line stands.row here misses.before stands.row_is known.last known.few,
+          last_behind settings bits there its_line misses.strict stands.row here misses.before stands.row_is known.last known.few,
         );
         counted = omega (
           arith,
@@ -737,7 +819,7 @@ module _ (settings : DecodeSettings) (bits : Bits) (held : Held) (here : Bits) (
       → missed_since last.repairs held.repairs.missed place ≡ missed_before settings bits held.taken
   miss_told place is =
       let next : held.taken ≡ suc read = omega (arith, one_more) in
-      let before = ap (λ (r : Repairs). r.missed) read_with ∙ repairs_with_missed its_line read misses.before in
+      let before = ap (λ (r : Repairs). r.missed) read_with ∙ repairs_with_missed its_line misses.strict read misses.before in
       ap (missed_since last.repairs held.repairs.missed) is
       ∙ missed_starts settings bits there its_line stands.row here stands.row_is last.repairs held.repairs.missed
       (one ∙ ap (λ (k : ℕ). k + length (missed_by_turn settings bits there)) (sym before))
@@ -792,10 +874,13 @@ pub none_damaged : (stand : Stand) (settings : DecodeSettings) (bits : Bits) (he
     → held.repairs ≡ no_repairs → DamageIsCounted stand settings bits held
 none_damaged stand settings bits held stands none no_damage =
     let rows : held.repairs.rows ≡ 0 = ap (λ (r : Repairs). r.rows) no_damage in
+    let cut : held.repairs.cut ≡ 0 = ap (λ (r : Repairs). r.cut) no_damage in
     let missed : held.repairs.missed ≡ 0 = ap (λ (r : Repairs). r.missed) no_damage in
     record {
       few = omega (arith, rows);
       counted = rows ∙ sym (ap (λ (n : ℕ). sum_by length (take n (repairs_by_line settings bits))) none);
+      few_cut = omega (arith, cut);
+      cut = cut ∙ sym (ap (λ (n : ℕ). sum_by length (take n (cuts_by_line settings bits))) none);
       misses = stands (record {
         few = omega (arith, missed);
         last = omega (arith, ap (λ (r : Repairs). r.last) no_damage);
@@ -806,25 +891,30 @@ none_damaged stand settings bits held stands none no_damage =
 -- what was counted is unchanged where no row is read
 pub damage_stays : (before stand : Stand) (settings given : DecodeSettings) (bits read : Bits) (held last : Held)
     → given ≡ settings → read ≡ bits → last.taken ≡ held.taken → last.repairs.rows ≡ held.repairs.rows
-    → DamageIsCounted before settings bits held → Misses stand settings bits last → DamageIsCounted stand given read last
-damage_stays before stand settings given bits read held last same are taken repairs counted misses = record {
+    → last.repairs.cut ≡ held.repairs.cut → DamageIsCounted before settings bits held → Misses stand settings bits last
+    → DamageIsCounted stand given read last
+damage_stays before stand settings given bits read held last same are taken repairs cuts counted misses = record {
   few = omega (arith, counted.few, taken, repairs);
   counted = repairs ∙ counted.counted ∙ ap (λ (n : ℕ). sum_by length (take n (repairs_by_line settings bits))) (sym taken)
       ∙ ap (λ (s : DecodeSettings). sum_by length (take last.taken (repairs_by_line s bits))) (sym same)
       ∙ ap (λ (b : Bits). sum_by length (take last.taken (repairs_by_line given b))) (sym are);
+  few_cut = omega (arith, counted.few_cut, taken, cuts);
+  cut = cuts ∙ counted.cut ∙ ap (λ (n : ℕ). sum_by length (take n (cuts_by_line settings bits))) (sym taken)
+      ∙ ap (λ (s : DecodeSettings). sum_by length (take last.taken (cuts_by_line s bits))) (sym same)
+      ∙ ap (λ (b : Bits). sum_by length (take last.taken (cuts_by_line given b))) (sym are);
   misses = subst (λ (s : DecodeSettings). Misses stand s read last) (sym same)
       (subst (λ (b : Bits). Misses stand settings b last) (sym are) misses);
 }
 
 -- the result of a call that passes a gap
-pub comes_to_line : (old : RowsRead) (last : Held) (ticks : ℕ) (at : BitsAt) (n : ℕ) (damage : Option DecodeError)
-    (missed : Option ℕ) (answer : Result Bool DecodeError)
+pub comes_to_line : (old : RowsRead) (last : Held) (ticks space : ℕ) (at : BitsAt) (n : ℕ) (damage : Option DecodeError)
+    (cut : Bool) (missed : Option ℕ) (answer : Result Bool DecodeError)
     → last.settings ≡ old.settings → at.bits ≡ old.bits → last.taken ≡ old.taken → old.ticks ≤ ticks
-    → (last.reference ≡ old.row) × (damage ≡ old.damage) → IfOk answer (λ over. n ≡ old.line_start)
+    → (last.reference ≡ old.row) × (damage ≡ old.damage) × (cut ≡ old.cut) → IfOk answer (λ over. n ≡ old.line_start)
     → ReaderStands (stand_after answer) old.settings old.bits last at.place
     → OnErr answer (n ≡ failed_at old.settings old.bits old.taken) → missed ≡ missed_before old.settings old.bits old.taken
-    → ReachesNextLine old (read_so_far last ticks at n damage missed (stand_after answer)) (line_after answer)
-comes_to_line old last ticks at n damage missed (Ok true) settings bits taken counts row begun stands start told =
+    → ReachesNextLine old (read_so_far last ticks space at n damage cut missed (stand_after answer)) (line_after answer)
+comes_to_line old last ticks space at n damage cut missed (Ok true) settings bits taken counts row begun stands start told =
     record {
       missed = told;
       counts = counts;
@@ -839,7 +929,7 @@ comes_to_line old last ticks at n damage missed (Ok true) settings bits taken co
       end = λ e. (refl, stands.0);
       error = tt;
     }
-comes_to_line old last ticks at n damage missed (Ok false) settings bits taken counts row begun stands start told =
+comes_to_line old last ticks space at n damage cut missed (Ok false) settings bits taken counts row begun stands start told =
     record {
       missed = told;
       counts = counts;
@@ -854,7 +944,7 @@ comes_to_line old last ticks at n damage missed (Ok false) settings bits taken c
       end = λ e. cc;
       error = tt;
     }
-comes_to_line old last ticks at n damage missed (Err error) settings bits taken counts row begun stands start told =
+comes_to_line old last ticks space at n damage cut missed (Err error) settings bits taken counts row begun stands start told =
     record {
       missed = told;
       counts = counts;
@@ -890,7 +980,9 @@ reads_on old mid new result comes reads =
           → (new.end ≡ None) × (new.taken ≡ n + 1) × (new.taken ≤ length (plain s b).rows)) reads.more;
       row = at (λ s b n. result ≡ Ok true → new.row ≡ get_or (plain s b).rows n []) reads.row;
       line_start = at (λ s b n. result ≡ Ok true → new.line_start ≡ get_or (line_starts s b) n 0) reads.line_start;
+      place = at (λ s b n. result ≡ Ok true → new.place ≡ get_or (row_ends s b) n 0) reads.place;
       damage = at (λ s b n. result ≡ Ok true → new.damage ≡ fault_in (get_or (repairs_by_line s b) n [])) reads.damage;
+      cut = at (λ s b n. result ≡ Ok true → new.cut ≡ cut_in (get_or (cuts_by_line s b) n [])) reads.cut;
       end = at (λ s b n. result ≡ Ok false
           → (new.end ≡ Some (Ok tt)) × (new.taken ≡ n) × HasEnded s b new.taken new.place) reads.end;
       error = at (λ s b n. IfErr result (λ e.
@@ -898,6 +990,6 @@ reads_on old mid new result comes reads =
       fault_start = λ unended. at (λ s b n. OnErr result (new.line_start ≡ failed_at s b n))
           (reads.fault_start (comes.unended refl));
       missed = at (λ s b n. new.missed ≡ missed_before s b n) reads.missed;
-      last = λ none. ((reads.last none).0 ∙ comes.last.0, (reads.last none).1 ∙ comes.last.1);
+      last = λ none. ((reads.last none).0 ∙ comes.last.0, (reads.last none).1 ∙ comes.last.1, (reads.last none).2 ∙ comes.last.2);
       last_start = λ none. reads.last_start none ∙ comes.last_start;
     }

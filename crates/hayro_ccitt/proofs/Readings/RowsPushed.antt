@@ -4,13 +4,16 @@ use Rattle.hayro_ccitt.proofs.Names.{get_or, sum_by, None, Some, Result, Ok, Err
 use Rattle.hayro_ccitt.proofs.Names.{◌∙◌, subst, arith, cond-false, DecodeError, OutOfMemory, Refused, DecodeSettings, IsFault}
 use Rattle.hayro_ccitt.proofs.Names.{OnAnswer, meaning_after, Bits, BitsAt, here, Context, Held, Repairs, SinkState, StopsShort}
 use Rattle.hayro_ccitt.proofs.Names.{DecodesRows, leaving, Line, plain, lines_of, line_of_turn, end_of}
+use Rattle.hayro_ccitt.proofs.Names.{cut_by_turn, cuts_by_line}
 use Rattle.hayro_ccitt.proofs.Names.{gathered_of, repaired_by_turn, missed_by_turn, repairs_by_line, misses_by_line, words_of}
-use Rattle.hayro_ccitt.proofs.Names.{words_of_turn, most_counted, Row, changes, is_some, ReadsNext}
+use Rattle.hayro_ccitt.proofs.Names.{words_of_turn, most_counted, Row, changes, is_some, ReadsNext, suc, ◌∷◌, ◌++◌, map, fold}
+use Rattle.hayro_ccitt.proofs.Names.{map-append, fold-append, drop, length-append, ReaderStands, StandsBehindRow}
+use Rattle.std.proofs.Common.{take-suc}
 use Rattle.hayro_ccitt.proofs.Names.{IsStanding, IsWhole, Misses, MissesBehindRow, MissIsTold, Stand, AtLine, BehindRow}
 use Rattle.hayro_ccitt.proofs.Names.{AtEnd, AtFault, ended, missed_before, seen, Reading, Damaged}
 use Rattle.hayro_ccitt.specs.declared.row_reader.RowState.{RowState}
 use Rattle.hayro_ccitt.proofs.DrawingLines.CountedLines.{on_answer_weaker}
-use Rattle.hayro_ccitt.proofs.Readings.RowByRow.{has_columns, plain_whole, ended_stands, failed_stands, misses_ended}
+use Rattle.hayro_ccitt.proofs.Readings.RowByRow.{few_rows, has_columns, plain_whole, ended_stands, failed_stands, misses_ended}
 use Rattle.hayro_ccitt.proofs.Readings.RowByRow.{repairs_with_missed}
 use Rattle.hayro_ccitt.proofs.Work.CallsPaid.{within_most}
 
@@ -23,6 +26,7 @@ pub record HasRun {M : Type 0} (settings : DecodeSettings) (bits : Bits) (from :
   pub short : StopsShort (plain settings bits).rows (lines_of settings bits) before after held answer
   pub whole : OnAnswer answer (IsWhole settings bits held answer)
   pub repaired : held.repairs.rows ≡ sum_by length (take held.taken (repairs_by_line settings bits))
+  pub cut : held.repairs.cut ≡ sum_by length (take held.taken (cuts_by_line settings bits))
   pub missed : held.repairs.missed ≡ sum_by length (take held.taken (misses_by_line settings bits))
   pub words : from + sum_by length (take held.taken (words_of settings bits)) ≤ ticks
   pub most : ticks ≤ from + most_counted settings.encoding (length bits)
@@ -52,6 +56,7 @@ decodes_rows bits step before after old new answer wide same run =
     let lines : lines_of settings bits ≡ gathered_of settings (line_of_turn settings) bits = cond-false _ _ _ some in
     let repairs : repairs_by_line settings bits ≡ gathered_of settings (repaired_by_turn settings bits) bits
     = cond-false _ _ _ some in
+    let cuts : cuts_by_line settings bits ≡ gathered_of settings (cut_by_turn settings bits) bits = cond-false _ _ _ some in
     let misses : misses_by_line settings bits ≡ gathered_of settings (missed_by_turn settings bits) bits
     = cond-false _ _ _ some in
     let words : words_of settings bits ≡ gathered_of settings (words_of_turn settings) bits = cond-false _ _ _ some in
@@ -72,6 +77,10 @@ decodes_rows bits step before after old new answer wide same run =
         of_taken = run.repaired ∙ ap (λ (xs : List (List Damaged)). sum_by length (take taken xs)) repairs;
         all = on_answer_weaker answer (λ w. run.repaired ∙ w.repaired ∙ ap (sum_by length) repairs) run.whole;
       };
+      cut = record {
+        of_taken = run.cut ∙ ap (λ (xs : List (List Damaged)). sum_by length (take taken xs)) cuts;
+        all = on_answer_weaker answer (λ w. run.cut ∙ w.cut ∙ ap (sum_by length) cuts) run.whole;
+      };
       missed = record {
         of_taken = run.missed ∙ ap (λ (xs : List (List Damaged)). sum_by length (take taken xs)) misses;
         all = on_answer_weaker answer (λ w. run.missed ∙ w.missed ∙ ap (sum_by length) misses) run.whole;
@@ -81,6 +90,43 @@ decodes_rows bits step before after old new answer wide same run =
         at_most = run.most;
       };
     }
+
+-- the sink means one more row
+pub means_more : {M : Type 0} (step : M → List ℕ → M) (meaning : M) (rows : List Row) (taken : ℕ) (row : Row)
+    → taken + 1 ≤ length rows → row ≡ get_or rows taken [] → step (meaning_after step meaning (take taken rows)) (changes row)
+    ≡ meaning_after step meaning (take (taken + 1) rows)
+means_more step meaning rows taken row there is =
+    let next : taken + 1 ≡ suc taken = omega arith in
+    let more : take (taken + 1) rows ≡ take taken rows ++ row ∷ [] =
+    ap (λ (n : ℕ). take n rows) next ∙ take-suc rows taken [] (omega (arith, there))
+    ∙ ap (λ (r : Row). take taken rows ++ r ∷ []) (sym is) in
+    sym (ap (meaning_after step meaning) more ∙ ap (fold step meaning) (map-append changes (take taken rows) (row ∷ []))
+    ∙ fold-append step meaning (map changes (take taken rows)) (changes row ∷ []))
+
+-- so it does where the sink took it
+pub means_pushed : {M : Type 0} (by_width : ℕ → M → List ℕ → M) (width first : ℕ) (start before after : M) (rows : List Row)
+    (taken now : ℕ) (row : Row) (pushed : List ℕ) → width ≡ first
+    → before ≡ meaning_after (by_width first) start (take taken rows) → after ≡ by_width width before pushed
+    → pushed ≡ changes row → row ≡ get_or rows taken [] → now ≡ taken + 1 → now ≤ length rows
+    → after ≡ meaning_after (by_width first) start (take now rows)
+means_pushed {M} by_width width first start before after rows taken now row pushed same means takes is there more within =
+    takes ∙ ap (λ (w : ℕ). by_width w before pushed) same ∙ ap (λ (m : M). by_width first m pushed) means
+    ∙ ap (by_width first (meaning_after (by_width first) start (take taken rows))) is
+    ∙ means_more (by_width first) start rows taken row (omega (arith, more, within)) there
+    ∙ ap (λ (n : ℕ). meaning_after (by_width first) start (take n rows)) (sym more)
+
+-- behind a row there are no more rows than bits, and two more
+pub few_rows_behind : (stand : Stand) (settings : DecodeSettings) (bits : Bits) (held : Held) (place : ℕ) → stand ≡ BehindRow
+    → ReaderStands stand settings bits held place → held.taken ≤ length bits + 2
+few_rows_behind stand settings bits held place is stands =
+    let behind : StandsBehindRow settings bits held (drop place bits) =
+    subst (λ (s : Stand). ReaderStands s settings bits held place) is stands in
+    omega (
+      arith,
+      few_rows settings behind.wide bits behind.begins behind.reaches behind.room,
+      ap (λ (h : Held). h.taken) behind.held_is,
+      length-append behind.so_far.rows (behind.row ∷ []),
+    )
 
 -- ---- Before the first row
 
@@ -119,6 +165,7 @@ module _ {M : Type 0} {step : M → List ℕ → M} {before after : SinkState M}
         short = record { memory = λ e. cc; refused = λ e. cc; refused_row = λ e. cc; flag = λ e. cc; no_flag = λ e. unrefused };
         whole = at.1 wide;
         repaired = stands.1.counted;
+        cut = stands.1.cut;
         missed = (misses_ended rows.stand settings bits ctx.held is stands.1.misses).counted;
         words = stands.2.words;
         most = within_most from rows.stand settings bits ctx.held reader.place ctx.ticks stands.0 stands.2.paid;
@@ -141,6 +188,7 @@ module _ {M : Type 0} {step : M → List ℕ → M} {before after : SinkState M}
         };
         whole = at.1 wide;
         repaired = stands.1.counted;
+        cut = stands.1.cut;
         missed = (misses_ended rows.stand settings bits ctx.held is stands.1.misses).counted;
         words = stands.2.words;
         most = within_most from rows.stand settings bits ctx.held reader.place ctx.ticks stands.0 stands.2.paid;
@@ -162,7 +210,14 @@ module _ {M : Type 0} {step : M → List ℕ → M} {before after : SinkState M}
   pub run_refused : (rows read : RowState) (ctx new : Context) (reader behind : BitsAt) → IsStanding from rows ctx reader
       → IsStanding from read new behind → read.stand ≡ BehindRow
       → ReadsNext (seen rows ctx reader) (seen read new behind) (Ok true) → (last : Held)
-      → last ≡ record new.held { taken = new.held.taken - 1; repairs = record new.held.repairs { rows = ctx.held.repairs.rows } }
+      → last ≡ record new.held {
+        taken = new.held.taken - 1;
+        repairs = record new.held.repairs {
+          rows =
+              ctx.held.repairs.rows;
+          cut = ctx.held.repairs.cut;
+        };
+      }
       → after.meaning ≡ meaning_after step before.meaning (take ctx.held.taken (plain ctx.held.settings reader.bits).rows)
       → after.refused ≡ true → after.refuses (changes new.held.reference)
       → HasRun ctx.held.settings reader.bits from step before after last new.ticks (Err Refused)
@@ -189,8 +244,10 @@ module _ {M : Type 0} {step : M → List ℕ → M} {before after : SinkState M}
         whole = λ fault. absurd fault;
         repaired = ap (λ (h : Held). h.repairs.rows) back ∙ stands.1.counted
             ∙ ap (λ (n : ℕ). sum_by length (take n (repairs_by_line settings bits))) (sym index);
+        cut = ap (λ (h : Held). h.repairs.cut) back ∙ stands.1.cut
+            ∙ ap (λ (n : ℕ). sum_by length (take n (cuts_by_line settings bits))) (sym index);
         missed = ap (λ (h : Held). h.repairs.missed) back ∙ ap (λ (r : Repairs). r.missed) misses.repairs_are
-            ∙ repairs_with_missed misses.line (new.held.taken - 1) misses.before ∙ misses.counted.counted
+            ∙ repairs_with_missed misses.line misses.strict (new.held.taken - 1) misses.before ∙ misses.counted.counted
             ∙ ap (λ (n : ℕ). sum_by length (take n (misses_by_line settings bits))) (there ∙ sym index);
         words = omega (
           arith,

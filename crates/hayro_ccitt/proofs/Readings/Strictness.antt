@@ -6,7 +6,7 @@ use Rattle.hayro_ccitt.proofs.Names.{Color, Mode, Pass, Horizontal, Vertical, De
 use Rattle.hayro_ccitt.proofs.Names.{EncodingMode, Bits, IsPrefix, Turn, Row, paint, Line, Pen, start, line_1d, line_2d, Step}
 use Rattle.hayro_ccitt.proofs.Names.{Progress, Ending, Move, row_before, aligned, misses_eol, eols_here, next_eol, Bool}
 use Rattle.hayro_ccitt.proofs.Names.{whole_reading, bytes_before, line_by, after_line, move_on, first_gap, ending_from, end_of}
-use Rattle.hayro_ccitt.proofs.Names.{StrictThenLenient, common_steps}
+use Rattle.hayro_ccitt.proofs.Names.{StrictThenLenient, common_steps, plain}
 use Rattle.hayro_ccitt.proofs.DrawingLines.Drawings.{try, run_then, mode_step, step_unless_full, step_1d, step_2d, step_1d_is}
 use Rattle.hayro_ccitt.proofs.DrawingLines.Drawings.{step_2d_is, horizontal_is}
 use Rattle.hayro_ccitt.proofs.DrawingLines.ReadLines.{step_1d_shrinks, step_2d_shrinks, pen_left}
@@ -150,9 +150,12 @@ module _ (settings : DecodeSettings) (wide : 0 < settings.columns) where
 pub ok_outcome : (bits : Bits) (r : Result Bits DecodeError) → IsOk (bytes_before bits r) → IsOk r
 ok_outcome bits r ok = grind (arith, common_steps)
 
--- the law
-pub strict_then_lenient : StrictThenLenient
-strict_then_lenient settings bits are = elim (cases_eq settings.columns 0) [
+-- the strict reading's rows come first, and all is the same where it ends without a fault
+pub strict_first : (settings : DecodeSettings) (bits : Bits)
+    → IsPrefix (plain (record settings { strict = true }) bits).rows (plain (record settings { strict = false }) bits).rows
+    × (IsOk (plain (record settings { strict = true }) bits).outcome
+    → plain (record settings { strict = true }) bits ≡ plain (record settings { strict = false }) bits)
+strict_first settings bits = elim (cases_eq settings.columns 0) [
   | inl none ↦
       let no_columns : eqb settings.columns 0 ≡ true = eq-eqb settings.columns 0 none in
       rw no_columns (([], refl), λ ok. refl)
@@ -166,3 +169,7 @@ strict_then_lenient settings bits are = elim (cases_eq settings.columns 0) [
         λ ok. ap (whole_reading bits) (both.1 (ok_outcome bits (end_of (record settings { strict = true }) bits).outcome ok)),
       )
 ]
+
+-- the law
+pub strict_then_lenient : StrictThenLenient
+strict_then_lenient settings bits are = strict_first settings bits

@@ -109,6 +109,7 @@ module _ (from : ℕ) (settings : DecodeSettings) (wide : 0 < settings.columns) 
             (omega (arith, behind.stored, ap (λ (h : Held). length (changes h.reference)) frame))
             (λ same. omega (arith, kept (same ∙ sym behind.kept), few_tag_tests settings.encoding))
             (λ other. given_up (λ same. other (same ∙ behind.kept))) at.sought;
+        short = omega (arith, behind.short, ap (λ (h : Held). length (changes h.reference)) frame);
       }
   gap_paid (Err e) said over kept given_up refused =
       let at = behind.at_line in
@@ -163,6 +164,7 @@ module _ (from : ℕ) (settings : DecodeSettings) (is : settings.encoding ≡ Gr
           changes_white settings.columns,
           length-drop place bits,
         );
+        short = omega (arith, ap (λ (h : Held). length (changes h.reference)) frame, changes_white settings.columns);
       }
   first_gap_paid (Err e) said over kept refused = omega (arith, most_t6, refused, looked_most bits)
 
@@ -177,6 +179,7 @@ first_line_paid from settings other bits last rest now white within work = recor
   sought = λ sought. omega arith;
   within = within;
   paid = omega (arith, white, within);
+  short = omega (arith, white);
 }
 
 -- ---- All calls

@@ -9,9 +9,10 @@ use Rattle.hayro_ccitt.proofs.Names.{tag_tests, IfOk, OnErr}
 use Rattle.hayro_ccitt.proofs.{BitReading.ZeroRuns.looked_eol, CodeWords.ReadRuns.chosen, DamagedLines.PastEol.eols_here-none}
 use Rattle.hayro_ccitt.proofs.DamagedLines.LineTails.{after_eol_is}
 use Rattle.hayro_ccitt.proofs.{Readings.RowsAndGaps.missed_sought, Readings.TurnsMoveOn.none_met}
-use Rattle.hayro_ccitt.proofs.Readings.TurnsMoveOn.{length-one_more, count_shorter, count_past, counts_plain}
-use Rattle.hayro_ccitt.proofs.Readings.TurnsMoveOn.{counts_tagged, eols-some, last_tag_shorter}
-use Rattle.hayro_ccitt.proofs.Readings.TurnsMoveOn.{eols_here_counted, eols_here_some, next_eol_found}
+use Rattle.fax_bits.proofs.BitReading.ConsecutiveEols.{length-one_more, count_shorter, count_past, counts_plain}
+use Rattle.fax_bits.proofs.BitReading.ConsecutiveEols.{counts_tagged, eols-some, last_tag_shorter}
+use Rattle.hayro_ccitt.proofs.Readings.TurnsMoveOn.{eols_here_counted, eols_here_some}
+use Rattle.fax_bits.proofs.BitReading.ConsecutiveEols.{next_eol_found}
 
 -- ---- An EOL here or further on
 

@@ -5,7 +5,7 @@ use Rattle.hayro_ccitt.specs.PlainReading.{plain}
 use Rattle.hayro_ccitt.specs.Rows.{changes}
 use Rattle.hayro_ccitt.specs.Bits.{Bits, BitsFit, bits_in}
 use Rattle.hayro_ccitt_c.specs.Reports.{changes_taken, numbers_taken, AreListed}
-use Rattle.hayro_ccitt.specs.declared.settings.DecodeSettings.{DecodeSettings}
+use Rattle.hayro_ccitt.specs.DecodeSettings.{DecodeSettings}
 use Rattle.hayro_ccitt_c.specs.Settings.{order_of, settings_of}
 use Rattle.hayro_ccitt_c.proofs.ListedMemory.{HoldsLists, holds_lists}
 use Rattle.hayro_ccitt_c.proofs.Reporting.{on_settings}

@@ -3,7 +3,7 @@ use Rattle.hayro_ccitt.specs.Bits.{Bits, BitsFit, bits_of, bits_in}
 use Rattle.hayro_ccitt.specs.PlainReading.{plain}
 use Rattle.hayro_ccitt_c.specs.Packing.{Packing, bytes_of_row}
 use Rattle.hayro_ccitt_c.specs.Reports.{changes_taken, ArePacked}
-use Rattle.hayro_ccitt.specs.declared.settings.DecodeSettings.{DecodeSettings}
+use Rattle.hayro_ccitt.specs.DecodeSettings.{DecodeSettings}
 use Rattle.hayro_ccitt_c.specs.Settings.{order_of, settings_of}
 use Rattle.hayro_ccitt_c.proofs.PackedMemory.{IsLent, is_lent, same_name, no_room}
 use Rattle.hayro_ccitt_c.proofs.Reporting.{on_settings, taken_within}

@@ -24,10 +24,13 @@ loop-rest-preserved c =
     c.in_ok-left.ensures.written ∙ ap (λ (r : Row).
     old ++ chosen_part c.args.settings (length old) c.loop-rest.left r (pixels columns c.as_slice-in-loop-rest.result.now)) above
     ∙ ap (λ (r : Row). old ++ chosen_part c.args.settings (length old) c.loop-rest.left reference r) here in
-    let left : c.in_ok-left.left ≡ left_after c.args.settings.encoding c.args.settings.k c.loop-rest.left reference row =
-    c.in_ok-left.ensures.left ∙ ap (λ (r : Row). left_after c.args.settings.encoding c.args.settings.k c.loop-rest.left r
+    let left : c.in_ok-left.left
+    ≡ left_after c.args.settings.effort c.args.settings.encoding c.args.settings.k c.loop-rest.left reference row =
+    c.in_ok-left.ensures.left
+    ∙ ap (λ (r : Row). left_after c.args.settings.effort c.args.settings.encoding c.args.settings.k c.loop-rest.left r
     (pixels columns c.as_slice-in-loop-rest.result.now)) above
-    ∙ ap (λ (r : Row). left_after c.args.settings.encoding c.args.settings.k c.loop-rest.left reference r) here in
+    ∙ ap (λ (r : Row). left_after c.args.settings.effort c.args.settings.encoding c.args.settings.k
+    c.loop-rest.left reference r) here in
     let swapped : c.swap.new.x.items ≡ found = ap (λ (v : Vec ℕ _). v.items) c.swap.ensures.x_after in
     let rest : List ℕ =
     take (length c.loop-rest.rest.now - c.div_ceil-width.result) (drop c.div_ceil-width.result c.loop-rest.rest.now) in

@@ -22,8 +22,10 @@ loop-row-preserved c =
     (λ row. row.items) c.args.rows.now i c.row-item.result c.loop-row-test.true c.row-item.is c.requires.rows in
     let next : rows_of columns (drop i lists) ≡ row ∷ rows =
     ap (rows_of columns) (item_next (λ row. row.items) c.args.rows.now i c.row-item.result c.loop-row-test.true c.row-item.is) in
-    let left : c.in_ok-left.left ≡ left_after c.args.settings.encoding c.args.settings.k c.loop-row.left reference row =
-    c.in_ok-left.ensures.left ∙ ap (λ (l : List ℕ). left_after c.args.settings.encoding c.args.settings.k c.loop-row.left
+    let left : c.in_ok-left.left
+    ≡ left_after c.args.settings.effort c.args.settings.encoding c.args.settings.k c.loop-row.left reference row =
+    c.in_ok-left.ensures.left
+    ∙ ap (λ (l : List ℕ). left_after c.args.settings.effort c.args.settings.encoding c.args.settings.k c.loop-row.left
     reference (pixels columns l)) c.as_slice.ensures.value in
     record {
       lawful = subst (AreChanges columns) (sym c.as_slice-reference.ensures.value) lawful;

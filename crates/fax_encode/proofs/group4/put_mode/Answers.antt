@@ -194,7 +194,7 @@ pub returns-then-is_vertical-clause-near : goal.returns-then-is_vertical-clause-
 returns-then-is_vertical-clause-near c =
     let turned = subst (λ (k : Color). IsNear c.args.columns c.args.reference.now
     (record { from = c.change_or_end-a1.result + 1; color = k }) c.above_after_vertical.result)
-    (sym (color_next c.args.at.next)) c.above_after_vertical.ensures in
+    (sym (color_next c.args.at.next)) c.above_after_vertical.ensures.near in
     subst (λ (n : ℕ). IsNear c.args.columns c.args.reference.now
     (record { from = n + 1; color = color_after (c.args.at.next + 1) }) c.above_after_vertical.result)
     (sym c.from-then-is_vertical.ensures) turned

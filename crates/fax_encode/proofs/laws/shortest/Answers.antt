@@ -1,3 +1,4 @@
+use Rattle.fax_encode.proofs.ShortestBySettings.{none_is_shorter, no_line_is_shorter}
 use Rattle.fax_encode.proofs.ShortestRuns.{shortest_runs}
 use Rattle.fax_encode.proofs.ShortestLines.{shortest_lines}
 use Rattle.fax_encode.proofs.ShortestPictures.{shortest_pictures_t6}
@@ -11,3 +12,9 @@ returns-clause-lines c = shortest_lines
 
 pub returns-clause-pictures : goal.returns-clause-pictures
 returns-clause-pictures c = shortest_pictures_t6
+
+pub returns-clause-chosen : goal.returns-clause-chosen
+returns-clause-chosen c = none_is_shorter
+
+pub returns-clause-kinds : goal.returns-clause-kinds
+returns-clause-kinds c = no_line_is_shorter

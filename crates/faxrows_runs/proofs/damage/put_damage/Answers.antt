@@ -48,7 +48,7 @@ next_row_came g c =
 -- its line is that of its damage
 line_of_damage_put : (g : Over) (c : After-put_last_row g) → damage_lines c.args.rows.now.settings c.args.rows.now.bits
     c.loop-rows.rows.taken ++ line_of_damage (c.next_row-answer.new.self.taken - 1) c.next_row-answer.new.self.line_start
-    c.next_row-answer.new.self.damage
+    c.next_row-answer.new.self.damage c.next_row-answer.new.self.cut
     ≡ damage_so_far c.args.rows.now.settings c.args.rows.now.bits c.next_row-answer.new.self.taken
 line_of_damage_put g c =
     damage_more c.args.rows.now.settings c.args.rows.now.bits c.loop-rows.rows c.next_row-answer.new.self

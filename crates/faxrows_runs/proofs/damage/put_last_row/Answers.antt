@@ -1,4 +1,5 @@
-use Rattle.faxrows_runs.proofs.Names.{◌++◌, ◌-◌, ◌≡◌, ◌∙◌, List, ℕ, Some, ap, subst, sym, OnErr, AppendsFront, line_of_damage}
+use Rattle.faxrows_runs.proofs.Names.{DecodeError, Option, ◌++◌, ◌-◌, ◌≡◌, ◌∙◌, List, ℕ, Some, ap, subst, sym, OnErr}
+use Rattle.faxrows_runs.proofs.Names.{AppendsFront, line_of_damage}
 use Rattle.faxrows_runs.proofs.damage.put_last_row.Goals as goal
 
 -- the line is that of the row's damage
@@ -7,10 +8,11 @@ returns-in-Some-clause-front g c =
     let rows = c.args.rows.now in
     let start = c.line_start-start.result in
     let fault = c.in-Some.fault in
-    let line : line_of_damage (c.rows_read-row.result - 1) start (Some fault)
-    ≡ line_of_damage (rows.taken - 1) rows.line_start rows.damage
-    = ap (λ (n : ℕ). line_of_damage (n - 1) start (Some fault)) c.rows_read-row.ensures
-    ∙ ap (λ (s : ℕ). line_of_damage (rows.taken - 1) s (Some fault)) c.line_start-start.ensures
-    ∙ ap (line_of_damage (rows.taken - 1) rows.line_start) (sym c.in-Some.is ∙ c.damage.ensures) in
+    let line : line_of_damage (c.rows_read-row.result - 1) start (Some fault) rows.cut
+    ≡ line_of_damage (rows.taken - 1) rows.line_start rows.damage rows.cut
+    = ap (λ (n : ℕ). line_of_damage (n - 1) start (Some fault) rows.cut) c.rows_read-row.ensures
+    ∙ ap (λ (s : ℕ). line_of_damage (rows.taken - 1) s (Some fault) rows.cut) c.line_start-start.ensures
+    ∙ ap (λ (f : Option DecodeError). line_of_damage (rows.taken - 1) rows.line_start f rows.cut)
+    (sym c.in-Some.is ∙ c.damage.ensures) in
     subst (λ (l : List ℕ). OnErr c.put_fault.result (AppendsFront (g.W.Write.contents c.args.writer.now.0)
     (g.W.Write.contents c.put_fault.new.writer.0) (c.args.waiting.now.items ++ l))) line c.put_fault.ensures.front

@@ -1,19 +1,30 @@
 use Rattle.hayro_ccitt.proofs.Names.{length, Result, Err, subst, ap, sym, arith, ◌∙◌, err_from_is_err_and, DecodeError, IsFault}
-use Rattle.hayro_ccitt.proofs.Names.{DrawsLine, Step, pen_of, step_of_run, Bits, BitsAt, here, Held, redrawn, Line, Pen, line_1d}
+use Rattle.hayro_ccitt.proofs.Names.{DrawsLine, Step, pen_of, step_of_run, Bits, BitsAt, here, Held, redrawn, Line, Pen}
+use Rattle.hayro_ccitt.proofs.Names.{line_1d, Context}
 use Rattle.hayro_ccitt.proofs.{DrawingLines.ReadLines.drawn_run_shorter, Readings.Repeated.after_turn}
 use Rattle.hayro_ccitt.proofs.DrawingLines.CountedLines.{found_1d_from, found_after, counted_by_run, none_after_fault}
+use Rattle.hayro_ccitt.proofs.Names.{true}
+use Rattle.hayro_ccitt.proofs.DrawingLines.CutRuns.{cut_begun_1d, cut_by_run, cut_by_usual, cut_drawn_1d}
 use Rattle.hayro_ccitt.proofs.DrawingLines.Drawings.{drawn_by, step_1d}
 use Rattle.hayro_ccitt.proofs.DrawingLines.DrawnLines.{open_by, line_by_run, line_1d_fails}
 use Rattle.hayro_ccitt.proofs.DrawingLines.UsualStrokes.{IsDrawn1d, begun_1d, drawn_on, not_longer}
+use Rattle.hayro_ccitt.proofs.Work.RoomTaken.{drawn_so_far_1d, grown_again, same_room}
 use Rattle.hayro_ccitt.proofs.context.decode_1d_line.Goals as goal
 
 pub runs-init : goal.runs-init
 runs-init c =
     let begun = c.begin_line.new.self in
     let first = c.draw_first_runs in
-    drawn_on c.args.ctx.now begun first.new.self c.args.reader.now c.args.reader.now first.new.reader
+    let so_far = drawn_on c.args.ctx.now begun first.new.self c.args.reader.now c.args.reader.now first.new.reader
     (begun_1d c.args.ctx.now begun c.args.reader.now c.begin_line.ensures.frame)
-    first.ensures.drawn first.ensures.held first.ensures.same_bits
+    first.ensures.drawn first.ensures.held first.ensures.same_bits in
+    let space = first.ensures.space ∙ ap (λ (x : Context). x.space) c.begin_line.ensures.frame in (
+      so_far.0,
+      so_far.1,
+      same_room _ _ _ space,
+      cut_begun_1d c.args.ctx.now begun first.new.self c.args.reader.now first.new.reader c.begin_line.ensures.frame
+          first.ensures.drawn first.ensures.cut,
+    )
 
 pub runs-smaller : goal.runs-smaller
 runs-smaller c =
@@ -34,7 +45,7 @@ runs-preserved c =
     let open_row = open_by c.is_full.result (length now.front) now.settings.columns c.runs-test.true c.is_full.ensures.1 in
     let line = line_by_run before now _ (here c.runs.reader) so_far.held so_far.line open_row in
     let found = counted_by_run before now (here c.runs.reader) so_far.held open_row in
-    let on =
+    let found_on =
     ap (λ (step : Step). length (found_after (found_1d_from before.settings.strict before.settings.columns) step)) drawing.step in
     let by_run : IsDrawn1d c.args.ctx.now c.draw_run.new.self c.args.reader.now c.draw_run.new.reader = (
       record {
@@ -43,11 +54,28 @@ runs-preserved c =
         same_bits = drawing.same_bits ∙ so_far.same_bits;
         counts = omega (arith, drawing.at_least, so_far.counts);
       },
-      omega (arith, drawing.exact, found, on, c.runs.invariant.1),
+      omega (arith, drawing.exact, found, found_on, c.runs.invariant.1),
     ) in
     let twos = c.draw_usual_runs in
-    drawn_on c.args.ctx.now c.draw_run.new.self twos.new.self c.args.reader.now c.draw_run.new.reader twos.new.reader by_run
-    twos.ensures.drawn twos.ensures.held twos.ensures.same_bits
+    let on = drawn_on c.args.ctx.now c.draw_run.new.self twos.new.self c.args.reader.now c.draw_run.new.reader twos.new.reader
+    by_run twos.ensures.drawn twos.ensures.held twos.ensures.same_bits in
+    let few = drawn_so_far_1d c.args.ctx.now c.runs.ctx c.args.reader.now c.runs.reader so_far in
+    let whole : Line = line_1d true before.settings.columns (here c.args.reader.now) in
+    let cut = cut_by_run before now new whole c.runs.ctx.cut c.draw_run.new.self.cut so_far.held (here c.runs.reader)
+    (here c.draw_run.new.reader) open_row c.runs.invariant.3 drawing.cut in (
+      on.0,
+      on.1,
+      rw twos.ensures.space (grown_again _ _ _ _ _ c.runs.invariant.2 c.draw_run.ensures.space few),
+      cut_by_usual before new twos.new.self.held whole c.draw_run.new.self.cut twos.new.self.cut by_run.0.held
+          (here c.draw_run.new.reader) (here twos.new.reader) twos.ensures.drawn twos.ensures.cut cut,
+    )
+
+pub returns-clause-cut : goal.returns-clause-cut
+returns-clause-cut c =
+    let so_far = c.runs.invariant in
+    cut_drawn_1d c.args.ctx.now.held c.runs.ctx.held c.runs.ctx.cut
+    (line_1d true c.args.ctx.now.held.settings.columns (here c.args.reader.now)) (here c.runs.reader) so_far.0.held
+    (c.is_full.ensures.0 c.runs-test.false) so_far.3
 
 pub returns-in_err-draw_run-clause-line : goal.returns-in_err-draw_run-clause-line
 returns-in_err-draw_run-clause-line c =
@@ -83,3 +111,11 @@ returns-in_err-draw_run-clause-at_least c =
       none_after_fault (found_1d_from before.settings.strict before.settings.columns)
           (step_of_run now (here c.runs.reader)) fault pen is c.in_err-draw_run.ensures.step,
     ))
+
+pub returns-in_err-draw_run-clause-space : goal.returns-in_err-draw_run-clause-space
+returns-in_err-draw_run-clause-space c =
+    let few = drawn_so_far_1d c.args.ctx.now c.runs.ctx c.args.reader.now c.runs.reader c.runs.invariant.0 in
+    grown_again _ _ _ _ _ c.runs.invariant.2 c.draw_run.ensures.space few
+
+pub returns-clause-space : goal.returns-clause-space
+returns-clause-space c = c.runs.invariant.2

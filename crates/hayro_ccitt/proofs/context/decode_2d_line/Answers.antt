@@ -1,19 +1,41 @@
-use Rattle.hayro_ccitt.proofs.Names.{◌≡◌, ◌+◌, ◌<◌, ◌≤◌, length, Err, subst, ap, sym, arith, ◌∙◌, err_from_is_err_and, Mode}
+use Rattle.hayro_ccitt.proofs.Names.{◌≡◌, ◌+◌, ◌<◌, ◌≤◌, ℕ, suc, max, room_for, length, Err, refl, subst, ap, sym, arith, ◌∙◌}
+use Rattle.hayro_ccitt.proofs.Names.{err_from_is_err_and, Mode}
 use Rattle.hayro_ccitt.proofs.Names.{DecodeError, IsFault, DrawsLine, DrawsStep, Step, line_from_2d, words_from_2d, pen_of}
 use Rattle.hayro_ccitt.proofs.Names.{step_of_mode, words_of_mode, changes, Bits, here, Context, Held, redrawn, context_of, Line}
 use Rattle.hayro_ccitt.proofs.Names.{Pen, line_2d, Turn}
+use Rattle.hayro_ccitt.proofs.Names.{true, TellsCut, strict_step_of_mode}
+use Rattle.hayro_ccitt.proofs.DrawingLines.CutRuns.{cut_begun_2d, cut_by_mode, cut_drawn_2d}
 use Rattle.hayro_ccitt.proofs.{DrawingLines.Drawings.drawn_by, DrawingLines.Drawings.step_2d, DrawingLines.UsualModes.begun_2d}
 use Rattle.hayro_ccitt.proofs.{Readings.Repeated.after_turn, context.decode_2d_line.Goals.In_err-draw_mode}
 use Rattle.hayro_ccitt.proofs.DrawingLines.CountedLines.{found_2d_from, found_after, counted_by_mode, none_after_fault}
 use Rattle.hayro_ccitt.proofs.DrawingLines.DrawnLines.{open_by, line_by_mode, line_2d_fails, mode_shorter}
+use Rattle.hayro_ccitt.proofs.Work.RoomTaken.{drawn_so_far_2d, grown_again, reference_stored, same_room}
 use Rattle.hayro_ccitt.proofs.context.decode_2d_line.Goals as goal
 
 pub modes-init : goal.modes-init
 modes-init c =
     let usual = c.draw_usual_modes.ensures in
     let frame = c.begin_line.ensures.frame in
-    begun_2d c.args.ctx.now c.draw_usual_modes.new.self c.args.reader.now c.draw_usual_modes.new.reader (rw frame at usual.drawn)
-    (rw frame at usual.held) usual.same_bits (rw frame at usual.within)
+    let so_far = begun_2d c.args.ctx.now c.draw_usual_modes.new.self c.args.reader.now c.draw_usual_modes.new.reader
+    (rw frame at usual.drawn) (rw frame at usual.held) usual.same_bits (rw frame at usual.within) in
+    let few = drawn_so_far_2d c.args.ctx.now c.draw_usual_modes.new.self c.args.reader.now c.draw_usual_modes.new.reader
+    so_far.0 in
+    let old : Context = c.args.ctx.now in
+    let most = reference_stored old.held.reference (line_from_2d old.held (here c.args.reader.now))
+    (suc (length (changes c.draw_usual_modes.new.self.held.front))) few in (
+      so_far.0,
+      so_far.1,
+      grown_again old.space old.space _ _ _ (same_room old.space old.space _ refl) (rw frame at usual.space) most,
+      cut_begun_2d c.args.ctx.now c.begin_line.new.self c.draw_usual_modes.new.self c.args.reader.now
+          c.draw_usual_modes.new.reader frame usual.drawn usual.cut,
+    )
+
+-- how much room a list has after a mode
+drawn_room : {old now : Context} {space : ℕ} → now ≡ old → space ≤ max now.space (room_for (suc (length
+    (changes now.held.front))))
+    → space ≤ max old.space (room_for (suc (length (changes old.held.front))))
+drawn_room {space = space} is grown = subst (λ (x : Context). space ≤ max x.space
+    (room_for (suc (length (changes x.held.front))))) is grown
 
 pub modes-smaller : goal.modes-smaller
 modes-smaller c =
@@ -61,7 +83,20 @@ modes-preserved c =
         within = omega (arith, drawing.within (omega (arith, work.within, passed, changed, reference)), changed, reference);
         no_words = λ none. absurd (omega (arith, (work.no_words none).1, words));
       },
+      grown_again _ _ _ _ _ c.modes.invariant.2 (drawn_room left c.draw_mode.ensures.space)
+          (drawn_so_far_2d c.args.ctx.now c.modes.ctx c.args.reader.now c.modes.reader so_far),
+      cut_by_mode before now new (line_2d true before.settings.columns before.reference (here c.args.reader.now)) c.modes.ctx.cut
+          c.draw_mode.new.self.cut so_far.held (here c.modes.reader) rest (here c.draw_mode.new.reader) mode open_row
+          c.in_ok-mode.ensures.mode c.modes.invariant.3 (subst (λ (x : Context). TellsCut (strict_step_of_mode x.held rest mode)
+          (pen_of new (here c.draw_mode.new.reader)) x.cut c.draw_mode.new.self.cut) left drawing.cut),
     )
+
+pub returns-clause-cut : goal.returns-clause-cut
+returns-clause-cut c =
+    let so_far = c.modes.invariant in
+    cut_drawn_2d c.args.ctx.now.held c.modes.ctx.held c.modes.ctx.cut
+    (line_2d true c.args.ctx.now.held.settings.columns c.args.ctx.now.held.reference (here c.args.reader.now))
+    (here c.modes.reader) so_far.0.held (c.is_full.ensures.0 c.modes-test.false) so_far.3
 
 -- a mode that isn't drawn
 module _ (c : In_err-draw_mode) where
@@ -120,3 +155,11 @@ pub returns-in_err-draw_mode-clause-at_least : goal.returns-in_err-draw_mode-cla
 returns-in_err-draw_mode-clause-at_least c =
     let p = err_from_is_err_and c.from_residual-in_err-draw_mode.result c.from_residual-in_err-draw_mode.ensures.1 in
     rw (p.1, p.2) (at_least (goal.at.returns-in_err-draw_mode-clause-at_least c).In_err-draw_mode)
+
+pub returns-in_err-draw_mode-clause-space : goal.returns-in_err-draw_mode-clause-space
+returns-in_err-draw_mode-clause-space c =
+    grown_again _ _ _ _ _ c.modes.invariant.2 (drawn_room c.ctx.view_is c.draw_mode.ensures.space)
+    (drawn_so_far_2d c.args.ctx.now c.modes.ctx c.args.reader.now c.modes.reader c.modes.invariant.0)
+
+pub returns-clause-space : goal.returns-clause-space
+returns-clause-space c = c.modes.invariant.2

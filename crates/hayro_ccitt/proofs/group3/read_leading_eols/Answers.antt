@@ -1,5 +1,5 @@
 use Rattle.hayro_ccitt.proofs.Names.{ℕ, length, ap, arith, Bits, here, Context}
-use Rattle.hayro_ccitt.proofs.Readings.TurnsMoveOn.{count_shorter, counts_plain}
+use Rattle.fax_bits.proofs.BitReading.ConsecutiveEols.{count_shorter, counts_plain}
 use Rattle.hayro_ccitt.proofs.group3.read_leading_eols.Goals as goal
 
 pub returns-clause-counts : goal.returns-clause-counts

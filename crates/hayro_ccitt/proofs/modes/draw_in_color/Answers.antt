@@ -1,4 +1,5 @@
-use Rattle.hayro_ccitt.proofs.Names.{◌∙◌, arith}
+use Rattle.std.specs.Prelude.{vec_len}
+use Rattle.hayro_ccitt.proofs.Names.{◌∙◌, ◌≡◌, ap, arith, length}
 use Rattle.hayro_ccitt.proofs.DrawingLines.UsualModes.{twice_2d}
 use Rattle.hayro_ccitt.proofs.modes.draw_in_color.Goals as goal
 
@@ -27,6 +28,8 @@ modes-preserved c =
     let on = c.in-Some.ensures in
     let has = c.has_mode.ensures in
     let same = c.is_turned.ensures.same c.if-is_turned.false in
+    let len : vec_len c.has_mode.new.row ≡ vec_len c.modes.row =
+    omega (arith, ap length has.same_row, c.has_mode.new.row.ok.0, c.modes.row.ok.0) in
     record {
       drawn = twice_2d c.modes.invariant.drawn (rw (same, has.same, has.same_row) at on.drawn);
       stroke = rw same at on.stroke;
@@ -34,4 +37,6 @@ modes-preserved c =
       room = on.onward.1;
       same_bits = rw has.same at c.draw_mode_at_hand.ensures.same_bits ∙ c.modes.invariant.same_bits;
       onward = omega (arith, rw has.same at on.onward.0, c.modes.invariant.onward);
+      longer = omega (arith, len, c.draw_mode_at_hand.ensures.space.1, c.modes.invariant.longer);
+      space = omega (arith, len, has.space, c.draw_mode_at_hand.ensures.space, c.modes.invariant.space);
     }

@@ -1,4 +1,5 @@
-use Rattle.std.specs.Prelude.{vec_len, vec_capacity}
+use Rattle.std.specs.Prelude.{max, vec_len, vec_capacity}
+use Rattle.hayro_ccitt.specs.Space.{room_for}
 use Rattle.hayro_ccitt.proofs.Names.{◌≡◌, ◌-◌, ◌<◌, ◌≤◌, length, ◌+◌, row_in, changes_in, GoesOn2d, IsStroke, pen_at}
 use Rattle.hayro_ccitt.proofs.modes.draw_in_color.Given as goal
 
@@ -12,6 +13,8 @@ invariant-modes l = record {
   room : vec_len l.row + l.hand.left ≤ vec_capacity l.row;
   same_bits : l.hand.at.bits ≡ l.fn.hand.at.bits;
   onward : l.fn.hand.at.place ≤ l.hand.at.place;
+  longer : vec_len l.fn.row ≤ vec_len l.row;
+  space : vec_capacity l.row ≤ max (vec_capacity l.fn.row) (room_for (vec_len l.row));
 }
 
 abbrev pub decreases-modes : goal.decreases-modes

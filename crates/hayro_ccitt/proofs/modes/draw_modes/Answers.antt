@@ -1,4 +1,4 @@
-use Rattle.hayro_ccitt.proofs.Names.{◌∙◌}
+use Rattle.hayro_ccitt.proofs.Names.{◌∙◌, arith}
 use Rattle.hayro_ccitt.proofs.DrawingLines.UsualModes.{twice_2d}
 use Rattle.hayro_ccitt.proofs.modes.draw_modes.Goals as goal
 
@@ -25,4 +25,5 @@ turns-preserved c =
       inside = turned2.0;
       room = turned2.4;
       same_bits = second.same_bits ∙ first.same_bits ∙ c.turns.invariant.same_bits;
+      space = omega (arith, first.space, second.space, second.longer, c.turns.invariant.space);
     }

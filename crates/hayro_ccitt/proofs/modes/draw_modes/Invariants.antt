@@ -1,4 +1,5 @@
-use Rattle.std.specs.Prelude.{vec_len, vec_capacity}
+use Rattle.std.specs.Prelude.{max, vec_len, vec_capacity}
+use Rattle.hayro_ccitt.specs.Space.{room_for}
 use Rattle.hayro_ccitt.proofs.Names.{◌≡◌, ◌-◌, ◌<◌, ◌≤◌, length, ◌+◌, White, row_in, changes_in, GoesOn2d, IsStroke, pen_at}
 use Rattle.hayro_ccitt.proofs.modes.draw_modes.Given as goal
 
@@ -11,6 +12,7 @@ invariant-turns l = record {
   inside : l.place < l.columns;
   room : vec_len l.row + l.bits.left ≤ vec_capacity l.row;
   same_bits : l.bits.at.bits ≡ l.fn.hand.at.bits;
+  space : vec_capacity l.row ≤ max (vec_capacity l.fn.row) (room_for (vec_len l.row));
 }
 
 abbrev pub decreases-turns : goal.decreases-turns

@@ -11,7 +11,7 @@ returns-then-b2-columns-clause-drawn c =
     (arith, b2_within c.requires.ended.lawful c.requires.open c.requires.stroke, c.if-b2-columns.true, b2) in
     rw c.pass.ensures.moved (rw end at (pass_on
     c.requires.ended.lawful c.requires.open c.requires.stroke {strict = a._strict} a.hand.now.at a.index 4 {ticks = a.ticks.now}
-    {now = c.tick_times.new.self} c.requires.mode (omega (arith, c.tick_times.ensures)) (omega (arith, c.tick_times.ensures))))
+    {now = c.tick_times.new.ticks} c.requires.mode (omega (arith, c.tick_times.ensures)) (omega (arith, c.tick_times.ensures))))
 
 pub returns-then-b2-columns-clause-stroke : goal.returns-then-b2-columns-clause-stroke
 returns-then-b2-columns-clause-stroke c =

@@ -1,70 +1,83 @@
-use Rattle.hayro_ccitt.proofs.Names.{◌≡◌, ◌∙◌, ◌-◌, Bool, Result, Ok, Err, OnErr, Some, refl, sym, ap, subst, arith, true}
-use Rattle.hayro_ccitt.proofs.Names.{err_from_is_err_and, length, DecodeError, DecodeSettings, Bits, Context}
+use Rattle.hayro_ccitt.proofs.Names.{◌≡◌, ◌∙◌, ◌-◌, Bool, Result, Ok, Err, Some, refl, sym, ap, subst, arith, true}
+use Rattle.hayro_ccitt.proofs.Names.{err_from_is_err_and, length, DecodeError, DecodeSettings, Bits, BitsAt, Context, Held, rules}
 use Rattle.hayro_ccitt.proofs.Names.{SinkState, here, failed_at, IsStanding, IsStandingAtLine, ReachesNextLine, ReadsNext, seen}
 use Rattle.hayro_ccitt.proofs.Names.{ended, row_came, is_some, sum_by, words_of, take, plain, None, ℕ}
 use Rattle.hayro_ccitt.proofs.Names.{drop, DecodesRows, meaning_after, ReaderStands, DamageIsCounted, WorkIsPaid, MissIsTold}
-use Rattle.hayro_ccitt.proofs.Names.{Refused}
+use Rattle.hayro_ccitt.proofs.Names.{Refused, StandsAtLine, get_or, [], ◌≤◌, false}
 use Rattle.hayro_ccitt.specs.declared.row_reader.RowState.{RowState}
 use Rattle.hayro_ccitt.proofs.PixelRows.ChangesAndPixels.{AreChanges-wider}
 use Rattle.hayro_ccitt.proofs.Readings.RowByRow.{at_line_stands, few, reader_fails_at_line}
-use Rattle.hayro_ccitt.proofs.Readings.RowsPushed.{HasRun, decodes_rows, ends_unfailed, none_missed, of_same}
-use Rattle.hayro_ccitt.proofs.Readings.RowsPushed.{run_is_over, run_refused}
+use Rattle.hayro_ccitt.proofs.Readings.RowsPushed.{HasRun, decodes_rows, ends_unfailed, means_pushed, none_missed, of_same}
+use Rattle.hayro_ccitt.proofs.Readings.RowsPushed.{few_rows_behind, run_is_over, run_refused}
+use Rattle.hayro_ccitt.specs.RowsRead.{RepeatsWhite}
+use Rattle.hayro_ccitt.proofs.Names.{max, line_here, most_room, most_stored, room_for}
+use Rattle.hayro_ccitt.proofs.Work.RoomTaken.{grown_more, line_enough}
 use Rattle.hayro_ccitt.proofs.push_rows.push_rows.{Given.Over}
-use Rattle.hayro_ccitt.proofs.push_rows.push_rows.Goals.{After-come_to_line, After-read_line, After-push_row}
+use Rattle.hayro_ccitt.proofs.push_rows.push_rows.Goals.{After-read_line, After-push_row}
 use Rattle.hayro_ccitt.proofs.push_rows.push_rows.Goals as goal
 
--- where the reading is after a gap
-reaches : (g : Over) (c : After-come_to_line g)
-    → ReachesNextLine (seen c.rows.rows c.rows.ctx c.rows.reader)
-    (seen c.come_to_line.new.self c.come_to_line.new.ctx c.come_to_line.new.reader) c.come_to_line.result
-reaches g c = c.come_to_line.ensures.comes c.args.ctx.now.ticks c.rows.invariant.stands
+-- the reading is at a line
+at_line : (g : Over) (c : After-read_line g) → IsStandingAtLine c.args.ctx.now.ticks c.rows.rows c.rows.ctx c.rows.reader
+at_line g c = (c.rows.invariant.at_line, c.rows.invariant.stands)
 
-stands : (g : Over) (c : After-come_to_line g)
-    → IsStanding c.args.ctx.now.ticks c.come_to_line.new.self c.come_to_line.new.ctx c.come_to_line.new.reader
-stands g c = c.come_to_line.ensures.stands c.args.ctx.now.ticks c.rows.invariant.stands
-
--- at a line
-at_line : (g : Over) (c : After-read_line g)
-    → IsStandingAtLine c.args.ctx.now.ticks c.come_to_line.new.self c.come_to_line.new.ctx c.come_to_line.new.reader
-at_line g c =
-    let line : c.come_to_line.result ≡ Ok true = c.in_ok-come_to_line.was ∙ ap (λ (b : Bool). Ok b) c.if-not-branch.false in (
-      (c.come_to_line.ensures.comes c.args.ctx.now.ticks c.rows.invariant.stands).line line,
-      c.come_to_line.ensures.stands c.args.ctx.now.ticks c.rows.invariant.stands,
-    )
+line_stands : (g : Over) (c : After-read_line g)
+    → StandsAtLine c.rows.ctx.held.settings c.rows.reader.bits c.rows.ctx.held (here c.rows.reader)
+line_stands g c =
+    let held = c.rows.ctx.held in
+    at_line_stands c.rows.rows.stand held.settings c.rows.reader.bits held c.rows.reader.place c.rows.invariant.at_line
+    c.rows.invariant.stands.0
 
 -- what its line leaves
-reads : (g : Over) (c : After-read_line g)
-    → ReadsNext (seen c.come_to_line.new.self c.come_to_line.new.ctx c.come_to_line.new.reader)
+reads : (g : Over) (c : After-read_line g) → ReadsNext (seen c.rows.rows c.rows.ctx c.rows.reader)
     (seen c.read_line.new.self c.read_line.new.ctx c.read_line.new.reader) (row_came c.read_line.result)
 reads g c = c.read_line.ensures.reads c.args.ctx.now.ticks (at_line g c)
 
+stands : (g : Over) (c : After-read_line g)
+    → IsStanding c.args.ctx.now.ticks c.read_line.new.self c.read_line.new.ctx c.read_line.new.reader
+stands g c = c.read_line.ensures.stands c.args.ctx.now.ticks (at_line g c)
+
+-- the lists have no more room than the lines account for
+room_there : (g : Over) (c : After-read_line g) → c.read_line.new.ctx.space
+    ≤ max c.args.ctx.now.space (most_room c.args.ctx.now.held.settings c.args.reader.now.bits)
+room_there g c =
+    let now = c.rows.ctx in
+    let inv = c.rows.invariant in
+    let at = at_line g c in
+    let line = line_here now.held.settings now.held.reference (here c.rows.reader) in
+    let stored = room_for (most_stored now.held.reference line) in
+    let enough = line_enough c.args.ctx.now.ticks c.rows.rows.stand now.held.settings c.rows.reader.bits now.held
+    c.rows.reader.place now.ticks at.0 at.1.2.paid in
+    grown_more c.args.ctx.now.space now.space c.read_line.new.ctx.space stored
+    (most_room c.args.ctx.now.held.settings c.args.reader.now.bits) inv.space c.read_line.ensures.space
+    (of_same (λ s b. stored ≤ most_room s b) inv.settings inv.bits enough)
+
+pub returns-in_err-read_line-clause-space : goal.returns-in_err-read_line-clause-space
+returns-in_err-read_line-clause-space g c = room_there g (goal.at.returns-in_err-read_line-clause-space g c).After-read_line
+
+pub returns-in-Err-clause-space : goal.returns-in-Err-clause-space
+returns-in-Err-clause-space g c =
+    rw c.take_back_row.ensures.frame (room_there g (goal.at.returns-in-Err-clause-space g c).After-read_line)
+
 pub read_line-requires-clause-rows : goal.read_line-requires-clause-rows
 read_line-requires-clause-rows g c =
-    let rows = c.come_to_line.new.self in
-    let reader = c.come_to_line.new.reader in
-    let held = c.come_to_line.new.ctx.held in
-    let line : c.come_to_line.result ≡ Ok true = c.in_ok-come_to_line.was ∙ ap (λ (b : Bool). Ok b) c.if-not-branch.false in
-    let from = c.args.ctx.now.ticks in
-    few (at_line_stands rows.stand held.settings reader.bits held reader.place
-    ((c.come_to_line.ensures.comes from c.rows.invariant.stands).line line)
-    (c.come_to_line.ensures.stands from c.rows.invariant.stands).0)
+    let held = c.rows.ctx.held in
+    few (at_line_stands c.rows.rows.stand held.settings c.rows.reader.bits held c.rows.reader.place c.rows.invariant.at_line
+    c.rows.invariant.stands.0)
 
 pub push_row-requires : goal.push_row-requires
 push_row-requires g c =
-    let settings = c.read_line.ensures.settings ∙ c.come_to_line.ensures.settings ∙ c.rows.invariant.settings in
+    let settings = c.read_line.ensures.settings ∙ c.rows.invariant.settings in
     AreChanges-wider c.read_line.new.ctx.held.settings.columns (g.D.Decoder.width c.rows.decoder) c.reference_row.result.now
     (omega (arith, c.requires.width, c.rows.invariant.width, ap (λ (s : DecodeSettings). s.columns) settings))
     c.reference_row.ensures.lawful
 
--- the sink means as much after a gap
-still_means : (g : Over) (c : After-come_to_line g) → g.D.Decoder.meaning c.rows.decoder ≡ meaning_after (g.D.Decoder.step
-    (g.D.Decoder.width c.args.decoder.now)) (g.D.Decoder.meaning c.args.decoder.now)
-    (take c.come_to_line.new.ctx.held.taken (plain c.args.ctx.now.held.settings c.args.reader.now.bits).rows)
-still_means g c =
-    let rows = (plain c.args.ctx.now.held.settings c.args.reader.now.bits).rows in
-    let step = g.D.Decoder.step (g.D.Decoder.width c.args.decoder.now) in
-    c.rows.invariant.meaning ∙ ap (λ (n : ℕ). meaning_after step (g.D.Decoder.meaning c.args.decoder.now) (take n rows))
-    (sym (reaches g c).taken)
+-- a row was read
+row_came_here : (g : Over) (c : After-push_row g) → ReadsNext (seen c.rows.rows c.rows.ctx c.rows.reader)
+    (seen c.read_line.new.self c.read_line.new.ctx c.read_line.new.reader) (Ok true)
+row_came_here g c =
+    subst (λ (r : Result (Unit {0}) DecodeError). ReadsNext (seen c.rows.rows c.rows.ctx c.rows.reader)
+    (seen c.read_line.new.self c.read_line.new.ctx c.read_line.new.reader) (row_came r)) c.in_ok-read_line.was
+    (c.read_line.ensures.reads c.args.ctx.now.ticks (c.rows.invariant.at_line, c.rows.invariant.stands))
 
 pub returns-then-has_ended-clause-rows : goal.returns-then-has_ended-clause-rows
 returns-then-has_ended-clause-rows g c =
@@ -74,7 +87,7 @@ returns-then-has_ended-clause-rows g c =
     let ctx = first.new.ctx in
     let reader = first.new.reader in
     let none = first.ensures.none_taken in
-    let rows : RowState = record { started_at = 0; damage = None; missed = None; stand = first.result } in
+    let rows : RowState = record { started_at = 0; damage = None; cut = false; missed = None; stand = first.result } in
     let step = g.D.Decoder.step (g.D.Decoder.width c.args.decoder.now) in
     let sink : SinkState g.D.Decoder.Meaning = record {
       meaning = g.D.Decoder.meaning c.args.decoder.now;
@@ -99,84 +112,47 @@ returns-then-has_ended-clause-rows g c =
     (run_is_over rows ctx reader stands first.ensures.settings first.ensures.same_bits c.requires.columns (omega (arith, none))
     (sym (ap (λ (n : ℕ). meaning_after step sink.meaning (take n (plain settings bits).rows)) none)) refl (Ok tt) is)
 
-pub returns-in_err-come_to_line-clause-rows : goal.returns-in_err-come_to_line-clause-rows
-returns-in_err-come_to_line-clause-rows g c =
-    let at = (goal.at.returns-in_err-come_to_line-clause-rows g c).After-come_to_line in
-    let e = c.in_err-come_to_line.field-0.0 in
-    let ctx = c.come_to_line.new.ctx in
-    let reader = c.come_to_line.new.reader in
-    let answer = err_from_is_err_and c.from_residual.result c.from_residual.ensures.1 in
-    let is = subst (λ (r : Result Bool DecodeError). ReachesNextLine (seen c.rows.rows c.rows.ctx c.rows.reader)
-    (seen c.come_to_line.new.self ctx reader) r) c.in_err-come_to_line.was (reaches g at) in
-    let inv = c.rows.invariant in
-    let same = c.come_to_line.ensures.settings ∙ inv.settings in
-    rw (answer.1, answer.2) (decodes_rows c.args.reader.now.bits (g.D.Decoder.step (g.D.Decoder.width c.args.decoder.now)) _ _
-    c.args.ctx.now ctx (Err e) c.requires.columns same (run_is_over c.come_to_line.new.self ctx reader (stands g at) same
-    (c.come_to_line.ensures.same_bits ∙ inv.bits) c.requires.columns (omega (arith, is.taken, inv.within)) (still_means g at)
-    inv.unrefused (Err e) is.error.0))
-
-pub returns-in_err-come_to_line-clause-fails : goal.returns-in_err-come_to_line-clause-fails
-returns-in_err-come_to_line-clause-fails g c =
-    let at = (goal.at.returns-in_err-come_to_line-clause-fails g c).After-come_to_line in
-    let e = c.in_err-come_to_line.field-0.0 in
-    let reader = c.come_to_line.new.reader in
-    let now = length reader.bits - length (here reader) in
-    let inv = c.rows.invariant in
-    let is = subst (λ (r : Result Bool DecodeError). ReachesNextLine (seen c.rows.rows c.rows.ctx c.rows.reader)
-    (seen c.come_to_line.new.self c.come_to_line.new.ctx reader) r) c.in_err-come_to_line.was (reaches g at) in
-    let fails : now ≡ c.come_to_line.new.self.started_at = subst (λ (r : Result Bool DecodeError). OnErr r
-    (now ≡ c.come_to_line.new.self.started_at)) c.in_err-come_to_line.was c.come_to_line.ensures.fails in
-    rw ((err_from_is_err_and c.from_residual.result c.from_residual.ensures.1).1) (subst (λ (b : Bits). length b - length
-    (here reader) ≡ failed_at c.args.ctx.now.held.settings c.args.reader.now.bits c.come_to_line.new.ctx.held.taken)
-    (c.come_to_line.ensures.same_bits ∙ inv.bits) (fails ∙ of_same (λ s b. c.come_to_line.new.self.started_at
-    ≡ failed_at s b c.come_to_line.new.ctx.held.taken) inv.settings inv.bits (is.fault_start
-    ∙ ap (failed_at c.rows.ctx.held.settings c.rows.reader.bits) (sym is.taken))))
-
 pub returns-in_err-read_line-clause-rows : goal.returns-in_err-read_line-clause-rows
 returns-in_err-read_line-clause-rows g c =
-    let there = goal.at.returns-in_err-read_line-clause-rows g c in
+    let there = (goal.at.returns-in_err-read_line-clause-rows g c).After-read_line in
     let e = c.in_err-read_line.field-0.0 in
     let ctx = c.read_line.new.ctx in
     let reader = c.read_line.new.reader in
-    let answer = err_from_is_err_and c.from_residual-in_err-read_line.result c.from_residual-in_err-read_line.ensures.1 in
-    let is = subst (λ (r : Result (Unit {0}) DecodeError). ReadsNext (seen c.come_to_line.new.self c.come_to_line.new.ctx
-    c.come_to_line.new.reader) (seen c.read_line.new.self ctx reader) (row_came r)) c.in_err-read_line.was
-    (reads g there.After-read_line) in
+    let answer = err_from_is_err_and c.from_residual.result c.from_residual.ensures.1 in
+    let is = subst (λ (r : Result (Unit {0}) DecodeError). ReadsNext (seen c.rows.rows c.rows.ctx c.rows.reader)
+    (seen c.read_line.new.self ctx reader) (row_came r)) c.in_err-read_line.was (reads g there) in
     let inv = c.rows.invariant in
-    let same = c.read_line.ensures.settings ∙ c.come_to_line.ensures.settings ∙ inv.settings in
-    let gap = reaches g there.After-come_to_line in
+    let same = c.read_line.ensures.settings ∙ inv.settings in
     let step = g.D.Decoder.step (g.D.Decoder.width c.args.decoder.now) in
     let rows = (plain c.args.ctx.now.held.settings c.args.reader.now.bits).rows in
     rw (answer.1, answer.2) (decodes_rows c.args.reader.now.bits step _ _ c.args.ctx.now ctx (Err e) c.requires.columns same
-    (run_is_over c.read_line.new.self ctx reader
-    (c.read_line.ensures.stands c.args.ctx.now.ticks (at_line g there.After-read_line))
-    same (c.read_line.ensures.same_bits ∙ c.come_to_line.ensures.same_bits ∙ inv.bits) c.requires.columns
-    (omega (arith, is.error.1, gap.taken, inv.within)) (still_means g there.After-come_to_line
+    (run_is_over c.read_line.new.self ctx reader (stands g there) same (c.read_line.ensures.same_bits ∙ inv.bits)
+    c.requires.columns (omega (arith, is.error.1, inv.within)) (inv.meaning
     ∙ ap (λ (n : ℕ). meaning_after step (g.D.Decoder.meaning c.args.decoder.now) (take n rows)) (sym is.error.1)) inv.unrefused
     (Err e) is.error.0))
 
--- a row that is refused was read
-row_came_there : (g : Over) (c : After-push_row g) → ReadsNext (seen c.come_to_line.new.self c.come_to_line.new.ctx
-    c.come_to_line.new.reader) (seen c.read_line.new.self c.read_line.new.ctx c.read_line.new.reader) (Ok true)
-row_came_there g c =
-    let from = c.args.ctx.now.ticks in
-    let line : c.come_to_line.result ≡ Ok true = c.in_ok-come_to_line.was ∙ ap (λ (b : Bool). Ok b) c.if-not-branch.false in
-    let comes = c.come_to_line.ensures.comes from c.rows.invariant.stands in
-    subst (λ (r : Result (Unit {0}) DecodeError). ReadsNext (seen c.come_to_line.new.self c.come_to_line.new.ctx
-    c.come_to_line.new.reader) (seen c.read_line.new.self c.read_line.new.ctx c.read_line.new.reader) (row_came r))
-    c.in_ok-read_line.was
-    (c.read_line.ensures.reads from (comes.line line, c.come_to_line.ensures.stands from c.rows.invariant.stands))
+pub returns-in_err-read_line-clause-fails : goal.returns-in_err-read_line-clause-fails
+returns-in_err-read_line-clause-fails g c =
+    let there = (goal.at.returns-in_err-read_line-clause-fails g c).After-read_line in
+    let reader = c.read_line.new.reader in
+    let inv = c.rows.invariant in
+    let held = c.rows.ctx.held in
+    let is = subst (λ (r : Result (Unit {0}) DecodeError). ReadsNext (seen c.rows.rows c.rows.ctx c.rows.reader)
+    (seen c.read_line.new.self c.read_line.new.ctx reader) (row_came r)) c.in_err-read_line.was (reads g there) in
+    let back : reader ≡ c.rows.reader = c.in_err-read_line.ensures.put_back in
+    let taken : c.read_line.new.ctx.held.taken ≡ held.taken = is.error.1 in
+    rw ((err_from_is_err_and c.from_residual.result c.from_residual.ensures.1).1)
+    (of_same (λ s b. length b - length (here reader) ≡ failed_at s b c.read_line.new.ctx.held.taken) inv.settings inv.bits
+    (ap (λ (x : BitsAt). length c.rows.reader.bits - length (here x)) back ∙ reader_fails_at_line (line_stands g there)
+    ∙ ap (failed_at held.settings c.rows.reader.bits) (sym taken)))
 
 pub returns-in-Err-clause-rows : goal.returns-in-Err-clause-rows
 returns-in-Err-clause-rows g c =
-    let there = goal.at.returns-in-Err-clause-rows g c in
+    let there = (goal.at.returns-in-Err-clause-rows g c).After-push_row in
     let from = c.args.ctx.now.ticks in
     let inv = c.rows.invariant in
-    let mid = c.come_to_line.new in
     let read = c.read_line.new in
     let last = c.take_back_row.new.self in
-    let settings = c.come_to_line.ensures.settings ∙ inv.settings in
-    let bits = c.come_to_line.ensures.same_bits ∙ inv.bits in
     let frame = c.take_back_row.ensures.frame in
     let step = g.D.Decoder.step (g.D.Decoder.width c.args.decoder.now) in
     let before : SinkState g.D.Decoder.Meaning = record {
@@ -189,38 +165,271 @@ returns-in-Err-clause-rows g c =
       refused = g.D.Decoder.has_refused c.push_row.new.self;
       refuses = g.D.Decoder.refuses c.push_row.new.self;
     } in
-    let run = run_refused {step = step} {before = before} {after = after} mid.self read.self mid.ctx read.ctx mid.reader
-    read.reader (stands g there.After-come_to_line) (c.read_line.ensures.stands from (at_line g there.After-read_line))
-    c.in_ok-read_line.ensures.behind_row (row_came_there g there.After-push_row) last.held
+    let run = run_refused {step = step} {before = before} {after = after} c.rows.rows read.self c.rows.ctx read.ctx c.rows.reader
+    read.reader inv.stands (c.read_line.ensures.stands from (inv.at_line, inv.stands))
+    c.in_ok-read_line.ensures.behind_row (row_came_here g there) last.held
     (ap (λ (x : Context). x.held) frame ∙ ap (λ (n : ℕ). record read.ctx.held {
       taken = read.ctx.held.taken - 1;
-      repairs = record read.ctx.held.repairs { rows = n };
-    }) c.damaged_rows-damaged_rows.ensures) (c.in-Err.ensures.kept ∙ of_same (λ s b. g.D.Decoder.meaning c.rows.decoder
-    ≡ meaning_after step before.meaning (take mid.ctx.held.taken (plain s b).rows)) (sym settings) (sym bits)
-    (still_means g there.After-come_to_line)) c.in-Err.ensures.refused
+      repairs = record read.ctx.held.repairs { rows = n; cut = c.cut_rows-cut_rows.result };
+    }) c.damaged_rows-damaged_rows.ensures ∙ ap (λ (n : ℕ). record read.ctx.held {
+      taken = read.ctx.held.taken - 1;
+      repairs = record read.ctx.held.repairs { rows = c.rows.ctx.held.repairs.rows; cut = n };
+    }) c.cut_rows-cut_rows.ensures) (c.in-Err.ensures.kept ∙ of_same (λ s b. g.D.Decoder.meaning c.rows.decoder
+    ≡ meaning_after step before.meaning (take c.rows.ctx.held.taken (plain s b).rows)) (sym inv.settings) (sym inv.bits)
+    inv.meaning) c.in-Err.ensures.refused
     (subst (g.D.Decoder.refuses c.push_row.new.self) c.reference_row.ensures.changes c.in-Err.ensures.refused_row) in
     subst (λ (e : DecodeError). DecodesRows c.args.reader.now.bits step before after c.args.ctx.now last (Err e))
     (sym c.in-Err.ensures.only_refused) (decodes_rows c.args.reader.now.bits step before after c.args.ctx.now last (Err Refused)
-    c.requires.columns (ap (λ (x : Context). x.held.settings) frame ∙ c.read_line.ensures.settings ∙ settings)
+    c.requires.columns (ap (λ (x : Context). x.held.settings) frame ∙ c.read_line.ensures.settings ∙ inv.settings)
     (subst (λ (n : ℕ). HasRun c.args.ctx.now.held.settings c.args.reader.now.bits from step before after last.held n
     (Err Refused)) (sym (ap (λ (x : Context). x.ticks) frame))
-    (of_same (λ s b. HasRun s b from step before after last.held read.ctx.ticks (Err Refused)) settings bits run)))
+    (of_same (λ s b. HasRun s b from step before after last.held read.ctx.ticks (Err Refused)) inv.settings inv.bits run)))
 
 -- and the reader is at its line
 pub returns-in-Err-clause-fails : goal.returns-in-Err-clause-fails
 returns-in-Err-clause-fails g c =
-    let there = goal.at.returns-in-Err-clause-fails g c in
-    let mid = c.come_to_line.new in
+    let there = (goal.at.returns-in-Err-clause-fails g c).After-push_row in
     let inv = c.rows.invariant in
-    let line = at_line g there.After-read_line in
-    let held = mid.ctx.held in
-    let at = at_line_stands mid.self.stand held.settings mid.reader.bits held mid.reader.place line.0 line.1.0 in
-    let came = (row_came_there g there.After-push_row).more refl in
+    let held = c.rows.ctx.held in
+    let at = at_line_stands c.rows.rows.stand held.settings c.rows.reader.bits held c.rows.reader.place inv.at_line
+    inv.stands.0 in
+    let came = (row_came_here g there).more refl in
     let taken : c.take_back_row.new.self.held.taken ≡ held.taken
     = omega (arith, ap (λ (x : Context). x.held.taken) c.take_back_row.ensures.frame, came.1) in
-    let back : here c.at_bit.result ≡ here mid.reader = ap here c.at_bit.ensures ∙ ap (λ (n : ℕ). drop n
-    c.read_line.new.reader.bits) c.read_line.ensures.started.0 ∙ ap (drop mid.reader.place) c.read_line.ensures.same_bits in
+    let back : here c.at_bit.result ≡ here c.rows.reader = ap here c.at_bit.ensures ∙ ap (λ (n : ℕ). drop n
+    c.read_line.new.reader.bits) c.read_line.ensures.started.0 ∙ ap (drop c.rows.reader.place) c.read_line.ensures.same_bits in
     of_same (λ s b. length b - length (here c.at_bit.result) ≡ failed_at s b c.take_back_row.new.self.held.taken)
-    (c.come_to_line.ensures.settings ∙ inv.settings) (c.come_to_line.ensures.same_bits ∙ inv.bits)
-    (ap (λ (x : Bits). length mid.reader.bits - length x) back ∙ reader_fails_at_line at
-    ∙ ap (failed_at held.settings mid.reader.bits) (sym taken))
+    inv.settings inv.bits
+    (ap (λ (x : Bits). length c.rows.reader.bits - length x) back ∙ reader_fails_at_line at
+    ∙ ap (failed_at held.settings c.rows.reader.bits) (sym taken))
+
+-- ---- The white rows after a row
+
+pub white-init : goal.white-init
+white-init g c =
+    let came = row_came_here g (goal.at.white-init g c).After-push_row in
+    let inv = c.rows.invariant in
+    let rows = (plain c.args.ctx.now.held.settings c.args.reader.now.bits).rows in
+    let new = c.read_line.new.ctx.held in
+    let within : new.taken ≤ length rows = of_same (λ s b. new.taken ≤ length (plain s b).rows) inv.settings inv.bits
+    (came.more refl).2 in
+    record {
+      stands = c.read_line.ensures.stands c.args.ctx.now.ticks (inv.at_line, inv.stands);
+      behind_row = c.in_ok-read_line.ensures.behind_row;
+      settings = c.read_line.ensures.settings ∙ inv.settings;
+      bits = c.read_line.ensures.same_bits ∙ inv.bits;
+      more = omega arith;
+      within = within;
+      width = c.push_row.ensures.same_width ∙ inv.width;
+      meaning = means_pushed g.D.Decoder.step _ _ (g.D.Decoder.meaning c.args.decoder.now) _ _ rows c.rows.ctx.held.taken
+          new.taken new.reference c.reference_row.result.now inv.width inv.meaning c.in_default.ensures.taken
+          c.reference_row.ensures.changes (of_same (λ s b. new.reference ≡ get_or (plain s b).rows c.rows.ctx.held.taken [])
+          inv.settings inv.bits (came.row refl)) (came.more refl).1 within;
+      unrefused = c.in_default.ensures.not_refused ∙ inv.unrefused;
+      space = room_there g (goal.at.white-init g c).After-read_line;
+      unsought = λ is. c.read_line.ensures.has_eols ∙ inv.unsought is;
+      repeats = λ is. c.repeats_white-repeats.ensures is;
+    }
+
+pub read_white_row-requires-clause-rows : goal.read_white_row-requires-clause-rows
+read_white_row-requires-clause-rows g c =
+    let held = c.white.ctx.held in
+    few_rows_behind c.white.rows.stand held.settings c.white.reader.bits held c.white.reader.place c.white.invariant.behind_row
+    c.white.invariant.stands.0
+
+pub push_row-requires-in-white : goal.push_row-requires-in-white
+push_row-requires-in-white g c =
+    let settings = ap (λ (h : Held). h.settings) c.read_white_row.ensures.kept ∙ c.white.invariant.settings in
+    AreChanges-wider c.read_white_row.new.ctx.held.settings.columns (g.D.Decoder.width c.white.decoder)
+    c.reference_row-in-white.result.now
+    (omega (arith, c.requires.width, c.white.invariant.width, ap (λ (s : DecodeSettings). s.columns) settings))
+    c.reference_row-in-white.ensures.lawful
+
+pub white-preserved : goal.white-preserved
+white-preserved g c =
+    let inv = c.white.invariant in
+    let read = c.read_white_row.ensures in
+    let came = read.reads c.args.ctx.now.ticks inv.stands c.white-test.true in
+    let rows = (plain c.args.ctx.now.held.settings c.args.reader.now.bits).rows in
+    let new = c.read_white_row.new.ctx.held in
+    let within : new.taken ≤ length rows = of_same (λ s b. new.taken ≤ length (plain s b).rows) inv.settings inv.bits
+    (came.more refl).2 in
+    let pushed : g.D.Decoder.meaning c.push_row-in-white.new.self ≡ g.D.Decoder.step (g.D.Decoder.width c.white.decoder)
+    (g.D.Decoder.meaning c.white.decoder) c.reference_row-in-white.result.now = search rules in
+    let flag : g.D.Decoder.has_refused c.push_row-in-white.new.self ≡ g.D.Decoder.has_refused c.white.decoder = search rules in
+    record {
+      stands = read.stands c.args.ctx.now.ticks inv.stands;
+      behind_row = read.behind_row;
+      settings = ap (λ (h : Held). h.settings) read.kept ∙ inv.settings;
+      bits = read.same_bits ∙ inv.bits;
+      more = omega (arith, inv.more, (came.more refl).1);
+      within = within;
+      width = c.push_row-in-white.ensures.same_width ∙ inv.width;
+      meaning = means_pushed g.D.Decoder.step _ _ (g.D.Decoder.meaning c.args.decoder.now) _ _ rows c.white.ctx.held.taken
+          new.taken new.reference c.reference_row-in-white.result.now inv.width inv.meaning pushed
+          c.reference_row-in-white.ensures.changes (of_same (λ s b. new.reference
+          ≡ get_or (plain s b).rows c.white.ctx.held.taken []) inv.settings inv.bits (came.row refl)) (came.more refl).1 within;
+      unrefused = flag ∙ inv.unrefused;
+      space = rw read.space inv.space;
+      unsought = λ is. ap (λ (h : Held). h.has_eols) read.kept ∙ inv.unsought is;
+      repeats = λ is.
+          let before = inv.repeats is in
+          subst RepeatsWhite (sym read.kept) (record {
+            group4 = before.group4;
+            anywhere = before.anywhere;
+            white = before.white;
+            wide = before.wide;
+            fits = before.fits;
+          });
+    }
+
+pub returns-in-Err-push_row-clause-rows : goal.returns-in-Err-push_row-clause-rows
+returns-in-Err-push_row-clause-rows g c =
+    let from = c.args.ctx.now.ticks in
+    let inv = c.white.invariant in
+    let read = c.read_white_row.new in
+    let came = c.read_white_row.ensures.reads from inv.stands c.white-test.true in
+    let last = c.take_back_row-in-Err-push_row.new.self in
+    let frame = c.take_back_row-in-Err-push_row.ensures.frame in
+    let kept = c.read_white_row.ensures.kept in
+    let step = g.D.Decoder.step (g.D.Decoder.width c.args.decoder.now) in
+    let before : SinkState g.D.Decoder.Meaning = record {
+      meaning = g.D.Decoder.meaning c.args.decoder.now;
+      refused = g.D.Decoder.has_refused c.args.decoder.now;
+      refuses = g.D.Decoder.refuses c.args.decoder.now;
+    } in
+    let after : SinkState g.D.Decoder.Meaning = record {
+      meaning = g.D.Decoder.meaning c.push_row-in-white.new.self;
+      refused = g.D.Decoder.has_refused c.push_row-in-white.new.self;
+      refuses = g.D.Decoder.refuses c.push_row-in-white.new.self;
+    } in
+    let run = run_refused {step = step} {before = before} {after = after} c.white.rows read.self c.white.ctx read.ctx
+    c.white.reader read.reader inv.stands (c.read_white_row.ensures.stands from inv.stands)
+    c.read_white_row.ensures.behind_row came last.held
+    (ap (λ (x : Context). x.held) frame ∙ ap (λ (n : ℕ). record read.ctx.held {
+      taken = read.ctx.held.taken - 1;
+      repairs = record read.ctx.held.repairs { rows = n; cut = c.cut_rows-cuts.result };
+    }) (c.damaged_rows-damage.ensures ∙ ap (λ (h : Held). h.repairs.rows) kept) ∙ ap (λ (n : ℕ). record read.ctx.held {
+      taken = read.ctx.held.taken - 1;
+      repairs = record read.ctx.held.repairs { rows = c.white.ctx.held.repairs.rows; cut = n };
+    }) (c.cut_rows-cuts.ensures ∙ ap (λ (h : Held). h.repairs.cut) kept))
+    (c.in-Err-push_row.ensures.kept ∙ of_same (λ s b. g.D.Decoder.meaning c.white.decoder
+    ≡ meaning_after step before.meaning (take c.white.ctx.held.taken (plain s b).rows)) (sym inv.settings) (sym inv.bits)
+    inv.meaning) c.in-Err-push_row.ensures.refused (subst (g.D.Decoder.refuses c.push_row-in-white.new.self)
+    c.reference_row-in-white.ensures.changes c.in-Err-push_row.ensures.refused_row) in
+    subst (λ (e : DecodeError). DecodesRows c.args.reader.now.bits step before after c.args.ctx.now last (Err e))
+    (sym c.in-Err-push_row.ensures.only_refused) (decodes_rows c.args.reader.now.bits step before after c.args.ctx.now last
+    (Err Refused) c.requires.columns (ap (λ (x : Context). x.held.settings) frame ∙ ap (λ (h : Held). h.settings) kept
+    ∙ inv.settings) (subst (λ (n : ℕ). HasRun c.args.ctx.now.held.settings c.args.reader.now.bits from step before after
+    last.held n (Err Refused)) (sym (ap (λ (x : Context). x.ticks) frame))
+    (of_same (λ s b. HasRun s b from step before after last.held read.ctx.ticks (Err Refused)) inv.settings inv.bits run)))
+
+pub returns-in-Err-push_row-clause-fails : goal.returns-in-Err-push_row-clause-fails
+returns-in-Err-push_row-clause-fails g c =
+    let inv = c.white.invariant in
+    let held = c.white.ctx.held in
+    let read = c.read_white_row.ensures in
+    let came = read.reads c.args.ctx.now.ticks inv.stands c.white-test.true in
+    let last = c.take_back_row-in-Err-push_row.new.self in
+    let taken : last.held.taken ≡ held.taken
+    = omega (arith, ap (λ (x : Context). x.held.taken) c.take_back_row-in-Err-push_row.ensures.frame, (came.more refl).1) in
+    let back : here c.at_bit-in-Err-push_row.result ≡ drop c.read_white_row.new.self.started_at c.white.reader.bits
+    = ap here c.at_bit-in-Err-push_row.ensures ∙ ap (drop c.read_white_row.new.self.started_at) read.same_bits in
+    of_same (λ s b. length b - length (here c.at_bit-in-Err-push_row.result) ≡ failed_at s b last.held.taken)
+    inv.settings inv.bits
+    (ap (λ (x : Bits). length c.white.reader.bits - length x) back
+    ∙ read.starts c.args.ctx.now.ticks inv.stands c.white-test.true
+    ∙ ap (failed_at held.settings c.white.reader.bits) (sym taken))
+
+-- ---- The gap after them
+
+pub rows-smaller : goal.rows-smaller
+rows-smaller g c =
+    let came = row_came_here g (goal.at.rows-smaller g c).After-push_row in
+    let from = c.args.ctx.now.ticks in
+    let inv = c.white.invariant in
+    let read = c.read_white_row.ensures in
+    let comes = c.come_to_line.ensures.comes from (read.stands from inv.stands) in
+    omega (arith, (came.more refl).1, inv.more, inv.within, read.none c.white-test.false, comes.taken)
+
+pub returns-in_err-come_to_line-clause-rows : goal.returns-in_err-come_to_line-clause-rows
+returns-in_err-come_to_line-clause-rows g c =
+    let e = c.in_err-come_to_line.field-0.0 in
+    let from = c.args.ctx.now.ticks in
+    let inv = c.white.invariant in
+    let read = c.read_white_row.ensures in
+    let ctx = c.come_to_line.new.ctx in
+    let reader = c.come_to_line.new.reader in
+    let answer = err_from_is_err_and c.from_residual-in_err-come_to_line.result c.from_residual-in_err-come_to_line.ensures.1 in
+    let stands = read.stands from inv.stands in
+    let is = subst (λ (r : Result Bool DecodeError). ReachesNextLine (seen c.read_white_row.new.self c.read_white_row.new.ctx
+    c.read_white_row.new.reader) (seen c.come_to_line.new.self ctx reader) r) c.in_err-come_to_line.was
+    (c.come_to_line.ensures.comes from stands) in
+    let step = g.D.Decoder.step (g.D.Decoder.width c.args.decoder.now) in
+    let rows = (plain c.args.ctx.now.held.settings c.args.reader.now.bits).rows in
+    let taken : ctx.held.taken ≡ c.white.ctx.held.taken = is.taken ∙ read.none c.white-test.false in
+    let same = c.come_to_line.ensures.settings ∙ ap (λ (h : Held). h.settings) read.kept ∙ inv.settings in
+    rw (answer.1, answer.2) (decodes_rows c.args.reader.now.bits step _ _ c.args.ctx.now ctx (Err e) c.requires.columns same
+    (run_is_over c.come_to_line.new.self ctx reader (c.come_to_line.ensures.stands from stands) same
+    (c.come_to_line.ensures.same_bits ∙ read.same_bits ∙ inv.bits) c.requires.columns (omega (arith, taken, inv.within))
+    (inv.meaning ∙ ap (λ (n : ℕ). meaning_after step (g.D.Decoder.meaning c.args.decoder.now) (take n rows)) (sym taken))
+    inv.unrefused (Err e) is.error.0))
+
+pub rows-preserved : goal.rows-preserved
+rows-preserved g c =
+    let from = c.args.ctx.now.ticks in
+    let inv = c.white.invariant in
+    let read = c.read_white_row.ensures in
+    let stands = read.stands from inv.stands in
+    let comes = c.come_to_line.ensures.comes from stands in
+    let line : c.come_to_line.result ≡ Ok true = c.in_ok-come_to_line.was ∙ ap (λ (b : Bool). Ok b) c.if-not-branch.false in
+    let step = g.D.Decoder.step (g.D.Decoder.width c.args.decoder.now) in
+    let rows = (plain c.args.ctx.now.held.settings c.args.reader.now.bits).rows in
+    let taken : c.come_to_line.new.ctx.held.taken ≡ c.white.ctx.held.taken = comes.taken ∙ read.none c.white-test.false in
+    record {
+      stands = c.come_to_line.ensures.stands from stands;
+      at_line = comes.line line;
+      settings = c.come_to_line.ensures.settings ∙ ap (λ (h : Held). h.settings) read.kept ∙ inv.settings;
+      bits = c.come_to_line.ensures.same_bits ∙ read.same_bits ∙ inv.bits;
+      within = omega (arith, taken, inv.within);
+      width = inv.width;
+      meaning = inv.meaning ∙ ap (λ (n : ℕ). meaning_after step (g.D.Decoder.meaning c.args.decoder.now) (take n rows))
+          (sym taken);
+      unrefused = inv.unrefused;
+      space = rw (c.come_to_line.ensures.space, read.space) inv.space;
+      unsought = λ is. c.come_to_line.ensures.unsought (ap (λ (h : Held). h.has_eols) read.kept ∙ inv.unsought is);
+    }
+
+pub returns-then-not-branch-clause-rows : goal.returns-then-not-branch-clause-rows
+returns-then-not-branch-clause-rows g c =
+    let from = c.args.ctx.now.ticks in
+    let inv = c.white.invariant in
+    let read = c.read_white_row.ensures in
+    let ctx = c.come_to_line.new.ctx in
+    let reader = c.come_to_line.new.reader in
+    let stands = read.stands from inv.stands in
+    let comes = c.come_to_line.ensures.comes from stands in
+    let none : c.come_to_line.result ≡ Ok false = c.in_ok-come_to_line.was ∙ ap (λ (b : Bool). Ok b) c.if-not-branch.true in
+    let step = g.D.Decoder.step (g.D.Decoder.width c.args.decoder.now) in
+    let rows = (plain c.args.ctx.now.held.settings c.args.reader.now.bits).rows in
+    let taken : ctx.held.taken ≡ c.white.ctx.held.taken = comes.taken ∙ read.none c.white-test.false in
+    let same = c.come_to_line.ensures.settings ∙ ap (λ (h : Held). h.settings) read.kept ∙ inv.settings in
+    decodes_rows c.args.reader.now.bits step _ _ c.args.ctx.now ctx (Ok (here reader)) c.requires.columns same
+    (run_is_over c.come_to_line.new.self ctx reader (c.come_to_line.ensures.stands from stands) same
+    (c.come_to_line.ensures.same_bits ∙ read.same_bits ∙ inv.bits) c.requires.columns (omega (arith, taken, inv.within))
+    (inv.meaning ∙ ap (λ (n : ℕ). meaning_after step (g.D.Decoder.meaning c.args.decoder.now) (take n rows)) (sym taken))
+    inv.unrefused (Ok tt) (comes.end none).0)
+
+-- ---- The room of the lists
+
+pub returns-in-Err-push_row-clause-space : goal.returns-in-Err-push_row-clause-space
+returns-in-Err-push_row-clause-space g c =
+    rw (c.take_back_row-in-Err-push_row.ensures.frame, c.read_white_row.ensures.space) c.white.invariant.space
+
+pub returns-in_err-come_to_line-clause-space : goal.returns-in_err-come_to_line-clause-space
+returns-in_err-come_to_line-clause-space g c =
+    rw (c.come_to_line.ensures.space, c.read_white_row.ensures.space) c.white.invariant.space
+
+pub returns-then-not-branch-clause-space : goal.returns-then-not-branch-clause-space
+returns-then-not-branch-clause-space g c =
+    rw (c.come_to_line.ensures.space, c.read_white_row.ensures.space) c.white.invariant.space

@@ -1,7 +1,7 @@
 use Rattle.hayro_ccitt.proofs.Names.{◌≡◌, ◌+◌, ◌*◌, ◌≤◌, false, ◌∷◌, length, Some, None, sym, ap, ◌∙◌, arith, leb-true}
 use Rattle.hayro_ccitt.proofs.Names.{length-drop, BitsAt, here, after_eol, next_eol, looked, common_steps}
 use Rattle.hayro_ccitt.proofs.DamagedLines.LinesPassed.{line_passed, eol_passed}
-use Rattle.hayro_ccitt.proofs.Readings.TurnsMoveOn.{next_eol_found}
+use Rattle.fax_bits.proofs.BitReading.ConsecutiveEols.{next_eol_found}
 use Rattle.hayro_ccitt.proofs.DamagedLines.PassedWork.{line_work}
 use Rattle.hayro_ccitt.proofs.Work.EolsPassed.{looked_most}
 use Rattle.hayro_ccitt.proofs.reach.pass_line.Goals.{After-bit_pos-2}
@@ -12,7 +12,7 @@ returns-clause-line c = λ e.
     let old = here c.args.reader.now in
     let found = here c.skip_to_eol.new.self in
     let modes = c.pass_modes.new.reader in
-    let end = c.pass_eol-2.new.self in
+    let end = c.pass_eol-2.new.reader in
     let line : old ≡ false ∷ here c.read_bit.new.self = grind (arith, common_steps) in
     let none : after_eol 0 old ≡ None
     = ap (λ (at : BitsAt). after_eol 0 (here at)) (sym c.copy-end.ensures.value) ∙ c.if-pass_eol.ensures.eol in

@@ -23,6 +23,7 @@ modes-preserved c =
             c.in-Some.ensures.at_most,
             ap (λ (at : BitsAt). length (mode_found c.modes.color (here at))) c.copy-next.ensures.value,
           )),
+      c.in-Some.ensures.space ∙ c.modes.invariant.5,
     )
 
 pub returns-in-None-clause-read : goal.returns-in-None-clause-read

@@ -9,6 +9,7 @@ invariant-modes l =
     (l.reader.bits ≡ l.fn.reader.bits) × (l.ctx.held ≡ l.fn.ctx.held) × (l.fn.ctx.ticks ≤ l.ctx.ticks)
     × ReadFurther (here l.fn.reader) l.color (here l.reader)
     × WordsPassed (here l.fn.reader) (here l.reader) l.fn.ctx.ticks l.ctx.ticks
+    × (l.ctx.space ≡ l.fn.ctx.space)
 
 abbrev pub decreases-modes : goal.decreases-modes
 decreases-modes l = length (here l.reader)

@@ -5,7 +5,8 @@ use Rattle.hayro_ccitt.proofs.{EncodedPictures.PicturesT4.eols_here_two, reach.r
 use Rattle.hayro_ccitt.proofs.DamagedLines.LinesPassed.{before_1d, not_before_1d, counted_on, last_line_counted, counted_none}
 use Rattle.hayro_ccitt.proofs.DamagedLines.LinesPassed.{no_eol_no_end, no_eol_no_line, no_line_there}
 use Rattle.hayro_ccitt.proofs.DamagedLines.PassedWork.{line_paid, lines_end, lines_end_behind}
-use Rattle.hayro_ccitt.proofs.Readings.TurnsMoveOn.{after_eol_shorter, eols_here_counted}
+use Rattle.hayro_ccitt.proofs.Readings.TurnsMoveOn.{eols_here_counted}
+use Rattle.fax_bits.proofs.BitReading.ConsecutiveEols.{after_eol_shorter}
 use Rattle.hayro_ccitt.proofs.reach.rows_before_1d.Goals as goal
 
 pub returns-then-not-pass_eol-clause-rows : goal.returns-then-not-pass_eol-clause-rows
@@ -23,13 +24,13 @@ returns-then-is_before_1d-clause-rows c =
     let now = here c.lines.reader in
     let rest = here c.read_tagged_eols-count.new.self in
     let count = c.read_tagged_eols-count.result in
-    let eol : after_eol 0 now ≡ Some (here c.pass_eol.new.self)
+    let eol : after_eol 0 now ≡ Some (here c.pass_eol.new.reader)
     = ap (λ (at : BitsAt). after_eol 0 (here at)) (sym c.copy-line.ensures.value) ∙ c.if-not-pass_eol.ensures.eol in
     let counted : tagged_eols now ≡ (count, rest)
     = ap (λ (at : BitsAt). tagged_eols (here at)) (sym c.copy-behind.ensures.value) ∙ c.read_tagged_eols-count.ensures.eols in
     let same : c.settings.result ≡ settings = c.settings.ensures.value ∙ ap (λ (h : Held). h.settings) c.lines.invariant.1 in
     last_line_counted settings (here c.args.reader.now) now c.lines.rows c.lines.invariant.4
-    (before_1d settings now (here c.pass_eol.new.self) rest count eol counted
+    (before_1d settings now (here c.pass_eol.new.reader) rest count eol counted
     (subst (λ (s : DecodeSettings). ((s.end_of_block ≡ true) × (6 ≤ count))
     ⊎ (((line : Bits) × (rest ≡ true ∷ line)) ⊎ (rest ≡ []))) same (c.is_before_1d.ensures.ends c.if-is_before_1d.true)))
 
@@ -39,7 +40,7 @@ returns-then-not-pass_line-clause-rows c =
     let now = here c.lines.reader in
     let rest = here c.read_tagged_eols-count.new.self in
     let count = c.read_tagged_eols-count.result in
-    let eol : after_eol 0 now ≡ Some (here c.pass_eol.new.self)
+    let eol : after_eol 0 now ≡ Some (here c.pass_eol.new.reader)
     = ap (λ (at : BitsAt). after_eol 0 (here at)) (sym c.copy-line.ensures.value) ∙ c.if-not-pass_eol.ensures.eol in
     let counted : tagged_eols now ≡ (count, rest)
     = ap (λ (at : BitsAt). tagged_eols (here at)) (sym c.copy-behind.ensures.value) ∙ c.read_tagged_eols-count.ensures.eols in
@@ -48,7 +49,7 @@ returns-then-not-pass_line-clause-rows c =
     counted_none settings (here c.args.reader.now) now c.lines.rows c.lines.invariant.4
     (not_before_1d settings now rest tag.0 count counted (λ block six.
     c.is_before_1d.ensures.no_rtc c.if-is_before_1d.false (ap (λ (s : DecodeSettings). s.end_of_block) same ∙ block) six) tag.1)
-    (no_line_there now (here c.pass_eol.new.self) eol (c.pass_line.ensures.no_line c.if-not-pass_line.true))
+    (no_line_there now (here c.pass_eol.new.reader) eol (c.pass_line.ensures.no_line c.if-not-pass_line.true))
 
 -- what is counted until the tag of the next line
 counted_to_tag : (c : After-read_tagged_eols-count) → c.args.ctx.now.ticks ≤ c.read_tagged_eols-count.new.ticks
@@ -113,11 +114,12 @@ returns-then-not-pass_eol-clause-at_most c =
     ))
 
 -- where no line follows, what was counted is within the bound, and so are three times the bits behind the EOL
-within_bound : (c : After-read_tagged_eols-count) (now : ℕ) → after_eol 0 (here c.lines.reader) ≡ Some (here c.pass_eol.new.self)
-    → now ≤ c.read_tagged_eols-count.new.ticks + 3 * length (here c.pass_eol.new.self)
+within_bound : (c : After-read_tagged_eols-count) (now : ℕ)
+    → after_eol 0 (here c.lines.reader) ≡ Some (here c.pass_eol.new.reader)
+    → now ≤ c.read_tagged_eols-count.new.ticks + 3 * length (here c.pass_eol.new.reader)
     → now ≤ c.args.ctx.now.ticks + most_for_lines (length (here c.args.reader.now))
 within_bound c now eol passed =
-    lines_end_behind (here c.args.reader.now) (here c.lines.reader) (here c.pass_eol.new.self)
+    lines_end_behind (here c.args.reader.now) (here c.lines.reader) (here c.pass_eol.new.reader)
     (here c.read_tagged_eols-count.new.self) c.args.ctx.now.ticks c.lines.ctx.ticks c.pass_eol.new.ticks
     c.read_tagged_eols-count.new.ticks now c.lines.invariant.5 eol (read c) (ahead c) passed
 
@@ -139,13 +141,13 @@ lines-smaller c =
     omega (
       arith,
       c.pass_line.ensures.onward,
-      after_eol_shorter 0 (here c.lines.reader) (here c.pass_eol.new.self) eol,
+      after_eol_shorter 0 (here c.lines.reader) (here c.pass_eol.new.reader) eol,
     )
 
 pub lines-preserved : goal.lines-preserved
 lines-preserved c =
     let now = here c.lines.reader in
-    let eol : after_eol 0 now ≡ Some (here c.pass_eol.new.self)
+    let eol : after_eol 0 now ≡ Some (here c.pass_eol.new.reader)
     = ap (λ (at : BitsAt). after_eol 0 (here at)) (sym c.copy-line.ensures.value) ∙ c.if-not-pass_eol.ensures.eol in
     let line = c.pass_line.ensures.line c.if-not-pass_line.false in (
       c.pass_line.ensures.same_bits ∙ c.pass_eol.ensures.same_bits ∙ ap (λ (at : BitsAt). at.bits) c.copy-line.ensures.value
@@ -156,7 +158,7 @@ lines-preserved c =
         arith,
         c.lines.invariant.3,
         c.pass_line.ensures.onward,
-        after_eol_shorter 0 now (here c.pass_eol.new.self) eol,
+        after_eol_shorter 0 now (here c.pass_eol.new.reader) eol,
       ),
       counted_on c.args.ctx.now.held.settings (here c.args.reader.now) now line.0 (here c.pass_line.new.reader) c.lines.rows
           c.lines.invariant.4 (eol ∙ ap (λ (b : Bits). Some b) line.1) line.2,
@@ -168,4 +170,5 @@ lines-preserved c =
           (read (goal.at.lines-preserved c).After-read_tagged_eols-count)
           (ahead (goal.at.lines-preserved c).After-read_tagged_eols-count)
           (omega (arith, c.pass_line.ensures.to_eol c.if-not-pass_line.false, ap length line.1)),
+      c.pass_line.ensures.space ∙ c.lines.invariant.6,
     )

@@ -10,6 +10,7 @@ invariant-lines l =
     × (l.rows + length (here l.reader) ≤ 1 + length (here l.fn.reader))
     × CountsRows l.fn.ctx.held.settings (here l.fn.reader) l.rows (here l.reader)
     × LinesPaid (here l.fn.reader) (here l.reader) l.fn.ctx.ticks l.ctx.ticks
+    × (l.ctx.space ≡ l.fn.ctx.space)
 
 abbrev pub decreases-lines : goal.decreases-lines
 decreases-lines l = length (here l.reader)

@@ -1,5 +1,6 @@
 use Rattle.hayro_ccitt.proofs.Names.{◌≡◌, ◌≢◌, ◌∙◌, ◌<◌, ℕ, Bool, false, inl, inr, length, drop, ap, sym, subst, arith}
 use Rattle.hayro_ccitt.proofs.Names.{length-drop, IfErr-weaker, IfOk-weaker, on_err_weaker, on_ok_weaker, Stand, DecodeSettings}
+use Rattle.hayro_ccitt.proofs.Names.{refl}
 use Rattle.hayro_ccitt.proofs.Names.{Group4, Bits, here, Held, gap_said, all_eols, gap_behind_row, first_line, changes}
 use Rattle.hayro_ccitt.proofs.Names.{DamageIsCounted, IsPaid, ReaderStands, ended, stand_after, AtLine, looked}
 use Rattle.hayro_ccitt.proofs.Names.{looked_ahead}
@@ -130,6 +131,7 @@ returns-in-Group3_1D c =
       stands = first_line_stands settings wide bits other last (drop at.place bits) frame rest
           (omega (arith, length-drop at.place bits));
       unfailed = λ error is. cc;
+      at_line = λ unended. refl;
       paid = λ from begun. first_line_paid from settings other bits last (drop at.place bits) c.read_leading_eols.new.ctx.ticks
           (ap (λ (h : Held). length (changes h.reference)) frame ∙ changes_white settings.columns)
           (omega (arith, length-drop at.place bits)) (omega (
@@ -142,4 +144,5 @@ returns-in-Group3_1D c =
           ));
       counts = c.read_leading_eols.ensures.counts;
       no_eols = λ is. absurd (other is);
+      space = c.read_leading_eols.ensures.space;
     }

@@ -1,4 +1,5 @@
-use Rattle.hayro_ccitt.proofs.Names.{rules, length, ap, arith, Group3_2D, Bits, line_found}
+use Rattle.hayro_ccitt.proofs.Names.{rules, length, ap, arith, Group3_2D, Bits, here, line_1d, line_found}
+use Rattle.hayro_ccitt.proofs.Work.RoomTaken.{more_stored}
 use Rattle.hayro_ccitt.proofs.DrawingLines.CountedLines.{on_answer_weaker}
 use Rattle.hayro_ccitt.proofs.rows.decode_tagged_line.Goals as goal
 
@@ -10,10 +11,13 @@ returns-then-tag-eq1-clause-line c =
     ap (λ (x : Bits). length (line_found Group3_2D held.settings.strict held.settings.columns held.reference x)) next in
     record {
       drawn = search rules;
+      cut = search rules;
       held = search rules;
       same_bits = search rules;
       counts = search rules;
       at_least = on_answer_weaker c.decode_1d_line.result
           (λ found. omega (arith, found, c.tick.ensures, c.ticks.ensures.value, words)) c.decode_1d_line.ensures.at_least;
       at_most = search rules;
+      space = rw next (more_stored _ _ held.reference (line_1d held.settings.strict held.settings.columns
+          (here c.read_bit.new.self)) c.decode_1d_line.ensures.space);
     }

@@ -2,7 +2,7 @@ use Rattle.hayro_ccitt.proofs.Names.{rules, ◌≡◌, ℕ, Bool, true, false, c
 use Rattle.hayro_ccitt.proofs.Names.{arith, cond-true, cond-false, DecodeSettings, Bits, here, Context, Held, gap_said, next_eol}
 use Rattle.hayro_ccitt.proofs.Names.{Gap, eols_here, misses_eol, is_over, behind_eols, from_next_eol, looked, looked_ahead}
 use Rattle.hayro_ccitt.proofs.Names.{tag_tests}
-use Rattle.hayro_ccitt.proofs.Readings.TurnsMoveOn.{next_eol_found}
+use Rattle.fax_bits.proofs.BitReading.ConsecutiveEols.{next_eol_found}
 use Rattle.hayro_ccitt.proofs.Work.EolsPassed.{eols_here_shorter, eols_here_stay, looked_most, sought_looks}
 use Rattle.hayro_ccitt.proofs.rows.pass_gap.Goals as goal
 

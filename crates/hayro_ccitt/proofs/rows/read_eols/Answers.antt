@@ -1,7 +1,7 @@
 use Rattle.hayro_ccitt.proofs.Names.{◌≡◌, ℕ, refl, ap, sym, ◌∙◌, length, arith, EncodingMode, DecodeSettings, Bits, here, eols_by}
 use Rattle.hayro_ccitt.proofs.Names.{eols_here, looked, looked_ahead, tag_tests}
 use Rattle.hayro_ccitt.proofs.{BitReading.EolCounts.all_eols_leave, Work.EolsPassed.eols_here_stay}
-use Rattle.hayro_ccitt.proofs.Readings.TurnsMoveOn.{tagged_eols_counted}
+use Rattle.fax_bits.proofs.BitReading.ConsecutiveEols.{tagged_eols_counted}
 use Rattle.hayro_ccitt.proofs.rows.read_eols.Goals as goal
 
 pub returns-in-Group3_2D-clause-counts : goal.returns-in-Group3_2D-clause-counts
@@ -33,6 +33,7 @@ returns-in-Group3_1D c =
       eols = eols;
       same_bits = c.read_eol_if_available.ensures.same_bits;
       held = refl;
+      space = refl;
       counts = omega (arith, counted, from, left);
       at_least = omega (arith, counted, from);
       work = omega (arith, counted, from, left, ahead, tags);
@@ -56,6 +57,7 @@ returns-in-Group4 c =
       eols = eols;
       same_bits = c.read_eols_of_t6.ensures.same_bits;
       held = c.read_eols_of_t6.ensures.held;
+      space = c.read_eols_of_t6.ensures.space;
       counts = c.read_eols_of_t6.ensures.counts;
       at_least = c.read_eols_of_t6.ensures.at_least;
       work = omega (arith, counted, c.read_eols_of_t6.ensures.forward, ahead, tags);

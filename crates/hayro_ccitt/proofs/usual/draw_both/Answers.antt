@@ -9,7 +9,7 @@ pub returns-then-runs-settings-clause-drawn : goal.returns-then-runs-settings-cl
 returns-then-runs-settings-clause-drawn c =
     let a = c.args in
     rw c.turn_at.ensures.items (two_runs a.settings a.painted a.settings.columns a.row.now.items a.hand.now.at c.pass.new.self.at
-    a.runs a.ticks.now c.tick_times.new.self c.requires.runs c.requires.follow
+    a.runs a.ticks.now c.tick_times.new.ticks c.requires.runs c.requires.follow
     (omega (arith, c.if-runs-settings.true, c.requires.follow.inside)) c.pass.ensures.moved c.tick_times.ensures)
 
 pub returns-then-runs-settings-clause-taken : goal.returns-then-runs-settings-clause-taken
@@ -26,8 +26,8 @@ returns-clause-drawn c =
     let row : List ℕ = a.row.now.items ++ (a.painted + a.runs.first) ∷ [] in
     let pen : Pen = pen_at a.painted a.row.now.items White a.hand.now.at in
     let seen : GoesOn a.settings.strict a.settings.columns pen (pen_at place row White c.pass.new.self.at) a.ticks.now
-    c.tick_times.new.self =
-    two_runs a.settings a.painted place a.row.now.items a.hand.now.at c.pass.new.self.at a.runs a.ticks.now c.tick_times.new.self
+    c.tick_times.new.ticks =
+    two_runs a.settings a.painted place a.row.now.items a.hand.now.at c.pass.new.self.at a.runs a.ticks.now c.tick_times.new.ticks
     c.requires.runs c.requires.follow (omega (arith, c.if-runs-settings.false)) c.pass.ensures.moved c.tick_times.ensures in
     rw (c.turn_at-2.ensures.items, c.turn_at.ensures.items, pixels-pending place row) seen
 

@@ -1,5 +1,5 @@
 use Rattle.hayro_ccitt.proofs.Names.{◌≡◌, ◌<◌, arith, White}
-use Rattle.hayro_ccitt.proofs.CodeWords.UsualRuns.{two_here_too}
+use Rattle.hayro_ccitt.proofs.CodeWords.PairsOfRuns.{two_here_too}
 use Rattle.hayro_ccitt.proofs.usual.draw_pair.Goals as goal
 
 pub draw_both-place-requires-clause-runs : goal.draw_both-place-requires-clause-runs

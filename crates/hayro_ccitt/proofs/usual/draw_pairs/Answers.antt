@@ -39,4 +39,5 @@ runs-preserved c =
       omega (arith, next.ensures.forward, inv.2),
       next.ensures.same_bits ∙ ap (λ (b : BitsAt). b.bits) (filled ∙ same.0) ∙ inv.3,
       omega (arith, next.ensures.onward, ap (λ (b : BitsAt). b.place) (filled ∙ same.0), inv.4),
+      next.ensures.space ∙ c.draw_pair.ensures.space ∙ inv.5,
     )

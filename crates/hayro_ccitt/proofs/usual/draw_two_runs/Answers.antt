@@ -1,16 +1,16 @@
-use Rattle.hayro_ccitt.proofs.Names.{refl, White}
-use Rattle.hayro_ccitt.proofs.CodeWords.UsualRuns.{run_here_too}
+use Rattle.hayro_ccitt.proofs.Names.{refl, arith, White}
+use Rattle.fax_bits.proofs.CodeWords.WordsHere.{run_here_too}
 use Rattle.hayro_ccitt.proofs.DrawingLines.UsualStrokes.{white_ends, reached_white}
 use Rattle.hayro_ccitt.proofs.usual.draw_two_runs.Goals as goal
 
-pub returns-then-first-room-clause-drawn : goal.returns-then-first-room-clause-drawn
-returns-then-first-room-clause-drawn c =
+pub returns-then-first-room-2-clause-drawn : goal.returns-then-first-room-2-clause-drawn
+returns-then-first-room-2-clause-drawn c =
     let open_row = c.requires.«open» in
     white_ends _ _ _ _ _ _ _ _ _ _ _ _ open_row.inside open_row.lawful open_row.even refl c.in_ok-first.ensures.run
-    (c.if-not-fits.ensures refl) c.if-first-room.true c.pass.ensures.moved c.tick_times.ensures
+    (omega (arith, c.if-first-room-2.true)) (omega (arith, c.if-first-room-2.true)) c.pass.ensures.moved c.tick_times.ensures
 
-pub returns-then-first-room-clause-taken : goal.returns-then-first-room-clause-taken
-returns-then-first-room-clause-taken c =
+pub returns-then-first-room-2-clause-taken : goal.returns-then-first-room-2-clause-taken
+returns-then-first-room-2-clause-taken c =
     reached_white c.args.settings.columns c.args.painted _ c.requires.«open».inside c.requires.«open».lawful
 
 pub draw_both-requires-clause-runs : goal.draw_both-requires-clause-runs

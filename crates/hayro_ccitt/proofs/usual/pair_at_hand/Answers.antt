@@ -1,7 +1,7 @@
 use Rattle.hayro_ccitt.proofs.Names.{◌≡◌, ◌≤◌, ◌/◌, ℕ, length, get_or, ap, ◌∙◌, arith, length-drop, and_mask, BitsAt, here}
 use Rattle.hayro_ccitt.proofs.Names.{padded, pair_entry, moved}
 use Rattle.hayro_ccitt.proofs.CodeWords.PairsOfRuns.{pair_there, AreBothHere}
-use Rattle.hayro_ccitt.proofs.CodeWords.UsualRuns.{word_is_run}
+use Rattle.fax_bits.proofs.CodeWords.WordsHere.{word_is_run}
 use Rattle.hayro_ccitt.proofs.usual.pair_at_hand.Goals as goal
 
 words : (c : goal.After-from-3)

@@ -1,5 +1,5 @@
 use Rattle.hayro_ccitt.proofs.Names.{◌≡◌, ◌+◌, ℕ, subst, arith, moved, IsWordHere}
-use Rattle.hayro_ccitt.proofs.CodeWords.UsualRuns.{run_of_two}
+use Rattle.fax_bits.proofs.CodeWords.WordsHere.{run_of_two}
 use Rattle.hayro_ccitt.proofs.usual.run_at_hand.Goals as goal
 
 pub returns-then-rest-lt64-clause-run : goal.returns-then-rest-lt64-clause-run

@@ -1,8 +1,10 @@
 use Rattle.hayro_ccitt.proofs.Names.{◌≡◌, ℕ, ◌-◌, ◌+ℤ◌, pos, length, ap, subst, ◌∙◌, w8, w32, SFits, to_z, of_z, arith, rules}
 use Rattle.hayro_ccitt.proofs.Names.{to_z-of_z, err_from_is_err_and, on_ok_weaker, on_err_weaker, DecodeError, DrawsStep, pen_of}
 use Rattle.hayro_ccitt.proofs.Names.{Bits, here, Context, Held, Turn, right_of, b1, b2, paint}
+use Rattle.hayro_ccitt.proofs.DrawingLines.CutRuns.{pass_cuts, horizontal_cuts}
 use Rattle.hayro_ccitt.proofs.DrawingLines.Drawings.{try}
-use Rattle.hayro_ccitt.proofs.DrawingLines.DrawnLines.{IsUnpainted, place_of, some_where, unpainted, pass_draws}
+use Rattle.hayro_ccitt.proofs.DrawingLines.DrawnLines.{IsUnpainted, place_of, unpainted, pass_draws}
+use Rattle.fax_bits.proofs.CodeWords.ReadRuns.{some_where}
 use Rattle.hayro_ccitt.proofs.DrawingLines.DrawnLines.{vertical_unpainted, first_run_fails, paint_draws}
 use Rattle.hayro_ccitt.proofs.context.DecoderContext.draw_mode.Goals as goal
 
@@ -61,3 +63,23 @@ returns-in-Pass-clause-step c =
     (on_err_weaker c.push_pixels.result (ap (λ (x : Context). x.held)) d.unchanged)
     (λ e is. unpainted held count c.push_pixels.result e is d.too_many d.memory d.only) in
     rw c.in-Pass.is (pass_draws old held new count rest c.push_pixels.result b.unchanged counted draws)
+
+pub returns-in-Pass-clause-cut : goal.returns-in-Pass-clause-cut
+returns-in-Pass-clause-cut c =
+    let b = c.b2-b2.ensures in
+    let old = c.args.self.now in
+    let count : ℕ = c.b2-b2.result - c.pixels_painted.result in
+    let painted : c.pixels_painted.result ≡ length old.held.front =
+    c.pixels_painted.ensures ∙ ap (λ (h : Held). length h.front) b.unchanged in
+    let counted : count ≡ b2 old.held.reference (right_of old.held.front) old.held.color - length old.held.front =
+    omega (arith, b.value, painted) in
+    rw c.in-Pass.is (pass_cuts old c.b2-b2.new.self c.push_pixels.new.self count (here c.args.reader.now) c.push_pixels.result
+    b.unchanged b.cut counted c.push_pixels.ensures.painted c.push_pixels.ensures.frame)
+
+pub returns-in_ok-draw_run-in-Horizontal-clause-cut : goal.returns-in_ok-draw_run-in-Horizontal-clause-cut
+returns-in_ok-draw_run-in-Horizontal-clause-cut c =
+    rw c.in-Horizontal.is (horizontal_cuts c.args.self.now c.draw_run.new.self c.draw_run-in-Horizontal.new.self
+    (here c.args.reader.now)
+    (here c.draw_run.new.reader) (here c.draw_run-in-Horizontal.new.reader) c.draw_run-in-Horizontal.result
+    c.draw_run.ensures.held
+    c.in_ok-draw_run-in-Horizontal.ensures.cut c.draw_run-in-Horizontal.ensures.cut)

@@ -1,7 +1,9 @@
-use Rattle.hayro_ccitt.proofs.Names.{◌≡◌, ◌<◌, [], arith, White, pixels}
+use Rattle.std.specs.Prelude.{vec_len}
+use Rattle.hayro_ccitt.proofs.Names.{◌≡◌, ◌<◌, [], ap, arith, length, White, pixels}
 use Rattle.hayro_ccitt.proofs.DrawingLines.UsualModes.{empty_row, none_painted_yet, are_passed}
 use Rattle.hayro_ccitt.proofs.PixelRows.ChangesAndPixels.{changes-pixels}
 use Rattle.hayro_ccitt.proofs.PixelRows.EndedPlaces.{ends_taken, with_ends}
+use Rattle.hayro_ccitt.proofs.context.DecoderContext.draw_modes_at_hand.Goals.{After-has_mode}
 use Rattle.hayro_ccitt.proofs.context.DecoderContext.draw_modes_at_hand.Goals as goal
 
 pub draw_modes-place-requires-clause-begins : goal.draw_modes-place-requires-clause-begins
@@ -41,10 +43,10 @@ invariant_of-self-2 c =
     let stroke = rw (c.as_slice.ensures.value, same) at c.draw_modes-place.ensures.stroke in
     let some : 0 < s.settings.columns = omega (arith, c.if-self-eq0.false) in
     record {
-      reference = rw (c.take_ends.ensures, same) c.self.invariant.reference;
+      reference = rw (c.take_ends.ensures.items, same) c.self.invariant.reference;
       front = c.lay_down_row.ensures.lawful;
       within = stroke.within;
-      passed = rw (c.take_ends.ensures, same, c.saturating_sub-self-inside.ensures)
+      passed = rw (c.take_ends.ensures.items, same, c.saturating_sub-self-inside.ensures)
           (are_passed some c.self.invariant.reference stroke);
     }
 
@@ -69,3 +71,44 @@ returns-clause-within c =
     let listed = changes-pixels s.settings.columns s.ref_changes.items c.self.invariant.reference in
     rw (← c.self.view_is, listed, c.saturating_sub-self-inside.ensures)
     (are_passed some c.self.invariant.reference stroke).within
+
+-- nothing is drawn yet
+none_stored : (c : After-has_mode) → vec_len c.self.inside.coding_changes ≡ 0
+none_stored c =
+    let s = c.self.inside in
+    let empty = empty_row s.pixels_decoded s.coding_changes.items c.self.invariant.front (rw (← c.self.view_is) at
+    c.requires.begins) in
+    omega (arith, s.coding_changes.ok.0, ap length empty)
+
+pub returns-then-not-has_mode-clause-space : goal.returns-then-not-has_mode-clause-space
+returns-then-not-has_mode-clause-space c =
+    let none = none_stored (goal.at.returns-then-not-has_mode-clause-space c).After-has_mode in
+    rw (← c.self.view_is) (omega (arith, none, c.has_mode.ensures.space))
+
+pub returns-then-not-put_ends-clause-space : goal.returns-then-not-put_ends-clause-space
+returns-then-not-put_ends-clause-space c =
+    let s = c.self.inside in
+    let none = none_stored (goal.at.returns-then-not-put_ends-clause-space c).After-has_mode in
+    let before = changes-pixels s.settings.columns s.ref_changes.items c.self.invariant.reference in
+    rw (← c.self.view_is, before)
+    (omega (arith, none, c.has_mode.ensures.space, c.put_ends.ensures.space, s.ref_changes.ok.0))
+
+pub returns-clause-space : goal.returns-clause-space
+returns-clause-space c =
+    let s = c.self.inside in
+    let none = none_stored (goal.at.returns-clause-space c).After-has_mode in
+    let laid = c.lay_down_row in
+    let before = changes-pixels s.settings.columns s.ref_changes.items c.self.invariant.reference in
+    let after = changes-pixels _ laid.new.changes.items laid.ensures.lawful in
+    rw (← c.self.view_is, before, after) (omega (
+      arith,
+      none,
+      c.take_ends.ensures.space,
+      c.put_ends.ensures.space,
+      laid.ensures.space,
+      laid.ensures.few,
+      c.draw_modes-place.ensures.space,
+      c.has_mode.ensures.space,
+      s.ref_changes.ok.0,
+      laid.new.changes.ok.0,
+    ))

@@ -1,5 +1,8 @@
 use Rattle.hayro_ccitt.proofs.Names.{Err, subst, ap, err_from_is_err_and, DrawsStep, pen_of, step_of_run, here, Context}
-use Rattle.hayro_ccitt.proofs.Names.{context_of}
+use Rattle.hayro_ccitt.proofs.Names.{context_of, ◌≡◌, ◌∙◌, ◌||◌, Ok, Result, sym, DecodeError, Row, opposite, exceeds}
+use Rattle.hayro_ccitt.proofs.Names.{painted_front}
+use Rattle.hayro_ccitt.proofs.Names.{TellsCut, strict_step_of_run}
+use Rattle.hayro_ccitt.proofs.DrawingLines.CutRuns.{run_cuts}
 use Rattle.hayro_ccitt.proofs.DrawingLines.DrawnLines.{run_unread, run_unpainted}
 use Rattle.hayro_ccitt.proofs.context.DecoderContext.draw_run.Goals as goal
 
@@ -21,3 +24,20 @@ returns-in_err-push_pixels-clause-step c =
     (run_unpainted left.held c.push_pixels.new.self.held c.in_ok-run.run' (here c.args.reader.now)
     (here c.decode_run.new.self) c.in_err-push_pixels.field-0.0 c.in_ok-run.ensures.run (ap (λ (x : Context). x.held) e.unchanged)
     (record { too_many = e.too_many.0; memory = e.memory; only = e.only })))
+
+pub returns-clause-cut : goal.returns-clause-cut
+returns-clause-cut c =
+    let left : Context = context_of c.self.inside in
+    let pushed = c.push_pixels.new.self in
+    let turned = c.turn_color.ensures.frame in
+    let e = c.in_ok-push_pixels.ensures in
+    let painted : painted_front left.held c.in_ok-run.run' ≡ Ok c.turn_color.new.self.held.front =
+    e.painted ∙ ap {B = Result Row DecodeError} (λ (x : Context). Ok x.held.front) (sym turned) in
+    let color : c.turn_color.new.self.held.color ≡ opposite left.held.color =
+    ap (λ (x : Context). x.held.color) turned ∙ ap (λ (x : Context). opposite x.held.color) e.frame in
+    let told : c.turn_color.new.self.cut ≡ (left.cut || exceeds left.held c.in_ok-run.run') =
+    ap (λ (x : Context). x.cut) turned ∙ ap (λ (x : Context). x.cut) e.frame in
+    subst (λ (x : Context). TellsCut (strict_step_of_run x.held (here c.args.reader.now))
+    (pen_of c.turn_color.new.self.held (here c.decode_run.new.self)) x.cut c.turn_color.new.self.cut) c.self.view_is
+    (run_cuts left.held c.turn_color.new.self.held c.in_ok-run.run' (here c.args.reader.now) (here c.decode_run.new.self) left.cut
+    c.turn_color.new.self.cut c.in_ok-run.ensures.run painted color told)

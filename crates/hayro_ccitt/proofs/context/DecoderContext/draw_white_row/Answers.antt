@@ -16,4 +16,4 @@ returns-clause-drawn c =
     let none = nothing_painted s c.self.invariant front in
     let same : c.in-Some.hand.at ≡ c.args.reader.now = ap (λ (h : AtHand). h.at) c.in-Some.ensures.same in
     λ e. rw (← c.self.view_is, none.painted, white, none.row, c.go_to.ensures, ← same)
-    (c.if-not-pass_white_row.ensures.drawn refl)
+    (c.if-not-pass_white_row.ensures.drawn refl s.settings.strict)

@@ -14,4 +14,6 @@ windows-preserved c =
           c.windows.invariant.0 c.windows.invariant.1 new.ensures.drawn,
       held_twice c.args.self.now.held c.windows.self.held new.new.self.held c.windows.invariant.1 new.ensures.held,
       new.ensures.same_bits ∙ c.windows.invariant.2,
+      new.ensures.space ∙ c.windows.invariant.3,
+      new.ensures.cut ∙ c.windows.invariant.4,
     )

@@ -1,5 +1,5 @@
 use Rattle.hayro_ccitt.proofs.Names.{◌≡◌, ◌≢◌, ◌+◌, ◌-◌, Bool, true, false, Err, refl, sym, ap, ◌∙◌, arith, err_from_is_err_and}
-use Rattle.hayro_ccitt.proofs.PixelRows.ChangesAndPixels.{length-pixels}
+use Rattle.hayro_ccitt.proofs.PixelRows.ChangesAndPixels.{changes-pixels, length-pixels}
 use Rattle.hayro_ccitt.proofs.context.DecoderContext.fill_white.Goals as goal
 
 -- a pixel that isn't white is black
@@ -24,3 +24,9 @@ returns-clause-frame c =
     omega (arith, c.self.invariant.within) in
     let painted = rw whole at c.in_ok-append_pixels.ensures.painted in
     rw (← c.self.view_is, front, painted) refl
+
+pub returns-clause-space : goal.returns-clause-space
+returns-clause-space c =
+    let s = c.self.inside in
+    let before = changes-pixels s.pixels_decoded s.coding_changes.items c.self.invariant.front in
+    rw (← c.self.view_is, before) (omega (arith, c.append_pixels.ensures.space, s.coding_changes.ok.0))

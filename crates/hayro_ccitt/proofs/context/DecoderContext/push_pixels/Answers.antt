@@ -1,5 +1,9 @@
-use Rattle.hayro_ccitt.proofs.Names.{◌≡◌, ℕ, ◌≤◌, ◌-◌, ◌⊎◌, inl, inr, min, false, ◌++◌, replicate, Ok, Err, refl, sym, ap, ◌∙◌}
+use Rattle.hayro_ccitt.proofs.Names.{◌≡◌, ℕ, ◌≤◌, ◌+◌, ◌-◌, ◌⊎◌, inl, inr, min, false, ◌++◌, replicate, Ok, Err, refl, sym, ap}
+use Rattle.hayro_ccitt.proofs.Names.{◌∙◌}
 use Rattle.hayro_ccitt.proofs.Names.{arith, err_from_is_err_and, Row, is_black, paint, pixels, context_of}
+use Rattle.hayro_ccitt.proofs.Names.{true, length, ltb, lt-ltb, le-ltb}
+use Rattle.hayro_ccitt.proofs.DrawingLines.CutRuns.{or_true, or_false}
+use Rattle.hayro_ccitt.proofs.PixelRows.ChangesAndPixels.{length-pixels, changes-pixels}
 use Rattle.hayro_ccitt.proofs.PixelRows.Painting.{paint-strict, paint-fits, StoresChange-painted}
 use Rattle.hayro_ccitt.proofs.context.DecoderContext.push_pixels.Goals.{After-append_pixels}
 use Rattle.hayro_ccitt.proofs.context.DecoderContext.push_pixels.Goals.{else-fitting-count-via-then-fitting-count+else-self}
@@ -50,15 +54,66 @@ returns-in_err-append_pixels-clause-memory c =
     let stored = c.append_pixels.ensures.memory (c.in_err-append_pixels.was ∙ ap Err (sym p.2) ∙ sym p.1 ∙ e) in
     StoresChange-painted (context_of s).held c.args.count _ painted (rw less at stored.0) stored.1)
 
-pub returns-clause-painted : goal.returns-clause-painted
-returns-clause-painted c =
+pub returns-then-fitting-count-2-clause-painted : goal.returns-then-fitting-count-2-clause-painted
+returns-then-fitting-count-2-clause-painted c =
     let s = c.self.inside in
-    let painted = is_painted (goal.at.returns-clause-painted c).After-append_pixels in
+    let painted = is_painted (goal.at.returns-then-fitting-count-2-clause-painted c).After-append_pixels in
     let less : c.min-fitting.result ≡ min c.args.count (s.settings.columns - s.pixels_decoded) = c.min-fitting.ensures in
     rw (← c.self.view_is, c.in_ok-append_pixels.ensures.painted, less) painted
 
-pub returns-clause-too_many : goal.returns-clause-too_many
-returns-clause-too_many c =
+pub returns-else-fitting-count-2-clause-painted : goal.returns-else-fitting-count-2-clause-painted
+returns-else-fitting-count-2-clause-painted c =
     let s = c.self.inside in
-    let painted = is_painted (goal.at.returns-clause-too_many c).After-append_pixels in
+    let painted = is_painted (goal.at.returns-else-fitting-count-2-clause-painted c).After-append_pixels in
+    let less : c.min-fitting.result ≡ min c.args.count (s.settings.columns - s.pixels_decoded) = c.min-fitting.ensures in
+    rw (← c.self.view_is, c.in_ok-append_pixels.ensures.painted, less) painted
+
+pub returns-else-fitting-count-2-clause-too_many : goal.returns-else-fitting-count-2-clause-too_many
+returns-else-fitting-count-2-clause-too_many c =
+    let s = c.self.inside in
+    let painted = is_painted (goal.at.returns-else-fitting-count-2-clause-too_many c).After-append_pixels in
     rw (← c.self.view_is) (λ e. cc, λ e. cc)
+
+pub returns-then-fitting-count-2-clause-frame : goal.returns-then-fitting-count-2-clause-frame
+returns-then-fitting-count-2-clause-frame c =
+    let s = c.self.inside in
+    let front = length-pixels s.pixels_decoded s.coding_changes.items c.self.invariant.front in
+    let beyond : ltb (s.settings.columns - length (pixels s.pixels_decoded s.coding_changes.items)) c.args.count ≡ true =
+    lt-ltb _ _ (omega (arith, c.if-fitting-count-2.true, c.min-fitting.ensures, front)) in
+    rw (← c.self.view_is, beyond, or_true s.is_cut) refl
+
+pub returns-else-fitting-count-2-clause-frame : goal.returns-else-fitting-count-2-clause-frame
+returns-else-fitting-count-2-clause-frame c =
+    let s = c.self.inside in
+    let front = length-pixels s.pixels_decoded s.coding_changes.items c.self.invariant.front in
+    let within : ltb (s.settings.columns - length (pixels s.pixels_decoded s.coding_changes.items)) c.args.count ≡ false =
+    le-ltb _ _ (omega (arith, c.if-fitting-count-2.false, c.min-fitting.ensures, front)) in
+    rw (← c.self.view_is, within, or_false s.is_cut) refl
+
+pub returns-then-fitting-count-2-clause-few : goal.returns-then-fitting-count-2-clause-few
+returns-then-fitting-count-2-clause-few c =
+    let s = c.self.inside in
+    let before = changes-pixels s.pixels_decoded s.coding_changes.items c.self.invariant.front in
+    let after = changes-pixels (s.pixels_decoded + c.min-fitting.result) c.append_pixels.new.changes.items
+    c.in_ok-append_pixels.ensures.lawful in
+    rw (← c.self.view_is, before, after) (omega (arith, c.append_pixels.ensures.few))
+
+pub returns-then-fitting-count-2-clause-space : goal.returns-then-fitting-count-2-clause-space
+returns-then-fitting-count-2-clause-space c =
+    let s = c.self.inside in
+    let before = changes-pixels s.pixels_decoded s.coding_changes.items c.self.invariant.front in
+    rw (← c.self.view_is, before) (omega (arith, c.append_pixels.ensures.space, s.coding_changes.ok.0))
+
+pub returns-else-fitting-count-2-clause-few : goal.returns-else-fitting-count-2-clause-few
+returns-else-fitting-count-2-clause-few c =
+    let s = c.self.inside in
+    let before = changes-pixels s.pixels_decoded s.coding_changes.items c.self.invariant.front in
+    let after = changes-pixels (s.pixels_decoded + c.min-fitting.result) c.append_pixels.new.changes.items
+    c.in_ok-append_pixels.ensures.lawful in
+    rw (← c.self.view_is, before, after) (omega (arith, c.append_pixels.ensures.few))
+
+pub returns-else-fitting-count-2-clause-space : goal.returns-else-fitting-count-2-clause-space
+returns-else-fitting-count-2-clause-space c =
+    let s = c.self.inside in
+    let before = changes-pixels s.pixels_decoded s.coding_changes.items c.self.invariant.front in
+    rw (← c.self.view_is, before) (omega (arith, c.append_pixels.ensures.space, s.coding_changes.ok.0))

@@ -8,7 +8,7 @@ returns-in-AtLine-clause-work c =
     let rows = c.next_row.new.self in
     let ctx = c.next_row.new.ctx in
     let reader = c.next_row.new.reader in
-    let stands = c.next_row.ensures.stands c.self.invariant in
+    let stands = c.next_row.ensures.stands c.self.invariant.0 in
     work_is_counted rows.stand ctx.held.settings reader.bits ctx.held reader.place ctx.ticks stands.0 stands.2
 
 pub returns-in-AtFault-clause-ended : goal.returns-in-AtFault-clause-ended

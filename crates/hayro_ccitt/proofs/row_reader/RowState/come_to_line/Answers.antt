@@ -154,7 +154,8 @@ returns-clause-stands c from stands =
     (subst (λ (b : Bits). P settings b held.taken) (sym c.pass_gap-over.ensures.same_bits) known)) in
     let counted = damage_stays stand (stand_after c.pass_gap-over.result) settings last.settings bits at.bits held last same
     c.pass_gap-over.ensures.same_bits taken (ap (λ (r : Repairs). r.rows) c.pass_gap-over.ensures.missed ∙ (repaired_behind held
-    (here c.args.reader.now)).0) stands.1 (misses_after c.pass_gap-over.result settings bits last missed) in (
+    (here c.args.reader.now)).0) (ap (λ (r : Repairs). r.cut) c.pass_gap-over.ensures.missed ∙ (repaired_behind held
+    (here c.args.reader.now)).2) stands.1 (misses_after c.pass_gap-over.result settings bits last missed) in (
       subst (λ (s : Stand). ReaderStands s last.settings at.bits last at.place) (sym c.stand_after_gap-self.ensures)
           (subst (λ (s : DecodeSettings). ReaderStands (stand_after c.pass_gap-over.result) s at.bits last at.place) (sym same)
           (subst (λ (b : Bits). ReaderStands (stand_after c.pass_gap-over.result) settings b last at.place)
@@ -182,13 +183,16 @@ returns-clause-comes c from stands =
     let taken : last.taken ≡ c.args.ctx.now.held.taken = ap (λ (h : Held). h.taken) c.pass_gap-over.ensures.held in
     let start = c.start_after_gap-self.result in
     let missed = c.missed_since-self.result in
-    subst (λ (s : Stand). ReachesNextLine old (read_so_far last c.pass_gap-over.new.ctx.ticks at start rows.damage missed s)
+    let space = c.pass_gap-over.new.ctx.space in
+    subst (λ (s : Stand). ReachesNextLine old (read_so_far last c.pass_gap-over.new.ctx.ticks space at start rows.damage rows.cut
+    missed s)
     c.line_after_gap.result) (sym c.stand_after_gap-self.ensures) (subst (λ (r : Result Bool DecodeError). ReachesNextLine old
-    (read_so_far last c.pass_gap-over.new.ctx.ticks at start rows.damage missed (stand_after c.pass_gap-over.result)) r)
-    (sym c.line_after_gap.ensures) (comes_to_line old last c.pass_gap-over.new.ctx.ticks
-    at start rows.damage missed c.pass_gap-over.result settings c.pass_gap-over.ensures.same_bits taken
+    (read_so_far last c.pass_gap-over.new.ctx.ticks space at start rows.damage rows.cut missed
+    (stand_after c.pass_gap-over.result)) r)
+    (sym c.line_after_gap.ensures) (comes_to_line old last c.pass_gap-over.new.ctx.ticks space
+    at start rows.damage rows.cut missed c.pass_gap-over.result settings c.pass_gap-over.ensures.same_bits taken
     c.pass_gap-over.ensures.counts
-    (ap (λ (h : Held). h.reference) c.pass_gap-over.ensures.held, refl) (start_stays c) (passed c from stands)
+    (ap (λ (h : Held). h.reference) c.pass_gap-over.ensures.held, refl, refl) (start_stays c) (passed c from stands)
     (started c from stands)
     (told c from stands)))
 

@@ -1,11 +1,12 @@
 use Rattle.hayro_ccitt.proofs.Names.{sum_by, ◌≡◌, ◌∙◌, ◌-◌, ℕ, ◌≤◌, take, Result, Ok, ap, sym, subst, refl, length, drop}
 use Rattle.hayro_ccitt.proofs.Names.{arith, length-drop, DecodeSettings, Bits, here, Held, Repairs, DecodeError, Row}
-use Rattle.hayro_ccitt.proofs.Names.{StandsBehindRow, ReaderStands, damage_since, IsStandingAtLine}
+use Rattle.hayro_ccitt.proofs.Names.{StandsBehindRow, ReaderStands, cut_since, damage_since, IsStandingAtLine}
 use Rattle.hayro_ccitt.proofs.Names.{MissesAreCounted, WorkIsPaid, words_of, BehindRow, AtFault, missed_before}
 use Rattle.hayro_ccitt.proofs.Readings.RowByRow.{IsRead, at_line_stands, reader_fails_at_line, damage_stays, misses_at_line}
 use Rattle.hayro_ccitt.proofs.Readings.RowByRow.{is_read, isnt_read, told_at_line}
 use Rattle.hayro_ccitt.proofs.Work.CallsPaid.{at_line_paid, failed_most}
-use Rattle.hayro_ccitt.proofs.row_reader.RowState.read_line.Goals.{After-self-in-Ok-2-1, After-self-in-Err-1}
+use Rattle.hayro_ccitt.proofs.Work.RoomTaken.{row_short}
+use Rattle.hayro_ccitt.proofs.row_reader.RowState.read_line.Goals.{After-self-in-Ok-3-1, After-self-in-Err-1}
 use Rattle.hayro_ccitt.proofs.row_reader.RowState.read_line.Goals as goal
 
 -- the offset of the bits after a position
@@ -14,7 +15,7 @@ line_start_of : (place : ℕ) (bits : Bits) (result : ℕ) → result ≡ place 
 line_start_of place bits result is within = omega (arith, is, within, length-drop place bits)
 
 -- its row was read
-row_was_read : (c : After-self-in-Ok-2-1) (from : ℕ) → IsStandingAtLine from c.args.self.now c.args.ctx.now c.args.reader.now
+row_was_read : (c : After-self-in-Ok-3-1) (from : ℕ) → IsStandingAtLine from c.args.self.now c.args.ctx.now c.args.reader.now
     → IsRead c.args.ctx.now.held.settings c.args.reader.now.bits c.args.ctx.now.held c.read_row.new.ctx.held
     (here c.args.reader.now) (here c.read_row.new.reader)
 row_was_read c from at =
@@ -42,7 +43,7 @@ repairs_left : (c : After-self-in-Err-1) → c.read_row.new.ctx.held.repairs ≡
 repairs_left c = ap (λ (h : Held). h.repairs) c.in-Err.ensures.row.held
 
 -- what was counted is paid
-row_is_paid : (c : After-self-in-Ok-2-1) (from : ℕ) → IsStandingAtLine from c.args.self.now c.args.ctx.now c.args.reader.now
+row_is_paid : (c : After-self-in-Ok-3-1) (from : ℕ) → IsStandingAtLine from c.args.self.now c.args.ctx.now c.args.reader.now
     → WorkIsPaid from BehindRow c.args.ctx.now.held.settings c.args.reader.now.bits c.read_row.new.ctx.held
     c.read_row.new.reader.place
     c.read_row.new.ctx.ticks
@@ -68,6 +69,8 @@ row_is_paid c from at =
             c.read_row.ensures.same_bits;
         line = c.read_row.ensures.at_most;
         stored = c.in-Ok.ensures.stored;
+        short = row_short held.settings held.reference new.reference bits (here c.args.reader.now) c.in-Ok.ensures.width
+            c.in-Ok.ensures.stored (omega (arith, length-drop c.args.reader.now.place bits));
       };
     }
 
@@ -106,7 +109,13 @@ returns-in-Ok-clause-stands c from at =
           (subst (λ (b : Bits). StandsBehindRow settings b new (here c.read_row.new.reader))
           (sym c.read_row.ensures.same_bits) read.stands),
       damage_stays BehindRow BehindRow settings new.settings bits read_bits new new read.settings_are c.read_row.ensures.same_bits
-          refl refl (record { few = read.few counted.few; counted = read.counted counted.counted; misses = missed }) missed,
+          refl refl refl (record {
+            few = read.few counted.few;
+            counted = read.counted counted.counted;
+            few_cut = read.few_cut counted.few_cut;
+            cut = read.cut_counted counted.few_cut counted.cut;
+            misses = missed;
+          }) missed,
       subst (λ (s : DecodeSettings). WorkIsPaid from BehindRow s read_bits new c.read_row.new.reader.place
           c.read_row.new.ctx.ticks) (sym read.settings_are)
           (subst (λ (b : Bits). WorkIsPaid from BehindRow settings b new c.read_row.new.reader.place c.read_row.new.ctx.ticks)
@@ -126,7 +135,8 @@ returns-in-Err-clause-stands c from at =
           (λ (b : Bits). ReaderStands (AtFault c.in-Err.error) held.settings b new place) (sym c.read_row.ensures.same_bits)
           (row_was_not_read c from at)),
       damage_stays c.args.self.now.stand (AtFault c.in-Err.error) held.settings new.settings bits read_bits held new
-          (settings_left c) c.read_row.ensures.same_bits (taken_left c) (ap (λ (r : Repairs). r.rows) (repairs_left c)) at.1.1
+          (settings_left c) c.read_row.ensures.same_bits (taken_left c) (ap (λ (r : Repairs). r.rows) (repairs_left c))
+          (ap (λ (r : Repairs). r.cut) (repairs_left c)) at.1.1
           (subst (MissesAreCounted held.settings bits new.repairs) (sym (taken_left c))
           (subst (λ (r : Repairs). MissesAreCounted held.settings bits r held.taken) (sym (repairs_left c))
           (misses_at_line c.args.self.now.stand held.settings bits held at.0 at.1.1.misses))),
@@ -152,8 +162,18 @@ returns-in-Ok-clause-reads c from at =
       row = λ e. read.row;
       line_start = λ e. line_start_of reader.place reader.bits c.bit_pos-self.result c.bit_pos-self.ensures.place
           c.bit_pos-self.ensures.within ∙ read.line_start;
+      place = λ e. omega (
+        arith,
+        c.bit_pos-place.ensures.place,
+        c.bit_pos-place.ensures.within,
+        ap length c.read_row.ensures.same_bits,
+        length-drop c.read_row.new.reader.place c.read_row.new.reader.bits,
+        read.row_end,
+      );
       damage = λ e. c.damage_since-self.ensures ∙ ap (λ (n : ℕ). damage_since c.read_row.new.ctx.held.repairs n)
           c.damaged_rows-damaged_rows.ensures ∙ read.damage;
+      cut = λ e. c.cut_since-self.ensures ∙ ap (λ (n : ℕ). cut_since c.read_row.new.ctx.held.repairs n)
+          c.cut_rows-cut_rows.ensures ∙ read.cut at.1.1.few_cut;
       end = λ e. cc;
       error = tt;
       fault_start = λ unended. tt;
@@ -176,12 +196,14 @@ returns-in-Err-clause-reads c from at =
       more = λ e. cc;
       row = λ e. cc;
       line_start = λ e. cc;
+      place = λ e. cc;
       damage = λ e. cc;
+      cut = λ e. cc;
       end = λ e. cc;
       error = (refl, taken_left c, (row_was_not_read c from at).0);
       fault_start = λ unended. line_start_of reader.place reader.bits c.bit_pos-self.result c.bit_pos-self.ensures.place
           c.bit_pos-self.ensures.within ∙ reader_fails_at_line stands;
       missed = told_at_line stand held.settings reader.bits held.taken _ at.0 at.1.3;
-      last = λ none. (ap (λ (h : Held). h.reference) c.in-Err.ensures.row.held, refl);
+      last = λ none. (ap (λ (h : Held). h.reference) c.in-Err.ensures.row.held, refl, refl);
       last_start = λ e. cc;
     }

@@ -1,0 +1,103 @@
+-- EOLs without fill.
+use Rattle.fax_bits.proofs.Names.{◌≡◌, ℕ, ◌+◌, ◌-◌, ◌*◌, ◌/◌, ◌%◌, ◌^◌, ◌<◌, ◌≤◌, true, false, eqb, ◌∷◌, ◌++◌, length, get_or}
+use Rattle.fax_bits.proofs.Names.{drop, replicate, min, Some, None, sym, ap, ◌∙◌, arith, inl, inr, count_leading_zeros}
+use Rattle.fax_bits.proofs.Names.{count_trailing_zeros, bit_at, cases_lt, get_or-drop, length-drop, drop_min, leading_top}
+use Rattle.fax_bits.proofs.Names.{shr-shr, pow-le-pow_right, bit_at_above, bit_at_cat_low, bit_at-trailing_zeros, Bits, BitsAt}
+use Rattle.fax_bits.proofs.Names.{here, bit_of, after_eol, all_eols, past_tag, pass_last_tag, tagged_eols, common_steps}
+use Rattle.fax_bits.proofs.{BitReading.SoughtEols.one_near, BitReading.ZerosPassed.HoldsNextBits}
+use Rattle.fax_bits.proofs.BitReading.ZerosPassed.{run_ahead}
+use Rattle.fax_bits.proofs.BitReading.ZeroRuns.{after_eol_run, eols_one, eols_enough}
+use Rattle.fax_bits.proofs.BitReading.ConsecutiveEols.{after_eol_shorter, eols_with_tags-some, eols_with_tags-none}
+use Rattle.std.specs.Int.{w32}
+
+-- ---- The word.
+-- eleven zeros and a one
+eleven_zeros : (w : ℕ) → w < 2 ^ 32 → w / 1048576 ≡ 1 → count_leading_zeros 32 w ≡ 11
+eleven_zeros w small one =
+    let top = leading_top 32 w (omega (arith, one)) small in
+    let above : 20 ≤ top.0 = grind (arith, common_steps, cases_lt, pow-le-pow_right) in
+    let below : top.0 ≤ 20 = elim (cases_lt 20 top.0) [
+      | inl lt ↦
+          let least : 2 ^ 21 ≤ 2 ^ top.0 = pow-le-pow_right {n = 2} (omega arith) {i = 21} {j = top.0} (omega (arith, lt)) in
+          absurd (omega (arith, one, top.2, least))
+      | inr ge ↦ ge
+    ] in
+    omega (arith, top.1, above, below)
+
+module _ (at : BitsAt) (w : ℕ) (small : w < 2 ^ 32) (held : HoldsNextBits w at) where
+  -- the EOL of a word that begins with one
+  module _ (one : w / 1048576 ≡ 1) (next : BitsAt) (e : next ≡ record at { place = min (at.place + 12) (length at.bits) }) where
+    pub plain_eol : here at ≡ replicate 11 false ++ true ∷ here next
+    plain_eol =
+        let eleven = eleven_zeros w small one in
+        let place : at.place + 11 + 1 ≡ at.place + 12 = omega arith in
+        let after : here next ≡ drop (at.place + 12) at.bits = ap here e ∙ drop_min (at.place + 12) at.bits in
+        run_ahead at w small held (omega (arith, eleven))
+        ∙ ap (λ (n : ℕ). replicate n false ++ true ∷ drop (at.place + n + 1) at.bits) eleven ∙ ap (λ (n : ℕ).
+        replicate 11 false ++ true ∷ drop n at.bits) place ∙ ap (λ (rest : Bits). replicate 11 false ++ true ∷ rest) (sym after)
+
+    pub twelve_more : length (here at) ≡ length (here next) + 12
+    twelve_more = omega (arith, ap length plain_eol)
+
+    pub plain_eol_within : next.place ≡ at.place + 12
+    plain_eol_within = grind (arith, common_steps, length-drop, twelve_more)
+
+  -- a one among the ten bits after a tag
+  module _ (some : (w / 512) % 1024 ≡ 0 → ⊥) where
+    abbrev ten : ℕ
+    ten = (w / 512) % 1024
+
+    abbrev zeros_behind : ℕ
+    zeros_behind = count_trailing_zeros 32 ten
+
+    lowest : (zeros_behind < 32) × (bit_at ten zeros_behind ≡ 1)
+    lowest = grind (arith, common_steps, bit_at-trailing_zeros w32 ten, cases_lt 0 ten)
+
+    within_ten : zeros_behind < 10
+    within_ten = elim (cases_lt zeros_behind 10) [
+      | inl lt ↦ lt
+      | inr ge ↦
+          absurd (let none = bit_at_above ten 10 zeros_behind (omega arith) ge in let one = lowest.1 in omega (arith, none, one))
+    ]
+
+    one_there : get_or at.bits (at.place + (22 - zeros_behind)) false ≡ true
+    one_there =
+        let e : 9 + zeros_behind ≡ 31 - (22 - zeros_behind) = omega (arith, within_ten) in
+        let whole : w / 512 ≡ (w / 512 / 1024) * 2 ^ 10 + ten = omega arith in
+        let low : bit_at (w / 512) zeros_behind ≡ bit_at ten zeros_behind
+        = ap (λ (n : ℕ). bit_at n zeros_behind) whole ∙ bit_at_cat_low (w / 512 / 1024) 10 ten zeros_behind within_ten in
+        let bit : bit_of w (9 + zeros_behind) ≡ true =
+        sym (ap (λ (m : ℕ). eqb (m % 2) 1) (shr-shr w 9 zeros_behind)) ∙ ap (λ (m : ℕ). eqb m 1) (low ∙ lowest.1) in
+        sym (held (22 - zeros_behind) (omega arith)) ∙ ap (bit_of w) (sym e) ∙ bit
+
+    -- no EOL begins after the twelve bits before it, nor a bit later
+    pub none_behind : (next : BitsAt) → next.bits ≡ at.bits → next.place ≡ at.place + 12 → (after_eol 0 (here next) ≡ None)
+        × (after_eol 0 (drop 1 (here next)) ≡ None)
+    none_behind next same place =
+        let step = one_near 0 (9 - zeros_behind) (drop 1 (here next)) (omega arith) in
+        let step2 = get_or-drop next.place next.bits (10 - zeros_behind) false in
+        let step3 = one_near 0 (10 - zeros_behind) (here next) (omega arith) in
+        grind (arith, common_steps, step2, get_or-drop 1 (here next) (9 - zeros_behind) false, step3, step, one_there, within_ten)
+
+-- ---- The EOLs.
+-- eleven zeros and a one are an EOL
+pub eleven_are_eol : (here rest : Bits) → here ≡ replicate 11 false ++ true ∷ rest → after_eol 0 here ≡ Some rest
+eleven_are_eol here rest e = ap (after_eol 0) e ∙ after_eol_run 11 rest
+
+-- the first, and the others
+pub eol_and_others : (here rest : Bits) → after_eol 0 here ≡ Some rest
+    → all_eols here ≡ (1 + (all_eols rest).0, (all_eols rest).1)
+eol_and_others here rest e = grind (arith, common_steps, after_eol_shorter, eols_enough, eols_one)
+
+-- a tag that no EOL follows stays
+tag_stays : (here : Bits) → after_eol 0 (drop 1 here) ≡ None → past_tag here ≡ here
+tag_stays here e = grind (arith, common_steps)
+
+pub few_keep_the_tag : (here : Bits) → pass_last_tag (1, here) ≡ (1, here)
+few_keep_the_tag here = grind (arith, common_steps)
+
+-- one alone
+pub single_tagged_eol : (here rest : Bits) → after_eol 0 here ≡ Some rest → after_eol 0 rest ≡ None
+    → after_eol 0 (drop 1 rest) ≡ None → tagged_eols here ≡ (1, rest)
+single_tagged_eol here rest e none later =
+    grind (arith, common_steps, common_steps, eols_with_tags-none, eols_with_tags-some, few_keep_the_tag, tag_stays)

@@ -1,0 +1,4 @@
+pub mod BitReading
+pub mod CodeWords
+pub mod Names
+pub mod Repetition

@@ -1,0 +1,13 @@
+pub mod Bits
+pub mod CodeLists
+pub mod CodeReading
+pub mod EndOfLine
+pub mod Faults
+pub mod LookUps
+pub mod Repetition
+pub mod Runs
+pub mod Texts
+pub mod Ticks
+pub mod Window
+pub mod Words
+pub mod WordsHere

@@ -1,0 +1,99 @@
+//! Code words of runs that are in the window.
+
+ghost use Rattle.std.specs.Prelude.{◌≡◌, ◌≢◌, ◌+◌, ◌<◌, ◌≤◌, IfSome, IfNone, true, length};
+ghost use Rattle.fax_bits.specs.Bits.{here};
+ghost use Rattle.fax_bits.specs.LookUps.{AreEntries};
+ghost use Rattle.fax_bits.specs.Runs.{codes_of};
+ghost use Rattle.fax_bits.specs.WordsHere.{IsWordHere, RunGoesOn};
+ghost use Rattle.fax_bits.specs.Window.{moved};
+
+use crate::bit_reader::BitsAtHand;
+use crate::codes::{Color, Ticks};
+use crate::tables::LOOKUP_INVALID;
+
+/// Returns the run and the number of bits of the code word at an offset in the window; the run is `LOOKUP_INVALID` if there
+/// is none.
+#[inline(always)]
+pub fn word_at_hand(
+    hand: &BitsAtHand<'_>,
+    skip: usize,
+    _color: Color,
+    words: &[u16],
+) -> (u32, usize)
+    requires within { skip + 13 ≤ hand.now.left }
+    requires entries { AreEntries (codes_of _color) words.now }
+    ensures word { result.0 ≢ 4095 → IsWordHere _color (moved skip hand.now.at) result.0 result.1 }
+    ensures below { result.0 ≤ 4095 }
+    ensures narrow { result.1 ≤ 15 }
+{
+    let entry = words[hand.thirteen(skip)];
+    (u32::from(entry & LOOKUP_INVALID), usize::from(entry >> 12))
+}
+
+/// Fills the window if it has fewer than 28 bits; returns false if it can't be filled.
+#[inline(always)]
+fn has_two_words(hand: &mut BitsAtHand<'_>) -> bool
+    ensures same { hand.new.at ≡ hand.old.at }
+    ensures enough { result ≡ true → 28 ≤ hand.new.left }
+{
+    if hand.left() >= 28 {
+        return true;
+    }
+    hand.refill()
+}
+
+/// Passes a make-up word of a run whose words before it sum to `total`, and returns the sum with it; or `None`, passing
+/// nothing, if none is at hand or the sum may exceed 32 bits.
+#[inline(always)]
+fn pass_makeup_word(
+    hand: &mut BitsAtHand<'_>,
+    color: Color,
+    words: &[u16],
+    total: u32,
+    ticks: &mut Ticks,
+) -> Option<u32>
+    requires entries { AreEntries (codes_of color) words.now }
+    ensures on { IfSome result (λ sum. RunGoesOn color total (here hand.old.at) sum (here hand.new.at) ticks.old ticks.new) }
+    ensures shorter { IfSome result (λ sum. length (here hand.new.at) < length (here hand.old.at)) }
+    ensures same_bits { hand.new.at.bits ≡ hand.old.at.bits }
+    ensures left { IfNone result ((hand.new.at ≡ hand.old.at) × (ticks.new ≡ ticks.old)) }
+{
+    if !has_two_words(hand) {
+        return None;
+    }
+    let (run, width) = word_at_hand(hand, 0, color, words);
+    if run < 64 {
+        return None;
+    }
+    if run == 4095 {
+        return None;
+    }
+    if total > u32::MAX - 4095 {
+        return None;
+    }
+    hand.pass(width);
+    ticks.tick();
+    Some(total + run)
+}
+
+/// Passes the make-up words at hand of a run whose words before them sum to `start`, and returns the sum with them.
+#[inline(always)]
+pub fn pass_makeup_words(
+    hand: &mut BitsAtHand<'_>,
+    color: Color,
+    words: &[u16],
+    start: u32,
+    ticks: &mut Ticks,
+) -> u32
+    requires entries { AreEntries (codes_of color) words.now }
+    ensures on { RunGoesOn color start (here hand.old.at) result (here hand.new.at) ticks.old ticks.new }
+    ensures same_bits { hand.new.at.bits ≡ hand.old.at.bits }
+{
+    let mut total = start;
+    'words: loop {
+        match pass_makeup_word(hand, color, words, total, ticks) {
+            None => return total,
+            Some(sum) => total = sum,
+        }
+    }
+}

@@ -1,0 +1,18 @@
+use Rattle.fax_encode.proofs.Names.{◌≡◌, ◌*◌, ◌+◌, ◌-◌, ◌≤◌, length, get_or, pixels, b2, IsNear, place_of}
+use Rattle.fax_encode.specs.Ways.{passed_by}
+use Rattle.fax_encode.proofs.ShortestSteps.{IsSearched}
+use Rattle.fax_encode.proofs.shortest_lines.find_way.Given as goal
+
+abbrev pub invariant-passes : goal.invariant-passes
+invariant-passes l = record {
+  near : IsNear l.columns l.reference (passed_by (pixels l.columns l.reference) (place_of l.at) l.passes) l.above.index;
+  within : l.above.index ≤ length l.reference + 1;
+  b2_is : b2 (pixels l.columns l.reference) (passed_by (pixels l.columns l.reference) (place_of l.at) l.passes).from
+      (passed_by (pixels l.columns l.reference) (place_of l.at) l.passes).color ≡ l.b2;
+  b2_at : l.b2 ≡ get_or l.reference (l.above.index + 1) l.columns;
+  count : 2 * l.passes ≤ l.above.index;
+  searched : IsSearched (pixels l.columns l.reference) (pixels l.columns l.changes) (place_of l.at) l.passes l.best;
+}
+
+abbrev pub decreases-passes : goal.decreases-passes
+decreases-passes l = length l.reference + 2 - l.above.index

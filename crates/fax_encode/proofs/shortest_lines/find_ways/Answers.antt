@@ -1,0 +1,104 @@
+use Rattle.fax_encode.proofs.Names.{◌≡◌, ◌+◌, ◌-◌, ◌∷◌, ◌≤◌, [], ℕ, List, length, get_or, inl, inr, sym, ap, subst, ◌∙◌, arith}
+use Rattle.fax_encode.proofs.Names.{cases_lt}
+use Rattle.fax_encode.proofs.Names.{length-append, pixels, Place, color_after}
+use Rattle.fax_encode.specs.declared.shortest_lines.Way.{Way}
+use Rattle.fax_encode.specs.Ways.{right_of_changes, bits_right_of, IsShortest, end_way}
+use Rattle.fax_encode.proofs.StepsToB1.{near_within}
+use Rattle.fax_encode.proofs.ShortestSteps.{right_from, none_right, few_right, bits_of_way, no_more_changes, stands_right}
+use Rattle.fax_encode.proofs.ShortestSteps.{pushed_before, pushed_last}
+use Rattle.fax_encode.proofs.shortest_lines.find_ways.Goals as goal
+
+pub changes-init : goal.changes-init
+changes-init c =
+    let columns : ℕ = c.args.columns in
+    let changes : List ℕ = c.args.changes.now in
+    record {
+      within = omega arith;
+      few = omega arith;
+      count = omega (
+        arith,
+        ap length c.in_ok-push-2.ensures.items,
+        ap length c.in_ok-push.ensures.items,
+        ap length c.clear.ensures.items,
+        length-append c.push.new.self.items (end_way ∷ []),
+        length-append c.clear.new.self.items (end_way ∷ []),
+      );
+      each = λ n ge le. absurd (omega (arith, ge, le));
+      vertical = sym (none_right columns c.args.reference.now changes c.requires.reference c.requires.changes (length changes + 1)
+          (omega arith));
+      horizontal = sym (none_right columns c.args.reference.now changes c.requires.reference c.requires.changes
+          (length changes + 1 + 1) (omega arith));
+    }
+
+pub step_back-index-requires-clause-few : goal.step_back-index-requires-clause-few
+step_back-index-requires-clause-few c = (
+  c.changes.invariant.few,
+  omega (arith, c.changes.invariant.within, no_more_changes 0 c.args.columns c.args.changes.now c.requires.changes (omega arith)),
+)
+
+pub find_way-way-requires-clause-right : goal.find_way-way-requires-clause-right
+find_way-way-requires-clause-right c =
+    right_from c.args.columns c.args.changes.now (c.changes.next - 1) c.place_right_of-from.result c.place_right_of-from.ensures
+
+pub find_way-way-requires-clause-few : goal.find_way-way-requires-clause-few
+find_way-way-requires-clause-few c = (
+  omega (
+    arith,
+    c.changes.invariant.vertical,
+    few_right c.args.columns c.args.reference.now c.args.changes.now
+        c.requires.reference c.requires.changes c.changes.next c.ranges.columns.fits,
+  ),
+  omega (
+    arith,
+    c.changes.invariant.horizontal,
+    few_right c.args.columns c.args.reference.now c.args.changes.now
+        c.requires.reference c.requires.changes (c.changes.next + 1) c.ranges.columns.fits,
+  ),
+)
+
+pub changes-preserved : goal.changes-preserved
+changes-preserved c =
+    let columns : ℕ = c.args.columns in
+    let above : List ℕ = c.args.reference.now in
+    let changes : List ℕ = c.args.changes.now in
+    let ways : List Way = c.changes.ways.items in
+    let way : Way = c.find_way-way.result in
+    let n : ℕ = c.changes.next - 1 in
+    let at : Place = record { from = c.place_right_of-from.result; color = color_after n } in
+    let place : at ≡ right_of_changes columns changes n
+    = right_from columns changes n c.place_right_of-from.result c.place_right_of-from.ensures in
+    let shortest : IsShortest (pixels columns above) (pixels columns changes) at way = c.find_way-way.ensures in
+    let stands = stands_right columns changes c.requires.changes n (omega
+    (arith, c.changes.invariant.within, c.changes-test.true)) in
+    let is : (i : ℕ) → n ≤ i → i ≤ length changes → IsShortest (pixels columns above) (pixels columns changes)
+    (right_of_changes columns changes i) (get_or c.push-in-changes.new.self.items (length changes + 2 - i) end_way) = λ i ge le.
+    elim (cases_lt i c.changes.next) [
+      | inl lt ↦
+          (let here : n ≡ i = omega (arith, lt, ge, c.changes-test.true) in
+          let last = ap (λ (l : List Way). get_or l (length changes + 2 - i) end_way) c.in_ok-push-3.ensures.items
+          ∙ pushed_last ways way (length changes + 2 - i) (omega (arith, here, c.changes.invariant.count, c.changes-test.true)) in
+          subst (λ (w : Way). IsShortest (pixels columns above) (pixels columns changes) (right_of_changes columns changes i) w)
+          (sym last) (subst (λ (p : Place). IsShortest (pixels columns above) (pixels columns changes) p way)
+          (place ∙ ap (right_of_changes columns changes) here) shortest))
+      | inr later ↦
+          (let kept = ap (λ (l : List Way). get_or l (length changes + 2 - i) end_way) c.in_ok-push-3.ensures.items
+          ∙ pushed_before ways way (length changes + 2 - i) (omega (arith, later, le, c.changes.invariant.count)) in
+          subst (λ (w : Way). IsShortest (pixels columns above) (pixels columns changes) (right_of_changes columns changes i) w)
+          (sym kept) (c.changes.invariant.each i later le))
+    ] in
+    let next : c.changes.next ≡ n + 1 = omega (arith, c.changes-test.true) in
+    record {
+      within = omega (arith, c.changes.invariant.within);
+      few = near_within columns above c.requires.reference at c.step_back-index.result c.step_back-index.ensures.near
+          (omega (arith, stands.inside, c.place_right_of-from.ensures));
+      count = omega (
+        arith,
+        ap length c.in_ok-push-3.ensures.items,
+        length-append ways (way ∷ []),
+        c.changes.invariant.count,
+        c.changes-test.true,
+      );
+      each = is;
+      vertical = bits_of_way columns above changes c.requires.reference c.requires.changes n at way place shortest;
+      horizontal = c.changes.invariant.vertical ∙ ap (bits_right_of columns above changes) next;
+    }

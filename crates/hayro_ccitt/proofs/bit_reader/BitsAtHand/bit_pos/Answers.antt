@@ -1,7 +1,0 @@
-use Rattle.hayro_ccitt.proofs.Names.{arith}
-use Rattle.hayro_ccitt.proofs.BitReading.BitLists.{length-bits_in}
-use Rattle.hayro_ccitt.proofs.bit_reader.BitsAtHand.bit_pos.Goals as goal
-
-pub returns-clause-within : goal.returns-clause-within
-returns-clause-within c = rw (← c.self.view_is)
-    (omega (arith, length-bits_in c.self.inside.order c.self.inside.«data».now, c.self.invariant.before_end))

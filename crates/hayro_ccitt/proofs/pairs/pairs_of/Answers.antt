@@ -1,8 +1,0 @@
-use Rattle.hayro_ccitt.proofs.BitReading.WrittenPairs.{white_pairs_are, black_pairs_are}
-use Rattle.hayro_ccitt.proofs.pairs.pairs_of.Goals as goal
-
-pub returns-in-White : goal.returns-in-White
-returns-in-White c = rw c.in-White.is white_pairs_are
-
-pub returns-in-Black : goal.returns-in-Black
-returns-in-Black c = rw c.in-Black.is black_pairs_are
