@@ -60,7 +60,7 @@ def build():
     """Each build of the library, installed: it is proved and built here if a file is newer."""
     for name, flags in BUILDS.items():
         library = f"{INSTALLED[name]}/lib/libhayro_ccitt.a"
-        own = ["Makefile", *(f"c/{file}" for file in os.listdir("c"))]
+        own = ["Makefile", *(f"{folder}/{file}" for folder in ("c", "tools/fax", "examples") for file in os.listdir(folder))]
         if is_newest(library, "hayro_ccitt_c") and os.path.getmtime(library) > max(map(os.path.getmtime, own)):
             continue
         linked = [word for word in flags if word.startswith("-fsanitize")]

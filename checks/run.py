@@ -63,7 +63,7 @@ FILES = [
 # those that run beside the build of the library for C
 WITHOUT_LIBRARY = [repository, program, built_tests, packing, devices]
 # those that call `make`, which run in turn, and those that take longest
-MAKE = [installed, users, files, fax]
+MAKE = [installed, users, files]
 LONG = [cost, large, memory, hostile, released]
 
 
