@@ -1,14 +1,18 @@
-/* One decoding of a strip, for callgrind to count its instructions:
+/* One decoding of a strip, for callgrind to count its instructions, or many by each of several decoders in turn:
  *
  *   driver DECODER ENCODING COLUMNS ROWS FLAGS FILE
+ *   driver DECODERS ENCODING COLUMNS ROWS FLAGS FILE MILLISECONDS
  *
  * DECODER is `rows` or `packed` (this library), `tiff-packed` (with -DWITH_TIFF), `crate-rows` or `crate-packed` (with
- * -DWITH_CRATE). It prints the status, the rows, the changes if they are counted, and a sum over the picture. Callgrind is
- * given --toggle-collect=measured. */
+ * -DWITH_CRATE); DECODERS are several, with commas between them. The first form prints the status, the rows, the changes if they are
+ * counted, and a sum over the picture; callgrind is given --toggle-collect=measured. The second prints for each decoder the least
+ * processor time of a call, in nanoseconds. */
+#define _POSIX_C_SOURCE 199309L
 #include "../c/hayro_ccitt.h"
 #include <stdio.h>
 #include <stdlib.h>
 #include <string.h>
+#include <time.h>
 
 uint32_t crate_measure(const uint8_t *, size_t, const hayro_ccitt_settings *, hayro_ccitt_outcome *);
 uint32_t crate_decode_packed(const uint8_t *, size_t, const hayro_ccitt_settings *, uint8_t *, size_t, hayro_ccitt_outcome *);
@@ -59,9 +63,41 @@ static uint8_t *contents(const char *name)
     return bytes;
 }
 
+static double processor_time(void)
+{
+    struct timespec now;
+    clock_gettime(CLOCK_THREAD_CPUTIME_ID, &now);
+    return now.tv_sec * 1e9 + now.tv_nsec;
+}
+
+enum { MOST = 8 };
+
+/* Calls the decoders in turn until they have taken this time, and prints the least time of a call of each. */
+static int race(char *names, double limit)
+{
+    const char *racing[MOST];
+    double least[MOST];
+    int count = 0;
+    for (char *name = strtok(names, ","); name && count < MOST; name = strtok(NULL, ",")) {
+        racing[count] = name;
+        least[count++] = 1e18;
+    }
+    for (double begun = processor_time(); processor_time() - begun < limit;)
+        for (int at = 0; at < count; at++) {
+            decoder = racing[at];
+            double start = processor_time();
+            measured();
+            double took = processor_time() - start;
+            least[at] = took < least[at] ? took : least[at];
+        }
+    for (int at = 0; at < count; at++)
+        printf("%.0f%c", least[at], at + 1 < count ? ' ' : '\n');
+    return 0;
+}
+
 int main(int count, char **words)
 {
-    if (count != 7)
+    if (count != 7 && count != 8)
         return 2;
     decoder = words[1];
     settings = (hayro_ccitt_settings){strtoul(words[3], NULL, 10), strtoul(words[4], NULL, 10), strtoul(words[2], NULL, 10),
@@ -73,6 +109,8 @@ int main(int count, char **words)
 #ifdef WITH_TIFF
     tiff = tiff_of_strip(data, length, &settings);
 #endif
+    if (count == 8)
+        return race(words[1], strtod(words[7], NULL) * 1e6);
     uint32_t status = measured();
     uint64_t sum = 0;
     for (size_t at = 0; at < room; at++)

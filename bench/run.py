@@ -1,16 +1,19 @@
-"""python3 bench/run.py [--crate FOLDER]: prints a table of instructions, as callgrind counts them, of one decoding of each
+"""python3 bench/run.py [--crate FOLDER] [--time]: prints a table of instructions, as callgrind counts them, of one decoding of each
 strip of bench/strips.py: of this library, which counts the rows or paints them; of the Rust crate `hayro-ccitt`, with its Cargo
 project in FOLDER, which does the same; and of libtiff, which paints. Pages, then strips of few rows, pages of few columns, and
 damaged pages; below them the geometric means of the ratios over the pages. The last two columns are the same strip with the
 lowest bit of each byte first.
 
+With --time the table has the time of the pages, in nanoseconds: the least of many calls, in which the decoders take turns.
+
 It needs gcc, valgrind, libtiff-dev, for the Rust crate cargo, and libhayro_ccitt_c.a as `rt lib` builds it. The pictures are
 compared first: all of them if the data isn't damaged, and otherwise this library's and the crate's, since libtiff repairs
 differently."""
 import argparse
-import math
+import itertools
 import os
 import re
+import statistics
 import subprocess
 import tempfile
 
@@ -19,6 +22,8 @@ os.chdir(os.path.join(os.path.dirname(os.path.abspath(__file__)), ".."))
 import strips  # noqa: E402
 
 LOW_FIRST = 16
+# how long the decoders take turns at a page
+MILLISECONDS = "1000"
 # each byte with its bits in the other order
 MIRRORED = bytes(int(f"{byte:08b}"[::-1], 2) for byte in range(256))
 LIBRARY = "crates/hayro_ccitt_c/out/libhayro_ccitt_c.a"
@@ -87,28 +92,49 @@ def measured(folder, program, strip, decoders):
     return cost, low
 
 
+def timed(folder, program, strip, decoders):
+    """The time of each decoder, in nanoseconds."""
+    encoding, flags = MODES[strip.mode]
+    with open(f"{folder}/strip", "wb") as file:
+        file.write(strip.data)
+    words = [program, ",".join(decoders), encoding, str(strip.columns), str(strip.rows), flags, f"{folder}/strip", MILLISECONDS]
+    done = subprocess.run(words, capture_output=True, text=True, check=True)
+    return dict(zip(decoders, map(float, done.stdout.split())))
+
+
+def print_row(strip, cost, decoders, ratios, *more):
+    digits = 1 if strip.unit == "byte" or max(cost.values()) < 100 * strip.count else 0
+    figures = [f"{cost[name] / strip.count:.{digits}f}" for name in decoders] + [f"{cost[a] / cost[b]:.2f}" for a, b in ratios]
+    print(f"| {strip.name} | a {strip.unit} | " + " | ".join([*figures, *more]) + " |", flush=True)
+
+
+def print_means(costs, ratios):
+    for a, b in ratios:
+        each = [cost[a] / cost[b] for cost in costs]
+        print(f"\npages, {a} / {b}: geometric mean {statistics.geometric_mean(each):.3f}, at most {max(each):.2f}")
+
+
 def main():
     words = argparse.ArgumentParser()
     words.add_argument("--crate")
-    crate = words.parse_args().crate
-    decoders = ["rows", *(["crate-rows"] if crate else []), "packed", *(["crate-packed"] if crate else []), "tiff-packed"]
-    ratios = [*([("rows", "crate-rows"), ("packed", "crate-packed")] if crate else []), ("packed", "tiff-packed")]
-    titles = ["strip", "instructions", *decoders, *(f"{a} / {b}" for a, b in ratios), "low / rows", "low / packed"]
+    words.add_argument("--time", action="store_true")
+    words = words.parse_args()
+    crates = ["crate-rows", "crate-packed"] if words.crate else []
+    decoders = ["rows", *crates[:1], "packed", *crates[1:], "tiff-packed"]
+    ratios = [*zip(("rows", "packed"), crates), ("packed", "tiff-packed")]
+    titles = ["strip", "nanoseconds" if words.time else "instructions", *decoders, *(f"{a} / {b}" for a, b in ratios)]
+    titles += [] if words.time else ["low / rows", "low / packed"]
     print("| " + " | ".join(titles) + " |\n" + "|---" * len(titles) + "|")
     with tempfile.TemporaryDirectory() as folder:
-        program = driver(folder, crate)
-        logarithms = {pair: [] for pair in ratios}
-        for group in (strips.pages, strips.small, strips.narrow, strips.damaged):
-            for strip in group():
-                cost, low = measured(folder, program, strip, decoders)
-                figures = [f"{cost[name] / strip.count:.{0 if strip.unit != 'byte' else 1}f}" for name in decoders]
-                figures += [f"{cost[a] / cost[b]:.2f}" for a, b in ratios] + [f"{low[name] / cost[name]:.3f}" for name in low]
-                print(f"| {strip.name} | a {strip.unit} | " + " | ".join(figures) + " |", flush=True)
-                if group is strips.pages:
-                    for a, b in ratios:
-                        logarithms[a, b].append(math.log(cost[a] / cost[b]))
-        for (a, b), each in logarithms.items():
-            print(f"\npages, {a} / {b}: geometric mean {math.exp(sum(each) / len(each)):.3f}, at most {math.exp(max(each)):.2f}")
+        program, costs = driver(folder, words.crate), []
+        for strip in strips.pages():
+            cost, low = (timed(folder, program, strip, decoders), {}) if words.time else measured(folder, program, strip, decoders)
+            print_row(strip, cost, decoders, ratios, *(f"{low[name] / cost[name]:.3f}" for name in low))
+            costs.append(cost)
+        for strip in [] if words.time else itertools.chain(strips.small(), strips.narrow(), strips.damaged()):
+            cost, low = measured(folder, program, strip, decoders)
+            print_row(strip, cost, decoders, ratios, *(f"{low[name] / cost[name]:.3f}" for name in low))
+        print_means(costs, ratios)
 
 
 if __name__ == "__main__":
