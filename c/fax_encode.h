@@ -34,8 +34,8 @@ typedef struct {
     uint32_t columns;  /* the width in pixels, not 0 */
     uint32_t encoding; /* one of the encodings above */
     uint32_t flags;    /* a sum of the flags above */
-    uint32_t k;        /* of FAX_ENCODE_GROUP_3_2D, not 0: at most k - 1 two-dimensional lines follow a one-dimensional one (T.4
-                        * section 4.2.1); the other encodings ignore it */
+    uint32_t k;        /* of FAX_ENCODE_GROUP_3_2D, not 0: at most k - 1 two-dimensional lines follow a one-dimensional one (T.4,
+                        * 4.2.1); the other encodings ignore it */
 } fax_encode_settings;
 
 /* What fax_encode_bitmap and fax_encode_finish fill in, whatever they return: zeros unless it is FAX_ENCODE_OK or

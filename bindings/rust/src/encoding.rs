@@ -11,7 +11,7 @@ pub struct EncodeSettings {
     pub columns: u32,
     /// How the lines are encoded.
     pub encoding: EncodingMode,
-    /// K of two-dimensional Group 3, at least 1: at most K - 1 two-dimensional lines follow a one-dimensional one (T.4 section
+    /// K of two-dimensional Group 3, at least 1: at most K - 1 two-dimensional lines follow a one-dimensional one (T.4,
     /// 4.2.1). In the other encodings it has no effect.
     pub k: u32,
     /// Whether an EOL precedes each line of Group 3. Group 4 has none.

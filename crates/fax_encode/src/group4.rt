@@ -150,7 +150,7 @@ fn put_horizontal(
 }
 
 /// Writes one mode: pass if b2 is left of a1; else vertical if a1 is at most three positions from b1; else horizontal (T.4,
-/// section 4.2.1.3.2). Afterwards all changes of the row that are left of the new position are counted, and the index from which b1
+/// 4.2.1.3.2). Afterwards all changes of the row that are left of the new position are counted, and the index from which b1
 /// is found is at most one less than before.
 #[inline(always)]
 fn put_mode(

@@ -228,7 +228,7 @@ fn first_makeup(color: Color, times: u32) -> u32
     }
 }
 
-/// Writes the shortest words of a run: make-up words of 1664 pixels and more while the rest needs two of them (T.4, section
+/// Writes the shortest words of a run: make-up words of 1664 pixels and more while the rest needs two of them (T.4,
 /// 4.1.1).
 #[inline(never)]
 fn put_long_shortest_run(

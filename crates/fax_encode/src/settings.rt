@@ -18,8 +18,8 @@ pub enum Effort {
 pub struct EncodeSettings {
     /// How the lines are encoded.
     pub encoding: EncodingMode,
-    /// K of two-dimensional Group 3, at least 1: after a one-dimensional line at most K - 1 lines are two-dimensional (T.4
-    /// section 4.2.1). In the other encodings it has no effect.
+    /// K of two-dimensional Group 3, at least 1: after a one-dimensional line at most K - 1 lines are two-dimensional (T.4,
+    /// 4.2.1). In the other encodings it has no effect.
     pub k: u32,
     /// Whether an EOL precedes each line of Group 3 (T.4, 4.1.2). Group 4 has none.
     pub end_of_line: bool,
@@ -28,7 +28,7 @@ pub struct EncodeSettings {
     /// Whether each line without an EOL is padded up to a whole byte with zeros. In one-dimensional Group 3 this is TIFF's
     /// compression 2.
     pub rows_are_byte_aligned: bool,
-    /// Whether EOFB follows the last line of Group 4 (T.6, 2.4.1.1), or RTC that of Group 3 with EOLs (T.4 sections
+    /// Whether EOFB follows the last line of Group 4 (T.6, 2.4.1.1), or RTC that of Group 3 with EOLs (T.4,
     /// 4.1.4 and 4.2.4).
     pub end_of_block: bool,
     /// Which bit of each byte comes first.

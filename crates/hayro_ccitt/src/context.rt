@@ -153,8 +153,8 @@ impl DecoderContext {
         self.decoded_rows
     }
 
-    /// Returns the number of decoded rows whose line was damaged, and repaired, as lenient Group 3 data with EOLs is (T.4
-    /// section 4.1.2): after [`decode`](crate::decode), which resets it, those of that image, even if it returned an error.
+    /// Returns the number of decoded rows whose line was damaged, and repaired, as lenient Group 3 data with EOLs is (T.4,
+    /// 4.1.2): after [`decode`](crate::decode), which resets it, those of that image, even if it returned an error.
     pub fn damaged_rows(&self) -> u64
         ensures { result ≡ self.now.held.repairs.rows }
     {
@@ -415,7 +415,7 @@ impl DecoderContext {
         self.pixels_decoded == self.settings.columns
     }
 
-    /// Returns the index of b1 among the changing elements of the reference row; that of b2 is the next (T.4 section
+    /// Returns the index of b1 among the changing elements of the reference row; that of b2 is the next (T.4,
     /// 4.2.1.1).
     #[inline(always)]
     fn b1_place(&mut self) -> usize
@@ -1134,8 +1134,8 @@ pub fn decode_1d_line(ctx: &mut DecoderContext, reader: &mut BitReader<'_>) -> R
     Ok(())
 }
 
-/// Decodes a two-dimensional line against the reference row, whatever the front was before (T.4, 4.2, T.6
-/// section 2.2). Of what the context holds, only the front and the colour change.
+/// Decodes a two-dimensional line against the reference row, whatever the front was before (T.4, 4.2, T.6,
+/// 2.2). Of what the context holds, only the front and the colour change.
 ///
 /// # Errors
 ///

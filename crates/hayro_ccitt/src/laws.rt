@@ -108,7 +108,7 @@ pub fn lines_by_eols()
 
 /// One-dimensional lenient data with EOLs. A body lies between two EOLs, or at the start of the data before the first; it
 /// contains a one and no EOL, and its line, if it is whole, ends before the last twelve bits of the EOL after it. Any
-/// other such body instead of it changes at most the row that is read there, and the reading ends alike (T.4 section
+/// other such body instead of it changes at most the row that is read there, and the reading ends alike (T.4,
 /// 4.1.2).
 pub fn locality()
     ensures one_row { Locality }

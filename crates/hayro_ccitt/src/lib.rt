@@ -185,8 +185,8 @@ fn decode_bits<D: Decoder>(
 /// # Errors
 ///
 /// - `UnexpectedEof`, `InvalidCode` and `Overflow` say that the data is invalid. All rows before the fault were passed
-///   on. A lenient reading of Group 3 with EOLs repairs a damaged line instead, and continues at the next EOL (T.4
-///   section 4.1.2).
+///   on. A lenient reading of Group 3 with EOLs repairs a damaged line instead, and continues at the next EOL (T.4,
+///   4.1.2).
 /// - `OutOfMemory` occurs only while a change of a row is stored, so in a line that paints a black pixel.
 /// - `Refused` occurs only if the sink refuses a row.
 ///
