@@ -1,6 +1,9 @@
 //! Every call on the strips of the corpus with each of their settings, whole, damaged and cut, and on its cases: the rows, the result, the
 //! counts, the place of a fault and the numbers of each row are those of the C calls, as `checks/answers.c` prints them.
 
+mod common;
+
+use common::{Panicking, settings_of};
 use hayro_ccitt::{
     DecodeError, DecodeSettings, Decoder, DecoderContext, EncodeSettings, EncodingMode, RowReader,
     decode, decode_low_first, decode_packed, decode_packed_low_first, encode_bitmap,
@@ -26,20 +29,7 @@ impl Case {
     }
 
     fn settings(&self) -> DecodeSettings {
-        let words: Vec<&str> = self.words.split(' ').collect();
-        DecodeSettings {
-            columns: words[1].parse().unwrap(),
-            rows: words[2].parse().unwrap(),
-            end_of_block: words[3].contains('b'),
-            end_of_line: words[3].contains('l'),
-            rows_are_byte_aligned: words[3].contains('a'),
-            encoding: match words[0] {
-                "g4" => EncodingMode::Group4,
-                "1d" => EncodingMode::Group3_1D,
-                _ => EncodingMode::Group3_2D,
-            },
-            strict: words[3].contains('s'),
-        }
+        settings_of(&self.words)
     }
 
     fn line(&self) -> String {
@@ -321,16 +311,6 @@ fn every_call_answers_as_in_c() {
     assert_eq!(kinds.len(), 4, "{kinds:?}");
     assert_eq!(results.len(), 3 * 4, "{results:?}");
     println!("{} cases", cases.len());
-}
-
-/// Panics at its second row.
-struct Panicking(usize);
-
-impl Decoder for Panicking {
-    fn push_row(&mut self, _changes: &[u32]) {
-        self.0 += 1;
-        assert!(self.0 < 2, "the second row");
-    }
 }
 
 /// What a context tells of the image before isn't there after a sink has panicked.

@@ -1,6 +1,9 @@
 //! What a program that depends on the crate `hayro-ccitt` 0.5.0 relies on besides its results: borrowed sinks, panics in a sink, threads,
 //! and what its types can be used for; and the calls that the crate doesn't have.
 
+mod common;
+
+use common::Panicking;
 use hayro_ccitt::{
     DecodeError, DecodeSettings, Decoder, DecoderContext, EncodeError, EncodeSettings,
     EncodingMode, RowReader, decode, decode_low_first, decode_packed, decode_packed_low_first,
@@ -49,16 +52,6 @@ fn sinks_may_borrow() {
         assert_eq!(decode(&data, &mut sink, &mut context), Ok(2));
     }
     assert_eq!(rows, [[3, 5], [3, 5]]);
-}
-
-/// Panics at its second row.
-struct Panicking(usize);
-
-impl Decoder for Panicking {
-    fn push_row(&mut self, _changes: &[u32]) {
-        self.0 += 1;
-        assert!(self.0 < 2, "the second row");
-    }
 }
 
 #[test]

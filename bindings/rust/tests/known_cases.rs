@@ -1,8 +1,11 @@
 //! Each case of `corpus/cases.tsv`: the rows, the result and the number of bytes consumed, and the same rows packed.
 
+mod common;
+
+use common::settings_of;
 use hayro_ccitt::{
-    DecodeSettings, Decoder, DecoderContext, EncodingMode, PackedRows, decode, decode_low_first,
-    decode_packed, decode_packed_low_first,
+    DecodeSettings, Decoder, DecoderContext, PackedRows, decode, decode_low_first, decode_packed,
+    decode_packed_low_first,
 };
 use std::fs;
 
@@ -73,23 +76,6 @@ fn compare_packed(bytes: &[u8], settings: DecodeSettings, low_first: bool) {
         assert_eq!((packed.result, &packed.bytes), (result, &bitmap.bytes));
         assert_eq!(packed.rows * width, packed.bytes.len());
         assert_eq!(packed.bytes.capacity(), packed.bytes.len());
-    }
-}
-
-fn settings_of(words: &str) -> DecodeSettings {
-    let words: Vec<&str> = words.split(' ').collect();
-    DecodeSettings {
-        columns: words[1].parse().unwrap(),
-        rows: words[2].parse().unwrap(),
-        end_of_block: words[3].contains('b'),
-        end_of_line: words[3].contains('l'),
-        rows_are_byte_aligned: words[3].contains('a'),
-        encoding: match words[0] {
-            "g4" => EncodingMode::Group4,
-            "1d" => EncodingMode::Group3_1D,
-            _ => EncodingMode::Group3_2D,
-        },
-        strict: words[3].contains('s'),
     }
 }
 
