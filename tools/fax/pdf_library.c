@@ -1,0 +1,259 @@
+#define _XOPEN_SOURCE 700
+#include "pdf_library.h"
+
+#ifdef FAX_HAVE_QPDF
+#include <ctype.h>
+#include <qpdf/qpdf-c.h>
+#include <signal.h>
+#include <stdlib.h>
+#include <string.h>
+#include <sys/resource.h>
+#include <sys/time.h>
+#include <sys/wait.h>
+#include <unistd.h>
+
+/* As many objects as PDF allows. */
+enum { MOST_OBJECTS = 1 << 23 };
+
+/* How the child ends, unless a limit ends it. */
+enum { SOUND = 0, UNREADABLE = 1, REPAIRED = 2 };
+
+/* Part 1: the child process, which alone calls libqpdf. */
+
+typedef struct {
+    uint16_t generation;
+    uint8_t is_written;
+} slot;
+
+typedef struct {
+    qpdf_data file;
+    FILE *to;
+    uint64_t left;   /* how many bytes more may be written, as streams may lie over each other */
+    slot *slots;     /* by the numbers of objects */
+    size_t count;
+    int has_changed; /* whether an object was named that may not have been looked for */
+} rewriting;
+
+/* What the process has mapped, in bytes; 0 if that isn't known. */
+static uint64_t mapped(void)
+{
+    unsigned long pages = 0;
+    FILE *from = fopen("/proc/self/statm", "r");
+    int is_read = from && fscanf(from, "%lu", &pages) == 1;
+    if (from)
+        fclose(from);
+    return is_read ? (uint64_t)pages * (uint64_t)sysconf(_SC_PAGESIZE) : 0;
+}
+
+/* libqpdf bounds neither its time nor its memory: some hundred bytes of two filters are half a gigabyte, and comments in a file without
+ * a table take time as the square of their number. What exceeds these limits ends the process. */
+static void set_limits(size_t length)
+{
+    uint64_t before = mapped(), microseconds = 300000 + (uint64_t)length / 4;
+    struct itimerval time = {{0, 0}, {(time_t)(microseconds / 1000000), (suseconds_t)(microseconds % 1000000)}};
+    struct rlimit core = {0, 0}, memory;
+    signal(SIGPROF, SIG_DFL);
+    setitimer(ITIMER_PROF, &time, NULL);
+    setrlimit(RLIMIT_CORE, &core);
+    if (before && !getrlimit(RLIMIT_AS, &memory)) {
+        memory.rlim_cur = (rlim_t)(before + (64 << 20) + 80 * (uint64_t)length);
+        setrlimit(RLIMIT_AS, &memory);
+    }
+#ifndef __SANITIZE_ADDRESS__
+    if (!freopen("/dev/null", "w", stderr)) /* what the C++ library says of an exception that nothing catches */
+        _exit(UNREADABLE);
+#endif
+}
+
+static void put(rewriting *it, const void *bytes, size_t length)
+{
+    if (length > it->left || (length && fwrite(bytes, length, 1, it->to) != 1))
+        _exit(UNREADABLE);
+    it->left -= length;
+}
+
+static void put_text(rewriting *it, const char *text)
+{
+    put(it, text, strlen(text));
+}
+
+/* Makes room for objects of smaller numbers than this. */
+static void make_slots(rewriting *it, size_t count)
+{
+    if (count <= it->count || count > MOST_OBJECTS)
+        return;
+    slot *more = realloc(it->slots, count * sizeof *more);
+    if (!more)
+        _exit(UNREADABLE);
+    memset(more + it->count, 0, (count - it->count) * sizeof *more);
+    it->slots = more;
+    it->count = count;
+    it->has_changed = 1;
+}
+
+static void note_reference(rewriting *it, size_t number, unsigned generation)
+{
+    make_slots(it, number + 1);
+    if (number < it->count && it->slots[number].generation != generation && generation <= UINT16_MAX) {
+        it->slots[number].generation = (uint16_t)generation;
+        it->has_changed = 1;
+    }
+}
+
+/* The digits before a place in a text. */
+static const char *past_digits_back(const char *start, const char *at)
+{
+    while (at > start && isdigit((unsigned char)at[-1]))
+        at--;
+    return at;
+}
+
+/* Notes the objects that a value refers to: a reference is `N G R`. In a string it may be none, which does no harm. */
+static void note_references(rewriting *it, const char *text)
+{
+    for (const char *at = text; (at = strstr(at, " R")); at += 2) {
+        const char *generation = past_digits_back(text, at);
+        const char *number = generation > text && generation[-1] == ' ' ? past_digits_back(text, generation - 1) : generation;
+        if (generation < at && number + 1 < generation)
+            note_reference(it, strtoul(number, NULL, 10), (unsigned)strtoul(generation, NULL, 10));
+    }
+}
+
+static void put_value(rewriting *it, qpdf_oh value)
+{
+    const char *text = qpdf_oh_unparse_resolved(it->file, value);
+    put_text(it, text);
+    note_references(it, text);
+}
+
+/* Writes a stream, with the length that it has. */
+static void put_stream(rewriting *it, qpdf_oh stream, qpdf_oh dictionary)
+{
+    unsigned char *data = NULL;
+    size_t length = 0;
+    if (qpdf_oh_get_stream_data(it->file, stream, qpdf_dl_none, NULL, &data, &length) & QPDF_ERRORS)
+        length = 0;
+    qpdf_oh_replace_key(it->file, dictionary, "/Length", qpdf_oh_new_integer(it->file, (long long)length));
+    put_value(it, dictionary);
+    put_text(it, "\nstream\n");
+    put(it, data, length);
+    put_text(it, "\nendstream");
+    free(data);
+}
+
+/* Whether a stream's dictionary says that it is a table or holds objects, which are written by themselves. */
+static int is_structure(rewriting *it, qpdf_oh dictionary)
+{
+    qpdf_oh type = qpdf_oh_get_key(it->file, dictionary, "/Type");
+    return qpdf_oh_is_name_and_equals(it->file, type, "/ObjStm") || qpdf_oh_is_name_and_equals(it->file, type, "/XRef");
+}
+
+static void put_object(rewriting *it, size_t number)
+{
+    char start[32];
+    qpdf_oh object = qpdf_get_object_by_id(it->file, (int)number, it->slots[number].generation);
+    int is_stream = qpdf_oh_is_stream(it->file, object);
+    qpdf_oh dictionary = is_stream ? qpdf_oh_get_dict(it->file, object) : object;
+    if (!qpdf_oh_is_null(it->file, object) && !(is_stream && is_structure(it, dictionary))) {
+        it->slots[number].is_written = 1;
+        snprintf(start, sizeof start, "%lu 0 obj\n", (unsigned long)number);
+        put_text(it, start);
+        if (is_stream)
+            put_stream(it, object, dictionary);
+        else
+            put_value(it, object);
+        put_text(it, "\nendobj\n");
+    }
+    qpdf_oh_release_all(it->file);
+}
+
+/* The trailer's root, as text. */
+static const char *root_of(rewriting *it)
+{
+    return qpdf_oh_unparse(it->file, qpdf_oh_get_key(it->file, qpdf_get_trailer(it->file), "/Root"));
+}
+
+/* Writes all objects: those with numbers below the file's `Size`, and those that others refer to. */
+static void put_objects(rewriting *it, size_t most)
+{
+    qpdf_oh size_there = qpdf_oh_get_key(it->file, qpdf_get_trailer(it->file), "/Size");
+    unsigned long long size = qpdf_oh_get_uint_value(it->file, size_there);
+    make_slots(it, size < most ? (size_t)size : most);
+    note_references(it, root_of(it));
+    while (it->has_changed) {
+        it->has_changed = 0;
+        for (size_t number = 1; number < it->count; number++)
+            if (!it->slots[number].is_written)
+                put_object(it, number);
+    }
+    if (strcmp(root_of(it), "null")) {
+        put_text(it, "trailer\n<< /Root ");
+        put_text(it, root_of(it));
+        put_text(it, " >>\n");
+    }
+}
+
+/* Returns how the child ends. */
+static int rewrite(span file, FILE *to)
+{
+    rewriting it = {qpdf_init(), to, 16 * (uint64_t)file.length + (16 << 20), NULL, 0, 0};
+    qpdf_silence_errors(it.file);
+    qpdf_set_suppress_warnings(it.file, QPDF_TRUE);
+    int status = qpdf_read_memory(it.file, "", (const char *)file.at, file.length, NULL);
+    qpdf_error fault = status & QPDF_ERRORS ? qpdf_get_error(it.file) : NULL;
+    if (fault ? qpdf_get_error_code(it.file, fault) == qpdf_e_password : qpdf_is_encrypted(it.file))
+        put_text(&it, "trailer\n<< /Encrypt true >>\n");
+    else if (fault)
+        return UNREADABLE;
+    else
+        put_objects(&it, file.length);
+    return fflush(to) ? UNREADABLE : qpdf_more_warnings(it.file) || qpdf_has_error(it.file) ? REPAIRED : SOUND;
+}
+
+/* Part 2: this process. */
+
+/* Reads what the child writes, and how it ends. */
+static int read_child(pid_t child, int end, buffer *into)
+{
+    int status = 0;
+    FILE *from = fdopen(end, "rb");
+    int is_read = from && read_all(from, into);
+    if (from)
+        fclose(from);
+    else
+        close(end);
+    int has_ended = child > 0 && waitpid(child, &status, 0) == child && WIFEXITED(status);
+    return is_read && has_ended ? WEXITSTATUS(status) : UNREADABLE;
+}
+
+int plain_pdf(span file, buffer *into)
+{
+    buffer plain = {NULL, 0, 0, 0};
+    int ends[2];
+    if (pipe(ends))
+        return 0;
+    pid_t child = fork();
+    if (child == 0) {
+        FILE *to = fdopen(ends[1], "wb");
+        close(ends[0]);
+        set_limits(file.length);
+        _exit(to ? rewrite(file, to) : UNREADABLE);
+    }
+    close(ends[1]);
+    int end = read_child(child, ends[0], &plain);
+    if (end == REPAIRED)
+        add(into, file.at, file.length);
+    if (end == REPAIRED || end == SOUND)
+        add(into, plain.at, plain.length);
+    release(&plain);
+    if (into->has_failed)
+        release(into);
+    return into->length > 0;
+}
+#else
+int plain_pdf(span file, buffer *into)
+{
+    (void)file, (void)into;
+    return 0;
+}
+#endif
