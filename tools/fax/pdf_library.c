@@ -20,10 +20,13 @@ enum { SOUND = 0, UNREADABLE = 1, REPAIRED = 2 };
 
 /* Part 1: the child process, which alone calls libqpdf. */
 
+/* The object of a number. */
 typedef struct {
     uint16_t generation;
-    uint8_t is_written;
+    uint8_t state;
 } slot;
+
+enum { UNKNOWN = 0, WANTED = 1, NOT_FOUND = 2, WRITTEN = 3 };
 
 typedef struct {
     qpdf_data file;
@@ -31,7 +34,7 @@ typedef struct {
     uint64_t left;   /* how many bytes more may be written, as streams may lie over each other */
     slot *slots;     /* by the numbers of objects */
     size_t count;
-    int has_changed; /* whether an object was named that may not have been looked for */
+    int is_more;     /* whether objects are wanted that weren't looked for */
 } rewriting;
 
 /* What the process has mapped, in bytes; 0 if that isn't known. */
@@ -49,7 +52,7 @@ static uint64_t mapped(void)
  * a table take time as the square of their number. What exceeds these limits ends the process. */
 static void set_limits(size_t length)
 {
-    uint64_t before = mapped(), microseconds = 300000 + (uint64_t)length / 4;
+    uint64_t before = mapped(), microseconds = 200000 + (uint64_t)length / 2;
     struct itimerval time = {{0, 0}, {(time_t)(microseconds / 1000000), (suseconds_t)(microseconds % 1000000)}};
     struct rlimit core = {0, 0}, memory;
     signal(SIGPROF, SIG_DFL);
@@ -77,26 +80,32 @@ static void put_text(rewriting *it, const char *text)
     put(it, text, strlen(text));
 }
 
-/* Makes room for objects of smaller numbers than this. */
-static void make_slots(rewriting *it, size_t count)
+/* Makes room for an object of this number. Returns 0 if it can't be that high. */
+static int make_slot(rewriting *it, size_t number)
 {
-    if (count <= it->count || count > MOST_OBJECTS)
-        return;
-    slot *more = realloc(it->slots, count * sizeof *more);
-    if (!more)
-        _exit(UNREADABLE);
-    memset(more + it->count, 0, (count - it->count) * sizeof *more);
-    it->slots = more;
-    it->count = count;
-    it->has_changed = 1;
+    enum { STEP = 4096 };
+    if (number >= it->count && number < MOST_OBJECTS) {
+        size_t count = (number / STEP + 1) * STEP;
+        slot *more = realloc(it->slots, count * sizeof *more);
+        if (!more)
+            _exit(UNREADABLE);
+        memset(more + it->count, 0, (count - it->count) * sizeof *more);
+        it->slots = more;
+        it->count = count;
+    }
+    return number < it->count;
 }
 
-static void note_reference(rewriting *it, size_t number, unsigned generation)
+/* Wants an object, unless it was looked for with this generation, or found. */
+static void want(rewriting *it, size_t number, unsigned generation)
 {
-    make_slots(it, number + 1);
-    if (number < it->count && it->slots[number].generation != generation && generation <= UINT16_MAX) {
-        it->slots[number].generation = (uint16_t)generation;
-        it->has_changed = 1;
+    if (generation > UINT16_MAX || !make_slot(it, number))
+        return;
+    slot *to = &it->slots[number];
+    if (to->state == UNKNOWN || (to->state == NOT_FOUND && to->generation != generation)) {
+        to->state = WANTED;
+        to->generation = (uint16_t)generation;
+        it->is_more = 1;
     }
 }
 
@@ -108,36 +117,41 @@ static const char *past_digits_back(const char *start, const char *at)
     return at;
 }
 
-/* Notes the objects that a value refers to: a reference is `N G R`. In a string it may be none, which does no harm. */
-static void note_references(rewriting *it, const char *text)
+/* Wants the objects that a value refers to: a reference is `N G R`. In a string it may be none, which does no harm. */
+static void want_references(rewriting *it, const char *text)
 {
     for (const char *at = text; (at = strstr(at, " R")); at += 2) {
         const char *generation = past_digits_back(text, at);
         const char *number = generation > text && generation[-1] == ' ' ? past_digits_back(text, generation - 1) : generation;
         if (generation < at && number + 1 < generation)
-            note_reference(it, strtoul(number, NULL, 10), (unsigned)strtoul(generation, NULL, 10));
+            want(it, strtoul(number, NULL, 10), (unsigned)strtoul(generation, NULL, 10));
     }
 }
 
-static void put_value(rewriting *it, qpdf_oh value)
+/* Writes an object that is no stream, or the dictionary of one. */
+static void put_value(rewriting *it, size_t number, qpdf_oh value)
 {
+    char start[32];
     const char *text = qpdf_oh_unparse_resolved(it->file, value);
+    snprintf(start, sizeof start, "%lu 0 obj\n", (unsigned long)number);
+    put_text(it, start);
     put_text(it, text);
-    note_references(it, text);
+    want_references(it, text);
+    it->slots[number].state = WRITTEN;
 }
 
-/* Writes a stream, with the length that it has. */
-static void put_stream(rewriting *it, qpdf_oh stream, qpdf_oh dictionary)
+/* Writes a stream, with the length that it has; nothing if it can't be read. */
+static void put_stream(rewriting *it, size_t number, qpdf_oh stream, qpdf_oh dictionary)
 {
     unsigned char *data = NULL;
     size_t length = 0;
     if (qpdf_oh_get_stream_data(it->file, stream, qpdf_dl_none, NULL, &data, &length) & QPDF_ERRORS)
-        length = 0;
+        return;
     qpdf_oh_replace_key(it->file, dictionary, "/Length", qpdf_oh_new_integer(it->file, (long long)length));
-    put_value(it, dictionary);
+    put_value(it, number, dictionary);
     put_text(it, "\nstream\n");
     put(it, data, length);
-    put_text(it, "\nendstream");
+    put_text(it, "\nendstream\nendobj\n");
     free(data);
 }
 
@@ -150,18 +164,14 @@ static int is_structure(rewriting *it, qpdf_oh dictionary)
 
 static void put_object(rewriting *it, size_t number)
 {
-    char start[32];
     qpdf_oh object = qpdf_get_object_by_id(it->file, (int)number, it->slots[number].generation);
-    int is_stream = qpdf_oh_is_stream(it->file, object);
-    qpdf_oh dictionary = is_stream ? qpdf_oh_get_dict(it->file, object) : object;
-    if (!qpdf_oh_is_null(it->file, object) && !(is_stream && is_structure(it, dictionary))) {
-        it->slots[number].is_written = 1;
-        snprintf(start, sizeof start, "%lu 0 obj\n", (unsigned long)number);
-        put_text(it, start);
-        if (is_stream)
-            put_stream(it, object, dictionary);
-        else
-            put_value(it, object);
+    it->slots[number].state = NOT_FOUND;
+    if (qpdf_oh_is_stream(it->file, object)) {
+        qpdf_oh dictionary = qpdf_oh_get_dict(it->file, object);
+        if (!is_structure(it, dictionary))
+            put_stream(it, number, object, dictionary);
+    } else if (!qpdf_oh_is_null(it->file, object)) {
+        put_value(it, number, object);
         put_text(it, "\nendobj\n");
     }
     qpdf_oh_release_all(it->file);
@@ -176,14 +186,15 @@ static const char *root_of(rewriting *it)
 /* Writes all objects: those with numbers below the file's `Size`, and those that others refer to. */
 static void put_objects(rewriting *it, size_t most)
 {
-    qpdf_oh size_there = qpdf_oh_get_key(it->file, qpdf_get_trailer(it->file), "/Size");
-    unsigned long long size = qpdf_oh_get_uint_value(it->file, size_there);
-    make_slots(it, size < most ? (size_t)size : most);
-    note_references(it, root_of(it));
-    while (it->has_changed) {
-        it->has_changed = 0;
+    qpdf_oh there = qpdf_oh_get_key(it->file, qpdf_get_trailer(it->file), "/Size");
+    unsigned long long size = qpdf_oh_get_uint_value(it->file, there);
+    for (size_t number = 1; number < size && number < most; number++)
+        want(it, number, 0);
+    want_references(it, root_of(it));
+    while (it->is_more) {
+        it->is_more = 0;
         for (size_t number = 1; number < it->count; number++)
-            if (!it->slots[number].is_written)
+            if (it->slots[number].state == WANTED)
                 put_object(it, number);
     }
     if (strcmp(root_of(it), "null")) {
