@@ -41,13 +41,12 @@ EXAMPLES = strip_to_pbm pbm_to_strip rows_to_pbm rows_to_strip
 WITH_ZLIB ?= $(shell pkg-config --exists zlib 2>/dev/null && echo zlib)
 ZLIB_FLAGS = $(if $(WITH_ZLIB),-DFAX_HAVE_ZLIB $(shell pkg-config --cflags zlib))
 ZLIB_LIBS = $(if $(WITH_ZLIB),$(shell pkg-config --libs zlib))
-# It reads PDF's structure by libqpdf, where pkg-config finds it; WITH_QPDF= builds it with its own reader alone.
-WITH_QPDF ?= $(shell pkg-config --exists 'libqpdf >= 10.6' 2>/dev/null && echo libqpdf)
-QPDF_FLAGS = $(if $(WITH_QPDF),-DFAX_HAVE_QPDF $(shell pkg-config --cflags libqpdf))
-QPDF_LIBS = $(if $(WITH_QPDF),$(shell pkg-config --libs libqpdf))
+# It reads PDF's structure by libqpdf, if that was found here, and again when it runs; WITH_QPDF= builds it with its own reader alone.
+WITH_QPDF ?= $(shell pkg-config --exists 'libqpdf >= 10.6' 2>/dev/null && \
+	objdump -p "$$(pkg-config --variable=libdir libqpdf)/libqpdf.so" 2>/dev/null | sed -n 's/^ *SONAME *//p')
+QPDF_FLAGS = $(if $(WITH_QPDF),-DFAX_QPDF='"$(WITH_QPDF)"' $(shell pkg-config --cflags libqpdf))
+QPDF_LIBS = $(if $(WITH_QPDF),-ldl)
 COMPLETIONS ?= $(PREFIX)/share/bash-completion/completions
-# The one that is installed.
-FAX = $(BUILD)/fax
 
 SHARED = libhayro_ccitt.so.$(VERSION)
 SONAME = libhayro_ccitt.so.$(INTERFACE)
@@ -120,7 +119,7 @@ install: $(if $(wildcard $(BUILD)/faxrows),,all)
 	ln -sf $(SHARED) $(DESTDIR)$(LIBDIR)/$(SONAME)
 	ln -sf $(SONAME) $(DESTDIR)$(LIBDIR)/libhayro_ccitt.so
 	$(INSTALL) -m 644 $(BUILD)/hayro_ccitt.pc $(DESTDIR)$(LIBDIR)/pkgconfig
-	$(INSTALL) -m 755 $(BUILD)/faxrows $(BUILD)/faxpack $(FAX) $(DESTDIR)$(BINDIR)
+	$(INSTALL) -m 755 $(BUILD)/faxrows $(BUILD)/faxpack $(BUILD)/fax $(DESTDIR)$(BINDIR)
 	ln -sf fax $(DESTDIR)$(BINDIR)/fax2pbm
 	$(INSTALL) -m 644 tools/fax/fax.bash $(DESTDIR)$(COMPLETIONS)/fax
 	$(INSTALL) -m 644 man/faxrows.1 man/faxpack.1 man/fax.1 man/fax2pbm.1 $(DESTDIR)$(MANDIR)/man1

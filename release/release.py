@@ -145,7 +145,7 @@ def entries_of(folder, top):
 
 
 def installed(build, to, *words):
-    done = subprocess.run(["make", "--no-print-directory", f"BUILD={build}", f"FAX={build}/release/fax", f"DESTDIR={to}", *words, "install"], capture_output=True, text=True, check=False)
+    done = subprocess.run(["make", "--no-print-directory", f"BUILD={build}", f"DESTDIR={to}", *words, "install"], capture_output=True, text=True, check=False)
     if done.returncode != 0:
         fail(f"`make install` failed:\n{done.stdout}{done.stderr}")
     # The file with the other prefix isn't left in BUILD.

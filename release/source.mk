@@ -26,10 +26,11 @@ EXAMPLES = $(patsubst examples/%.c,build/%,$(wildcard examples/*.c))
 WITH_ZLIB ?= $(shell pkg-config --exists zlib 2>/dev/null && echo zlib)
 ZLIB_FLAGS = $(if $(WITH_ZLIB),-DFAX_HAVE_ZLIB $(shell pkg-config --cflags zlib))
 ZLIB_LIBS = $(if $(WITH_ZLIB),$(shell pkg-config --libs zlib))
-# It reads PDF's structure by libqpdf, where pkg-config finds it; WITH_QPDF= builds it with its own reader alone.
-WITH_QPDF ?= $(shell pkg-config --exists 'libqpdf >= 10.6' 2>/dev/null && echo libqpdf)
-QPDF_FLAGS = $(if $(WITH_QPDF),-DFAX_HAVE_QPDF $(shell pkg-config --cflags libqpdf))
-QPDF_LIBS = $(if $(WITH_QPDF),$(shell pkg-config --libs libqpdf))
+# It reads PDF's structure by libqpdf, if that was found here, and again when it runs; WITH_QPDF= builds it with its own reader alone.
+WITH_QPDF ?= $(shell pkg-config --exists 'libqpdf >= 10.6' 2>/dev/null && \
+	objdump -p "$$(pkg-config --variable=libdir libqpdf)/libqpdf.so" 2>/dev/null | sed -n 's/^ *SONAME *//p')
+QPDF_FLAGS = $(if $(WITH_QPDF),-DFAX_QPDF='"$(WITH_QPDF)"' $(shell pkg-config --cflags libqpdf))
+QPDF_LIBS = $(if $(WITH_QPDF),-ldl)
 COMPLETIONS ?= $(PREFIX)/share/bash-completion/completions
 
 all: build/libhayro_ccitt.a build/libhayro_ccitt.so build/hayro_ccitt.pc build/fax $(EXAMPLES)

@@ -1,8 +1,9 @@
 #define _XOPEN_SOURCE 700
 #include "pdf_library.h"
 
-#ifdef FAX_HAVE_QPDF
+#ifdef FAX_QPDF
 #include <ctype.h>
+#include <dlfcn.h>
 #include <qpdf/qpdf-c.h>
 #include <signal.h>
 #include <stdlib.h>
@@ -17,6 +18,38 @@ enum { MOST_OBJECTS = 1 << 23 };
 
 /* How the child ends, unless a limit ends it. */
 enum { SOUND = 0, UNREADABLE = 1, REPAIRED = 2 };
+
+/* The calls of libqpdf that are made. */
+#define CALLS(CALL) \
+    CALL(qpdf_get_error) CALL(qpdf_get_error_code) CALL(qpdf_get_object_by_id) CALL(qpdf_get_trailer) CALL(qpdf_has_error) \
+    CALL(qpdf_init) CALL(qpdf_is_encrypted) CALL(qpdf_more_warnings) CALL(qpdf_oh_get_dict) CALL(qpdf_oh_get_key) \
+    CALL(qpdf_oh_get_stream_data) CALL(qpdf_oh_get_uint_value) CALL(qpdf_oh_is_name_and_equals) CALL(qpdf_oh_is_null) \
+    CALL(qpdf_oh_is_stream) CALL(qpdf_oh_new_integer) CALL(qpdf_oh_release_all) CALL(qpdf_oh_replace_key) \
+    CALL(qpdf_oh_unparse) CALL(qpdf_oh_unparse_resolved) CALL(qpdf_read_memory) CALL(qpdf_set_suppress_warnings) \
+    CALL(qpdf_silence_errors)
+#define POINTER(name) __typeof__(name) *name;
+#define LOAD(name) \
+    { \
+        void *found = library ? dlsym(library, #name) : NULL; \
+        memcpy(&call.name, &found, sizeof found); \
+        is_whole = is_whole && found; \
+    }
+
+static struct {
+    CALLS(POINTER)
+} call;
+
+/* Loads libqpdf once: with the libraries that it needs this takes longer than a page, so a run that reads no PDF goes without. */
+static int is_loaded(void)
+{
+    static int is_tried, is_whole = 1;
+    if (!is_tried) {
+        void *library = dlopen(FAX_QPDF, RTLD_NOW);
+        CALLS(LOAD)
+        is_tried = 1;
+    }
+    return is_whole;
+}
 
 /* Part 1: the child process, which alone calls libqpdf. */
 
@@ -132,7 +165,7 @@ static void want_references(rewriting *it, const char *text)
 static void put_value(rewriting *it, size_t number, qpdf_oh value)
 {
     char start[32];
-    const char *text = qpdf_oh_unparse_resolved(it->file, value);
+    const char *text = call.qpdf_oh_unparse_resolved(it->file, value);
     snprintf(start, sizeof start, "%lu 0 obj\n", (unsigned long)number);
     put_text(it, start);
     put_text(it, text);
@@ -145,9 +178,9 @@ static void put_stream(rewriting *it, size_t number, qpdf_oh stream, qpdf_oh dic
 {
     unsigned char *data = NULL;
     size_t length = 0;
-    if (qpdf_oh_get_stream_data(it->file, stream, qpdf_dl_none, NULL, &data, &length) & QPDF_ERRORS)
+    if (call.qpdf_oh_get_stream_data(it->file, stream, qpdf_dl_none, NULL, &data, &length) & QPDF_ERRORS)
         return;
-    qpdf_oh_replace_key(it->file, dictionary, "/Length", qpdf_oh_new_integer(it->file, (long long)length));
+    call.qpdf_oh_replace_key(it->file, dictionary, "/Length", call.qpdf_oh_new_integer(it->file, (long long)length));
     put_value(it, number, dictionary);
     put_text(it, "\nstream\n");
     put(it, data, length);
@@ -158,36 +191,36 @@ static void put_stream(rewriting *it, size_t number, qpdf_oh stream, qpdf_oh dic
 /* Whether a stream's dictionary says that it is a table or holds objects, which are written by themselves. */
 static int is_structure(rewriting *it, qpdf_oh dictionary)
 {
-    qpdf_oh type = qpdf_oh_get_key(it->file, dictionary, "/Type");
-    return qpdf_oh_is_name_and_equals(it->file, type, "/ObjStm") || qpdf_oh_is_name_and_equals(it->file, type, "/XRef");
+    qpdf_oh type = call.qpdf_oh_get_key(it->file, dictionary, "/Type");
+    return call.qpdf_oh_is_name_and_equals(it->file, type, "/ObjStm") || call.qpdf_oh_is_name_and_equals(it->file, type, "/XRef");
 }
 
 static void put_object(rewriting *it, size_t number)
 {
-    qpdf_oh object = qpdf_get_object_by_id(it->file, (int)number, it->slots[number].generation);
+    qpdf_oh object = call.qpdf_get_object_by_id(it->file, (int)number, it->slots[number].generation);
     it->slots[number].state = NOT_FOUND;
-    if (qpdf_oh_is_stream(it->file, object)) {
-        qpdf_oh dictionary = qpdf_oh_get_dict(it->file, object);
+    if (call.qpdf_oh_is_stream(it->file, object)) {
+        qpdf_oh dictionary = call.qpdf_oh_get_dict(it->file, object);
         if (!is_structure(it, dictionary))
             put_stream(it, number, object, dictionary);
-    } else if (!qpdf_oh_is_null(it->file, object)) {
+    } else if (!call.qpdf_oh_is_null(it->file, object)) {
         put_value(it, number, object);
         put_text(it, "\nendobj\n");
     }
-    qpdf_oh_release_all(it->file);
+    call.qpdf_oh_release_all(it->file);
 }
 
 /* The trailer's root, as text. */
 static const char *root_of(rewriting *it)
 {
-    return qpdf_oh_unparse(it->file, qpdf_oh_get_key(it->file, qpdf_get_trailer(it->file), "/Root"));
+    return call.qpdf_oh_unparse(it->file, call.qpdf_oh_get_key(it->file, call.qpdf_get_trailer(it->file), "/Root"));
 }
 
 /* Writes all objects: those with numbers below the file's `Size`, and those that others refer to. */
 static void put_objects(rewriting *it, size_t most)
 {
-    qpdf_oh there = qpdf_oh_get_key(it->file, qpdf_get_trailer(it->file), "/Size");
-    unsigned long long size = qpdf_oh_get_uint_value(it->file, there);
+    qpdf_oh there = call.qpdf_oh_get_key(it->file, call.qpdf_get_trailer(it->file), "/Size");
+    unsigned long long size = call.qpdf_oh_get_uint_value(it->file, there);
     for (size_t number = 1; number < size && number < most; number++)
         want(it, number, 0);
     want_references(it, root_of(it));
@@ -207,18 +240,18 @@ static void put_objects(rewriting *it, size_t most)
 /* Returns how the child ends. */
 static int rewrite(span file, FILE *to)
 {
-    rewriting it = {qpdf_init(), to, 16 * (uint64_t)file.length + (16 << 20), NULL, 0, 0};
-    qpdf_silence_errors(it.file);
-    qpdf_set_suppress_warnings(it.file, QPDF_TRUE);
-    int status = qpdf_read_memory(it.file, "", (const char *)file.at, file.length, NULL);
-    qpdf_error fault = status & QPDF_ERRORS ? qpdf_get_error(it.file) : NULL;
-    if (fault ? qpdf_get_error_code(it.file, fault) == qpdf_e_password : qpdf_is_encrypted(it.file))
+    rewriting it = {call.qpdf_init(), to, 16 * (uint64_t)file.length + (16 << 20), NULL, 0, 0};
+    call.qpdf_silence_errors(it.file);
+    call.qpdf_set_suppress_warnings(it.file, QPDF_TRUE);
+    int status = call.qpdf_read_memory(it.file, "", (const char *)file.at, file.length, NULL);
+    qpdf_error fault = status & QPDF_ERRORS ? call.qpdf_get_error(it.file) : NULL;
+    if (fault ? call.qpdf_get_error_code(it.file, fault) == qpdf_e_password : call.qpdf_is_encrypted(it.file))
         put_text(&it, "trailer\n<< /Encrypt true >>\n");
     else if (fault)
         return UNREADABLE;
     else
         put_objects(&it, file.length);
-    return fflush(to) ? UNREADABLE : qpdf_more_warnings(it.file) || qpdf_has_error(it.file) ? REPAIRED : SOUND;
+    return fflush(to) ? UNREADABLE : call.qpdf_more_warnings(it.file) || call.qpdf_has_error(it.file) ? REPAIRED : SOUND;
 }
 
 /* Part 2: this process. */
@@ -241,7 +274,7 @@ int plain_pdf(span file, buffer *into)
 {
     buffer plain = {NULL, 0, 0, 0};
     int ends[2];
-    if (pipe(ends))
+    if (!is_loaded() || pipe(ends))
         return 0;
     pid_t child = fork();
     if (child == 0) {

@@ -1,4 +1,4 @@
-/* PDF's structure by libqpdf, where it was installed when the program was built (FAX_HAVE_QPDF). */
+/* PDF's structure by libqpdf, where it was installed when the program was built (FAX_QPDF, its file's name). */
 #ifndef FAX_PDF_LIBRARY_H
 #define FAX_PDF_LIBRARY_H
 
