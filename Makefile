@@ -41,6 +41,11 @@ EXAMPLES = strip_to_pbm pbm_to_strip rows_to_pbm rows_to_strip
 WITH_ZLIB ?= $(shell pkg-config --exists zlib 2>/dev/null && echo zlib)
 ZLIB_FLAGS = $(if $(WITH_ZLIB),-DFAX_HAVE_ZLIB $(shell pkg-config --cflags zlib))
 ZLIB_LIBS = $(if $(WITH_ZLIB),$(shell pkg-config --libs zlib))
+# It reads PDF's structure by libqpdf, if that was found here, and again when it runs; WITH_QPDF= builds it with its own reader alone.
+WITH_QPDF ?= $(shell pkg-config --exists 'libqpdf >= 10.6' 2>/dev/null && \
+	objdump -p "$$(pkg-config --variable=libdir libqpdf)/libqpdf.so" 2>/dev/null | sed -n 's/^ *SONAME *//p')
+QPDF_FLAGS = $(if $(WITH_QPDF),-DFAX_QPDF='"$(WITH_QPDF)"' $(shell pkg-config --cflags libqpdf))
+QPDF_LIBS = $(if $(WITH_QPDF),-ldl)
 COMPLETIONS ?= $(PREFIX)/share/bash-completion/completions
 
 SHARED = libhayro_ccitt.so.$(VERSION)
@@ -88,7 +93,8 @@ $(BUILD)/faxrows: $(FAXROWS) | $(BUILD)
 $(BUILD)/faxpack: $(FAXPACK) | $(BUILD)
 	cp $< $@
 $(BUILD)/fax: $(wildcard tools/fax/*.[ch]) $(HEADERS) $(BUILD)/libhayro_ccitt.a
-	$(CC) $(CFLAGS) $(WARNINGS) -std=c99 -Ic $(ZLIB_FLAGS) $(LDFLAGS) -o $@ $(filter %.c,$^) $(BUILD)/libhayro_ccitt.a $(ZLIB_LIBS)
+	$(CC) $(CFLAGS) $(WARNINGS) -std=c99 -Ic $(ZLIB_FLAGS) $(QPDF_FLAGS) $(LDFLAGS) -o $@ $(filter %.c,$^) $(BUILD)/libhayro_ccitt.a \
+		$(ZLIB_LIBS) $(QPDF_LIBS)
 $(BUILD)/fax2pbm: $(BUILD)/fax
 	cp $< $@
 $(BUILD)/%: examples/%.c $(HEADERS) $(BUILD)/libhayro_ccitt.a

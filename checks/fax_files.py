@@ -1,6 +1,7 @@
 """TIFF and PDF files made by rule, with known pictures, for the checks of `fax`."""
 import ctypes
 import random
+import re
 import struct
 import zlib
 
@@ -271,34 +272,48 @@ class Pdf:
         body = b"<< /Type /Page /Parent 2 0 R /MediaBox [0 0 100 100] /Contents %d 0 R /Resources << /XObject << %s >> %s >> >>"
         self.pages.append(self.add(body % (text, names, more)))
 
-    def file(self, packed=False, has_table=True):
-        """The file; packed, all objects that can be are in an object stream."""
+    def file(self, packed=False, has_table=True, filters=b"/FlateDecode", pack=zlib.compress):
+        """The file; packed, all objects that can be are in an object stream, and the table is a stream."""
         kids = b" ".join(b"%d 0 R" % page for page in self.pages)
         everything = {1: b"<< /Type /Catalog /Pages 2 0 R >>", 2: b"<< /Type /Pages /Count %d /Kids [%s] >>" % (len(self.pages), kids)}
         everything.update(self.objects)
         file, places = b"%PDF-1.5\n", {}
-        inside = {number: body for number, body in everything.items() if packed and b"stream\n" not in body}
-        for number, body in everything.items():
-            if number not in inside:
-                places[number] = len(file)
-                file += b"%d 0 obj\n" % number + body + b"\nendobj\n"
+        inside = [(number, body) for number, body in everything.items() if packed and b"stream\n" not in body]
+        outside = {number: body for number, body in everything.items() if number not in dict(inside)}
+        holder, table = max(everything) + 1, max(everything) + 2
         if packed:
             front, bodies = b"", b""
-            for number, body in inside.items():
+            for number, body in inside:
                 front += b"%d %d " % (number, len(bodies))
                 bodies += body + b" "
-            data = zlib.compress(front + bodies)
-            text = b"/Type /ObjStm /N %d /First %d /Filter /FlateDecode" % (len(inside), len(front))
-            file += b"9000 0 obj\n" + self.body(text, data) + b"\nendobj\n"
-            file += b"9001 0 obj\n" + self.body(b"/Type /XRef /Root 1 0 R " + self.trailer, b"") + b"\nendobj\n"
-        start = len(file)
-        if has_table and not packed:
-            file += b"xref\n0 %d\n" % (max(places) + 1)
-            for number in range(max(places) + 1):
+            text = b"/Type /ObjStm /N %d /First %d /Filter %s" % (len(inside), len(front), filters)
+            outside[holder] = self.body(text, pack(front + bodies))
+        for number, body in outside.items():
+            places[number] = len(file)
+            file += b"%d 0 obj\n" % number + body + b"\nendobj\n"
+        start, last = len(file), table if packed else max(places)
+        keys = b"/Size %d /Root 1 0 R " % (last + 1) + self.trailer
+        if packed:
+            places[table] = start
+            within = {number: struct.pack(">BIH", 2, holder, at) for at, (number, _) in enumerate(inside)}
+            rows = [struct.pack(">BIH", 1, places[number], 0) if number in places else within.get(number, bytes(7)) for number in range(last + 1)]
+            file += b"%d 0 obj\n" % table + self.body(b"/Type /XRef /W [1 4 2] " + keys, b"".join(rows)) + b"\nendobj\n"
+        elif has_table:
+            file += b"xref\n0 %d\n" % (last + 1)
+            for number in range(last + 1):
                 file += b"%010d %05d %s \n" % ((places[number], 0, b"n") if number in places else (0, 65535, b"f"))
-        if has_table or not packed:
-            file += b"trailer\n<< /Root 1 0 R " + self.trailer + b" >>\nstartxref\n%d\n%%%%EOF\n" % start
-        return file
+        if not packed:
+            file += b"trailer\n<< " + keys + b" >>\n"
+        return file + b"startxref\n%d\n%%%%EOF\n" % (start if packed or has_table else 0)
+
+
+def with_update(file, number, body):
+    """A file without a table in a stream, and after it another object of a number that it has."""
+    (before,) = re.findall(rb"startxref\n(\d+)", file)
+    start = len(file)
+    file += b"%d 0 obj\n" % number + body + b"\nendobj\n"
+    table = b"xref\n%d 1\n%010d 00000 n \ntrailer\n<< /Size %d /Root 1 0 R /Prev %s >>\n" % (number, start, number + 1, before)
+    return file + table + b"startxref\n%d\n%%%%EOF\n" % len(file)
 
 
 def image(picture, keys=b"", parameters=b"/K -1", is_sized=True, more=b""):

@@ -164,16 +164,17 @@ def pdfs_of_tiffs(folder, name, picture):
 PDFS = [pdfs_by_ghostscript, pdfs_of_tiffs]
 
 
-def check(makers):
-    """Each file has the picture that was encoded, and nothing is told."""
+def check(makers, tools):
+    """Each file has the picture that was encoded, by each of these builds of `fax`, and nothing is told."""
     runs, wrong = 0, []
     with tempfile.TemporaryDirectory() as folder:
         for maker, (name, picture) in itertools.product(makers, PICTURES.items()):
             for what, path, expected in maker(folder, name, picture):
-                status, pictures, told = fax.run(path)
                 runs += 1
-                if (status, pictures, told) != (0, expected, ""):
-                    wrong.append(f"{maker.__name__} {what}: {status} {told.strip()}{'' if pictures == expected else ' another picture'}")
+                for tool in tools:
+                    status, pictures, told = fax.run(path, tool=tool)
+                    if (status, pictures, told) != (0, expected, ""):
+                        wrong.append(f"{maker.__name__} {what}: {status} {told.strip()}{'' if pictures == expected else ' another picture'}")
     assert not wrong, f"{len(wrong)} of {runs}:\n" + "\n".join(wrong)
     print(f"  {runs} files")
 
@@ -181,13 +182,14 @@ def check(makers):
 def tiffs_by_others():
     """TIFF files by other programs."""
     fax.encoder()
-    check(TIFFS)
+    check(TIFFS, [fax.FAX])
 
 
 def pdfs_by_others():
-    """PDF files by other programs."""
+    """PDF files by other programs, by each reader of PDF."""
     fax.encoder()
-    check(PDFS)
+    with tempfile.TemporaryDirectory() as folder:
+        check(PDFS, fax.by_each_reader(folder))
 
 
 def raw_by_others():
@@ -222,14 +224,16 @@ def encrypted():
     if not has("qpdf"):
         return
     with tempfile.TemporaryDirectory() as folder:
+        tools = fax.by_each_reader(folder)
         source = fax.pdf_of(fax_files.image(fax.PICTURE), fax.encoder()(fax.PICTURE, fax_files.G4, fax_files.BLOCK)).file()
         with open(f"{folder}/plain.pdf", "wb") as out:
             out.write(source)
         for words in (["40"], ["128", "--use-aes=n"], ["128", "--use-aes=y"], ["256"]):
             for streams in ("generate", "disable"):
                 assert done("qpdf", "--warning-exit-0", "--allow-weak-crypto", f"--object-streams={streams}", "--encrypt", "", "owner", *words, "--", f"{folder}/plain.pdf", f"{folder}/made.pdf")
-                status, pictures, told = fax.run(f"{folder}/made.pdf")
-                assert (status, pictures) == (1, b"") and told.endswith(": it is encrypted\n"), (words, status, told)
+                for tool in tools:
+                    status, pictures, told = fax.run(f"{folder}/made.pdf", tool=tool)
+                    assert (status, pictures) == (1, b"") and told.endswith(": it is encrypted\n"), (tool, words, status, told)
 
 
 CHECKS = [tiffs_by_others, pdfs_by_others, raw_by_others, encrypted]

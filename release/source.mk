@@ -26,6 +26,11 @@ EXAMPLES = $(patsubst examples/%.c,build/%,$(wildcard examples/*.c))
 WITH_ZLIB ?= $(shell pkg-config --exists zlib 2>/dev/null && echo zlib)
 ZLIB_FLAGS = $(if $(WITH_ZLIB),-DFAX_HAVE_ZLIB $(shell pkg-config --cflags zlib))
 ZLIB_LIBS = $(if $(WITH_ZLIB),$(shell pkg-config --libs zlib))
+# It reads PDF's structure by libqpdf, if that was found here, and again when it runs; WITH_QPDF= builds it with its own reader alone.
+WITH_QPDF ?= $(shell pkg-config --exists 'libqpdf >= 10.6' 2>/dev/null && \
+	objdump -p "$$(pkg-config --variable=libdir libqpdf)/libqpdf.so" 2>/dev/null | sed -n 's/^ *SONAME *//p')
+QPDF_FLAGS = $(if $(WITH_QPDF),-DFAX_QPDF='"$(WITH_QPDF)"' $(shell pkg-config --cflags libqpdf))
+QPDF_LIBS = $(if $(WITH_QPDF),-ldl)
 COMPLETIONS ?= $(PREFIX)/share/bash-completion/completions
 
 all: build/libhayro_ccitt.a build/libhayro_ccitt.so build/hayro_ccitt.pc build/fax $(EXAMPLES)
@@ -43,7 +48,7 @@ build/libhayro_ccitt.so: $(OBJECTS) c/exports
 build/hayro_ccitt.pc: c/hayro_ccitt.pc.in c/hayro_ccitt.h | build
 	sed -e 's|@PREFIX@|$(PREFIX)|' -e 's|@LIBDIR@|$(LIBDIR)|' -e 's|@INCLUDEDIR@|$(INCLUDEDIR)|' -e 's|@VERSION@|$(VERSION)|' $< > $@
 build/fax: $(wildcard tools/fax/*.[ch]) $(HEADERS) build/libhayro_ccitt.a
-	$(CC) $(CFLAGS) -std=c99 -Ic $(ZLIB_FLAGS) $(LDFLAGS) -o $@ $(filter %.c,$^) build/libhayro_ccitt.a $(ZLIB_LIBS)
+	$(CC) $(CFLAGS) -std=c99 -Ic $(ZLIB_FLAGS) $(QPDF_FLAGS) $(LDFLAGS) -o $@ $(filter %.c,$^) build/libhayro_ccitt.a $(ZLIB_LIBS) $(QPDF_LIBS)
 build/%: examples/%.c $(HEADERS) build/libhayro_ccitt.a
 	$(CC) $(CFLAGS) -std=c99 -Ic $(LDFLAGS) -o $@ $< build/libhayro_ccitt.a
 

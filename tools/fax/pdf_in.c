@@ -199,20 +199,42 @@ static void read_contents(pdf_pages *to, pdf_value from, pdf_value resources, un
     read_content(to, resources, bytes_in(&content), page, depth);
 }
 
+enum { ROOM_FOR_NAME = 128 };
+
+/* The shorter name, or of two of the same length the lower one, comes first. */
+static int compare_names(const void *one, const void *other)
+{
+    size_t length = strlen(one), of_other = strlen(other);
+    return length == of_other ? strcmp(one, other) : length < of_other ? -1 : 1;
+}
+
+/* The names of a dictionary's keys in order, each in the same room: libqpdf keeps no other order. */
+static buffer sorted_names(pdf_pages *of, pdf_value dictionary)
+{
+    buffer names = {NULL, 0, 0, 0};
+    const uint8_t *at = pdf_past_space(dictionary.at + 2, dictionary.end), *end = dictionary.end;
+    while (at < end && *at == '/' && spend(of->left, ROOM_FOR_NAME)) {
+        char name[ROOM_FOR_NAME] = "";
+        pdf_value key = {at, end, NO_OBJECT};
+        pdf_name(key, name, sizeof name);
+        add(&names, name, sizeof name);
+        at = pdf_past_space(pdf_past_value(pdf_past_token(at, end), end), end);
+    }
+    if (names.length)
+        qsort(names.at, names.length / ROOM_FOR_NAME, ROOM_FOR_NAME, compare_names);
+    return names;
+}
+
 /* Adds the images among the resources of a kind, and those that they show. */
 static void read_resources(pdf_pages *to, pdf_value resources, const char *kind, unsigned page, int depth)
 {
     pdf_value objects = pdf_key(to->objects, resources, kind);
     if (!pdf_is_dictionary(objects) || depth > MOST_DEPTH)
         return;
-    const uint8_t *at = pdf_past_space(objects.at + 2, objects.end);
-    while (at < objects.end && *at == '/' && spend(to->left, 1)) {
-        char name[128];
-        pdf_value key = {at, objects.end, NO_OBJECT};
-        pdf_name(key, name, sizeof name);
-        show(to, pdf_key(to->objects, objects, name), resources, page, depth);
-        at = pdf_past_space(pdf_past_value(pdf_past_token(at, objects.end), objects.end), objects.end);
-    }
+    buffer names = sorted_names(to, objects);
+    for (size_t at = 0; at < names.length; at += ROOM_FOR_NAME)
+        show(to, pdf_key(to->objects, objects, (const char *)names.at + at), resources, page, depth);
+    release(&names);
 }
 
 /* Adds the images that a page's annotations show, in their state if they have several. */

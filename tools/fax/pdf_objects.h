@@ -1,5 +1,6 @@
-/* The objects of a PDF file. They are found by reading the file from its beginning, as a reader repairs a file, rather than by
- * its tables: of an object that occurs twice the later one counts, as in an update. */
+/* The objects of a PDF file. They are found by reading the file from its beginning, as a reader repairs a file, rather than by its
+ * tables: of an object that occurs twice the later one counts, as in an update. What libqpdf makes of the file, where that is there, is
+ * read instead (pdf_library.h). */
 #ifndef FAX_PDF_OBJECTS_H
 #define FAX_PDF_OBJECTS_H
 
