@@ -1,11 +1,12 @@
 -- The laws of the plain reading.
-use Rattle.std.specs.Prelude.{◌≡◌, ◌≢◌, ◌↔◌, ℕ, ◌+◌, ◌-◌, ◌*◌, ◌/◌, ◌^◌, ◌<◌, Bool, true, false, not, ◌&&◌, ◌||◌, nat_le}
+use Rattle.std.specs.Prelude.{◌≡◌, ◌≢◌, ◌↔◌, ℕ, ◌+◌, ◌-◌, ◌*◌, ◌/◌, ◌^◌, ◌<◌, Bool, true, false, not, ◌&&◌, ◌||◌, nat_le, ◌⊎◌}
 use Rattle.std.specs.Prelude.{Result}
 use Rattle.std.specs.Prelude.{Ok, Err, IsOk}
 use Rattle.std.specs.Prelude.{List, [], ◌∷◌, ◌++◌, length, take, replicate, reverse, All}
-use Rattle.std.specs.List.{fold, list_any}
+use Rattle.std.specs.List.{fold, list_all, list_any}
 pub use Rattle.fax_bits.specs.Words.{AreWords, HoldsZeros, IsWord, each_word, joined}
 use Rattle.fax_bits.specs.declared.codes.Color.{Color}
+use Rattle.fax_bits.specs.declared.codes.Mode.{Mode}
 use Rattle.fax_bits.specs.declared.error.DecodeError.{DecodeError}
 use Rattle.fax_bits.specs.declared.settings.EncodingMode.{EncodingMode}
 use Rattle.fax_bits.specs.declared.settings.EncodingMode.TheVariants.{Group4}
@@ -14,8 +15,8 @@ use Rattle.fax_bits.specs.declared.bit_reader.BitOrder.{BitOrder}
 use Rattle.fax_bits.specs.declared.bit_reader.BitOrder.TheVariants.{HighestFirst, LowestFirst}
 use Rattle.hayro_ccitt.specs.Answers.{meaning_after}
 use Rattle.hayro_ccitt.specs.Bits.{Bits, bits_of_byte, bits_in, AreWholeBytes, IsPrefix}
-use Rattle.hayro_ccitt.specs.CodeLists.{mode_codes}
-use Rattle.hayro_ccitt.specs.CodeReading.{leading_zeros, PrefixFree}
+use Rattle.hayro_ccitt.specs.CodeLists.{Code, mode_codes}
+use Rattle.hayro_ccitt.specs.CodeReading.{Has, leading_zeros, PrefixFree}
 use Rattle.hayro_ccitt.specs.Runs.{codes_of}
 use Rattle.hayro_ccitt.specs.Rows.{Row, HaveWidth, AreChanges, pixels, changes, white_row}
 use Rattle.hayro_ccitt.specs.EndOfLine.{eols}

@@ -1,13 +1,16 @@
 -- Runs that are drawn with bits at hand. This is not part of the trusted specification: no contract of a public call cites it.
-use Rattle.std.specs.Prelude.{◌≡◌, ◌⊎◌, ◌+◌, ◌-◌, ◌%◌, ◌^◌, ◌<◌, ◌≤◌, Bool, true, ℕ, List, [], length}
+use Rattle.std.specs.Prelude.{◌≡◌, ◌⊎◌, ◌+◌, ◌-◌, ◌%◌, ◌^◌, ◌<◌, ◌≤◌, Bool, true, ℕ, List, [], Ok, length}
 pub use Rattle.fax_bits.specs.WordsHere.{IsRunHere, IsWordHere, RunGoesOn}
 use Rattle.fax_bits.specs.declared.codes.Color.{Color}
 use Rattle.fax_bits.specs.declared.codes.Color.TheVariants.{White}
 use Rattle.fax_bits.specs.declared.settings.DecodeSettings.{DecodeSettings}
 use Rattle.hayro_ccitt.specs.declared.usual.TwoRuns.{TwoRuns}
-use Rattle.hayro_ccitt.specs.Bits.{BitsAt, here}
+use Rattle.hayro_ccitt.specs.Bits.{Bits, BitsAt, here}
+use Rattle.hayro_ccitt.specs.CodeReading.{read_code}
 use Rattle.hayro_ccitt.specs.Lines.{Pen, draw_1d, drawn, words_drawn}
 use Rattle.hayro_ccitt.specs.Rows.{AreChanges, opposite, pixels}
+use Rattle.hayro_ccitt.specs.Runs.{codes_of, read_run, run_from}
+use Rattle.hayro_ccitt.specs.Ticks.{run_found}
 use Rattle.hayro_ccitt.specs.Window.{moved}
 
 -- two runs are here, of a colour and of the other one, with this many bits and words in all

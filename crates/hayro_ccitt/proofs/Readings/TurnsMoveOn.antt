@@ -1,5 +1,5 @@
 -- Each line of a run moves the offset on.
-use Rattle.hayro_ccitt.proofs.Names.{common_steps, ◌≡◌, ℕ, suc, ◌-◌, ◌%◌, ◌<◌, ◌≤◌, Bool, true, false, cond, not, ◌&&◌}
+use Rattle.hayro_ccitt.proofs.Names.{common_steps, ◌≡◌, ℕ, suc, ◌+◌, ◌-◌, ◌%◌, ◌<◌, ◌≤◌, Bool, true, false, cond, not, ◌&&◌}
 use Rattle.hayro_ccitt.proofs.Names.{◌||◌, eqb, [], ◌∷◌, ◌++◌, length, replicate, Option, Some, None, Result, Ok, Err, refl}
 use Rattle.hayro_ccitt.proofs.Names.{sym, ap, subst, ◌∙◌, arith, ◌⊎◌, inl, inr, length-drop, not-false, or_parts, false≢true}
 use Rattle.hayro_ccitt.proofs.Names.{le-leb, lt-leb, eqb-false, DecodeError, DecodeSettings, Bits, Turn, Row, EncodingMode}
