@@ -55,11 +55,11 @@ fn runs_end_before(ctx: &mut DecoderContext, line: &BitReader<'_>, end: &BitRead
     ensures at_most { ctx.new.ticks ≤ ctx.old.ticks + length (here line.now) + 1 }
     ensures space { ctx.new.space ≡ ctx.old.space }
 {
-    let mut rest = copy(line);
-    if !pass_runs(ctx, &mut rest) {
+    let mut runs = copy(line);
+    if !pass_runs(ctx, &mut runs) {
         return true;
     }
-    rest.bit_pos() + 12 <= end.bit_pos()
+    runs.bit_pos() + 12 <= end.bit_pos()
 }
 
 /// Returns whether the modes here, as many as can be read, end at least twelve bits before another offset.
@@ -72,9 +72,9 @@ fn modes_end_before(ctx: &mut DecoderContext, line: &BitReader<'_>, end: &BitRea
         → ctx.new.ticks + length after ≤ ctx.old.ticks + length (here line.now) }
     ensures space { ctx.new.space ≡ ctx.old.space }
 {
-    let mut rest = copy(line);
-    pass_modes(ctx, &mut rest);
-    rest.bit_pos() + 12 <= end.bit_pos()
+    let mut modes = copy(line);
+    pass_modes(ctx, &mut modes);
+    modes.bit_pos() + 12 <= end.bit_pos()
 }
 
 /// Returns whether the line here, by its tag, is broken or ends at least twelve bits before another offset: a one-dimensional
