@@ -307,6 +307,13 @@ step_ends settings here line behind group3 lenient told =
 same_bits : (o : Option Bits) (one two : Bits) → o ≡ Some one → o ≡ Some two → one ≡ two
 same_bits o one two e f = let both : ◌≡◌ {A = Option Bits} (Some one) (Some two) = sym e ∙ f in cc
 
+-- the EOL behind the line is the next one
+pub step_next : (settings : DecodeSettings) (here line next other behind : Bits) → eols_here settings here ≡ (1, line)
+    → next_eol line ≡ Some next → (told : TellsStep settings here other behind) → told.step.next ≡ next
+step_next settings here line next other behind alone next_is told =
+    let line_is : other ≡ line = ap (λ (f : ℕ × Bits). f.1) (sym told.step.alone ∙ alone) in
+    same_bits (next_eol other) told.step.next next told.step.next_is (ap next_eol line_is ∙ next_is)
+
 -- a line that doesn't end by its words tells no step
 pub no_step_beyond : (settings : DecodeSettings) (here line next after : Bits) → IsGroup3 settings.encoding
     → settings.strict ≡ false → eols_here settings here ≡ (1, line) → next_eol line ≡ Some next → after_eol 0 next ≡ Some after
@@ -314,8 +321,7 @@ pub no_step_beyond : (settings : DecodeSettings) (here line next after : Bits) �
     → TellsStep settings here other behind → ⊥
 no_step_beyond settings here line next after group3 lenient alone next_is after_is beyond other behind told =
     let line_is : other ≡ line = ap (λ (f : ℕ × Bits). f.1) (sym told.step.alone ∙ alone) in
-    let found : told.step.next ≡ next =
-    same_bits (next_eol other) told.step.next next told.step.next_is (ap next_eol line_is ∙ next_is) in
+    let found : told.step.next ≡ next = step_next settings here line next other behind alone next_is told in
     let end : told.step.after ≡ after =
     same_bits (after_eol 0 told.step.next) told.step.after after told.step.after_is (ap (after_eol 0) found ∙ after_is) in
     beyond (subst (λ (b : Bits). EndsByWords settings.encoding settings.columns b line) end

@@ -54,3 +54,11 @@ returns-clause-within c =
     let same : c.pass_to_step.new.reader.bits ≡ bits
     = c.pass_to_step.ensures.same_bits ∙ ap (λ (at : BitsAt). at.bits) c.starting_at-reader.ensures in
     omega (arith, c.bit_pos.ensures.within, ap length same, length-bits_of c.args.data.now)
+
+pub returns-then-not-pass_to_step-clause-at_most : goal.returns-then-not-pass_to_step-clause-at_most
+returns-then-not-pass_to_step-clause-at_most c =
+    omega (arith, c.pass_to_step.ensures.at_most, ap (λ (at : BitsAt). length (here at)) c.starting_at-reader.ensures)
+
+pub returns-clause-at_most : goal.returns-clause-at_most
+returns-clause-at_most c =
+    omega (arith, c.pass_to_step.ensures.at_most, ap (λ (at : BitsAt). length (here at)) c.starting_at-reader.ensures)

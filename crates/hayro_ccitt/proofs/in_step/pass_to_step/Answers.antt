@@ -2,9 +2,9 @@ use Rattle.hayro_ccitt.proofs.Names.{◌≡◌, ℕ, ◌+◌, ◌*◌, ◌≤◌
 use Rattle.hayro_ccitt.proofs.Names.{BitsAt, here, Held, after_eol, next_eol, eols_here, EndsByWords, looked}
 use Rattle.hayro_ccitt.proofs.Names.{most_for_lines, Group3_2D, ComesBefore1D, false≢true}
 use Rattle.hayro_ccitt.proofs.DamagedLines.LinesPassed.{eol_passed}
-use Rattle.hayro_ccitt.proofs.KeptRows.StepsTold.{one_alone, told_by, no_step_beyond, eols_work, line_test_work}
+use Rattle.hayro_ccitt.proofs.KeptRows.StepsTold.{one_alone, told_by, no_step_beyond, step_next, eols_work, line_test_work}
 use Rattle.fax_bits.proofs.BitReading.ConsecutiveEols.{next_eol_found}
-use Rattle.hayro_ccitt.proofs.in_step.pass_to_step.Goals.{After-line_ends_before}
+use Rattle.hayro_ccitt.proofs.in_step.pass_to_step.Goals.{After-line_ends_before, After-needs_no_reference}
 use Rattle.hayro_ccitt.proofs.in_step.pass_to_step.Goals as goal
 
 -- one EOL was counted
@@ -102,26 +102,47 @@ pub returns-then-not-line_ends_before-clause-at_most : goal.returns-then-not-lin
 returns-then-not-line_ends_before-clause-at_most c =
     omega (arith, (counted (goal.at.returns-then-not-line_ends_before-clause-at_most c).After-line_ends_before).1)
 
+-- the EOLs behind the line were counted
+behind : (c : After-needs_no_reference) → eols_here c.args.ctx.now.held.settings (here c.skip_to_eol.new.self)
+    ≡ (c.read_eols-count.result, here c.read_eols-count.new.reader)
+behind c =
+    subst (λ (h : Held). eols_here h.settings (here c.skip_to_eol.new.self)
+    ≡ (c.read_eols-count.result, here c.read_eols-count.new.reader))
+    (c.line_ends_before.ensures.held ∙ c.read_eols.ensures.held) c.read_eols-count.ensures.eols
+
+-- whether what follows them needs no reference row
+unreferred : (c : After-needs_no_reference)
+    → after_eol 0 (here c.skip_to_eol.new.self) ≡ Some (here c.pass_eol.new.reader) → IsTrue c.needs_no_reference.result
+    ↔ (c.args.ctx.now.held.settings.encoding ≡ Group3_2D
+    → ComesBefore1D c.args.ctx.now.held.settings (here c.skip_to_eol.new.self))
+unreferred c eol =
+    let found = here c.skip_to_eol.new.self in
+    let same : c.settings.result ≡ c.args.ctx.now.held.settings
+    = c.settings.ensures.value ∙ ap (λ (h : Held). h.settings)
+    (c.read_eols-count.ensures.held ∙ c.line_ends_before.ensures.held ∙ c.read_eols.ensures.held) in
+    subst (λ (s : DecodeSettings). eols_here s found ≡ (c.read_eols-count.result, here c.read_eols-count.new.reader)
+    → IsTrue c.needs_no_reference.result ↔ (s.encoding ≡ Group3_2D → ComesBefore1D s found)) same
+    (c.needs_no_reference.ensures.tag found (here c.pass_eol.new.reader, eol)) (behind c)
+
 pub returns-clause-step : goal.returns-clause-step
 returns-clause-step c = λ e.
     let at = (goal.at.returns-clause-step c).After-line_ends_before in
-    let settings = c.args.ctx.now.held.settings in
-    let found = here c.skip_to_eol.new.self in
-    let rest = here c.read_eols-count.new.reader in
-    let held : c.line_ends_before.new.ctx.held ≡ c.args.ctx.now.held
-    = c.line_ends_before.ensures.held ∙ c.read_eols.ensures.held in
-    let behind : eols_here settings found ≡ (c.read_eols-count.result, rest) =
-    subst (λ (h : Held). eols_here h.settings found ≡ (c.read_eols-count.result, rest)) held c.read_eols-count.ensures.eols in
-    let same : c.settings.result ≡ settings =
-    c.settings.ensures.value ∙ ap (λ (h : Held). h.settings) (c.read_eols-count.ensures.held ∙ held) in
-    let tag = subst (λ (s : DecodeSettings). eols_here s found ≡ (c.read_eols-count.result, rest)
-    → IsTrue c.needs_no_reference.result ↔ (s.encoding ≡ Group3_2D → ComesBefore1D s found)) same
-    (c.needs_no_reference.ensures.tag found (here c.pass_eol.new.reader, (next at).1)) in (
+    let last = (goal.at.returns-clause-step c).After-needs_no_reference in (
       here c.copy-line.result,
-      told_by settings (here c.args.reader.now) (here c.copy-line.result) found (here c.pass_eol.new.reader) rest
-          c.read_eols-count.result c.requires.group3 c.requires.lenient (alone at) (next at).0 (next at).1
-          ((ends at).0 c.if-not-line_ends_before.false) behind ((tag behind).0 e),
+      told_by c.args.ctx.now.held.settings (here c.args.reader.now) (here c.copy-line.result) (here c.skip_to_eol.new.self)
+          (here c.pass_eol.new.reader) (here c.read_eols-count.new.reader) c.read_eols-count.result c.requires.group3
+          c.requires.lenient (alone at) (next at).0 (next at).1 ((ends at).0 c.if-not-line_ends_before.false) (behind last)
+          ((unreferred last (next at).1).0 e),
     )
+
+pub returns-clause-no_step : goal.returns-clause-no_step
+returns-clause-no_step c = λ e line rest told.
+    let at = (goal.at.returns-clause-no_step c).After-line_ends_before in
+    let last = (goal.at.returns-clause-no_step c).After-needs_no_reference in
+    let settings = c.args.ctx.now.held.settings in
+    false≢true (sym e ∙ (unreferred last (next at).1).1 (λ two. subst (ComesBefore1D settings)
+    (step_next settings (here c.args.reader.now) (here c.copy-line.result) (here c.skip_to_eol.new.self) line rest (alone at)
+    (next at).0 told) (told.tag two)))
 
 pub returns-clause-counts : goal.returns-clause-counts
 returns-clause-counts c =
