@@ -1,15 +1,14 @@
 -- An EOL and the line behind it, as they are tested.
 use Rattle.hayro_ccitt.proofs.Names.{◌≡◌, ℕ, suc, ◌+◌, ◌-◌, ◌*◌, ◌<◌, ◌≤◌, ◌⊎◌, ◌↔◌, Bool, true, false, leb, [], ◌∷◌, ◌++◌}
-use Rattle.hayro_ccitt.proofs.Names.{length, replicate, Option, Some, None, Result, Ok, Err, refl, sym, ap, subst, ◌∙◌, arith, inl}
-use Rattle.hayro_ccitt.proofs.Names.{inr, IsTrue, min, cond-true, cond-false, lt-leb, le-leb, leb-true, none-some, length-append}
-use Rattle.hayro_ccitt.proofs.Names.{length-replicate, Color, White, DecodeError, EncodingMode, Group4, Group3_1D}
-use Rattle.hayro_ccitt.proofs.Names.{Group3_2D, DecodeSettings, Bits, after_eol, next_eol, all_eols, one_more, past_tag}
-use Rattle.hayro_ccitt.proofs.Names.{pass_last_tag, eols_by, eols_here, is_end_of_block, read_run, opposite, is_black}
-use Rattle.hayro_ccitt.proofs.Names.{run_found, Turn, Row, Line, Pen, line_1d, line_by, line_here, EndsBefore}
-use Rattle.hayro_ccitt.proofs.Names.{ModesEndBefore, ComesBefore1D, EndsByWords, TellsStep, IsInStepFrom}
-use Rattle.hayro_ccitt.proofs.KeptRows.RowsBehindDamage.{rows_behind}
-use Rattle.hayro_ccitt.proofs.Names.{AreWholeBytes, MakesNoRtc, RowsFollow}
+use Rattle.hayro_ccitt.proofs.Names.{length, replicate, Option, Some, None, Result, Ok, Err, refl, sym, ap, subst, ◌∙◌, arith}
+use Rattle.hayro_ccitt.proofs.Names.{inl, inr, IsTrue, min, cond-true, cond-false, lt-leb, le-leb, leb-true, none-some}
+use Rattle.hayro_ccitt.proofs.Names.{length-append, length-replicate, Color, DecodeError, EncodingMode, Group4}
+use Rattle.hayro_ccitt.proofs.Names.{Group3_1D, Group3_2D, DecodeSettings, Bits, after_eol, next_eol, all_eols, one_more}
+use Rattle.hayro_ccitt.proofs.Names.{past_tag, pass_last_tag, eols_by, eols_here, is_end_of_block, read_run, opposite, is_black}
+use Rattle.hayro_ccitt.proofs.Names.{run_found, Turn, Row, Line, Pen, line_1d, line_by, line_here, EndsBefore, ModesEndBefore}
+use Rattle.hayro_ccitt.proofs.Names.{ComesBefore1D, EndsByWords, TellsStep, IsInStepFrom, AreWholeBytes, MakesNoRtc, RowsFollow}
 use Rattle.hayro_ccitt.proofs.Names.{drop, length-drop, looked, looked_ahead, tag_tests, most_for_lines}
+use Rattle.hayro_ccitt.proofs.KeptRows.RowsBehindDamage.{rows_behind}
 use Rattle.hayro_ccitt.proofs.BitReading.ZeroRuns.{looked_eol}
 use Rattle.hayro_ccitt.proofs.Work.EolsPassed.{few_tag_tests, looked_ahead_most}
 use Rattle.fax_bits.proofs.BitReading.ConsecutiveEols.{after_eol_shorter, next_eol_found}
@@ -27,8 +26,8 @@ use Rattle.hayro_ccitt.proofs.Work.WordsPay.{stands_count}
 
 -- ---- Runs that are passed
 
-abbrev pen_with : Row → Color → Bits → Pen
-pen_with front color rest = record { front = front; color = color; rest = rest }
+abbrev pen_of_runs : Row → Color → Bits → Pen
+pen_of_runs front color rest = record { front = front; color = color; rest = rest }
 
 abbrev line_from : ℕ → Pen → Line
 line_from columns pen = drawn_by (step_1d false columns) pen
@@ -36,18 +35,15 @@ line_from columns pen = drawn_by (step_1d false columns) pen
 -- so many pixels of the line were passed, and its next run has this colour and is here
 abbrev pub RunsPassed : ℕ → Bits → ℕ → Color → Bits → Type 0
 RunsPassed columns begun passed color here = (front : Row) × (length front ≡ passed)
-    × (line_1d false columns begun ≡ line_from columns (pen_with front color here))
-
-pub none_passed : (columns : ℕ) (begun : Bits) → RunsPassed columns begun 0 White begun
-none_passed columns begun = ([], refl, refl)
+    × (line_1d false columns begun ≡ line_from columns (pen_of_runs front color here))
 
 -- the step of a line that isn't full is its next run
 run_is_next : (columns : ℕ) (front : Row) (color : Color) (here : Bits) → length front < columns
-    → line_from columns (pen_with front color here)
-    ≡ after_turn (line_from columns) (run_then false columns (pen_with front color here) Turn.next)
+    → line_from columns (pen_of_runs front color here)
+    ≡ after_turn (line_from columns) (run_then false columns (pen_of_runs front color here) Turn.next)
 run_is_next columns front color here few =
-    drawn1 false columns (pen_with front color here)
-    ∙ ap (after_turn (line_from columns)) (step_1d_is false columns (pen_with front color here)
+    drawn1 false columns (pen_of_runs front color here)
+    ∙ ap (after_turn (line_from columns)) (step_1d_is false columns (pen_of_runs front color here)
     ∙ cond-false (leb columns (length front)) _ _ (lt-leb columns (length front) few))
 
 -- a run more
@@ -56,8 +52,8 @@ pub run_passed : (columns : ℕ) (begun : Bits) (passed : ℕ) (color : Color) (
     → RunsPassed columns begun (passed + min n (columns - passed)) (opposite color) rest
 run_passed columns begun passed color here rest n few (front, long, is) read =
     let more : Row = front ++ replicate (min n (columns - length front)) (is_black color) in
-    let step : run_then false columns (pen_with front color here) Turn.next
-    ≡ Turn.next (pen_with more (opposite color) rest) = rw read refl in (
+    let step : run_then false columns (pen_of_runs front color here) Turn.next
+    ≡ Turn.next (pen_of_runs more (opposite color) rest) = rw read refl in (
       more,
       length-append front (replicate (min n (columns - length front)) (is_black color))
           ∙ ap (λ (m : ℕ). length front + m) (length-replicate (min n (columns - length front)) (is_black color))
@@ -70,8 +66,8 @@ pub runs_whole : (columns : ℕ) (begun : Bits) (passed : ℕ) (color : Color) (
     → RunsPassed columns begun passed color here → (row : Row) × (line_1d false columns begun ≡ Line.whole row here)
 runs_whole columns begun passed color here full (front, long, is) = (
   front,
-  is ∙ drawn1 false columns (pen_with front color here)
-      ∙ ap (after_turn (line_from columns)) (step_1d_is false columns (pen_with front color here)
+  is ∙ drawn1 false columns (pen_of_runs front color here)
+      ∙ ap (after_turn (line_from columns)) (step_1d_is false columns (pen_of_runs front color here)
       ∙ cond-true (leb columns (length front)) _ _ (le-leb columns (length front) (omega (arith, full, long)))),
 )
 
@@ -83,7 +79,7 @@ pub runs_broken : (columns : ℕ) (begun : Bits) (passed : ℕ) (color : Color) 
     → passed < columns → RunsPassed columns begun passed color here → read_run color here ≡ Err fault
     → (row : Row) (rest : Bits) → line_1d false columns begun ≡ Line.whole row rest → ⊥
 runs_broken columns begun passed color here fault few (front, long, is) read row rest e =
-    let step : run_then false columns (pen_with front color here) Turn.next ≡ Turn.done (Line.broken front fault)
+    let step : run_then false columns (pen_of_runs front color here) Turn.next ≡ Turn.done (Line.broken front fault)
     = rw read refl in
     not_whole front row fault rest (sym (is ∙ run_is_next columns front color here (omega (arith, few, long))
     ∙ ap (after_turn (line_from columns)) step) ∙ e)
@@ -106,15 +102,15 @@ no_run_work color here =
 
 -- ---- Where a line ends
 
-same_end : (row other : Row) (rest end : Bits) → Line.whole row rest ≡ Line.whole other end → rest ≡ end
-same_end row other rest end e = cc
+same_rest : (row other : Row) (rest end : Bits) → Line.whole row rest ≡ Line.whole other end → rest ≡ end
+same_rest row other rest end e = cc
 
 -- a whole line that ends here
 pub whole_before : (columns : ℕ) (after here rest : Bits) (row : Row) (before : Bool)
     → line_1d false columns here ≡ Line.whole row rest → (IsTrue before ↔ (length after + 12 ≤ length rest))
     → IsTrue before ↔ EndsBefore columns after here
 whole_before columns after here rest row before whole is = (
-  λ t other end e. subst (λ (b : Bits). length after + 12 ≤ length b) (same_end row other rest end (sym whole ∙ e)) (is.0 t),
+  λ t other end e. subst (λ (b : Bits). length after + 12 ≤ length b) (same_rest row other rest end (sym whole ∙ e)) (is.0 t),
   λ ends. is.1 (ends row rest whole),
 )
 
@@ -223,8 +219,8 @@ one_raw here line e = by_after_eol (after_eol 0 here) refl
     by_after_eol : (o : Option Bits) → after_eol 0 here ≡ o → IsAlone here line
     by_after_eol None f = absurd (not_one here line (sym (all_tagged-none here f) ∙ e))
     by_after_eol (Some rest) f =
-        let behind =
-        none_tagged (past_tag rest) line (one_is_none line (all_tagged (past_tag rest)) (sym (all_tagged-some here rest f) ∙ e)) in
+        let behind = none_tagged (past_tag rest) line
+        (one_is_none line (all_tagged (past_tag rest)) (sym (all_tagged-some here rest f) ∙ e)) in
         let same : rest ≡ line = sym (no_tag_passed rest behind.1) ∙ behind.0 in
         (f ∙ ap (λ (b : Bits). Some b) same, subst (λ (b : Bits). after_eol 0 b ≡ None) behind.0 behind.1)
 
@@ -246,24 +242,24 @@ one_alone settings here line group3 e = by_encoding settings.encoding settings.e
 
 -- ---- The line behind the second EOL
 
-abbrev Unreferred : DecodeSettings → ℕ → Bits → Type 0
-Unreferred settings count behind = (is_end_of_block settings count ≡ true)
+abbrev NeedsNoReference : DecodeSettings → ℕ → Bits → Type 0
+NeedsNoReference settings count behind = (is_end_of_block settings count ≡ true)
     ⊎ ((reference other : Row) → line_here settings reference behind ≡ line_here settings other behind)
 
 one_dimensional : (settings : DecodeSettings) (count : ℕ) (behind : Bits) → settings.encoding ≡ Group3_1D
-    → Unreferred settings count behind
+    → NeedsNoReference settings count behind
 one_dimensional settings count behind is = inr (λ reference other. rw (is, line_here) refl)
 
 before_tag : (settings : DecodeSettings) (count : ℕ) (behind : Bits) → settings.encoding ≡ Group3_2D
     → ((settings.end_of_block ≡ true) × (6 ≤ count)) ⊎ (((line : Bits) × (behind ≡ true ∷ line)) ⊎ (behind ≡ []))
-    → Unreferred settings count behind
+    → NeedsNoReference settings count behind
 before_tag settings count behind is (inl (block, six)) = inl (rw (block, is, le-leb 6 count six, is_end_of_block) refl)
 before_tag settings count behind is (inr (inl (line, tag))) = inr (λ reference other. rw (tag, is, line_here) refl)
 before_tag settings count behind is (inr (inr over)) = inr (λ reference other. rw (over, is, line_here) refl)
 
 pub unreferred_by : (settings : DecodeSettings) (next behind : Bits) (count : ℕ) → IsGroup3 settings.encoding
     → eols_here settings next ≡ (count, behind) → (settings.encoding ≡ Group3_2D → ComesBefore1D settings next)
-    → Unreferred settings count behind
+    → NeedsNoReference settings count behind
 unreferred_by settings next behind count (inl one) counted tag = one_dimensional settings count behind one
 unreferred_by settings next behind count (inr two) counted tag =
     before_tag settings count behind two (subst (λ (c : ℕ × Bits). ((settings.end_of_block ≡ true) × (6 ≤ c.0))

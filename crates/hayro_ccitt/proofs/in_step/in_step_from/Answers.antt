@@ -1,5 +1,6 @@
 use Rattle.hayro_ccitt.proofs.Names.{◌≡◌, ℕ, length, drop, sym, ap, subst, ◌∙◌, arith, DecodeSettings, Bits, BitsAt, bits_of}
-use Rattle.hayro_ccitt.proofs.Names.{here, TellsStep, IsInStepFrom, ◌⊎◌, ◌<◌, false, Group3_1D, Group3_2D, refl, Some, ◌↔◌, HighestFirst}
+use Rattle.hayro_ccitt.proofs.Names.{here, TellsStep, IsInStepFrom, ◌⊎◌, ◌<◌, false, Group3_1D, Group3_2D, refl, Some, ◌↔◌}
+use Rattle.hayro_ccitt.proofs.Names.{HighestFirst}
 use Rattle.hayro_ccitt.proofs.BitReading.BitLists.{bits_are_whole, length-bits_of}
 use Rattle.hayro_ccitt.proofs.KeptRows.StepsTold.{step_found, no_step_found, rows_follow}
 use Rattle.hayro_ccitt.proofs.in_step.in_step_from.Goals.{After-bit_pos}
@@ -20,9 +21,9 @@ returns-then-not-pass_to_step-clause-place c =
     given.told))
 
 -- the offset that is returned is the only one
-stands : (c : After-bit_pos) (place : ℕ) → (Some c.bit_pos.result ≡ Some place)
+place_found : (c : After-bit_pos) (place : ℕ) → (Some c.bit_pos.result ≡ Some place)
     ↔ IsInStepFrom c.args.ctx.now.held.settings (bits_of c.args.data.now) c.args.to place
-stands c =
+place_found c =
     let settings = c.args.ctx.now.held.settings in
     let bits = bits_of c.args.data.now in
     let at = c.pass_to_step.new.reader in
@@ -40,13 +41,13 @@ stands c =
     (subst (λ (b : Bits). TellsStep settings (here c.starting_at-reader.result) told.0 b) behind told.1))
 
 pub returns-clause-place : goal.returns-clause-place
-returns-clause-place c = stands (goal.at.returns-clause-place c).After-bit_pos
+returns-clause-place c = place_found (goal.at.returns-clause-place c).After-bit_pos
 
 pub returns-clause-rows : goal.returns-clause-rows
 returns-clause-rows c =
     rows_follow c.args.ctx.now.held.settings (bits_of c.args.data.now) c.args.to c.bit_pos.result
     (bits_are_whole HighestFirst c.args.data.now)
-    ((stands (goal.at.returns-clause-rows c).After-bit_pos c.bit_pos.result).0 refl)
+    ((place_found (goal.at.returns-clause-rows c).After-bit_pos c.bit_pos.result).0 refl)
 
 pub returns-clause-within : goal.returns-clause-within
 returns-clause-within c =

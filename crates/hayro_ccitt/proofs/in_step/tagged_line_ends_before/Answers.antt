@@ -15,4 +15,5 @@ pub returns-in-Ok-clause-before : goal.returns-in-Ok-clause-before
 returns-in-Ok-clause-before c =
     let is : here c.args.line.now ≡ true ∷ here c.read_bit.new.self = grind (arith, common_steps) in
     subst (λ (b : Bits). IsTrue c.runs_end_before.result
-    ↔ EndsByWords Group3_2D c.args.ctx.now.held.settings.columns (here c.args.end.now) b) (sym is) c.runs_end_before.ensures.before
+    ↔ EndsByWords Group3_2D c.args.ctx.now.held.settings.columns (here c.args.end.now) b) (sym is)
+    c.runs_end_before.ensures.before

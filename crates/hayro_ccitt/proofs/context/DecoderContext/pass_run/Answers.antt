@@ -1,5 +1,5 @@
-use Rattle.hayro_ccitt.proofs.Names.{◌≡◌, ℕ, true, false, Option, Some, None, Ok, Err, refl, sym, ap, ◌∙◌, is_some, false≢true, here}
-use Rattle.hayro_ccitt.proofs.Names.{DecodeError, read_run}
+use Rattle.hayro_ccitt.proofs.Names.{◌≡◌, ℕ, true, false, Option, Some, None, Ok, Err, refl, sym, ap, ◌∙◌, is_some, false≢true}
+use Rattle.hayro_ccitt.proofs.Names.{here, DecodeError, read_run}
 use Rattle.hayro_ccitt.proofs.context.DecoderContext.pass_run.Goals as goal
 
 pub returns-clause-run : goal.returns-clause-run
