@@ -11,12 +11,14 @@ use crate::cases::{check, first_of};
 use crate::same;
 use fax_callers::{
     BlackPixels, FirstRows, count_black, decode_first_rows, decode_once, group4_pages, page_end,
-    page_ends, strip_to_bitmap,
+    page_ends, row_in_step, strip_to_bitmap,
 };
 use fax_encode::BitmapSink;
 use hayro_ccitt::DecodeError::{OutOfMemory, Refused};
 use hayro_ccitt::bit_reader::BitOrder::HighestFirst;
-use hayro_ccitt::{DecodeError, Decoder, DecoderContext, Result, bits_fit};
+use hayro_ccitt::{
+    DecodeError, DecodeSettings, Decoder, DecoderContext, EncodingMode, Result, bits_fit,
+};
 use named_requests::made_at_last;
 use std::alloc::{AllocGlobal, Global};
 use std::process::Abort;
@@ -104,6 +106,35 @@ fn blank_images(rt: HostRuntime) {
         8000: Err(InvalidCode)
         ",
     );
+}
+
+/// Three one-dimensional lines of 8 columns, each after an EOL: a white row, one whose pixels 3 and 4 are black, and a white one.
+const THREE_LINES: [u8; 7] = [0x00, 0x19, 0x80, 0x0C, 0x70, 0x00, 0x33];
+
+/// Returns the settings of lenient one-dimensional data with EOLs.
+fn lines_with_eols(columns: u32) -> DecodeSettings {
+    DecodeSettings {
+        columns,
+        rows: 0,
+        end_of_block: false,
+        end_of_line: true,
+        rows_are_byte_aligned: false,
+        encoding: EncodingMode::Group3_1D,
+        strict: false,
+    }
+}
+
+/// Damage before the first EOL, before the second, between them, and before the last.
+#[test]
+fn rows_behind_damage(rt: HostRuntime) {
+    let settings = lines_with_eols(8);
+    for (to, row) in [(0, Some(1)), (17, Some(2)), (18, None), (36, None)] {
+        same(
+            &rt,
+            row_in_step(rt.alloc(), settings, &THREE_LINES, to),
+            Ok(row),
+        );
+    }
 }
 
 #[test]
@@ -221,7 +252,7 @@ fn is_want(error: &DecodeError) -> bool {
     matches!(error, OutOfMemory | Refused)
 }
 
-/// Makes the call of this name: the black pixels, the bitmap, and the ends of pages, of which it returns one.
+/// Makes the call of this name: the black pixels or a row, the bitmap, and the ends of pages, of which it returns one.
 fn called(alloc: Global, name: &str) -> Result<(u64, Vec<u8>, Vec<usize>)> {
     let mut black = 0;
     let mut bitmap = Vec::new(alloc);
@@ -230,6 +261,9 @@ fn called(alloc: Global, name: &str) -> Result<(u64, Vec<u8>, Vec<usize>)> {
         "count_black" => black = count_black(alloc, group4_pages(8), HighestFirst, &TWO_ROWS)?,
         "strip_to_bitmap" => {
             bitmap = strip_to_bitmap(alloc, group4_pages(8), HighestFirst, &TWO_ROWS)?;
+        }
+        "row_in_step" => {
+            black = row_in_step(alloc, lines_with_eols(8), &THREE_LINES, 17)?.unwrap_or(0);
         }
         _ => ends = page_ends(alloc, 8, HighestFirst, &TWO_PAGES)?,
     }
@@ -248,4 +282,5 @@ fn refused_memory(rt: HostRuntime) {
     made_with(&rt, "count_black", "Ok((4, [], []))");
     made_with(&rt, "strip_to_bitmap", "Ok((0, [24, 24], []))");
     made_with(&rt, "page_ends", "Ok((0, [], [5, 10]))");
+    made_with(&rt, "row_in_step", "Ok((2, [], []))");
 }

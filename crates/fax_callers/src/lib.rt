@@ -1,5 +1,5 @@
 //! Small callers of the decoder, each with a contract of its own that follows from the decoder's: they count black pixels,
-//! keep the first rows, make a bitmap of a strip, and find where consecutive pages end.
+//! keep the first rows, make a bitmap of a strip, and find where consecutive pages end and from which row on damage is over.
 //!
 //! Each accepts data of at most `(usize::MAX - 64) / 8` bytes, as [`hayro_ccitt::decode`] does; [`hayro_ccitt::bits_fit`] tests
 //! it.
@@ -8,6 +8,7 @@
 mod black_pixels;
 mod blank;
 mod first_rows;
+mod in_step;
 mod once;
 mod pages;
 mod strip;
@@ -15,6 +16,7 @@ mod strip;
 pub use black_pixels::{BlackPixels, count_black};
 pub use blank::is_blank;
 pub use first_rows::{FirstRows, decode_first_rows};
+pub use in_step::row_in_step;
 pub use once::decode_once;
 pub use pages::{group4_pages, page_end, page_ends};
 pub use strip::strip_to_bitmap;

@@ -41,7 +41,8 @@ pub use Rattle.hayro_ccitt.specs.Locality.{ComesToLine, DamageStaysInRow, Descen
 pub use Rattle.hayro_ccitt.specs.Locality.{IsLocal, IsLocalByTests, IsStart, LinesByEols, LocalByTests, Locality, OneRowDiffers}
 pub use Rattle.hayro_ccitt.specs.Locality.{StartsAre, StaysBefore, begins_line, later_starts, row_at, row_of, starts}
 pub use Rattle.hayro_ccitt.specs.LocalityByK.{ComeBefore1D, ComesBefore1D, DamageEndsAt1D, EncodedLinesAreBodies, IsFollowedBy}
-pub use Rattle.hayro_ccitt.specs.LocalityByK.{IsLine2D, IsTagOfLine, IsTaggedBody, LocalityByK, ReadsModes, RowsDiffer}
+pub use Rattle.hayro_ccitt.specs.LocalityByK.{IsLine2D, IsTagOfLine, IsTaggedBody, LocalityByK, ModesEndBefore, ReadsModes}
+pub use Rattle.hayro_ccitt.specs.LocalityByK.{RowsDiffer}
 pub use Rattle.hayro_ccitt.specs.LocalityByK.{behind_first_run, behind_mode, behind_read, behind_second_run, behind_word}
 pub use Rattle.hayro_ccitt.specs.LookUps.{ArePairs, is_short, pair_entry}
 pub use Rattle.hayro_ccitt.specs.LookUps.{AreEntries, AreOfColors, ColorEntries, entries_of, entry_of, is_row, longest_agreement}
@@ -61,8 +62,9 @@ pub use Rattle.hayro_ccitt.specs.RowCursors.{Paused}
 pub use Rattle.hayro_ccitt.specs.Rows.{AreChanges, AscendFrom, HaveWidth, Row, a1, a2, b1, b2, changes, is_black, is_change}
 pub use Rattle.hayro_ccitt.specs.Rows.{last_pixel, least_below, opposite, paint, pixel, pixel_before, pixels, pixels_from}
 pub use Rattle.hayro_ccitt.specs.Rows.{repaired, right_of, white_row}
-pub use Rattle.hayro_ccitt.specs.RowsKept.{AreAlikeBehind, AreInStep, ComesTo, MakesNoRtc, PutsInStep, ReadsUpTo, RowsBefore}
-pub use Rattle.hayro_ccitt.specs.RowsKept.{RowsBeforeStay, RowsBehind, RowsBehindStay}
+pub use Rattle.hayro_ccitt.specs.RowsKept.{AreAlikeBehind, AreInStep, ComesTo, EndsByWords, IsInStepFrom, MakesNoRtc}
+pub use Rattle.hayro_ccitt.specs.RowsKept.{PutsInStep, ReadsUpTo, RowsBefore, RowsBeforeStay, RowsBehind, RowsBehindStay}
+pub use Rattle.hayro_ccitt.specs.RowsKept.{RowsFollow, TellsStep}
 pub use Rattle.hayro_ccitt.specs.RowsRead.{DamageIsCounted, HasEnded, HasFailed, IsPaid, IsStanding, IsStandingAtLine, Misses}
 pub use Rattle.hayro_ccitt.specs.RowsRead.{MissesAreCounted, MissesBehindRow, PaidAtLine, PaidBehindRow, ReachesNextLine}
 pub use Rattle.hayro_ccitt.specs.RowsRead.{ReaderStands, ReadsNext, RowsRead, StandsAtLine, StandsBehindRow, WorkIsPaid}

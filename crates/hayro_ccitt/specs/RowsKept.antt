@@ -1,12 +1,15 @@
 -- Which rows of damaged data are as they were: those before the damage, and those behind the second EOL after it.
-use Rattle.std.specs.Prelude.{◌≡◌, ℕ, ◌+◌, ◌*◌, ◌<◌, ◌≤◌, ◌⊎◌, Some, Result, Ok, Err, true, false, List, ◌++◌, length, take, drop}
+use Rattle.std.specs.Prelude.{◌≡◌, ℕ, ◌+◌, ◌*◌, ◌<◌, ◌≤◌, ◌⊎◌, Some, Result, Ok, Err, true, false, List}
+use Rattle.std.specs.Prelude.{[], ◌∷◌, ◌++◌, length, take, drop}
 use Rattle.fax_bits.specs.declared.error.DecodeError.{DecodeError}
-use Rattle.fax_bits.specs.declared.settings.EncodingMode.TheVariants.{Group3_1D, Group3_2D}
+use Rattle.fax_bits.specs.declared.settings.EncodingMode.{EncodingMode}
+use Rattle.fax_bits.specs.declared.settings.EncodingMode.TheVariants.{Group4, Group3_1D, Group3_2D}
 use Rattle.fax_bits.specs.declared.settings.DecodeSettings.{DecodeSettings}
 use Rattle.hayro_ccitt.specs.Bits.{Bits, AreWholeBytes}
 use Rattle.hayro_ccitt.specs.EndOfLine.{after_eol, next_eol}
 use Rattle.hayro_ccitt.specs.Lines.{Line}
-use Rattle.hayro_ccitt.specs.Locality.{IsEolAt}
+use Rattle.hayro_ccitt.specs.Locality.{IsEolAt, EndsBefore}
+use Rattle.hayro_ccitt.specs.LocalityByK.{ComesBefore1D, ModesEndBefore}
 use Rattle.hayro_ccitt.specs.Repetition.{Turn, Reaches}
 use Rattle.hayro_ccitt.specs.Rows.{Row}
 use Rattle.hayro_ccitt.specs.PlainReading.{Progress, first_gap, first_line, move_on, eols_here, line_here, is_end_of_block}
@@ -107,3 +110,43 @@ RowsBehindStay settings one rows outcome =
 abbrev pub RowsBehind : Type 0
 RowsBehind = (settings : DecodeSettings) (bits : Bits) → AreWholeBytes bits
     → RowsBehindStay settings bits (plain settings bits).rows (plain settings bits).outcome
+
+-- ---- where the bits tell that they are in step
+
+-- auxiliary: the line here is broken or ends before the last twelve bits of an EOL, as its runs or modes tell without a
+-- reference row; `after` is what follows that EOL (T.4, 4.1.2 and 4.2)
+abbrev pub EndsByWords : EncodingMode → ℕ → Bits → Bits → Type 0
+EndsByWords Group3_1D columns after line = EndsBefore columns after line
+EndsByWords Group3_2D columns after [] = Unit {0}
+EndsByWords Group3_2D columns after (true ∷ line) = EndsBefore columns after line
+EndsByWords Group3_2D columns after (false ∷ line) = ModesEndBefore after line
+EndsByWords Group4 columns after line = ModesEndBefore after line
+
+-- An EOL and the line behind it put readings in step. In two-dimensional data modes and tags tell it, whatever the rows
+-- are: a two-dimensional line there ends by its modes, and a one-dimensional line, RTC or the end follows (T.4, 4.2).
+pub record TellsStep (settings : DecodeSettings) (here line behind : Bits) : Type 0 where
+  pub step : PutsInStep settings here line behind
+  pub modes : settings.encoding ≡ Group3_2D → (modes : Bits) → line ≡ false ∷ modes → ModesEndBefore step.after modes
+  pub tag : settings.encoding ≡ Group3_2D → ComesBefore1D settings step.next
+
+-- At a position of lenient Group 3 data without a row limit are an EOL and a line that put readings in step from another
+-- position on (T.4, 4.1.2 and 4.2).
+pub record IsInStepFrom (settings : DecodeSettings) (bits : Bits) (to place : ℕ) : Type 0 where
+  pub encoding : (settings.encoding ≡ Group3_1D) ⊎ (settings.encoding ≡ Group3_2D)
+  pub lenient : settings.strict ≡ false
+  pub unlimited : settings.rows ≡ 0
+  pub wide : 0 < settings.columns
+  pub within : to ≤ length bits
+  pub place_within : place ≤ length bits
+  pub line : Bits
+  pub told : TellsStep settings (drop to bits) line (drop place bits)
+
+-- Whatever other data are the same from that EOL on have the same rows from that other position on, and end alike, if EOLs
+-- are sought from the start of both, and what is before the line makes no RTC (T.4, 4.1.2 and 4.1.4).
+abbrev pub RowsFollow : DecodeSettings → Bits → ℕ → ℕ → Type 0
+RowsFollow settings bits to place = (two line : Bits) (to2 : ℕ) → AreWholeBytes two → drop to bits ≡ drop to2 two
+    → after_eol 0 (drop to bits) ≡ Some line
+    → (settings.end_of_line ≡ true) ⊎ IsEolAt bits → (settings.end_of_line ≡ true) ⊎ IsEolAt two
+    → MakesNoRtc settings bits line → MakesNoRtc settings two line
+    → AreInStep settings bits two (drop place bits) (plain settings bits).rows (plain settings two).rows
+    (plain settings bits).outcome (plain settings two).outcome

@@ -611,6 +611,25 @@ impl DecoderContext {
         self.cut_rows = cut_rows;
     }
 
+    /// Passes a run of a colour without drawing it, and returns its length. If there is none, it returns `None`, and the
+    /// offset is unspecified.
+    pub(crate) fn run_length(&mut self, color: Color, reader: &mut BitReader<'_>) -> Option<u32>
+        ensures run { (n : ℕ) → result ≡ Some n → read_run color (here reader.old) ≡ Ok (n, here reader.new) }
+        ensures none { result ≡ None → (fault : DecodeError) × (read_run color (here reader.old) ≡ Err fault) }
+        ensures same_bits { reader.new.bits ≡ reader.old.bits }
+        ensures held { self.new.held ≡ self.old.held }
+        ensures cut { self.new.cut ≡ self.old.cut }
+        ensures counts { self.old.ticks ≤ self.new.ticks }
+        ensures at_most { self.new.ticks
+            ≤ self.old.ticks + length (run_found color (0, here reader.old)) + (if is_some result then 0 else 1) }
+        ensures space { self.new.space ≡ self.old.space }
+    {
+        match reader.decode_run(color, &self.tables, &mut self.ticks) {
+            Ok(run) => Some(run),
+            Err(_) => None,
+        }
+    }
+
     /// Passes a run of a colour without drawing it, and returns whether one is here. If there is none, the offset is
     /// unspecified.
     fn pass_run(&mut self, color: Color, reader: &mut BitReader<'_>) -> bool
@@ -624,10 +643,7 @@ impl DecoderContext {
             ≤ self.old.ticks + length (run_found color (0, here reader.old)) + (if result then 0 else 1) }
         ensures space { self.new.space ≡ self.old.space }
     {
-        match reader.decode_run(color, &self.tables, &mut self.ticks) {
-            Ok(_) => true,
-            Err(_) => false,
-        }
+        self.run_length(color, reader).is_some()
     }
 
     /// Passes the mode here, in a line of this colour, with the runs of a horizontal one, without drawing it, and

@@ -136,6 +136,7 @@ pub fn rows_before()
 /// same again behind the next EOL. The line between that EOL and the damage is broken or ends before the last twelve bits of
 /// the EOL, whatever row it is read against; the damage makes no RTC; and in two-dimensional data a one-dimensional line
 /// follows the EOL. The readings have no row limit, seek EOLs, and end alike (T.4, 4.1.2).
+/// [`in_step_from`](crate::in_step_from) finds where.
 pub fn rows_behind()
     ensures { RowsBehind }
 {}

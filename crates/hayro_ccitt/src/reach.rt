@@ -13,7 +13,7 @@ use fax_bits::bit_reader::{BitReader, copy, starting_at};
 use fax_bits::codes::{Color, pass_eol};
 
 /// Passes the modes of a line, with their runs, as many as can be read.
-fn pass_modes(ctx: &mut DecoderContext, reader: &mut BitReader<'_>)
+pub(crate) fn pass_modes(ctx: &mut DecoderContext, reader: &mut BitReader<'_>)
     ensures read { ReadsModes Color.White (here reader.old) (here reader.new) }
     ensures last { (last : Bits) → ReadsModes Color.White (here reader.old) last → length (here reader.new) ≤ length last }
     ensures same_bits { reader.new.bits ≡ reader.old.bits }
@@ -77,7 +77,7 @@ fn is_at_zero(reader: &BitReader<'_>) -> bool
 }
 
 /// Returns whether a one-dimensional line, RTC or the end follows EOLs that were counted; else a two-dimensional line does.
-fn is_before_1d(settings: DecodeSettings, count: usize, behind: &BitReader<'_>) -> bool
+pub(crate) fn is_before_1d(settings: DecodeSettings, count: usize, behind: &BitReader<'_>) -> bool
     ensures ends { result ≡ true → ((settings.end_of_block ≡ true) × (6 ≤ count))
         ⊎ (((line : Bits) × (here behind.now ≡ true ∷ line)) ⊎ (here behind.now ≡ [])) }
     ensures no_rtc { result ≡ false → settings.end_of_block ≡ true → 6 ≤ count → ⊥ }

@@ -121,7 +121,7 @@ fn read_eols_of_t6(ctx: &mut DecoderContext, reader: &mut BitReader<'_>) -> usiz
 /// Reads the EOLs here, in two-dimensional data with their tags, and returns their number. Each bit that is looked at is a
 /// tick: a bit that is passed counts at most twice.
 #[inline(always)]
-fn read_eols(ctx: &mut DecoderContext, reader: &mut BitReader<'_>) -> usize
+pub(crate) fn read_eols(ctx: &mut DecoderContext, reader: &mut BitReader<'_>) -> usize
     ensures eols { eols_here ctx.old.held.settings (here reader.old) ≡ (result, here reader.new) }
     ensures same_bits { reader.new.bits ≡ reader.old.bits }
     ensures held { ctx.new.held ≡ ctx.old.held }

@@ -18,7 +18,7 @@ use hayro_ccitt::group3::{check_eob, decode_1d, decode_2d, recover};
 use hayro_ccitt::tables::Tables;
 use hayro_ccitt::{
     DecodeError, DecodeSettings, DecoderContext, EncodingMode, Result, bits_fit, body_is_local,
-    group4, rows_reached,
+    group4, in_step_from, rows_reached,
 };
 use std::alloc::AllocGlobal;
 use std::process::Abort;
@@ -207,6 +207,17 @@ pub(super) fn reach_of(
     rows_reached(data, ctx, to)
 }
 
+/// Returns from which bit on the rows are the same again, if damage is before an EOL.
+pub(super) fn step_of(
+    rt: &impl Abort,
+    data: &[u8],
+    ctx: &mut DecoderContext,
+    to: usize,
+) -> Option<usize> {
+    assert!(rt; bits_fit(data));
+    in_step_from(data, ctx, to)
+}
+
 /// Returns the error that an argument names.
 fn error_of(argument: &str) -> DecodeError {
     match argument {
@@ -266,6 +277,10 @@ fn asks(
         "rows_reached" => said(
             rt,
             &reach_of(rt, data, ctx, number_in(rt, argument) as usize),
+        ),
+        "in_step_from" => said(
+            rt,
+            &step_of(rt, data, ctx, number_in(rt, argument) as usize),
         ),
         "settings" => said(rt, &ctx.settings()),
         "decoded_rows" => said(rt, &ctx.decoded_rows()),

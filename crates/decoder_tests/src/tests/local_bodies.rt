@@ -1,4 +1,4 @@
-//! Bodies of lines that damage may change, and how many rows it reaches.
+//! Bodies of lines that damage may change, how many rows it reaches, and from where on they are the same again.
 
 use super::calls::calls_each;
 
@@ -137,5 +137,56 @@ fn rows_that_damage_reaches(rt: HostRuntime) {
         Group3_2D 8 columns 0 rows | 00102088E800088E91D000C0 | rows_reached 38 = None
         Group3_2D 8 columns 0 rows b | 0002451A84089AA001800C | rows_reached 0 = None
         Group3_2D 8 columns 0 rows | 000226A80001600300180080 | rows_reached 0 = None",
+    );
+}
+
+/// EOLs behind damage, and from which bit on the rows are the same again: behind the next EOL, if the line in between ends
+/// before it.
+#[test]
+fn bits_from_which_rows_are_in_step(rt: HostRuntime) {
+    calls_each(
+        &rt,
+        "Group3_1D 8 columns 0 rows l | 0019800C700033 | in_step_from 0 = Some(29)
+        Group3_1D 8 columns 0 rows l | 0019800C700033 | in_step_from 17 = Some(51)
+        Group3_1D 8 columns 0 rows l | 0019800C700033 | in_step_from 18 = None
+        Group3_1D 8 columns 0 rows l | 0019800C700033 | in_step_from 36 = None
+        Group3_1D 8 columns 0 rows l | 0019800C700033 | in_step_from 57 = None
+        Group3_1D 8 columns 3 rows l | 0019800C700033 | in_step_from 0 = None
+        Group3_1D 8 columns 0 rows l s | 0019800C700033 | in_step_from 0 = None
+        Group3_1D 0 columns 0 rows l | 0019800C700033 | in_step_from 0 = None
+        Group4 8 columns 0 rows | 0019800C700033 | in_step_from 0 = None
+        // Two EOLs before a line, fill, more runs than columns, RTC, and the end.
+        Group3_1D 8 columns 0 rows l | 0010019800CC | in_step_from 0 = None
+        Group3_1D 8 columns 0 rows l | 0010019800CC | in_step_from 12 = Some(41)
+        Group3_1D 8 columns 0 rows l | 0019800066 | in_step_from 0 = Some(34)
+        Group3_1D 8 columns 0 rows l | 0019A800CC | in_step_from 0 = Some(33)
+        Group3_1D 8 columns 0 rows b | 001980080080080080080080 | in_step_from 0 = Some(89)
+        Group3_1D 8 columns 0 rows | 00198008 | in_step_from 0 = Some(29)
+        // The last word, 010, takes a zero of the EOL, unless there is fill; a line without its last run is broken.
+        Group3_1D 8 columns 0 rows l | 001F400660 | in_step_from 0 = None
+        Group3_1D 8 columns 0 rows l | 001F400330 | in_step_from 0 = Some(31)
+        Group3_1D 8 columns 0 rows l | 001F001980 | in_step_from 0 = Some(28)
+        // In two dimensions the tag behind the second EOL decides.
+        Group3_2D 8 columns 0 rows l | 001CC00463800B800073 | in_step_from 0 = None
+        Group3_2D 8 columns 0 rows l | 001CC00463800B800073 | in_step_from 41 = Some(74)
+        Group3_2D 8 columns 0 rows l s | 001CC00463800B800073 | in_step_from 41 = None
+        Group3_2D 8 columns 4 rows l | 001CC00463800B800073 | in_step_from 41 = None
+        Group3_2D 8 columns 0 rows l | 001CC00730 | in_step_from 0 = Some(30)
+        Group3_2D 8 columns 0 rows l | 00140073 | in_step_from 0 = Some(26)
+        Group3_2D 8 columns 0 rows l | 00140050 | in_step_from 0 = None
+        Group3_2D 8 columns 0 rows l | 0012003980 | in_step_from 0 = None
+        Group3_2D 8 columns 0 rows l | 0012001CC0 | in_step_from 0 = Some(28)
+        Group3_2D 8 columns 0 rows l | 001800E6003980 | in_step_from 0 = None
+        Group3_2D 8 columns 0 rows b | 0014006003001800C0060030 | in_step_from 0 = Some(92)
+        Group3_2D 8 columns 0 rows | 0014006003001800C0060030 | in_step_from 0 = None
+        // Damaged strips at random: a reading of T.4 apart from this program found the numbers.
+        Group3_1D 8 columns 0 rows l | 8700135B0004D50F4000BF60 | in_step_from 8 = Some(46)
+        Group3_1D 3 columns 0 rows l | 000011F001740026B8E0 | in_step_from 5 = Some(40)
+        Group3_1D 2 columns 0 rows l | FE22005100135438009AE002E0 | in_step_from 32 = Some(73)
+        Group3_1D 2 columns 0 rows b | 00135A6C38009AA1C0 | in_step_from 37 = None
+        Group3_2D 3 columns 0 rows b l | 0058E801C005C006E8 | in_step_from 34 = Some(62)
+        Group3_2D 8 columns 0 rows | 0019AE3A743800E600335140 | in_step_from 45 = Some(75)
+        Group3_2D 3 columns 0 rows l | 0009AC0027001380 | in_step_from 40 = None
+        Group3_2D 4 columns 0 rows b l | 008861D000C74E19AC382003 | in_step_from 83 = None",
     );
 }

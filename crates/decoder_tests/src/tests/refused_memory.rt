@@ -3,7 +3,7 @@
 
 ghost use Rattle.std.specs.Prelude.{◌<◌};
 
-use super::calls::{draws_2d, fills, is_local, moves_on, places_of, reach_of};
+use super::calls::{draws_2d, fills, is_local, moves_on, places_of, reach_of, step_of};
 use super::cases::{cases_of, settings_in};
 use super::{RowsAsText, bytes_of, context_of, decoded, joined, same, same_text, sink_of, written};
 use hayro_ccitt::DecodeError::{OutOfMemory, Refused};
@@ -197,6 +197,7 @@ fn reach_without_memory(rt: HostRuntime) {
     let lines = bytes_of(&rt, "001CC005400398");
     refuse_request(rt.alloc(), 1);
     same(&rt, reach_of(&rt, &lines, &mut ctx, 18), Some(2));
+    same(&rt, step_of(&rt, &lines, &mut ctx, 0), None);
     same(&rt, was_refused(rt.alloc()), false);
 }
 

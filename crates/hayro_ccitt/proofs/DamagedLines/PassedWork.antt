@@ -136,7 +136,7 @@ looked_before_eol seen (false ∷ here) next none sought = by_after_eol (looked_
         absurd (none-some after (sym none ∙ after_eol_more 0 seen (false ∷ here) after (omega arith) is))
 
 -- behind the tag the next EOL is the same
-next_behind_tag : (line next : Bits) → after_eol 0 (false ∷ line) ≡ None → next_eol (false ∷ line) ≡ Some next
+pub next_behind_tag : (line next : Bits) → after_eol 0 (false ∷ line) ≡ None → next_eol (false ∷ line) ≡ Some next
     → next_eol line ≡ Some next
 next_behind_tag line next none sought = rw (none, next_eol) at sought
 
