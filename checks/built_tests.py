@@ -10,7 +10,7 @@ from built import is_newest
 # others name none. A test that has each allocation refused in turn names one more than there are.
 NAMED = {
     "encoder_tests": {
-        "callers_tests::refused_memory": (11, 8),
+        "callers_tests::refused_memory": (13, 9),
         "settings_tests::refused_memory": (10, 8),
         "settings_tests::refused_memory_row_by_row": (11, 9),
         "settings_tests::wanting_memory_stays": (1, 1),
