@@ -1,0 +1,10 @@
+pub mod LinesDone
+pub mod LinesEnd
+pub mod ModesLead
+pub mod PaintedPixels
+pub mod PensDrawn
+pub mod RunsDrawn
+pub mod RunsLead
+pub mod SpelledRuns
+pub mod StandingSteps
+pub mod Stopped
