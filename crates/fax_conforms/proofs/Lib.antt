@@ -1,6 +1,9 @@
+pub mod BodyLines
+pub mod FilledLines
 pub mod LinesDone
 pub mod LinesEnd
 pub mod ModesLead
+pub mod Padded
 pub mod PaintedPixels
 pub mod PensDrawn
 pub mod RunsDrawn
@@ -8,3 +11,5 @@ pub mod RunsLead
 pub mod SpelledRuns
 pub mod StandingSteps
 pub mod Stopped
+pub mod TaggedLines
+pub mod TwoWords

@@ -55,7 +55,7 @@ no_runs color row bits e (EncodesLine1D.run n word {row = others} spells some ma
     absurd (let l = length-append (replicate n (is_black color)) others in
     omega (arith, l, length-replicate n (is_black color), e, some))
 
-empty : (row : Row) → length row ≡ 0 → row ≡ []
+pub empty : (row : Row) → length row ≡ 0 → row ≡ []
 empty [] e = refl
 empty (pixel ∷ row) e = absurd (omega arith)
 

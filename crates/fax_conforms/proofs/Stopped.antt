@@ -23,3 +23,8 @@ if_broken (Err e) P Q p on = λ broken. on (p broken)
 pub if_no_rule : {T : Type 0} (r : Result T Stop) (P : Type 0) → IfErr r (λ e. IsBroken e → ⊥) → IfErr r (λ e. IsBroken e → P)
 if_no_rule (Ok x) P none = tt
 if_no_rule (Err e) P none = λ broken. absurd (none broken)
+
+-- what holds where nothing is broken
+pub if_done : {T : Type 0} (r : Result T Stop) (P Q : Type 0) → OnOk r P → (P → Q) → OnOk r Q
+if_done (Ok x) P Q p on = on p
+if_done (Err e) P Q p on = tt

@@ -2,5 +2,6 @@
 #![tactic(auto)]
 
 mod lines;
+mod pictures;
 mod stops;
 mod words;
