@@ -34,10 +34,10 @@ filled_shorter settings reference row here next wide small len leads =
     omega (arith, some, ap length is, length-append line (fill ++ next), length-append fill next)
 
 -- ---- From one line to the next.
-none_more : (n : ℕ) → n + 0 ≡ n
+pub none_more : (n : ℕ) → n + 0 ≡ n
 none_more n = omega arith
 
-one_more_row : (n : ℕ) (rows : List Row) (row : Row) → n + length (row ∷ rows) ≡ n + 1 + length rows
+pub one_more_row : (n : ℕ) (rows : List Row) (row : Row) → n + length (row ∷ rows) ≡ n + 1 + length rows
 one_more_row n rows row = omega arith
 
 module _ (settings : DecodeSettings) (taken : ℕ) (reference : Row) (here : Bits) where

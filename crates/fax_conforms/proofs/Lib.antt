@@ -1,4 +1,6 @@
 pub mod BodyLines
+pub mod EolLines
+pub mod EolsHere
 pub mod FilledLines
 pub mod LinesDone
 pub mod LinesEnd

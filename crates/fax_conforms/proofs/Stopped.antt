@@ -28,3 +28,7 @@ if_no_rule (Err e) P none = λ broken. absurd (none broken)
 pub if_done : {T : Type 0} (r : Result T Stop) (P Q : Type 0) → OnOk r P → (P → Q) → OnOk r Q
 if_done (Ok x) P Q p on = on p
 if_done (Err e) P Q p on = tt
+
+pub if_both : {T : Type 0} (r : Result T Stop) (P Q R : Type 0) → OnOk r P → OnOk r Q → (P → Q → R) → OnOk r R
+if_both (Ok x) P Q R p q on = on p q
+if_both (Err e) P Q R p q on = tt

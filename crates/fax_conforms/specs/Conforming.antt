@@ -4,7 +4,7 @@ use Rattle.hayro_ccitt.specs.Bits.{Bits, IsPrefix}
 use Rattle.hayro_ccitt.specs.DecodeSettings.{DecodeSettings}
 use Rattle.hayro_ccitt.specs.EncodingMode.{EncodingMode}
 use Rattle.hayro_ccitt.specs.EncodingMode.TheVariants.{Group4}
-use Rattle.hayro_ccitt.specs.Encodings.{EncodesLine, padding, EncodesRows, EncodesRowsWithEols, ClosesWithEols, eol}
+use Rattle.hayro_ccitt.specs.Encodings.{EncodesLine, padding, EncodesRows, EncodesRowsWithEols, ClosesWithEols, eol, tag_of}
 use Rattle.hayro_ccitt.specs.Pictures.{Allows, IsClosedPicture, IsLimitedPicture}
 use Rattle.hayro_ccitt.specs.Rows.{Row, HaveWidth}
 
@@ -47,14 +47,31 @@ BodyStands settings taken reference here = (rows : List Row) × (bits behind : B
     × EncodesRows settings.encoding settings.rows_are_byte_aligned reference rows bits × (here ≡ bits ++ behind)
     × BodyEnds settings (taken + length rows) behind
 
--- RTC stands here: six EOLs, each with its tag (T.4, 4.1.4 and 4.2.4)
-abbrev pub RtcStands : EncodingMode → Bits → Type 0
-RtcStands encoding here = (closing : Bits) × ClosesWithEols encoding 6 closing × IsPrefix closing here
+-- an EOL stands here, with its fill (T.4, 4.1.2 and 4.1.3)
+abbrev pub EolStands : Bits → Bits → Type 0
+EolStands here rest = (fill : ℕ) × (here ≡ eol fill ++ rest)
+
+-- one with its tag, as in RTC (T.4, 4.2.4)
+abbrev pub TaggedEolStands : EncodingMode → Bits → Bits → Type 0
+TaggedEolStands encoding here rest = EolStands here (tag_of encoding ++ rest)
+
+-- this number of EOLs stands here, each with its tag (T.4, 4.1.4 and 4.2.4)
+abbrev pub EolsStand : EncodingMode → ℕ → Bits → Type 0
+EolsStand encoding n here = (closing : Bits) × ClosesWithEols encoding n closing × IsPrefix closing here
+
+-- a line stands here, and an EOL before it (T.4, 4.1.2)
+abbrev pub EolLineStands : DecodeSettings → Row → Row → Bits → Bits → Type 0
+EolLineStands settings reference row here rest = (fill : ℕ) × (line : Bits) × EncodesLine settings.encoding reference row line
+    × (here ≡ eol fill ++ (line ++ rest))
+
+-- RTC stands here after some row, and the settings look for it (T.4, 4.1.4)
+abbrev pub RtcStands : DecodeSettings → ℕ → Bits → Type 0
+RtcStands settings taken here = (settings.end_of_block ≡ true) × (0 < taken) × EolsStand settings.encoding 6 here
 
 -- lines with EOLs end here, after this number of rows: by the row limit, or by RTC, for which the settings look (T.4, 4.1.4)
 abbrev pub LinesEnd : DecodeSettings → ℕ → Bits → Type 0
 LinesEnd settings taken here = ((settings.rows ≡ taken) × (0 < taken))
-    ⊎ ((settings.end_of_block ≡ true) × RtcStands settings.encoding here × (0 < taken) × Allows settings taken)
+    ⊎ (RtcStands settings taken here × Allows settings taken)
 
 -- after this number of rows, lines stand here, an EOL before each, and end (T.4, 4.1.2)
 abbrev pub LinesStand : DecodeSettings → ℕ → Row → Bits → Type 0

@@ -3,10 +3,12 @@
 ghost use Rattle.std.specs.Prelude.{◌≡◌, ◌+◌, ◌<◌, ◌≤◌, ◌%◌, ◌++◌, ◌∷◌, ◌^◌, ◌↔◌, false, true, OnOk, IfErr, IfSome, IfNone, IsTrue, length};
 ghost use Rattle.hayro_ccitt.specs.Bits.{Bits, here};
 ghost use Rattle.hayro_ccitt.specs.EncodingMode.TheVariants.{Group3_2D};
-ghost use Rattle.hayro_ccitt.specs.Encodings.{eol, padding};
+ghost use Rattle.hayro_ccitt.specs.Encodings.{eol, padding, tag_of};
 ghost use Rattle.hayro_ccitt.specs.Pictures.{Allows};
 ghost use Rattle.hayro_ccitt.specs.Rows.{AreChanges, pixels, white_row};
 ghost use Rattle.fax_conforms.specs.Conforming.{EofbStands, SeeksEofb, TwoEolsStand, BodyStands, FilledStands, fill_at};
+ghost use Rattle.fax_conforms.specs.Conforming.{EolStands, TaggedEolStands, EolsStand, RtcStands};
+ghost use Rattle.fax_conforms.specs.Conforming.{EolLineStands, LinesStand};
 ghost use Rattle.fax_conforms.specs.Standing.{LineStands, Leads, Never, IsOnly};
 ghost use Rattle.fax_conforms.specs.Stops.{IsBroken};
 
@@ -211,6 +213,147 @@ pub fn read_body(
             return Ok(());
         }
         draw_filled_line(words, reader, settings, reference.as_slice(), coding)?;
+        mem::swap(reference, coding);
+        taken += 1;
+    }
+}
+
+/// Returns a reader behind the EOL that is here with its fill, if there is one (T.4, 4.1.2 and 4.1.3).
+fn behind_eol<'a>(reader: &BitReader<'a>, ticks: &mut Ticks) -> Option<BitReader<'a>>
+    ensures found { IfSome result (λ after. EolStands (here reader.now) (here after)) }
+    ensures none { IfNone result ((rest : Bits) → EolStands (here reader.now) rest → ⊥) }
+    ensures same_bits { IfSome result (λ after. after.bits ≡ reader.now.bits) }
+{
+    let (zeros, after) = reader.zero_run(ticks);
+    if zeros < 11 {
+        return None;
+    }
+    after
+}
+
+/// Returns whether a tag of 1 is here, or needn't be, and consumes it (T.4, 4.2.4).
+fn pass_closing_tag(encoding: EncodingMode, reader: &mut BitReader<'_>) -> bool
+    ensures tag { result ≡ true → here reader.old ≡ tag_of encoding ++ here reader.new }
+    ensures none { result ≡ false → (rest : Bits) → here reader.old ≡ tag_of encoding ++ rest → ⊥ }
+{
+    match encoding {
+        EncodingMode::Group3_2D => match reader.read_bit() {
+            Ok(bit) => bit == 1,
+            Err(_) => false,
+        },
+        EncodingMode::Group3_1D | EncodingMode::Group4 => true,
+    }
+}
+
+/// Returns a reader behind the EOL of RTC that is here, and its tag, if there is one (T.4, 4.1.4 and 4.2.4).
+fn behind_tagged_eol<'a>(
+    encoding: EncodingMode,
+    reader: &BitReader<'a>,
+    ticks: &mut Ticks,
+) -> Option<BitReader<'a>>
+    ensures found { IfSome result (λ after. TaggedEolStands encoding (here reader.now) (here after)) }
+    ensures none { IfNone result ((rest : Bits) → TaggedEolStands encoding (here reader.now) rest → ⊥) }
+{
+    match behind_eol(reader, ticks) {
+        Some(mut after) => {
+            if pass_closing_tag(encoding, &mut after) {
+                Some(after)
+            } else {
+                None
+            }
+        }
+        None => None,
+    }
+}
+
+/// Returns whether six EOLs are here, each with its tag (T.4, 4.1.4 and 4.2.4).
+fn has_six_eols(encoding: EncodingMode, reader: &BitReader<'_>, ticks: &mut Ticks) -> bool
+    ensures { IsTrue result ↔ EolsStand encoding 6 (here reader.now) }
+{
+    let Some(mut next) = behind_tagged_eol(encoding, reader, ticks) else {
+        return false;
+    };
+    let mut left: usize = 5;
+    'eols: while left > 0 {
+        match behind_tagged_eol(encoding, &next, ticks) {
+            Some(after) => next = after,
+            None => return false,
+        }
+        left -= 1;
+    }
+    true
+}
+
+/// Returns whether RTC is here after some row, and the settings look for it (T.4, 4.1.4).
+fn is_rtc(settings: DecodeSettings, taken: u64, reader: &BitReader<'_>, ticks: &mut Ticks) -> bool
+    ensures { IsTrue result ↔ RtcStands settings taken (here reader.now) }
+{
+    settings.end_of_block && taken > 0 && has_six_eols(settings.encoding, reader, ticks)
+}
+
+/// Consumes the EOL that is here with its fill, and returns whether there is one (T.4, 4.1.2 and 4.1.3).
+fn pass_eol(reader: &mut BitReader<'_>, ticks: &mut Ticks) -> bool
+    ensures found { result ≡ true → EolStands (here reader.old) (here reader.new) }
+    ensures none { result ≡ false → (rest : Bits) → EolStands (here reader.old) rest → ⊥ }
+    ensures same_bits { reader.new.bits ≡ reader.old.bits }
+{
+    match behind_eol(reader, ticks) {
+        Some(after) => {
+            *reader = after;
+            true
+        }
+        None => false,
+    }
+}
+
+/// Reads the EOL before a line and the line, and leaves the changes of its row (T.4, 4.1.2).
+fn draw_line_behind_eol(
+    words: &mut Words,
+    reader: &mut BitReader<'_>,
+    settings: DecodeSettings,
+    reference: &[u32],
+    coding: &mut Vec<u32>,
+) -> Result<(), Stop>
+    requires wide { 0 < settings.columns }
+    requires reference { AreChanges settings.columns reference.now }
+    ensures row { OnOk result (Leads settings.columns
+        (λ row rest. EolLineStands settings (pixels settings.columns reference.now) row (here reader.old) rest)
+        (IsOnly (pixels settings.columns coding.new.items) (here reader.new))) }
+    ensures lawful { OnOk result (AreChanges settings.columns coding.new.items) }
+    ensures shorter { OnOk result (length (here reader.new) < length (here reader.old)) }
+    ensures fit { length reader.old.bits + 64 < 2 ^ 64 }
+    ensures none { IfErr result (λ e. IsBroken e → Never settings.columns
+        (λ row rest. EolLineStands settings (pixels settings.columns reference.now) row (here reader.old) rest)) }
+    ensures same_bits { reader.new.bits ≡ reader.old.bits }
+{
+    // The range of a number is known once it is read.
+    let _columns = settings.columns;
+    let place = reader.bit_pos();
+    if !pass_eol(reader, &mut words.ticks) {
+        return broken(place, Rule::Eol);
+    }
+    draw_line(words, reader, settings, reference, coding)
+}
+
+/// Reads lines up to their end, each behind an EOL: by the row limit, or by RTC (T.4, 4.1.2 and 4.1.4).
+pub fn read_lines(
+    words: &mut Words,
+    reader: &mut BitReader<'_>,
+    settings: DecodeSettings,
+    reference: &mut Vec<u32>,
+    coding: &mut Vec<u32>,
+) -> Result<(), Stop>
+    requires wide { 0 < settings.columns }
+    ensures stands { OnOk result (LinesStand settings 0 (white_row settings.columns) (here reader.old)) }
+    ensures none { IfErr result (λ e. IsBroken e → LinesStand settings 0 (white_row settings.columns) (here reader.old) → ⊥) }
+{
+    reference.clear();
+    let mut taken = 0;
+    'rows: loop {
+        if limit_met(settings, taken) || is_rtc(settings, taken, reader, &mut words.ticks) {
+            return Ok(());
+        }
+        draw_line_behind_eol(words, reader, settings, reference.as_slice(), coding)?;
         mem::swap(reference, coding);
         taken += 1;
     }

@@ -13,6 +13,10 @@ pub enum Rule {
     RowEnd,
     /// A run of no pixels that isn't a row's first (T.4, 4.1.1), or a vertical mode that isn't right of a0 (T.4, 4.2.1.3).
     NoPixels,
+    /// The row has no columns.
+    Columns,
+    /// An EOL is expected: before a line, or in RTC (T.4, 4.1.2 and 4.1.4).
+    Eol,
     /// A tag bit is expected (T.4, 4.2.2).
     Tag,
     /// Zeros up to a whole byte are expected after a line (T.4, 4.1.3).

@@ -1,7 +1,7 @@
 use Rattle.hayro_ccitt.proofs.Names.{◌≡◌, ◌∙◌, ◌+◌, ◌↔◌, ap, sym, subst, length, arith, err_from_is_err_and, false≢true, here, pixels, white_row, Row}
 use Rattle.hayro_ccitt.proofs.PixelRows.ChangesAndPixels.{length-pixels}
 use Rattle.fax_conforms.specs.Conforming.{BodyStands}
-use Rattle.fax_conforms.proofs.BodyLines.{body_over_limit, body_over_eofb, body_fails, body_leads}
+use Rattle.fax_conforms.proofs.BodyLines.{body_fails, body_leads}
 use Rattle.fax_conforms.proofs.Padded.{iff_on}
 use Rattle.fax_conforms.proofs.pictures.read_body.Goals as goal
 
