@@ -2,7 +2,7 @@
 use Rattle.hayro_ccitt.proofs.Names.{◌≡◌, ℕ, zero, suc, ◌+◌, ◌-◌, ◌<◌, ◌≤◌, true, false, Option, Some, None, [], ◌∷◌, ◌++◌, ◌↔◌, replicate}
 use Rattle.hayro_ccitt.proofs.Names.{refl, ap, sym, subst, ◌∙◌, append_assoc, append_cancel_left, arith, Bits, EncodingMode, eol}
 use Rattle.std.specs.Prelude.{IfNone}
-use Rattle.hayro_ccitt.proofs.Names.{tag_of, after_eol, cond, leb, BitsAt, here, IfSome, common_steps}
+use Rattle.hayro_ccitt.proofs.Names.{tag_of, after_eol, cond, leb, is_some, BitsAt, here, IfSome, common_steps}
 use Rattle.hayro_ccitt.proofs.EncodedPictures.PicturesT4.{eol_stands}
 use Rattle.fax_conforms.specs.Conforming.{EolStands, TaggedEolStands, EolsStand}
 
@@ -80,3 +80,7 @@ pub no_eol_at_end : (o : Option BitsAt) (start : Bits) → IfNone o (after_eol 0
 no_eol_at_end (Some after) start none = tt
 no_eol_at_end None start none = λ rest (fill, stands).
     absurd (let e : Option.Some rest ≡ None = sym (eol_stands fill rest) ∙ ap (after_eol 0) (sym stands) ∙ none in cc)
+
+pub none_there : {A : Type 0} (o : Option A) (P : Type 0) → is_some o ≡ false → IfNone o P → P
+none_there (Some x) P e none = absurd cc
+none_there None P e none = none

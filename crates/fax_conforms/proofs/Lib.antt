@@ -8,6 +8,7 @@ pub mod ModesLead
 pub mod Padded
 pub mod PaintedPixels
 pub mod PensDrawn
+pub mod PicturesConform
 pub mod RunsDrawn
 pub mod RunsLead
 pub mod SpelledRuns

@@ -358,3 +358,11 @@ pub fn read_lines(
         taken += 1;
     }
 }
+
+/// Returns whether an EOL is here, with its fill (T.4, 4.1.2 and 4.1.3).
+pub fn has_eol(reader: &BitReader<'_>, ticks: &mut Ticks) -> bool
+    ensures found { result ≡ true → (rest : Bits) × EolStands (here reader.now) rest }
+    ensures none { result ≡ false → (rest : Bits) → EolStands (here reader.now) rest → ⊥ }
+{
+    behind_eol(reader, ticks).is_some()
+}
