@@ -1,9 +1,9 @@
 -- Lines without EOLs, from one to the next.
-use Rattle.hayro_ccitt.proofs.Names.{◌≡◌, ℕ, suc, ◌+◌, ◌<◌, ◌≤◌, true, false, List, [], ◌∷◌, ◌++◌, ◌↔◌, length, refl, ap, sym, subst}
-use Rattle.hayro_ccitt.proofs.Names.{◌∙◌, append_assoc, append-nil, arith, inl, inr, All, All-cons, All-nil, All-head, All-tail, White}
+use Rattle.hayro_ccitt.proofs.Names.{◌≡◌, ℕ, ◌+◌, ◌<◌, ◌≤◌, false, List, [], ◌∷◌, ◌++◌, ◌↔◌, length, refl, ap, sym, subst}
+use Rattle.hayro_ccitt.proofs.Names.{◌∙◌, append_assoc, arith, inl, inr, All-cons, All-nil, All-head, All-tail, White}
 use Rattle.hayro_ccitt.proofs.Names.{length-append, Bits, Row, DecodeSettings, EncodingMode, Group4, Group3_1D, Group3_2D}
 use Rattle.hayro_ccitt.proofs.Names.{EncodesLine, EncodesRows, Allows, at_end, false≢true}
-use Rattle.hayro_ccitt.proofs.EncodedPictures.PictureLines.{IsLineStart, line_2d_starts}
+use Rattle.hayro_ccitt.proofs.EncodedPictures.PictureLines.{line_2d_starts}
 use Rattle.hayro_ccitt.proofs.EncodedPictures.PicturesT4.{line_t4_starts}
 use Rattle.fax_conforms.specs.Standing.{Leads, Never, IsOnly}
 use Rattle.fax_conforms.specs.Conforming.{FilledStands, fill_at, EofbStands, BodyEnds, BodyStands}
@@ -73,8 +73,7 @@ module _ (settings : DecodeSettings) (taken : ℕ) (reference : Row) (here : Bit
       body_on ([], bits, behind, widths, lines, is, ends) = absurd (not_over bits behind lines is ends)
       body_on (first ∷ rows, bits, behind, widths, (line, more, is_line, lines, split), is, ends) =
           let only = (leads first (more ++ behind) (All-head HasRow first rows widths)).0
-          (line, is_line, is ∙ ap (λ (x : Bits). x ++ behind) split ∙ simp append_assoc refl) in
-          (
+          (line, is_line, is ∙ ap (λ (x : Bits). x ++ behind) split ∙ simp append_assoc refl) in (
             rows,
             more,
             behind,
@@ -87,8 +86,7 @@ module _ (settings : DecodeSettings) (taken : ℕ) (reference : Row) (here : Bit
       body_back : BodyStands settings (taken + 1) row next → BodyStands settings taken reference here
       body_back (rows, bits, behind, widths, lines, is, ends) =
           let (line, is_line, stands) = (leads row next len).1 (refl, refl) in
-          let fill : Bits = fill_at settings.rows_are_byte_aligned (length line) in
-          (
+          let fill : Bits = fill_at settings.rows_are_byte_aligned (length line) in (
             row ∷ rows,
             (line ++ fill) ++ bits,
             behind,

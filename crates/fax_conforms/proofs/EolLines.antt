@@ -1,7 +1,7 @@
 -- Lines with an EOL before each, from one to the next.
-use Rattle.hayro_ccitt.proofs.Names.{◌≡◌, ℕ, suc, ◌+◌, ◌<◌, ◌≤◌, List, [], ◌∷◌, ◌++◌, ◌↔◌, length, refl, ap, sym, subst, ◌∙◌}
-use Rattle.hayro_ccitt.proofs.Names.{append_assoc, append_cancel_left, arith, inl, inr, All, All-cons, All-nil, All-head, All-tail}
-use Rattle.hayro_ccitt.proofs.Names.{length-append, Bits, Row, DecodeSettings, EncodesLine, EncodesRowsWithEols, Allows, eol}
+use Rattle.hayro_ccitt.proofs.Names.{◌≡◌, ℕ, ◌+◌, ◌<◌, ◌≤◌, [], ◌∷◌, ◌++◌, ◌↔◌, length, refl, ap, sym, subst, ◌∙◌}
+use Rattle.hayro_ccitt.proofs.Names.{append_assoc, arith, inl, inr, All-cons, All-nil, All-head, All-tail}
+use Rattle.hayro_ccitt.proofs.Names.{length-append, Bits, Row, DecodeSettings, EncodesRowsWithEols, Allows, eol}
 use Rattle.fax_conforms.specs.Standing.{LineStands, Leads, Never, IsOnly}
 use Rattle.fax_conforms.specs.Conforming.{EolStands, EolLineStands, RtcStands, LinesEnd, LinesStand}
 use Rattle.fax_conforms.proofs.BodyLines.{none_more, one_more_row, line_has_bits}
@@ -63,8 +63,7 @@ module _ (settings : DecodeSettings) (taken : ℕ) (reference : Row) (here : Bit
       lines_on ([], bits, behind, widths, lines, is, ends) = absurd (not_ended bits behind lines is ends)
       lines_on (first ∷ rows, bits, behind, widths, (fill, line, more, is_line, lines, split), is, ends) =
           let only = (leads first (more ++ behind) (All-head HasRow first rows widths)).0
-          (fill, line, is_line, is ∙ ap (λ (x : Bits). x ++ behind) split ∙ simp append_assoc refl) in
-          (
+          (fill, line, is_line, is ∙ ap (λ (x : Bits). x ++ behind) split ∙ simp append_assoc refl) in (
             rows,
             more,
             behind,
@@ -76,8 +75,7 @@ module _ (settings : DecodeSettings) (taken : ℕ) (reference : Row) (here : Bit
 
       lines_back : LinesStand settings (taken + 1) row next → LinesStand settings taken reference here
       lines_back (rows, bits, behind, widths, lines, is, ends) =
-          let (fill, line, is_line, stands) = (leads row next len).1 (refl, refl) in
-          (
+          let (fill, line, is_line, stands) = (leads row next len).1 (refl, refl) in (
             row ∷ rows,
             (eol fill ++ line) ++ bits,
             behind,

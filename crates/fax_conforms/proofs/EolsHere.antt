@@ -1,6 +1,8 @@
 -- EOLs that stand here, one after another.
-use Rattle.hayro_ccitt.proofs.Names.{◌≡◌, ℕ, zero, suc, ◌+◌, ◌-◌, ◌<◌, ◌≤◌, true, false, Option, Some, None, [], ◌∷◌, ◌++◌, ◌↔◌, replicate}
-use Rattle.hayro_ccitt.proofs.Names.{refl, ap, sym, subst, ◌∙◌, append_assoc, append_cancel_left, arith, Bits, EncodingMode, eol}
+use Rattle.hayro_ccitt.proofs.Names.{◌≡◌, ℕ, zero, suc, ◌+◌, ◌-◌, ◌<◌, ◌≤◌, true, false, Option, Some, None, [], ◌∷◌, ◌++◌}
+use Rattle.hayro_ccitt.proofs.Names.{◌↔◌, replicate}
+use Rattle.hayro_ccitt.proofs.Names.{refl, ap, sym, subst, ◌∙◌, append_assoc, append_cancel_left, arith, Bits, EncodingMode}
+use Rattle.hayro_ccitt.proofs.Names.{eol}
 use Rattle.std.specs.Prelude.{IfNone}
 use Rattle.hayro_ccitt.proofs.Names.{tag_of, after_eol, cond, leb, is_some, BitsAt, here, IfSome, common_steps}
 use Rattle.hayro_ccitt.proofs.EncodedPictures.PicturesT4.{eol_stands}
@@ -9,9 +11,11 @@ use Rattle.fax_conforms.specs.Conforming.{EolStands, TaggedEolStands, EolsStand}
 -- zeros and a one are an EOL, if there are eleven at least
 pub eol_of_zeros : (zeros : ℕ) (here rest : Bits) → 11 ≤ zeros → here ≡ replicate zeros false ++ true ∷ rest → EolStands here rest
 eol_of_zeros zeros here rest le is =
-    let e : 11 + (zeros - 11) ≡ zeros = omega arith in
-    (zeros - 11, is ∙ ap (λ (n : ℕ). replicate n false ++ true ∷ rest) (sym e)
-    ∙ sym (append_assoc (replicate (11 + (zeros - 11)) false) (true ∷ []) rest))
+    let e : 11 + (zeros - 11) ≡ zeros = omega arith in (
+      zeros - 11,
+      is ∙ ap (λ (n : ℕ). replicate n false ++ true ∷ rest) (sym e)
+          ∙ sym (append_assoc (replicate (11 + (zeros - 11)) false) (true ∷ []) rest),
+    )
 
 -- an EOL is followed by one thing alone
 pub one_eol : (here x y : Bits) → EolStands here x → EolStands here y → x ≡ y
@@ -31,9 +35,11 @@ one_eol_less encoding n here next (m, stands) = (to, back)
         (more, closes, (rest, sym (append_cancel_left (tag_of encoding) (more ++ rest) next same)))
 
     back : EolsStand encoding n next → EolsStand encoding (suc n) here
-    back (more, closes, (rest, begins)) =
-        ((eol m ++ tag_of encoding) ++ more, (m, more, closes, refl),
-        (rest, stands ∙ ap (λ (x : Bits). eol m ++ (tag_of encoding ++ x)) begins ∙ sym (simp append_assoc refl)))
+    back (more, closes, (rest, begins)) = (
+      (eol m ++ tag_of encoding) ++ more,
+      (m, more, closes, refl),
+      (rest, stands ∙ ap (λ (x : Bits). eol m ++ (tag_of encoding ++ x)) begins ∙ sym (simp append_assoc refl)),
+    )
 
 pub no_eol_more : (encoding : EncodingMode) (n : ℕ) (here : Bits) → ((rest : Bits) → TaggedEolStands encoding here rest → ⊥)
     → EolsStand encoding (suc n) here → ⊥

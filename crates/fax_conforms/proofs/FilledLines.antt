@@ -1,7 +1,7 @@
 -- Lines with what fills them up to a whole byte.
-use Rattle.hayro_ccitt.proofs.Names.{◌≡◌, ℕ, ◌+◌, ◌-◌, ◌%◌, ◌<◌, ◌≤◌, Bool, true, false, [], ◌++◌, ◌↔◌, length, drop, replicate, refl, ap}
-use Rattle.hayro_ccitt.proofs.Names.{sym, subst, ◌∙◌, append_cancel_left, arith, length-append, length-drop, Bits, BitsAt, Row, here}
-use Rattle.hayro_ccitt.proofs.Names.{padding, cond, DecodeSettings}
+use Rattle.hayro_ccitt.proofs.Names.{◌≡◌, ℕ, ◌+◌, ◌-◌, ◌%◌, ◌≤◌, Bool, true, false, ◌++◌, ◌↔◌, length, replicate, refl, ap}
+use Rattle.hayro_ccitt.proofs.Names.{sym, ◌∙◌, arith, length-append, length-drop, Bits, BitsAt, Row, here}
+use Rattle.hayro_ccitt.proofs.Names.{DecodeSettings}
 use Rattle.fax_conforms.specs.Standing.{LineStands, Leads, Never, IsOnly}
 use Rattle.fax_conforms.specs.Conforming.{FilledStands, fill_at}
 
@@ -20,8 +20,16 @@ module _ (settings : DecodeSettings) (reference row : Row) (start end next : Bit
   fill_is : (line : Bits) → here start ≡ line ++ here end → fill_at aligned (length line) ≡ fill_at aligned end.place
   fill_is line is = same_fill aligned (length line) end.place (λ e.
       let size : length (here start) ≡ length line + length (here end) = ap length is ∙ length-append line (here end) in
-      omega (arith, size, length-drop start.place start.bits, length-drop end.place end.bits, ap length same_bits, whole e,
-      start_within, end_within))
+      omega (
+        arith,
+        size,
+        length-drop start.place start.bits,
+        length-drop end.place end.bits,
+        ap length same_bits,
+        whole e,
+        start_within,
+        end_within,
+      ))
 
   module _ (lines : Leads settings.columns (λ row rest. LineStands settings.encoding reference row (here start) rest)
       (IsOnly row (here end))) where
@@ -38,9 +46,12 @@ module _ (settings : DecodeSettings) (reference row : Row) (start end next : Bit
         back : IsOnly row (here next) other rest → FilledStands settings reference other (here start) rest
         back (same, rest_is) =
             let stands = (lines other (here end) len).1 (same, refl) in
-            let filled : here end ≡ fill_at aligned end.place ++ rest = (fills rest).1 (sym rest_is) in
-            (stands.0, stands.1, stands.2 ∙ ap (λ (x : Bits). stands.0 ++ x)
-            (filled ∙ ap (λ (x : Bits). x ++ rest) (sym (fill_is stands.0 stands.2))))
+            let filled : here end ≡ fill_at aligned end.place ++ rest = (fills rest).1 (sym rest_is) in (
+              stands.0,
+              stands.1,
+              stands.2 ∙ ap (λ (x : Bits). stands.0 ++ x)
+                  (filled ∙ ap (λ (x : Bits). x ++ rest) (sym (fill_is stands.0 stands.2))),
+            )
 
     pub unfilled : ((rest : Bits) → here end ≡ fill_at aligned end.place ++ rest → ⊥)
         → Never settings.columns (λ row rest. FilledStands settings reference row (here start) rest)

@@ -1,5 +1,5 @@
 -- Lines that are drawn to their end.
-use Rattle.hayro_ccitt.proofs.Names.{◌≡◌, ℕ, zero, suc, ◌+◌, ◌-◌, ◌<◌, ◌≤◌, Bool, true, false, List, length, refl, ap, sym, subst}
+use Rattle.hayro_ccitt.proofs.Names.{◌≡◌, ℕ, suc, ◌<◌, ◌≤◌, Bool, true, false, List, length, refl, ap, subst}
 use Rattle.hayro_ccitt.proofs.Names.{◌∙◌, arith, Bits, Row, pixels, cond}
 use Rattle.hayro_ccitt.proofs.PixelRows.ChangesAndPixels.{length-pixels}
 use Rattle.fax_conforms.specs.declared.lines.Pen.{Pen}

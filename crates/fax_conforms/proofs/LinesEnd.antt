@@ -1,9 +1,9 @@
 -- Where lines begin and end, and one step behind another.
-use Rattle.hayro_ccitt.proofs.Names.{◌≡◌, ℕ, zero, suc, ◌+◌, ◌-◌, ◌<◌, ◌≤◌, [], ◌∷◌, ◌++◌, length, take, refl, ap, sym, subst, ◌∙◌, arith}
-use Rattle.hayro_ccitt.proofs.Names.{append_assoc, append-nil, length-append, length-replicate, replicate, Color, White, Bits, Row}
+use Rattle.hayro_ccitt.proofs.Names.{◌≡◌, ℕ, suc, ◌+◌, ◌-◌, [], ◌∷◌, ◌++◌, length, take, refl, ap, sym, subst, ◌∙◌, arith}
+use Rattle.hayro_ccitt.proofs.Names.{append-nil, length-append, length-replicate, replicate, Color, White, Bits, Row}
 use Rattle.hayro_ccitt.proofs.Names.{is_black, Group4, Group3_1D, EncodesLine1D, EncodesLine2D}
 use Rattle.std.proofs.lemmas.List.{take_all}
-use Rattle.fax_conforms.specs.Standing.{Spot, GoesOnFrom, StepsStand, LineFrom, RunsFrom, LineStands, Leads, Never, IsOnly, line_start}
+use Rattle.fax_conforms.specs.Standing.{Spot, LineFrom, RunsFrom, LineStands, Leads, Never, IsOnly, line_start}
 
 pub leads_on : {P Q R : Row → Bits → Type 0} (columns : ℕ) → Leads columns P Q → Leads columns Q R → Leads columns P R
 leads_on columns f g row rest len =
@@ -45,9 +45,10 @@ steps_end columns reference at here from_is front_len row rest len = (to, back)
 
     back : IsOnly at.front here row rest → LineFrom reference at here row rest
     back (same, rest_is) =
-        let last : suc (length row) ≡ at.from = omega arith in
-        (record { front = sym same ∙ sym all; color = λ le. absurd (omega arith) },
-        ([], subst (λ (n : ℕ). EncodesLine2D reference row n at.color []) last EncodesLine2D.over, sym rest_is))
+        let last : suc (length row) ≡ at.from = omega arith in (
+          record { front = sym same ∙ sym all; color = λ le. absurd (omega arith) },
+          ([], subst (λ (n : ℕ). EncodesLine2D reference row n at.color []) last EncodesLine2D.over, sym rest_is),
+        )
 
 no_runs : (color : Color) (row : Row) (bits : Bits) → length row ≡ 0 → EncodesLine1D color row bits → bits ≡ []
 no_runs color row bits e EncodesLine1D.over = refl
@@ -66,9 +67,10 @@ runs_end columns at here front_len row rest len = (to, back)
     to : RunsFrom at here row rest → IsOnly at.front here row rest
     to (others, bits, row_is, first, line, is) =
         let l : length row ≡ length at.front + length others = ap length row_is ∙ length-append at.front others in
-        let none : length others ≡ 0 = omega (arith, l) in
-        (row_is ∙ ap (λ (r : Row). at.front ++ r) (empty others none) ∙ append-nil at.front,
-        sym (is ∙ ap (λ (x : Bits). x ++ rest) (no_runs at.color others bits none line)))
+        let none : length others ≡ 0 = omega (arith, l) in (
+          row_is ∙ ap (λ (r : Row). at.front ++ r) (empty others none) ∙ append-nil at.front,
+          sym (is ∙ ap (λ (x : Bits). x ++ rest) (no_runs at.color others bits none line)),
+        )
 
     back : IsOnly at.front here row rest → RunsFrom at here row rest
     back (same, rest_is) =

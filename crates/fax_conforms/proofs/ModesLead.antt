@@ -1,10 +1,10 @@
 -- A mode that is read leads from one position of a line to another, where it is lawful.
-use Rattle.hayro_ccitt.proofs.Names.{◌≡◌, ℕ, zero, suc, ◌+◌, ◌-◌, ◌<◌, ◌≤◌, Bool, true, false, not, ◌++◌, length, take, replicate}
+use Rattle.hayro_ccitt.proofs.Names.{◌≡◌, ℕ, suc, ◌+◌, ◌-◌, ◌<◌, ◌≤◌, Bool, not, ◌++◌, length, take, replicate}
 use Rattle.hayro_ccitt.proofs.Names.{Ok, refl, ap, sym, subst, ◌∙◌, arith, inl, inr, cases_lt, false≢true, pos, ◌+ℤ◌, ℤ}
-use Rattle.hayro_ccitt.proofs.Names.{length-append, length-replicate, append-nil, Color, White, Black, Mode, Pass, Horizontal}
-use Rattle.hayro_ccitt.proofs.Names.{Vertical, Bits, Row, is_black, opposite, pixel, pixel_before, is_change, a1, a2, b1, b2}
+use Rattle.hayro_ccitt.proofs.Names.{length-append, length-replicate, append-nil, Color, White, Mode, Pass, Horizontal}
+use Rattle.hayro_ccitt.proofs.Names.{Vertical, Bits, Row, is_black, opposite, pixel, pixel_before, a1, a2, b1, b2}
 use Rattle.hayro_ccitt.proofs.Names.{run_from, read_code, mode_codes, common_steps}
-use Rattle.hayro_ccitt.proofs.PixelRows.ChangePlaces.{IsNext, a1_next, a2_next, a2_least, b2_above, pixels_same, at_change}
+use Rattle.hayro_ccitt.proofs.PixelRows.ChangePlaces.{a1_next, a2_next, a2_least, b2_above, pixels_same, at_change}
 use Rattle.hayro_ccitt.proofs.PixelRows.ReferencePlaces.{opposite_twice}
 use Rattle.fax_conforms.specs.Standing.{Spot, GoesOnFrom, StepsStand, StepsBehind, LineFrom, ModeFrom, Leads, Never}
 use Rattle.fax_conforms.proofs.PaintedPixels.{IsRunTo, run_before, run_unchanged, next_is, painted_up_to, goes_back}
@@ -120,12 +120,14 @@ module _ (columns : ℕ) (reference : Row) (at : Spot) (small : columns ≤ 4294
       on (goes, (left, steps)) =
           let one = a1_next row at.from in
           let run = run_to_a1 row at (omega (arith, row_len, inside)) goes in
-          let left2 : to < a1 row at.from = omega (arith, left, is) in
-          (record {
-            front = painted_up_to row at to goes (omega (arith, row_len, inside)) len above (omega (arith, row_len, lt))
-                (λ q ge l. one.before q ge (omega arith)) ∙ sym (up_to to row);
-            color = λ le. run.same to (omega (arith, above)) left2;
-          }, rw is at steps)
+          let left2 : to < a1 row at.from = omega (arith, left, is) in (
+            record {
+              front = painted_up_to row at to goes (omega (arith, row_len, inside)) len above (omega (arith, row_len, lt))
+                  (λ q ge l. one.before q ge (omega arith)) ∙ sym (up_to to row);
+              color = λ le. run.same to (omega (arith, above)) left2;
+            },
+            rw is at steps,
+          )
 
       back : LineFrom reference (painted_on at to at.color) here row rest → ModeFrom reference at Pass here row rest
       back (goes, steps) =
@@ -289,17 +291,26 @@ module _ (columns : ℕ) (reference : Row) (at : Spot) (small : columns ≤ 4294
           let right : at.from ≤ a1 row at.from = (a1_next row at.from).above (omega (arith, row_len, inside)) in
           let least : a1 row at.from ≤ a2 row at.from = a2_least row at.from in
           let is1 : a1 row at.from ≡ p = omega (arith, same1.0, right, len, to_p) in
-          let is2 : a2 row at.from ≡ r = omega (arith, same2.0, least, is1, to_r) in
-          (runs_on goes is1 is2, subst (λ (x : Bits). StepsStand reference row (suc r) at.color x rest) same2.1
-          (subst (λ (n : ℕ). StepsStand reference row (suc n) at.color behind2 rest) is2 steps))
+          let is2 : a2 row at.from ≡ r = omega (arith, same2.0, least, is1, to_r) in (
+            runs_on goes is1 is2,
+            subst (λ (x : Bits). StepsStand reference row (suc r) at.color x rest) same2.1
+                (subst (λ (n : ℕ). StepsStand reference row (suc n) at.color behind2 rest) is2 steps),
+          )
 
       horizontal_back : LineFrom reference behind_runs behind row rest → ModeFrom reference at Horizontal here row rest
       horizontal_back (goes, steps) =
           let is = runs_back goes in
           let count1 : one ≡ a1 row at.from - (at.from - 1) = omega (arith, is.1, to_p, len) in
-          let count2 : two ≡ a2 row at.from - a1 row at.from = omega (arith, is.1, is.2, to_r) in
-          (is.0, (middle, behind, read1 ∙ ap (λ (n : ℕ). Ok (n, middle)) count1, read2 ∙ ap (λ (n : ℕ). Ok (n, behind)) count2,
-          subst (λ (n : ℕ). StepsStand reference row (suc n) at.color behind rest) (sym is.2) steps))
+          let count2 : two ≡ a2 row at.from - a1 row at.from = omega (arith, is.1, is.2, to_r) in (
+            is.0,
+            (
+              middle,
+              behind,
+              read1 ∙ ap (λ (n : ℕ). Ok (n, middle)) count1,
+              read2 ∙ ap (λ (n : ℕ). Ok (n, behind)) count2,
+              subst (λ (n : ℕ). StepsStand reference row (suc n) at.color behind rest) (sym is.2) steps,
+            ),
+          )
 
     pub horizontal_leads : Leads columns (ModeFrom reference at Horizontal here) (LineFrom reference behind_runs behind)
     horizontal_leads row rest row_len = (horizontal_on row rest row_len, horizontal_back row rest row_len)

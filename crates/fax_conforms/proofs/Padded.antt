@@ -1,5 +1,6 @@
 -- Zeros that are passed one by one.
-use Rattle.hayro_ccitt.proofs.Names.{◌≡◌, ℕ, zero, suc, ◌-◌, ◌<◌, Bool, false, true, [], ◌∷◌, ◌++◌, ◌↔◌, replicate, ap, sym, ◌∙◌, Bits, arith}
+use Rattle.hayro_ccitt.proofs.Names.{◌≡◌, ℕ, zero, suc, ◌-◌, ◌<◌, false, ◌∷◌, ◌++◌, ◌↔◌, replicate, ap, sym, ◌∙◌, Bits}
+use Rattle.hayro_ccitt.proofs.Names.{arith}
 
 pub iff_on : {A B C : Type 0} → (A ↔ B) → (B ↔ C) → (A ↔ C)
 iff_on f g = (λ a. g.0 (f.0 a), λ c. f.1 (g.1 c))

@@ -1,8 +1,9 @@
 -- Pixels of one colour up to a changing element, and a front that they continue.
-use Rattle.hayro_ccitt.proofs.Names.{◌≡◌, ℕ, zero, suc, ◌+◌, ◌-◌, ◌<◌, ◌≤◌, Bool, true, false, not, ◌++◌, length, take, replicate}
-use Rattle.hayro_ccitt.proofs.Names.{get_or, refl, ap, sym, subst, ◌∙◌, arith, inl, inr, beq, cases_lt, false≢true, length-append}
-use Rattle.hayro_ccitt.proofs.Names.{length-replicate, length-take-le, get_or-take, get_or-replicate, get_or-append_right}
-use Rattle.hayro_ccitt.proofs.Names.{Color, White, Row, is_black, opposite, pixel, pixel_before, is_change, common_steps}
+use Rattle.hayro_ccitt.proofs.Names.{◌≡◌, ℕ, zero, suc, ◌+◌, ◌-◌, ◌<◌, ◌≤◌, Bool, true, false, not, ◌++◌, length, take}
+use Rattle.hayro_ccitt.proofs.Names.{replicate}
+use Rattle.hayro_ccitt.proofs.Names.{get_or, refl, ap, sym, ◌∙◌, arith, inl, inr, beq, cases_lt, false≢true}
+use Rattle.hayro_ccitt.proofs.Names.{get_or-take, get_or-replicate, get_or-append_right}
+use Rattle.hayro_ccitt.proofs.Names.{White, Row, is_black, pixel, pixel_before, is_change, common_steps}
 use Rattle.hayro_ccitt.proofs.PixelRows.ChangePlaces.{IsNext, pixels_same, take_painted}
 use Rattle.std.proofs.lemmas.List.{take-take, take-append-le, take_all}
 use Rattle.fax_conforms.specs.Standing.{Spot, GoesOnFrom}

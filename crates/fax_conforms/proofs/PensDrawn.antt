@@ -1,12 +1,13 @@
 -- What a pen has drawn, and where it is.
-use Rattle.hayro_ccitt.proofs.Names.{◌≡◌, ℕ, zero, suc, ◌+◌, ◌-◌, ◌<◌, ◌≤◌, Bool, true, false, List, [], ◌∷◌, ◌++◌, length, replicate}
-use Rattle.hayro_ccitt.proofs.Names.{refl, ap, sym, subst, ◌∙◌, arith, inl, inr, cases_lt, length-replicate, Color, White, Black, Bits}
-use Rattle.hayro_ccitt.proofs.Names.{Row, Mode, mode_codes, read_code, is_black, opposite, right_of, b1, b2, ArePassed, right_of_painted, pos, ◌+ℤ◌, ℤ, Pass}
-use Rattle.hayro_ccitt.proofs.Names.{Horizontal, Vertical, run_from, Ok, pixels, AreChanges, cond}
+use Rattle.hayro_ccitt.proofs.Names.{◌≡◌, ℕ, zero, suc, ◌-◌, ◌<◌, ◌≤◌, Bool, true, false, List, length, replicate}
+use Rattle.hayro_ccitt.proofs.Names.{refl, ap, sym, subst, ◌∙◌, arith, length-replicate, Color, White, Black, Bits}
+use Rattle.hayro_ccitt.proofs.Names.{Row, Mode, mode_codes, read_code, opposite, right_of, b1, b2, right_of_painted, pos}
+use Rattle.hayro_ccitt.proofs.Names.{◌+ℤ◌, ℤ, Pass}
+use Rattle.hayro_ccitt.proofs.Names.{Vertical, Ok, pixels, AreChanges, cond}
 use Rattle.hayro_ccitt.proofs.PixelRows.ChangePlaces.{b1_right, b2_right, b2_above}
 use Rattle.hayro_ccitt.proofs.PixelRows.ChangesAndPixels.{length-pixels}
 use Rattle.fax_conforms.specs.declared.lines.Pen.{Pen}
-use Rattle.fax_conforms.specs.Standing.{Spot, Leads, Never, LineFrom, ModeFrom, RunsFrom, spot_of, from_of, IsDrawn, IsAbove, DrawsOn}
+use Rattle.fax_conforms.specs.Standing.{Spot, Leads, Never, LineFrom, ModeFrom, spot_of, from_of, IsDrawn, IsAbove, DrawsOn}
 use Rattle.fax_conforms.specs.Standing.{IsPainted}
 use Rattle.fax_conforms.proofs.ModesLead.{painted_on, pass_leads, pass_within, vertical_leads, vertical_within}
 use Rattle.fax_conforms.proofs.LinesEnd.{leads_on, leads_never}

@@ -1,10 +1,13 @@
 -- Data that conform, by how they begin.
-use Rattle.hayro_ccitt.proofs.Names.{◌≡◌, ◌≢◌, ℕ, ◌+◌, ◌<◌, ◌≤◌, true, false, Option, Some, None, List, [], ◌∷◌, ◌++◌, ◌↔◌, length, refl, ap}
-use Rattle.hayro_ccitt.proofs.Names.{sym, subst, ◌∙◌, append_assoc, arith, inl, inr, All-head, Bits, Row, DecodeSettings, EncodingMode, Group4, HaveWidth, padding, cond}
-use Rattle.hayro_ccitt.proofs.Names.{EncodesRows, EncodesRowsWithEols, Allows, IsClosedPicture, IsLimitedPicture, eol, white_row}
+use Rattle.hayro_ccitt.proofs.Names.{◌≡◌, ◌≢◌, ℕ, ◌+◌, ◌<◌, ◌≤◌, true, false, Option, None, List, [], ◌∷◌, ◌++◌, ◌↔◌, length}
+use Rattle.hayro_ccitt.proofs.Names.{refl, ap}
+use Rattle.hayro_ccitt.proofs.Names.{sym, subst, ◌∙◌, append_assoc, arith, inl, inr, All-head, Bits, Row, DecodeSettings}
+use Rattle.hayro_ccitt.proofs.Names.{EncodingMode, Group4, HaveWidth, padding, cond}
+use Rattle.hayro_ccitt.proofs.Names.{EncodesRows, EncodesRowsWithEols, Allows, IsClosedPicture, IsLimitedPicture, eol}
+use Rattle.hayro_ccitt.proofs.Names.{white_row}
 use Rattle.hayro_ccitt.proofs.Names.{after_eol}
 use Rattle.hayro_ccitt.proofs.EncodedPictures.PicturesT4.{eol_stands, line_t4_starts, matches_itself}
-use Rattle.fax_conforms.specs.Conforming.{Conforms, BodyEnds, BodyStands, LinesEnd, LinesStand, EolStands, EofbStands, RtcStands}
+use Rattle.fax_conforms.specs.Conforming.{Conforms, BodyStands, LinesStand, EolStands}
 
 added_none : (n : ℕ) → n ≡ 0 + n
 added_none n = omega arith
@@ -41,8 +44,7 @@ module _ (settings : DecodeSettings) (wide : 0 < settings.columns) (whole : Bits
     group4_to : Conforms settings whole → BodyStands settings 0 white whole
     group4_to (rows, inl (count, IsClosedPicture.by_eofb bits begins counted)) =
         let (body, is, lines, split) = begins.picture in
-        let (rest, starts) = begins.begins in
-        (
+        let (rest, starts) = begins.begins in (
           rows,
           body,
           eol 0 ++ (eol 0 ++ rest),
@@ -53,8 +55,7 @@ module _ (settings : DecodeSettings) (wide : 0 < settings.columns) (whole : Bits
         )
     group4_to (rows, inl (count, IsClosedPicture.by_rtc bits behind begins counted)) = absurd (begins.encoding four)
     group4_to (rows, inr (IsLimitedPicture.of_t6 bits begins)) =
-        let (rest, starts) = begins.begins in
-        (
+        let (rest, starts) = begins.begins in (
           rows,
           bits,
           rest,
@@ -67,24 +68,39 @@ module _ (settings : DecodeSettings) (wide : 0 < settings.columns) (whole : Bits
     group4_to (rows, inr (IsLimitedPicture.of_t4_with_eols bits begins)) = absurd (begins.encoding four)
 
     group4_back : BodyStands settings 0 white whole → Conforms settings whole
-    group4_back (rows, bits, behind, widths, lines, is, inl (limit, some)) = (rows, inr (IsLimitedPicture.of_t6 bits (record {
-      encoding = four;
-      limit = limit ∙ sym (added_none (length rows));
-      some = omega (arith, some);
-      picture = (wide, widths);
-      lines = subst (λ (e : EncodingMode). EncodesRows e settings.rows_are_byte_aligned white rows bits) four lines;
-      begins = (behind, is);
-    })))
-    group4_back (rows, bits, behind, widths, lines, is, inr ((seeks, (rest, stands)), allows)) =
-        (rows, inl (_, IsClosedPicture.by_eofb ((bits ++ eol 0) ++ eol 0) (record {
+    group4_back (rows, bits, behind, widths, lines, is, inl (limit, some)) = (
+      rows,
+      inr (IsLimitedPicture.of_t6 bits (record {
+        encoding = four;
+        limit = limit ∙ sym (added_none (length rows));
+        some = omega (arith, some);
+        picture = (wide, widths);
+        lines = subst (λ (e : EncodingMode). EncodesRows e settings.rows_are_byte_aligned white rows bits) four lines;
+        begins = (behind, is);
+      })),
+    )
+    group4_back (rows, bits, behind, widths, lines, is, inr ((seeks, (rest, stands)), allows)) = (
+      rows,
+      inl (
+        _,
+        IsClosedPicture.by_eofb ((bits ++ eol 0) ++ eol 0) (record {
           encoding = four;
           end_of_block = seeks.1;
           limit = subst (Allows settings) (sym (added_none (length rows))) allows;
-          picture = (bits, (wide, widths),
-              subst (λ (e : EncodingMode). EncodesRows e settings.rows_are_byte_aligned white rows bits) four lines, refl);
-          begins = (rest, is ∙ ap (λ (x : Bits). bits ++ x) stands ∙ sym (append_assoc bits (eol 0) (eol 0 ++ rest))
-              ∙ sym (append_assoc (bits ++ eol 0) (eol 0) rest));
-        }) refl))
+          picture = (
+            bits,
+            (wide, widths),
+            subst (λ (e : EncodingMode). EncodesRows e settings.rows_are_byte_aligned white rows bits) four lines,
+            refl,
+          );
+          begins = (
+            rest,
+            is ∙ ap (λ (x : Bits). bits ++ x) stands ∙ sym (append_assoc bits (eol 0) (eol 0 ++ rest))
+                ∙ sym (append_assoc (bits ++ eol 0) (eol 0) rest),
+          );
+        }) refl,
+      ),
+    )
 
     pub group4_conforms : Conforms settings whole ↔ BodyStands settings 0 white whole
     group4_conforms = (group4_to, group4_back)
@@ -102,8 +118,10 @@ module _ (settings : DecodeSettings) (wide : 0 < settings.columns) (whole : Bits
         begins.picture.1,
         begins.lines,
         begins.begins,
-        inr ((begins.end_of_block, omega (arith, begins.some), begins.closing),
-            subst (Allows settings) (added_none (length rows)) begins.limit),
+        inr (
+          (begins.end_of_block, omega (arith, begins.some), begins.closing),
+          subst (Allows settings) (added_none (length rows)) begins.limit,
+        ),
       )
       eols_to (rows, inr (IsLimitedPicture.of_t6 bits begins)) = absurd (three begins.encoding)
       eols_to (rows, inr (IsLimitedPicture.of_t4 bits begins)) =
@@ -112,22 +130,33 @@ module _ (settings : DecodeSettings) (wide : 0 < settings.columns) (whole : Bits
           (λ row more e. All-head (λ row. length row ≡ settings.columns) row more
           (subst (HaveWidth settings.columns) e begins.picture.1)) starts first stands_first)
       eols_to (rows, inr (IsLimitedPicture.of_t4_with_eols bits begins)) =
-          let (rest, starts) = begins.begins in
-          (rows, bits, rest, begins.picture.1, begins.lines, starts,
-          inl (begins.limit ∙ added_none (length rows), omega (arith, begins.some)))
+          let (rest, starts) = begins.begins in (
+            rows,
+            bits,
+            rest,
+            begins.picture.1,
+            begins.lines,
+            starts,
+            inl (begins.limit ∙ added_none (length rows), omega (arith, begins.some)),
+          )
 
       eols_back : LinesStand settings 0 white whole → Conforms settings whole
-      eols_back (rows, bits, behind, widths, lines, is, inl (limit, some)) =
-          (rows, inr (IsLimitedPicture.of_t4_with_eols bits (record {
-            encoding = three;
-            limit = limit ∙ sym (added_none (length rows));
-            some = omega (arith, some);
-            picture = (wide, widths);
-            lines = lines;
-            begins = (behind, is);
-          })))
-      eols_back (rows, bits, behind, widths, lines, is, inr ((block, some, closing), allows)) =
-          (rows, inl (_, IsClosedPicture.by_rtc bits behind (record {
+      eols_back (rows, bits, behind, widths, lines, is, inl (limit, some)) = (
+        rows,
+        inr (IsLimitedPicture.of_t4_with_eols bits (record {
+          encoding = three;
+          limit = limit ∙ sym (added_none (length rows));
+          some = omega (arith, some);
+          picture = (wide, widths);
+          lines = lines;
+          begins = (behind, is);
+        })),
+      )
+      eols_back (rows, bits, behind, widths, lines, is, inr ((block, some, closing), allows)) = (
+        rows,
+        inl (
+          _,
+          IsClosedPicture.by_rtc bits behind (record {
             encoding = three;
             end_of_block = block;
             limit = subst (Allows settings) (sym (added_none (length rows))) allows;
@@ -136,7 +165,9 @@ module _ (settings : DecodeSettings) (wide : 0 < settings.columns) (whole : Bits
             lines = lines;
             closing = closing;
             begins = is;
-          }) refl))
+          }) refl,
+        ),
+      )
 
       pub eols_conform : Conforms settings whole ↔ LinesStand settings 0 white whole
       eols_conform = (eols_to, eols_back)
@@ -165,23 +196,31 @@ module _ (settings : DecodeSettings) (wide : 0 < settings.columns) (whole : Bits
             absurd (no_eols rows bits behind begins.some begins.lines begins.begins)
         lines_to (rows, inr (IsLimitedPicture.of_t6 bits begins)) = absurd (three begins.encoding)
         lines_to (rows, inr (IsLimitedPicture.of_t4 bits begins)) =
-            let (rest, starts) = begins.begins in
-            (rows, bits, rest, begins.picture.1, begins.lines, starts,
-            inl (begins.limit ∙ added_none (length rows), omega (arith, begins.some)))
+            let (rest, starts) = begins.begins in (
+              rows,
+              bits,
+              rest,
+              begins.picture.1,
+              begins.lines,
+              starts,
+              inl (begins.limit ∙ added_none (length rows), omega (arith, begins.some)),
+            )
         lines_to (rows, inr (IsLimitedPicture.of_t4_with_eols bits begins)) =
             let (rest, starts) = begins.begins in absurd (no_eols rows bits rest begins.some begins.lines starts)
 
         lines_back : BodyStands settings 0 white whole → Conforms settings whole
-        lines_back (rows, bits, behind, widths, lines, is, inl (limit, some)) =
-            (rows, inr (IsLimitedPicture.of_t4 bits (record {
-              encoding = three;
-              end_of_line = unasked;
-              limit = limit ∙ sym (added_none (length rows));
-              some = omega (arith, some);
-              picture = (wide, widths);
-              lines = lines;
-              begins = (behind, is);
-            })))
+        lines_back (rows, bits, behind, widths, lines, is, inl (limit, some)) = (
+          rows,
+          inr (IsLimitedPicture.of_t4 bits (record {
+            encoding = three;
+            end_of_line = unasked;
+            limit = limit ∙ sym (added_none (length rows));
+            some = omega (arith, some);
+            picture = (wide, widths);
+            lines = lines;
+            begins = (behind, is);
+          })),
+        )
         lines_back (rows, bits, behind, widths, lines, is, inr ((seeks, two), allows)) = absurd (three seeks.0)
 
         pub lines_conform : Conforms settings whole ↔ BodyStands settings 0 white whole

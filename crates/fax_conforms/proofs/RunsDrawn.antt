@@ -1,12 +1,14 @@
 -- The runs that a pen has drawn, in horizontal mode and in one-dimensional lines.
-use Rattle.hayro_ccitt.proofs.Names.{◌≡◌, ℕ, zero, suc, ◌+◌, ◌-◌, ◌<◌, ◌≤◌, Bool, true, false, List, length, refl, ap, sym, subst}
-use Rattle.hayro_ccitt.proofs.Names.{◌∙◌, arith, inl, inr, cases_lt, Color, White, Black, Bits, Row, opposite, Horizontal, run_from, Ok, cond}
+use Rattle.hayro_ccitt.proofs.Names.{◌≡◌, ℕ, suc, ◌+◌, ◌<◌, ◌≤◌, Bool, true, false, List, length, refl, ap, sym, subst}
+use Rattle.hayro_ccitt.proofs.Names.{◌∙◌, arith, inl, inr, cases_lt, Color, Bits, Row, opposite, Horizontal, cond}
 use Rattle.hayro_ccitt.proofs.PixelRows.ReferencePlaces.{opposite_twice}
 use Rattle.fax_conforms.specs.declared.lines.Pen.{Pen}
-use Rattle.fax_conforms.specs.Standing.{Spot, Leads, Never, LineFrom, ModeFrom, RunsFrom, spot_of, from_of, IsDrawn, IsAbove, DrawsOn}
-use Rattle.fax_conforms.specs.Standing.{IsPainted, NextRun, PaintsRun}
+use Rattle.fax_conforms.specs.Standing.{Spot, Leads, Never, LineFrom, ModeFrom, RunsFrom, spot_of, from_of, IsDrawn, IsAbove}
+use Rattle.fax_conforms.specs.Standing.{DrawsOn}
+use Rattle.fax_conforms.specs.Standing.{NextRun, PaintsRun}
 use Rattle.fax_conforms.proofs.ModesLead.{painted_on, horizontal_leads, horizontal_runs}
-use Rattle.fax_conforms.proofs.PensDrawn.{spot_painted, spot_turned, above_on, len_front, len, inside, white, from_is, drawn_to, onward_to}
+use Rattle.fax_conforms.proofs.PensDrawn.{spot_painted, spot_turned, above_on, len_front, len, inside, white, drawn_to}
+use Rattle.fax_conforms.proofs.PensDrawn.{onward_to}
 use Rattle.fax_conforms.proofs.RunsLead.{run_leads, one_run}
 use Rattle.fax_conforms.proofs.SpelledRuns.{same_run}
 

@@ -1,10 +1,12 @@
 -- The runs of a one-dimensional line that are read, each of them lawful.
-use Rattle.hayro_ccitt.proofs.Names.{◌≡◌, ◌≢◌, ℕ, zero, suc, ◌+◌, ◌-◌, ◌<◌, ◌≤◌, Bool, true, false, not, List, [], ◌∷◌, ◌++◌, length}
-use Rattle.hayro_ccitt.proofs.Names.{replicate, Ok, refl, ap, sym, subst, ◌∙◌, append_assoc, arith, inl, inr, cases_lt, length-append}
-use Rattle.hayro_ccitt.proofs.Names.{length-replicate, append_cancel_left, append-nil, Color, White, Bits, Row, is_black, opposite}
-use Rattle.hayro_ccitt.proofs.Names.{run_from, Spells, EncodesLine1D, common_steps}
+use Rattle.hayro_ccitt.proofs.Names.{◌≡◌, ◌≢◌, ℕ, zero, suc, ◌+◌, ◌-◌, ◌<◌, ◌≤◌, Bool, true, false, not, [], ◌∷◌, ◌++◌}
+use Rattle.hayro_ccitt.proofs.Names.{length}
+use Rattle.hayro_ccitt.proofs.Names.{replicate, Ok, refl, ap, sym, ◌∙◌, append_assoc, arith, inl, inr, cases_lt}
+use Rattle.hayro_ccitt.proofs.Names.{length-append}
+use Rattle.hayro_ccitt.proofs.Names.{length-replicate, append_cancel_left, append-nil, Color, Bits, Row, is_black, opposite}
+use Rattle.hayro_ccitt.proofs.Names.{run_from, EncodesLine1D, common_steps}
 use Rattle.hayro_ccitt.proofs.PixelRows.ReferencePlaces.{opposite_twice}
-use Rattle.fax_conforms.specs.Standing.{Spot, RunsFrom, Leads, Never, IsOnly, LineFrom, StepsStand, GoesOnFrom}
+use Rattle.fax_conforms.specs.Standing.{Spot, RunsFrom, Leads}
 use Rattle.fax_conforms.proofs.ModesLead.{painted_on}
 use Rattle.fax_conforms.proofs.SpelledRuns.{run_is_spelled, same_run}
 use Rattle.fax_conforms.proofs.StandingSteps.{run_read_again}
@@ -106,8 +108,7 @@ module _ (columns : ℕ) (at : Spot) (here : Bits) (small : columns ≤ 42949672
     run_on row rest row_len stands =
         let has = has_run at here row rest columns row_len small open_end stands in
         let same = same_run has.run run has.behind behind (sym has.read ∙ read) in
-        let count : place - length at.front ≡ has.run = omega (arith, to, same.0) in
-        (
+        let count : place - length at.front ≡ has.run = omega (arith, to, same.0) in (
           has.others,
           has.line,
           rw count (has.row_is ∙ sym (append_assoc at.front (replicate has.run (is_black at.color)) has.others)),
@@ -125,8 +126,7 @@ module _ (columns : ℕ) (at : Spot) (here : Bits) (small : columns ≤ 42949672
         rw count at row_is ∙ append_assoc at.front (replicate run (is_black at.color)) others in
         let size = run_length at run others row split in
         let last : (more : Row) → others ≢ is_black at.color ∷ more = λ more e. maximal (omega arith) more
-        (e ∙ ap (λ (c : Color). is_black c ∷ more) (sym (opposite_twice at.color))) in
-        (
+        (e ∙ ap (λ (c : Color). is_black c ∷ more) (sym (opposite_twice at.color))) in (
           replicate run (is_black at.color) ++ others,
           word.0 ++ line,
           split,

@@ -1,9 +1,11 @@
 -- A run that is read is spelled by its words.
-use Rattle.hayro_ccitt.proofs.Names.{◌≡◌, ℕ, zero, suc, ◌+◌, ◌<◌, ◌≤◌, ◌++◌, length, Result, Ok, Err, refl, ap, ◌∙◌, sym, subst}
+use Rattle.hayro_ccitt.proofs.Names.{◌≡◌, ℕ, zero, suc, ◌+◌, ◌<◌, ◌≤◌, ◌++◌, length, Result, Ok, Err, refl, ap, ◌∙◌, sym}
+use Rattle.hayro_ccitt.proofs.Names.{subst}
 use Rattle.hayro_ccitt.proofs.Names.{append_assoc, arith, inl, inr, cases_lt, Color, DecodeError, Bits, codes_of, read_code}
 use Rattle.hayro_ccitt.proofs.Names.{run_from, Spells}
 use Rattle.hayro_ccitt.proofs.CodeWords.ReadCodes.{read_code_found}
-use Rattle.hayro_ccitt.proofs.CodeWords.ReadRuns.{read_code_shorter, words_not_empty, run_fails, run_passes, run_ends, run_goes_on}
+use Rattle.hayro_ccitt.proofs.CodeWords.ReadRuns.{read_code_shorter, words_not_empty, run_fails, run_passes, run_ends}
+use Rattle.hayro_ccitt.proofs.CodeWords.ReadRuns.{run_goes_on}
 
 -- the words of a run stand here, after others that sum to a total
 pub record IsSpelled (color : Color) (total n : ℕ) (here rest : Bits) : Type 0 where

@@ -1,7 +1,7 @@
 -- Lawful steps that stand here begin with a mode that is read here.
-use Rattle.hayro_ccitt.proofs.Names.{◌≡◌, ℕ, suc, ◌+◌, ◌-◌, ◌<◌, ◌≤◌, ◌++◌, length, Ok, refl, ap, ◌∙◌, sym, subst, append_assoc}
-use Rattle.hayro_ccitt.proofs.Names.{arith, pos, ◌+ℤ◌, ℤ, Color, Mode, Pass, Horizontal, Vertical, Bits, Row, mode_codes, Has}
-use Rattle.hayro_ccitt.proofs.Names.{read_code, opposite, a1, a2, b1, b2, run_from, Spells, EncodesLine2D}
+use Rattle.hayro_ccitt.proofs.Names.{◌≡◌, ℕ, ◌+◌, ◌-◌, ◌≤◌, ◌++◌, length, Ok, refl, ap, ◌∙◌, sym, append_assoc}
+use Rattle.hayro_ccitt.proofs.Names.{arith, Color, Mode, Pass, Horizontal, Vertical, Bits, Row, mode_codes, Has}
+use Rattle.hayro_ccitt.proofs.Names.{read_code, opposite, a1, a2, run_from, Spells, EncodesLine2D}
 use Rattle.hayro_ccitt.proofs.BitReading.ZerosInWords.{modes_free}
 use Rattle.hayro_ccitt.proofs.CodeWords.ReadCodes.{read_code_again, read_code_found}
 use Rattle.hayro_ccitt.proofs.EncodedPictures.EncodedRuns.{run_spelled}
@@ -70,19 +70,25 @@ pub steps_of_mode : (reference row : Row) (from : ℕ) (color : Color) (here beh
     → read_code mode_codes here ≡ Ok (mode, behind) → StepsBehind reference row from color mode behind rest
     → StepsStand reference row from color here rest
 steps_of_mode reference row from color here behind rest Pass le read (left, (bits, steps, split)) =
-    let word = read_code_found mode_codes here Pass behind read in
-    (word.0 ++ bits, EncodesLine2D.pass from word.0 le word.1 left steps,
-    word.2 ∙ ap (λ (x : Bits). word.0 ++ x) split ∙ sym (append_assoc word.0 bits rest))
+    let word = read_code_found mode_codes here Pass behind read in (
+      word.0 ++ bits,
+      EncodesLine2D.pass from word.0 le word.1 left steps,
+      word.2 ∙ ap (λ (x : Bits). word.0 ++ x) split ∙ sym (append_assoc word.0 bits rest),
+    )
 steps_of_mode reference row from color here behind rest (Vertical k) le read (exact, (bits, steps, split)) =
-    let word = read_code_found mode_codes here (Vertical k) behind read in
-    (word.0 ++ bits, EncodesLine2D.vertical from word.0 k le word.1 exact steps,
-    word.2 ∙ ap (λ (x : Bits). word.0 ++ x) split ∙ sym (append_assoc word.0 bits rest))
+    let word = read_code_found mode_codes here (Vertical k) behind read in (
+      word.0 ++ bits,
+      EncodesLine2D.vertical from word.0 k le word.1 exact steps,
+      word.2 ∙ ap (λ (x : Bits). word.0 ++ x) split ∙ sym (append_assoc word.0 bits rest),
+    )
 steps_of_mode reference row from color here behind rest Horizontal le read (middle, last, read1, read2, (bits, steps, split)) =
     let word = read_code_found mode_codes here Horizontal behind read in
     let one = run_is_spelled color (a1 row from - (from - 1)) behind middle read1 in
     let two = run_is_spelled (opposite color) (a2 row from - a1 row from) middle last read2 in
     let joined : word.0 ++ (one.0 ++ (two.0 ++ (bits ++ rest))) ≡ (word.0 ++ (one.0 ++ (two.0 ++ bits))) ++ rest =
-    simp append_assoc refl in
-    (word.0 ++ (one.0 ++ (two.0 ++ bits)), EncodesLine2D.horizontal from word.0 le word.1 one.1 two.1 steps,
-    word.2 ∙ ap (λ (x : Bits). word.0 ++ x) (one.2 ∙ ap (λ (x : Bits). one.0 ++ x) (two.2 ∙ ap (λ (x : Bits). two.0 ++ x) split))
-    ∙ joined)
+    simp append_assoc refl in (
+      word.0 ++ (one.0 ++ (two.0 ++ bits)),
+      EncodesLine2D.horizontal from word.0 le word.1 one.1 two.1 steps,
+      word.2 ∙ ap (λ (x : Bits). word.0 ++ x) (one.2 ∙ ap (λ (x : Bits). one.0 ++ x) (two.2 ∙ ap (λ (x : Bits). two.0 ++ x) split))
+          ∙ joined,
+    )

@@ -1,7 +1,7 @@
 -- Results that end early.
 use Rattle.std.specs.Prelude.{Result, Ok, Err, IfOk, OnOk, IfErr}
 use Rattle.fax_conforms.specs.declared.stops.Stop.{Stop}
-use Rattle.fax_conforms.specs.Stops.{IsBroken, IsViolated}
+use Rattle.fax_conforms.specs.Stops.{IsBroken}
 
 -- whatever the error is
 pub if_err : {T : Type 0} (r : Result T Stop) (P : Type 0) → P → IfErr r (λ e. IsBroken e → P)

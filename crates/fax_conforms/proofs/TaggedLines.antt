@@ -1,7 +1,7 @@
 -- Lines of each kind: those of two-dimensional Group 3 behind their tags.
-use Rattle.hayro_ccitt.proofs.Names.{◌≡◌, ℕ, Bool, true, false, [], ◌∷◌, ◌++◌, inl, inr, refl, ap, sym, ◌∙◌, White, Bits, Row, Group4}
-use Rattle.hayro_ccitt.proofs.Names.{Group3_1D, Group3_2D, EncodesLine1D, EncodesLine2D}
-use Rattle.fax_conforms.specs.Standing.{LineStands, Leads, Never, StepsStand}
+use Rattle.hayro_ccitt.proofs.Names.{◌≡◌, ℕ, Bool, true, false, ◌∷◌, ◌++◌, inl, inr, refl, ap, sym, ◌∙◌, Bits, Row, Group4}
+use Rattle.hayro_ccitt.proofs.Names.{Group3_1D, Group3_2D}
+use Rattle.fax_conforms.specs.Standing.{LineStands, Leads}
 
 abbrev pub StandsIn2D : Row → Bits → Row → Bits → Type 0
 StandsIn2D reference here row rest = LineStands Group3_2D reference row here rest

@@ -1,5 +1,5 @@
 -- A word that stands here twice.
-use Rattle.hayro_ccitt.proofs.Names.{◌≡◌, ◌++◌, ◌↔◌, Option, Some, None, is_some, IfSome, IsTrue, refl, ap, sym, ◌∙◌, subst}
+use Rattle.hayro_ccitt.proofs.Names.{◌≡◌, ◌++◌, ◌↔◌, Option, Some, None, is_some, IfSome, IsTrue, refl, ap, sym, ◌∙◌}
 use Rattle.std.specs.Prelude.{IfNone}
 use Rattle.hayro_ccitt.proofs.Names.{append_cancel_left, Bits, BitsAt, here}
 

@@ -1,6 +1,7 @@
 //! Pictures: lines in order, and how they end.
 
-ghost use Rattle.std.specs.Prelude.{◌≡◌, ◌+◌, ◌<◌, ◌≤◌, ◌%◌, ◌++◌, ◌∷◌, ◌^◌, ◌↔◌, false, true, OnOk, IfErr, IfSome, IfNone, IsTrue, length};
+ghost use Rattle.std.specs.Prelude.{◌≡◌, ◌+◌, ◌<◌, ◌≤◌, ◌%◌, ◌++◌, ◌∷◌, ◌^◌, ◌↔◌, false, true, OnOk, IfErr, IfSome, IfNone};
+ghost use Rattle.std.specs.Prelude.{IsTrue, length};
 ghost use Rattle.hayro_ccitt.specs.Bits.{Bits, here};
 ghost use Rattle.hayro_ccitt.specs.EncodingMode.TheVariants.{Group3_2D};
 ghost use Rattle.hayro_ccitt.specs.Encodings.{eol, padding, tag_of};

@@ -7,10 +7,10 @@ ghost use Rattle.hayro_ccitt.specs.CodeReading.{read_code};
 ghost use Rattle.hayro_ccitt.specs.Mode.{Mode};
 ghost use Rattle.hayro_ccitt.specs.Runs.{read_run};
 
+use hayro_ccitt::Result;
 use hayro_ccitt::bit_reader::BitReader;
 use hayro_ccitt::codes::{Color, Mode, Ticks};
 use hayro_ccitt::tables::Tables;
-use hayro_ccitt::Result;
 use std::alloc::Global;
 
 /// What is needed to read words: the lookup tables, and a count of work.

@@ -1,4 +1,4 @@
-use Rattle.hayro_ccitt.proofs.Names.{◌≡◌, ap, subst, Bits, BitsAt, OnOk, IfErr, bits_in, here}
+use Rattle.hayro_ccitt.proofs.Names.{ap, subst, Bits, OnOk, IfErr, here}
 use Rattle.fax_conforms.specs.Conforming.{Conforms}
 use Rattle.fax_conforms.specs.Stops.{IsBroken}
 use Rattle.fax_conforms.proofs.checking.read_data.Goals as goal

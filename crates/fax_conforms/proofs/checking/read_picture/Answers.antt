@@ -1,4 +1,4 @@
-use Rattle.hayro_ccitt.proofs.Names.{◌≡◌, ◌≢◌, ◌∙◌, sym, arith, false≢true, here, Group4}
+use Rattle.hayro_ccitt.proofs.Names.{◌≢◌, ◌∙◌, sym, arith, false≢true, here, Group4}
 use Rattle.fax_conforms.proofs.PicturesConform.{group4_conforms, eols_conform, lines_conform, no_eols_conform}
 use Rattle.fax_conforms.proofs.Stopped.{if_err, if_done, if_broken}
 use Rattle.fax_conforms.proofs.checking.read_picture.Goals as goal

@@ -1,4 +1,4 @@
-use Rattle.hayro_ccitt.proofs.Names.{◌≡◌, ◌+◌, ◌-◌, ◌<◌, true, here, Row, Group3_1D}
+use Rattle.hayro_ccitt.proofs.Names.{◌≡◌, ◌+◌, ◌-◌, here, Row, Group3_1D}
 use Rattle.fax_conforms.specs.Standing.{LineStands, Leads, RunsFrom, spot_of, from_of, IsDrawn}
 use Rattle.fax_conforms.proofs.lines.draw_line_1d.Given as goal
 

@@ -1,4 +1,4 @@
-use Rattle.hayro_ccitt.proofs.Names.{◌≡◌, ◌+◌, ◌-◌, ◌<◌, true, here, pixels, Group4}
+use Rattle.hayro_ccitt.proofs.Names.{◌≡◌, ◌+◌, ◌-◌, here, pixels, Group4}
 use Rattle.fax_conforms.specs.Standing.{LineStands, Leads, LineFrom, spot_of, from_of, IsDrawn, IsAbove}
 use Rattle.fax_conforms.proofs.lines.draw_line_2d.Given as goal
 

@@ -1,6 +1,6 @@
-use Rattle.hayro_ccitt.proofs.Names.{◌≡◌, ◌∙◌, ap, sym, arith, Ok, w8, to_z, of_z, to_z-of_z, SFits, rules, Mode, Pass, Horizontal, Vertical, Bits, Row, here, pixels}
+use Rattle.hayro_ccitt.proofs.Names.{◌∙◌, ap, sym, arith, Ok, w8, to_z, of_z, to_z-of_z, SFits, rules, Mode, Pass}
+use Rattle.hayro_ccitt.proofs.Names.{Horizontal, Vertical, here, pixels}
 use Rattle.hayro_ccitt.proofs.PixelRows.ChangesAndPixels.{length-pixels}
-use Rattle.fax_conforms.specs.Standing.{Leads, Never, LineFrom, ModeFrom, spot_of}
 use Rattle.fax_conforms.proofs.PensDrawn.{mode_here_leads, mode_here_never, no_mode_here}
 use Rattle.fax_conforms.proofs.Stopped.{if_err, if_ok, if_broken}
 use Rattle.fax_conforms.proofs.lines.draw_mode.Goals as goal

@@ -1,4 +1,4 @@
-use Rattle.hayro_ccitt.proofs.Names.{ap, sym, subst, arith, pixels, Pass}
+use Rattle.hayro_ccitt.proofs.Names.{sym, subst, arith, pixels, Pass}
 use Rattle.fax_conforms.specs.declared.lines.Pen.{Pen}
 use Rattle.fax_conforms.specs.Standing.{Leads, LineFrom, ModeFrom, spot_of, DrawsOn}
 use Rattle.fax_conforms.proofs.PensDrawn.{pass_on, pass_drawn, pass_fails, pass_right}

@@ -1,9 +1,10 @@
-use Rattle.hayro_ccitt.proofs.Names.{◌≡◌, ◌∙◌, ap, sym, subst, arith, pixels, Vertical, pos, ◌+ℤ◌, ℕ, w8, w32, SFits, to_z, of_z}
+use Rattle.hayro_ccitt.proofs.Names.{◌≡◌, ◌∙◌, ap, sym, subst, arith, pixels, Vertical, pos, ◌+ℤ◌, w8, w32, SFits, to_z}
+use Rattle.hayro_ccitt.proofs.Names.{of_z}
 use Rattle.hayro_ccitt.proofs.Names.{to_z-of_z, rules, opposite, b1}
 use Rattle.hayro_ccitt.proofs.DrawingLines.DrawnLines.{place_of}
 use Rattle.fax_conforms.specs.declared.lines.Pen.{Pen}
-use Rattle.fax_conforms.specs.Standing.{Leads, LineFrom, ModeFrom, spot_of, from_of, DrawsOn}
-use Rattle.fax_conforms.proofs.PensDrawn.{vertical_on, vertical_drawn, vertical_misses, vertical_fails}
+use Rattle.fax_conforms.specs.Standing.{Leads, LineFrom, ModeFrom, spot_of, from_of}
+use Rattle.fax_conforms.proofs.PensDrawn.{vertical_drawn, vertical_misses}
 use Rattle.fax_conforms.proofs.Stopped.{if_err}
 use Rattle.fax_conforms.proofs.lines.draw_vertical.Goals as goal
 use Rattle.fax_conforms.proofs.lines.draw_vertical.Goals.{After-from_of}

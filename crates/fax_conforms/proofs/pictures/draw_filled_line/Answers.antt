@@ -1,4 +1,4 @@
-use Rattle.hayro_ccitt.proofs.Names.{◌∙◌, ap, arith, err_from_is_err_and, here, pixels}
+use Rattle.hayro_ccitt.proofs.Names.{arith, err_from_is_err_and, here, pixels}
 use Rattle.fax_conforms.proofs.FilledLines.{filled_leads, unfilled, no_filled_line}
 use Rattle.fax_conforms.proofs.Stopped.{if_err}
 use Rattle.fax_conforms.proofs.BodyLines.{filled_shorter}

@@ -1,6 +1,4 @@
-use Rattle.hayro_ccitt.proofs.Names.{sym, subst, OnOk, IfErr, Bits, Row, EncodingMode, here, pixels}
-use Rattle.fax_conforms.specs.Standing.{LineStands, Leads, Never, IsOnly}
-use Rattle.fax_conforms.specs.Stops.{IsBroken}
+use Rattle.hayro_ccitt.proofs.Names.{pixels}
 use Rattle.fax_conforms.proofs.Stopped.{if_done, if_broken}
 use Rattle.fax_conforms.proofs.pictures.draw_line.Goals as goal
 

@@ -1,4 +1,4 @@
-use Rattle.hayro_ccitt.proofs.Names.{eol, here, sym, subst}
+use Rattle.hayro_ccitt.proofs.Names.{eol, here}
 use Rattle.fax_conforms.proofs.TwoWords.{two_words, no_words}
 use Rattle.fax_conforms.proofs.pictures.has_two_eols.Goals as goal
 

@@ -1,6 +1,5 @@
-use Rattle.hayro_ccitt.proofs.Names.{◌≡◌, ◌∙◌, ◌+◌, ◌↔◌, ap, sym, subst, length, arith, err_from_is_err_and, false≢true, here, pixels, white_row, Row}
+use Rattle.hayro_ccitt.proofs.Names.{◌∙◌, ap, sym, length, arith, err_from_is_err_and, false≢true, here, pixels, Row}
 use Rattle.hayro_ccitt.proofs.PixelRows.ChangesAndPixels.{length-pixels}
-use Rattle.fax_conforms.specs.Conforming.{BodyStands}
 use Rattle.fax_conforms.proofs.BodyLines.{body_fails, body_leads}
 use Rattle.fax_conforms.proofs.Padded.{iff_on}
 use Rattle.fax_conforms.proofs.pictures.read_body.Goals as goal
@@ -20,8 +19,12 @@ rows-preserved c =
       lawful = rw c.swap.ensures.x_after lawful;
       allows = c.limit_met.ensures.allows c.if-limit_met.false c.rows.invariant.allows;
       whole = c.in_ok-draw_filled_line.ensures.whole;
-      few = omega (arith, c.rows.invariant.few, c.in_ok-draw_filled_line.ensures.shorter,
-          ap length c.draw_filled_line.ensures.same_bits);
+      few = omega (
+        arith,
+        c.rows.invariant.few,
+        c.in_ok-draw_filled_line.ensures.shorter,
+        ap length c.draw_filled_line.ensures.same_bits,
+      );
     }
 
 pub returns-in_err-draw_filled_line-clause-none : goal.returns-in_err-draw_filled_line-clause-none

@@ -1,6 +1,5 @@
-use Rattle.hayro_ccitt.proofs.Names.{◌≡◌, ◌∙◌, ◌+◌, ◌↔◌, ap, sym, subst, length, arith, err_from_is_err_and, false≢true, here, pixels, white_row, Row}
+use Rattle.hayro_ccitt.proofs.Names.{◌∙◌, ap, sym, length, arith, err_from_is_err_and, false≢true, here, pixels, Row}
 use Rattle.hayro_ccitt.proofs.PixelRows.ChangesAndPixels.{length-pixels}
-use Rattle.fax_conforms.specs.Conforming.{LinesStand}
 use Rattle.fax_conforms.proofs.EolLines.{lines_fail, lines_lead}
 use Rattle.fax_conforms.proofs.Padded.{iff_on}
 use Rattle.fax_conforms.proofs.pictures.read_lines.Goals as goal
@@ -19,8 +18,12 @@ rows-preserved c =
       stands = rw c.swap.ensures.x_after (iff_on c.rows.invariant.stands on);
       lawful = rw c.swap.ensures.x_after lawful;
       allows = c.limit_met.ensures.allows c.if-limit_met.false c.rows.invariant.allows;
-      few = omega (arith, c.rows.invariant.few, c.in_ok-draw_line_behind_eol.ensures.shorter,
-          ap length c.draw_line_behind_eol.ensures.same_bits);
+      few = omega (
+        arith,
+        c.rows.invariant.few,
+        c.in_ok-draw_line_behind_eol.ensures.shorter,
+        ap length c.draw_line_behind_eol.ensures.same_bits,
+      );
     }
 
 pub returns-in_err-draw_line_behind_eol-clause-none : goal.returns-in_err-draw_line_behind_eol-clause-none
