@@ -48,7 +48,8 @@ module _ (settings : DecodeSettings) (taken : ℕ) (reference : Row) (here : Bit
     not_ended : (bits behind : Bits) → bits ≡ [] → here ≡ bits ++ behind → LinesEnd settings (taken + 0) behind → ⊥
     not_ended bits behind none is (inl ends) = unmet (ends.0 ∙ none_more taken) (omega (arith, ends.1))
     not_ended bits behind none is (inr ends) =
-        no_rtc (subst (RtcStands settings taken) (sym (is ∙ ap (λ (x : Bits). x ++ behind) none)) (subst (λ (n : ℕ). RtcStands settings n behind) (none_more taken) ends.0))
+        let rtc : RtcStands settings taken behind = subst (λ (n : ℕ). RtcStands settings n behind) (none_more taken) ends.0 in
+        no_rtc (subst (RtcStands settings taken) (sym (is ∙ ap (λ (x : Bits). x ++ behind) none)) rtc)
 
     pub lines_fail : Never settings.columns (λ row rest. EolLineStands settings reference row here rest)
         → LinesStand settings taken reference here → ⊥

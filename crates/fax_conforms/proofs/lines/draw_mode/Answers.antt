@@ -27,14 +27,16 @@ returns-in-Vertical-clause-leads c = if_ok c.draw_vertical.result _ _ c.draw_ver
     mode_here_leads c.args.columns c.args.pen c.args.coding.now.items (omega (arith, c.ranges.columns.fits)) c.requires.drawn
     c.requires.open_end c.args.reference.now c.requires.above (Vertical (to_z w8 (of_z w8 c.in-Vertical.offset))) _ _
     (c.in-Some.ensures.found ∙ ap (λ (m : Mode). Ok (m, here c.mode.new.reader))
-    (c.in-Vertical.is ∙ ap Vertical (sym (to_z-of_z (let narrow : SFits w8 c.in-Vertical.offset = search rules in narrow))))) (leads (here c.mode.new.reader)))
+    (c.in-Vertical.is ∙ ap Vertical (sym (to_z-of_z (let narrow : SFits w8 c.in-Vertical.offset = search rules in narrow)))))
+     (leads (here c.mode.new.reader)))
 
 pub returns-in-Vertical-clause-none : goal.returns-in-Vertical-clause-none
 returns-in-Vertical-clause-none c = if_broken c.draw_vertical.result _ _ c.draw_vertical.ensures.none (λ none.
     mode_here_never c.args.columns c.args.pen c.args.coding.now.items (omega (arith, c.ranges.columns.fits)) c.requires.drawn
     c.requires.open_end c.args.reference.now c.requires.above (Vertical (to_z w8 (of_z w8 c.in-Vertical.offset))) _ _
     (c.in-Some.ensures.found ∙ ap (λ (m : Mode). Ok (m, here c.mode.new.reader))
-    (c.in-Vertical.is ∙ ap Vertical (sym (to_z-of_z (let narrow : SFits w8 c.in-Vertical.offset = search rules in narrow))))) (none (here c.mode.new.reader)))
+    (c.in-Vertical.is ∙ ap Vertical (sym (to_z-of_z (let narrow : SFits w8 c.in-Vertical.offset = search rules in narrow)))))
+     (none (here c.mode.new.reader)))
 
 pub returns-in-Horizontal-clause-leads : goal.returns-in-Horizontal-clause-leads
 returns-in-Horizontal-clause-leads c = if_ok c.draw_horizontal.result _ _ c.draw_horizontal.ensures.leads (λ next leads.
