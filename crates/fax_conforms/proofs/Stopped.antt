@@ -1,0 +1,34 @@
+-- Results that end early.
+use Rattle.std.specs.Prelude.{Result, Ok, Err, IfOk, OnOk, IfErr}
+use Rattle.fax_conforms.specs.declared.stops.Stop.{Stop}
+use Rattle.fax_conforms.specs.Stops.{IsBroken}
+
+-- whatever the error is
+pub if_err : {T : Type 0} (r : Result T Stop) (P : Type 0) → P → IfErr r (λ e. IsBroken e → P)
+if_err (Ok x) P p = tt
+if_err (Err e) P p = λ broken. p
+
+-- what holds of a value holds by what is known of it
+pub if_ok : {T : Type 0} (r : Result T Stop) (P Q : T → Type 0) → IfOk r P → ((x : T) → P x → Q x) → IfOk r Q
+if_ok (Ok x) P Q p on = on x p
+if_ok (Err e) P Q p on = tt
+
+-- what holds where a rule is broken
+pub if_broken : {T : Type 0} (r : Result T Stop) (P Q : Type 0) → IfErr r (λ e. IsBroken e → P) → (P → Q)
+    → IfErr r (λ e. IsBroken e → Q)
+if_broken (Ok x) P Q p on = tt
+if_broken (Err e) P Q p on = λ broken. on (p broken)
+
+-- an error that is no broken rule
+pub if_no_rule : {T : Type 0} (r : Result T Stop) (P : Type 0) → IfErr r (λ e. IsBroken e → ⊥) → IfErr r (λ e. IsBroken e → P)
+if_no_rule (Ok x) P none = tt
+if_no_rule (Err e) P none = λ broken. absurd (none broken)
+
+-- what holds where nothing is broken
+pub if_done : {T : Type 0} (r : Result T Stop) (P Q : Type 0) → OnOk r P → (P → Q) → OnOk r Q
+if_done (Ok x) P Q p on = on p
+if_done (Err e) P Q p on = tt
+
+pub if_both : {T : Type 0} (r : Result T Stop) (P Q R : Type 0) → OnOk r P → OnOk r Q → (P → Q → R) → OnOk r R
+if_both (Ok x) P Q R p q on = on p q
+if_both (Err e) P Q R p q on = tt

@@ -1,0 +1,46 @@
+use Rattle.hayro_ccitt.proofs.Names.{◌≡◌, ◌∙◌, ap, sym, subst, arith, pixels, Vertical, pos, ◌+ℤ◌, w8, w32, SFits, to_z}
+use Rattle.hayro_ccitt.proofs.Names.{of_z}
+use Rattle.hayro_ccitt.proofs.Names.{to_z-of_z, rules, opposite, b1}
+use Rattle.hayro_ccitt.proofs.DrawingLines.DrawnLines.{place_of}
+use Rattle.fax_conforms.specs.declared.lines.Pen.{Pen}
+use Rattle.fax_conforms.specs.Standing.{Leads, LineFrom, ModeFrom, spot_of, from_of}
+use Rattle.fax_conforms.proofs.PensDrawn.{vertical_drawn, vertical_misses}
+use Rattle.fax_conforms.proofs.Stopped.{if_err}
+use Rattle.fax_conforms.proofs.lines.draw_vertical.Goals as goal
+use Rattle.fax_conforms.proofs.lines.draw_vertical.Goals.{After-from_of}
+
+-- the position that the mode names
+named : (c : After-from_of) → pos (b1 (pixels c.args.columns c.args.reference.now) (from_of c.args.pen) c.args.pen.color)
+    +ℤ c.args.offset ≡ pos c.in-Some.place
+named c =
+    let narrow : SFits w8 c.args.offset = search rules in
+    let wide : SFits w32 c.from.result = search rules in
+    let offset : to_z w32 (of_z w32 c.from.result) ≡ c.args.offset = to_z-of_z wide ∙ c.from.ensures ∙ to_z-of_z narrow in
+    let at = place_of (pos c.find_above-above.result.b1 +ℤ to_z w32 (of_z w32 c.from.result)) c.checked_add_signed.result
+    c.in-Some.place c.checked_add_signed.ensures c.in-Some.is in
+    rw (← offset, c.find_above-above.ensures.b1) at.0
+
+pub returns-then-from-from_of-clause-none : goal.returns-then-from-from_of-clause-none
+returns-then-from-from_of-clause-none c = if_err c.broken-then-from-from_of.result _
+    (vertical_misses c.args.columns c.args.pen c.args.coding.now.items (omega (arith, c.ranges.columns.fits)) c.requires.drawn
+    c.requires.open_end c.args.reference.now c.requires.above c.args.offset c.in-Some.place
+    (named (goal.at.returns-then-from-from_of-clause-none c).After-from_of)
+    (λ right within. omega (arith, right, c.if-from-from_of.true, c.from-2.ensures, c.from_of.ensures)))
+
+pub returns-then-place-columns-clause-none : goal.returns-then-place-columns-clause-none
+returns-then-place-columns-clause-none c = if_err c.broken-then-place-columns.result _
+    (vertical_misses c.args.columns c.args.pen c.args.coding.now.items (omega (arith, c.ranges.columns.fits)) c.requires.drawn
+    c.requires.open_end c.args.reference.now c.requires.above c.args.offset c.in-Some.place
+    (named (goal.at.returns-then-place-columns-clause-none c).After-from_of)
+    (λ right within. omega (arith, within, c.if-place-columns.true)))
+
+pub returns-clause-leads : goal.returns-clause-leads
+returns-clause-leads c = λ here. subst (λ (p : Pen). Leads c.args.columns
+    (ModeFrom (pixels c.args.columns c.args.reference.now) (spot_of c.args.pen c.args.coding.now.items) (Vertical c.args.offset) here)
+    (LineFrom (pixels c.args.columns c.args.reference.now) (spot_of p c.paint_to.new.coding.items) here))
+    (sym (c.turned.ensures ∙ ap (λ (p : Pen). record p { color = opposite p.color }) c.with_passed.ensures))
+    (vertical_drawn c.args.columns c.args.pen c.args.coding.now.items (omega (arith, c.ranges.columns.fits)) c.requires.drawn
+    c.requires.open_end c.args.reference.now c.requires.above c.args.offset c.in-Some.place
+    (named (goal.at.returns-clause-leads c).After-from_of)
+    (omega (arith, c.if-from-from_of.false, c.from-2.ensures, c.from_of.ensures)) c.if-place-columns.false
+    c.in_ok-next.next c.paint_to.new.coding.items c.in_ok-next.ensures.painted here)

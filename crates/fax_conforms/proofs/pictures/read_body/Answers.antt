@@ -1,0 +1,36 @@
+use Rattle.hayro_ccitt.proofs.Names.{◌∙◌, ap, sym, length, arith, err_from_is_err_and, false≢true, here, pixels, Row}
+use Rattle.hayro_ccitt.proofs.PixelRows.ChangesAndPixels.{length-pixels}
+use Rattle.fax_conforms.proofs.BodyLines.{body_fails, body_leads}
+use Rattle.fax_conforms.proofs.Padded.{iff_on}
+use Rattle.fax_conforms.proofs.pictures.read_body.Goals as goal
+
+pub rows-preserved : goal.rows-preserved
+rows-preserved c =
+    let columns = c.args.settings.columns in
+    let row : Row = pixels c.args.settings.columns c.draw_filled_line.new.coding.items in
+    let lawful = c.in_ok-draw_filled_line.ensures.lawful in
+    let on = body_leads c.args.settings c.rows.taken (pixels c.args.settings.columns c.rows.reference.items) (here c.rows.reader)
+    (c.limit_met.ensures.unmet c.if-limit_met.false)
+    (λ eofb. absurd (false≢true (sym c.if-is_eofb.false ∙ c.is_eofb.ensures.1 eofb))) row (here c.draw_filled_line.new.reader)
+    (length-pixels c.args.settings.columns c.draw_filled_line.new.coding.items lawful)
+    (rw c.as_slice.ensures.value at c.in_ok-draw_filled_line.ensures.row) in
+    record {
+      stands = rw c.swap.ensures.x_after (iff_on c.rows.invariant.stands on);
+      lawful = rw c.swap.ensures.x_after lawful;
+      allows = c.limit_met.ensures.allows c.if-limit_met.false c.rows.invariant.allows;
+      whole = c.in_ok-draw_filled_line.ensures.whole;
+      few = omega (
+        arith,
+        c.rows.invariant.few,
+        c.in_ok-draw_filled_line.ensures.shorter,
+        ap length c.draw_filled_line.ensures.same_bits,
+      );
+    }
+
+pub returns-in_err-draw_filled_line-clause-none : goal.returns-in_err-draw_filled_line-clause-none
+returns-in_err-draw_filled_line-clause-none c =
+    let p = err_from_is_err_and c.from_residual.result c.from_residual.ensures.1 in
+    rw (p.1, p.2) (λ broken stands. body_fails c.args.settings c.rows.taken
+    (pixels c.args.settings.columns c.rows.reference.items) (here c.rows.reader) (c.limit_met.ensures.unmet c.if-limit_met.false)
+    (λ eofb. absurd (false≢true (sym c.if-is_eofb.false ∙ c.is_eofb.ensures.1 eofb)))
+    (rw c.as_slice.ensures.value at (c.in_err-draw_filled_line.ensures.none broken)) (c.rows.invariant.stands.0 stands))

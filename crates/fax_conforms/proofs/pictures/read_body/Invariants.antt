@@ -1,0 +1,16 @@
+use Rattle.hayro_ccitt.proofs.Names.{◌≡◌, ◌+◌, ◌≤◌, ◌%◌, ◌↔◌, true, length, here, pixels, white_row, AreChanges, Allows}
+use Rattle.fax_conforms.specs.Conforming.{BodyStands}
+use Rattle.fax_conforms.proofs.pictures.read_body.Given as goal
+
+abbrev pub invariant-rows : goal.invariant-rows
+invariant-rows l = record {
+  stands : BodyStands l.settings 0 (white_row l.settings.columns) (here l.fn.reader)
+      ↔ BodyStands l.settings l.taken (pixels l.settings.columns l.reference.items) (here l.reader);
+  lawful : AreChanges l.settings.columns l.reference.items;
+  allows : Allows l.settings l.taken;
+  whole : l.settings.rows_are_byte_aligned ≡ true → l.reader.place % 8 ≡ 0;
+  few : l.taken + length (here l.reader) ≤ length l.reader.bits;
+}
+
+abbrev pub decreases-rows : goal.decreases-rows
+decreases-rows l = length (here l.reader)

@@ -1,0 +1,15 @@
+use Rattle.hayro_ccitt.proofs.Names.{◌+◌, ◌≤◌, ◌↔◌, length, here, pixels, white_row, AreChanges, Allows}
+use Rattle.fax_conforms.specs.Conforming.{LinesStand}
+use Rattle.fax_conforms.proofs.pictures.read_lines.Given as goal
+
+abbrev pub invariant-rows : goal.invariant-rows
+invariant-rows l = record {
+  stands : LinesStand l.settings 0 (white_row l.settings.columns) (here l.fn.reader)
+      ↔ LinesStand l.settings l.taken (pixels l.settings.columns l.reference.items) (here l.reader);
+  lawful : AreChanges l.settings.columns l.reference.items;
+  allows : Allows l.settings l.taken;
+  few : l.taken + length (here l.reader) ≤ length l.reader.bits;
+}
+
+abbrev pub decreases-rows : goal.decreases-rows
+decreases-rows l = length (here l.reader)

@@ -1,0 +1,3 @@
+pub mod Conforming
+pub mod Standing
+pub mod Stops

@@ -1,0 +1,147 @@
+//! Whether data is an encoding.
+
+ghost use Rattle.std.specs.Prelude.{◌≡◌, ◌<◌, ◌↔◌, None, IsTrue, IfOk, OnOk, IfErr, IsOkUnless};
+ghost use Rattle.hayro_ccitt.specs.Bits.{Bits, BitsFit, bits_in, here};
+ghost use Rattle.hayro_ccitt.specs.EncodingMode.TheVariants.{Group4};
+ghost use Rattle.fax_conforms.specs.Conforming.{Conforms, EolStands};
+ghost use Rattle.fax_conforms.specs.Stops.{IsBroken};
+
+use crate::pictures::{has_eol, read_body, read_lines};
+use crate::stops::{Rule, Stop, Violation, broken};
+use crate::words::Words;
+use hayro_ccitt::bit_reader::{BitOrder, BitReader};
+use hayro_ccitt::{DecodeError, DecodeSettings, EncodingMode};
+use std::alloc::Global;
+
+/// Returns whether the encoding is Group 4.
+fn is_group4(settings: DecodeSettings) -> bool
+    ensures { IsTrue result ↔ (settings.encoding ≡ Group4) }
+{
+    matches!(settings.encoding, EncodingMode::Group4)
+}
+
+/// Reads a picture to its end.
+fn read_picture(
+    words: &mut Words,
+    reader: &mut BitReader<'_>,
+    settings: DecodeSettings,
+    reference: &mut Vec<u32>,
+    coding: &mut Vec<u32>,
+) -> Result<(), Stop>
+    requires wide { 0 < settings.columns }
+    requires start { reader.old.place ≡ 0 }
+    ensures stands { OnOk result (Conforms settings (here reader.old)) }
+    ensures none { IfErr result (λ e. IsBroken e → Conforms settings (here reader.old) → ⊥) }
+{
+    // The range of a number is known once it is read.
+    let _columns = settings.columns;
+    if is_group4(settings) {
+        return read_body(words, reader, settings, reference, coding);
+    }
+    if has_eol(reader, &mut words.ticks) {
+        return read_lines(words, reader, settings, reference, coding);
+    }
+    if settings.end_of_line {
+        return broken(0, Rule::Eol);
+    }
+    read_body(words, reader, settings, reference, coding)
+}
+
+/// Creates a reader at the first bit of some bytes, which have their bits in this order.
+fn reader_of<'a>(order: BitOrder, data: &'a [u8]) -> BitReader<'a>
+    requires fit { BitsFit «data».now }
+    ensures { result ≡ record { bits = bits_in order «data».now; place = 0 } }
+{
+    match order {
+        BitOrder::HighestFirst => BitReader::new(data),
+        BitOrder::LowestFirst => BitReader::new_low_first(data),
+    }
+}
+
+/// Reads a picture to its end from the start of some bytes.
+fn read_data(
+    alloc: Global,
+    settings: DecodeSettings,
+    order: BitOrder,
+    data: &[u8],
+) -> Result<(), Stop>
+    requires fit { BitsFit «data».now }
+    ensures stands { OnOk result (Conforms settings (bits_in order «data».now)) }
+    ensures none { IfErr result (λ e. IsBroken e → Conforms settings (bits_in order «data».now) → ⊥) }
+{
+    if settings.columns == 0 {
+        return broken(0, Rule::Columns);
+    }
+    let Ok(mut words) = Words::new(alloc) else {
+        return Err(Stop::OutOfMemory);
+    };
+    let mut reader = reader_of(order, data);
+    let mut reference = Vec::new(alloc);
+    let mut coding = Vec::new(alloc);
+    read_picture(
+        &mut words,
+        &mut reader,
+        settings,
+        &mut reference,
+        &mut coding,
+    )
+}
+
+/// Returns the first place at which data breaks a rule of its encoding, and which rule; `None` if it begins with an encoding of a
+/// picture, by every rule of T.4 and T.6, that is closed as the settings ask: by EOFB (T.6, 2.4.1.1) or RTC (T.4, 4.1.4) with
+/// `end_of_block`, or by as many rows as the row limit, whichever comes first. What follows the picture isn't looked at. Each byte
+/// has its bits in this order.
+///
+/// More is asked here than of data that [`hayro_ccitt::decode`] reads strictly. Pass mode is only where b2 is left of a1, and each
+/// vertical mode to the right of a0 (T.4, 4.2.1.3); only the first run of a row has no pixels, and one at the row's end in
+/// horizontal mode (T.4, 4.1.1); nothing but zeros is between a line and the next whole byte where rows are aligned (T.4, 4.1.3);
+/// and EOLs and their tags are only where they belong (T.4, 4.1.2 and 4.2.2). Whether the settings are strict has no effect.
+///
+/// # Errors
+///
+/// `OutOfMemory` is the only one.
+///
+/// # Example
+///
+/// In Group 4 with one column and `end_of_block` the bytes 10 01 00 10 01 are pass mode below a white row, and EOFB, from the fifth
+/// bit on. A strict reading takes the pass mode, and here it is the violation: place 0, [`Rule::PassToEnd`].
+pub fn first_violation(
+    alloc: Global,
+    settings: DecodeSettings,
+    order: BitOrder,
+    data: &[u8],
+) -> hayro_ccitt::Result<Option<Violation>>
+    requires fit { BitsFit «data».now }
+    ensures none { IfOk result (λ found. (found ≡ None) ↔ Conforms settings (bits_in order «data».now)) }
+    ensures only_memory { IsOkUnless result DecodeError.OutOfMemory }
+{
+    match read_data(alloc, settings, order, data) {
+        Ok(()) => Ok(None),
+        Err(Stop::Violation(violation)) => Ok(Some(violation)),
+        Err(Stop::OutOfMemory) => Err(DecodeError::OutOfMemory),
+    }
+}
+
+/// Returns whether data begins with an encoding of a picture, by every rule of T.4 and T.6, that is closed as the settings ask: whether
+/// it has no [`first_violation`].
+///
+/// # Errors
+///
+/// `OutOfMemory` is the only one.
+///
+/// # Example
+///
+/// In Group 4 with 8 columns and `end_of_block` the bytes 31 C0 04 00 40 are horizontal mode, 3 white pixels, 2 black ones and a
+/// vertical mode, and then EOFB: the result is `Ok(true)`.
+pub fn conforms(
+    alloc: Global,
+    settings: DecodeSettings,
+    order: BitOrder,
+    data: &[u8],
+) -> hayro_ccitt::Result<bool>
+    requires fit { BitsFit «data».now }
+    ensures conforms { IfOk result (λ conforms. IsTrue conforms ↔ Conforms settings (bits_in order «data».now)) }
+    ensures only_memory { IsOkUnless result DecodeError.OutOfMemory }
+{
+    Ok(first_violation(alloc, settings, order, data)?.is_none())
+}

@@ -1,0 +1,369 @@
+//! Pictures: lines in order, and how they end.
+
+ghost use Rattle.std.specs.Prelude.{◌≡◌, ◌+◌, ◌<◌, ◌≤◌, ◌%◌, ◌++◌, ◌∷◌, ◌^◌, ◌↔◌, false, true, OnOk, IfErr, IfSome, IfNone};
+ghost use Rattle.std.specs.Prelude.{IsTrue, length};
+ghost use Rattle.hayro_ccitt.specs.Bits.{Bits, here};
+ghost use Rattle.hayro_ccitt.specs.EncodingMode.TheVariants.{Group3_2D};
+ghost use Rattle.hayro_ccitt.specs.Encodings.{eol, padding, tag_of};
+ghost use Rattle.hayro_ccitt.specs.Pictures.{Allows};
+ghost use Rattle.hayro_ccitt.specs.Rows.{AreChanges, pixels, white_row};
+ghost use Rattle.fax_conforms.specs.Conforming.{EofbStands, SeeksEofb, TwoEolsStand, BodyStands, FilledStands, fill_at};
+ghost use Rattle.fax_conforms.specs.Conforming.{EolStands, TaggedEolStands, EolsStand, RtcStands};
+ghost use Rattle.fax_conforms.specs.Conforming.{EolLineStands, LinesStand};
+ghost use Rattle.fax_conforms.specs.Standing.{LineStands, Leads, Never, IsOnly};
+ghost use Rattle.fax_conforms.specs.Stops.{IsBroken};
+
+use crate::lines::{draw_line_1d, draw_line_2d};
+use crate::stops::{Rule, Stop, broken};
+use crate::words::Words;
+use hayro_ccitt::bit_reader::BitReader;
+use hayro_ccitt::codes::Ticks;
+use hayro_ccitt::{DecodeSettings, EncodingMode};
+use std::mem;
+
+/// Reads the tag of a line of two-dimensional Group 3, and the line (T.4, 4.2.2).
+fn draw_tagged_line(
+    words: &mut Words,
+    reader: &mut BitReader<'_>,
+    columns: u32,
+    reference: &[u32],
+    coding: &mut Vec<u32>,
+) -> Result<(), Stop>
+    requires wide { 0 < columns }
+    requires reference { AreChanges columns reference.now }
+    ensures row { OnOk result (Leads columns
+        (λ row rest. LineStands Group3_2D (pixels columns reference.now) row (here reader.old) rest)
+        (IsOnly (pixels columns coding.new.items) (here reader.new))) }
+    ensures lawful { OnOk result (AreChanges columns coding.new.items) }
+    ensures none { IfErr result (λ e. IsBroken e
+        → Never columns (λ row rest. LineStands Group3_2D (pixels columns reference.now) row (here reader.old) rest)) }
+    ensures same_bits { reader.new.bits ≡ reader.old.bits }
+{
+    let place = reader.bit_pos();
+    match reader.read_bit() {
+        Ok(0) => draw_line_2d(words, reader, columns, reference, coding),
+        Ok(_) => draw_line_1d(words, reader, columns, coding),
+        Err(_) => broken(place, Rule::Tag),
+    }
+}
+
+/// Reads a line of the encoding, and leaves the changes of its row (T.4, 4.1 and 4.2; T.6, 2.2).
+fn draw_line(
+    words: &mut Words,
+    reader: &mut BitReader<'_>,
+    settings: DecodeSettings,
+    reference: &[u32],
+    coding: &mut Vec<u32>,
+) -> Result<(), Stop>
+    requires wide { 0 < settings.columns }
+    requires reference { AreChanges settings.columns reference.now }
+    ensures row { OnOk result (Leads settings.columns
+        (λ row rest. LineStands settings.encoding (pixels settings.columns reference.now) row (here reader.old) rest)
+        (IsOnly (pixels settings.columns coding.new.items) (here reader.new))) }
+    ensures lawful { OnOk result (AreChanges settings.columns coding.new.items) }
+    ensures none { IfErr result (λ e. IsBroken e → Never settings.columns
+        (λ row rest. LineStands settings.encoding (pixels settings.columns reference.now) row (here reader.old) rest)) }
+    ensures same_bits { reader.new.bits ≡ reader.old.bits }
+{
+    let columns = settings.columns;
+    match settings.encoding {
+        EncodingMode::Group4 => draw_line_2d(words, reader, columns, reference, coding),
+        EncodingMode::Group3_1D => draw_line_1d(words, reader, columns, coding),
+        EncodingMode::Group3_2D => draw_tagged_line(words, reader, columns, reference, coding),
+    }
+}
+
+/// Returns whether there are as many rows as the row limit, if there is one.
+fn limit_met(settings: DecodeSettings, taken: u64) -> bool
+    ensures met { result ≡ true → (settings.rows ≡ taken) × (0 < taken) }
+    ensures unmet { result ≡ false → settings.rows ≡ taken → 0 < taken → ⊥ }
+    ensures allows { result ≡ false → Allows settings taken → Allows settings (taken + 1) }
+{
+    settings.rows != 0 && u64::from(settings.rows) == taken
+}
+
+/// Returns a reader behind the EOL without fill that is here, if there is one (T.4, 4.1.2).
+fn behind_plain_eol<'a>(reader: &BitReader<'a>, ticks: &mut Ticks) -> Option<BitReader<'a>>
+    ensures found { IfSome result (λ after. here reader.now ≡ eol 0 ++ here after) }
+    ensures none { IfNone result ((rest : Bits) → here reader.now ≡ eol 0 ++ rest → ⊥) }
+{
+    let (zeros, after) = reader.zero_run(ticks);
+    if zeros == 11 {
+        return after;
+    }
+    None
+}
+
+/// Returns whether two EOLs without fill are here (T.6, 2.4.1.1).
+fn has_two_eols(reader: &BitReader<'_>, ticks: &mut Ticks) -> bool
+    ensures { IsTrue result ↔ TwoEolsStand (here reader.now) }
+{
+    match behind_plain_eol(reader, ticks) {
+        Some(after) => behind_plain_eol(&after, ticks).is_some(),
+        None => false,
+    }
+}
+
+/// Returns whether the settings look for EOFB (T.6, 2.4.1.1).
+fn seeks_eofb(settings: DecodeSettings) -> bool
+    ensures { IsTrue result ↔ SeeksEofb settings }
+{
+    settings.end_of_block && matches!(settings.encoding, EncodingMode::Group4)
+}
+
+/// Returns whether EOFB is here, and the settings look for it (T.6, 2.4.1.1).
+fn is_eofb(settings: DecodeSettings, reader: &BitReader<'_>, ticks: &mut Ticks) -> bool
+    ensures { IsTrue result ↔ EofbStands settings (here reader.now) }
+{
+    seeks_eofb(settings) && has_two_eols(reader, ticks)
+}
+
+/// Consumes a zero if it is next, and returns whether it is; otherwise the offset is unspecified.
+fn pass_zero(reader: &mut BitReader<'_>) -> bool
+    ensures zero { result ≡ true → here reader.old ≡ false ∷ here reader.new }
+    ensures place { result ≡ true → reader.new.place ≡ reader.old.place + 1 }
+    ensures none { result ≡ false → (rest : Bits) → here reader.old ≡ false ∷ rest → ⊥ }
+    ensures same_bits { reader.new.bits ≡ reader.old.bits }
+{
+    match reader.read_bit() {
+        Ok(bit) => bit == 0,
+        Err(_) => false,
+    }
+}
+
+/// Consumes zeros up to a whole byte, and returns whether there are as many (T.4, 4.1.3).
+fn pass_padding(reader: &mut BitReader<'_>) -> bool
+    ensures padding { result ≡ true → (rest : Bits) → (here reader.old ≡ padding reader.old.place ++ rest) ↔ (here reader.new ≡ rest) }
+    ensures whole { result ≡ true → reader.new.place % 8 ≡ 0 }
+    ensures none { result ≡ false → (rest : Bits) → here reader.old ≡ padding reader.old.place ++ rest → ⊥ }
+    ensures same_bits { reader.new.bits ≡ reader.old.bits }
+{
+    let mut left = (8 - reader.bit_pos() % 8) % 8;
+    'zeros: while left > 0 {
+        if !pass_zero(reader) {
+            return false;
+        }
+        left -= 1;
+    }
+    true
+}
+
+/// Consumes the padding after a line where lines are aligned, and returns whether it is there (T.4, 4.1.3).
+fn pass_fill(aligned: bool, reader: &mut BitReader<'_>) -> bool
+    ensures fill { result ≡ true → (rest : Bits) → (here reader.old ≡ fill_at aligned reader.old.place ++ rest) ↔ (here reader.new ≡ rest) }
+    ensures whole { result ≡ true → aligned ≡ true → reader.new.place % 8 ≡ 0 }
+    ensures none { result ≡ false → (rest : Bits) → here reader.old ≡ fill_at aligned reader.old.place ++ rest → ⊥ }
+    ensures same_bits { reader.new.bits ≡ reader.old.bits }
+{
+    if aligned {
+        return pass_padding(reader);
+    }
+    true
+}
+
+/// Reads the next line and what fills it up to a whole byte, and leaves the changes of its row.
+fn draw_filled_line(
+    words: &mut Words,
+    reader: &mut BitReader<'_>,
+    settings: DecodeSettings,
+    reference: &[u32],
+    coding: &mut Vec<u32>,
+) -> Result<(), Stop>
+    requires wide { 0 < settings.columns }
+    requires reference { AreChanges settings.columns reference.now }
+    requires whole { settings.rows_are_byte_aligned ≡ true → reader.old.place % 8 ≡ 0 }
+    ensures row { OnOk result (Leads settings.columns
+        (λ row rest. FilledStands settings (pixels settings.columns reference.now) row (here reader.old) rest)
+        (IsOnly (pixels settings.columns coding.new.items) (here reader.new))) }
+    ensures lawful { OnOk result (AreChanges settings.columns coding.new.items) }
+    ensures whole { OnOk result (settings.rows_are_byte_aligned ≡ true → reader.new.place % 8 ≡ 0) }
+    ensures shorter { OnOk result (length (here reader.new) < length (here reader.old)) }
+    ensures fit { length reader.old.bits + 64 < 2 ^ 64 }
+    ensures none { IfErr result (λ e. IsBroken e → Never settings.columns
+        (λ row rest. FilledStands settings (pixels settings.columns reference.now) row (here reader.old) rest)) }
+    ensures same_bits { reader.new.bits ≡ reader.old.bits }
+{
+    // The range of a number is known once it is read.
+    let _columns = settings.columns;
+    let _start = reader.bit_pos();
+    draw_line(words, reader, settings, reference, coding)?;
+    let place = reader.bit_pos();
+    if !pass_fill(settings.rows_are_byte_aligned, reader) {
+        return broken(place, Rule::Padding);
+    }
+    Ok(())
+}
+
+/// Reads lines without EOLs up to their end: by the row limit, or by EOFB (T.4, 4.1.1 and 4.2.1; T.6, 2.2 and 2.4.1.1).
+pub fn read_body(
+    words: &mut Words,
+    reader: &mut BitReader<'_>,
+    settings: DecodeSettings,
+    reference: &mut Vec<u32>,
+    coding: &mut Vec<u32>,
+) -> Result<(), Stop>
+    requires wide { 0 < settings.columns }
+    requires start { reader.old.place ≡ 0 }
+    ensures stands { OnOk result (BodyStands settings 0 (white_row settings.columns) (here reader.old)) }
+    ensures none { IfErr result (λ e. IsBroken e → BodyStands settings 0 (white_row settings.columns) (here reader.old) → ⊥) }
+{
+    reference.clear();
+    let mut taken = 0;
+    'rows: loop {
+        if limit_met(settings, taken) || is_eofb(settings, reader, &mut words.ticks) {
+            return Ok(());
+        }
+        draw_filled_line(words, reader, settings, reference.as_slice(), coding)?;
+        mem::swap(reference, coding);
+        taken += 1;
+    }
+}
+
+/// Returns a reader behind the EOL that is here with its fill, if there is one (T.4, 4.1.2 and 4.1.3).
+fn behind_eol<'a>(reader: &BitReader<'a>, ticks: &mut Ticks) -> Option<BitReader<'a>>
+    ensures found { IfSome result (λ after. EolStands (here reader.now) (here after)) }
+    ensures none { IfNone result ((rest : Bits) → EolStands (here reader.now) rest → ⊥) }
+    ensures same_bits { IfSome result (λ after. after.bits ≡ reader.now.bits) }
+{
+    let (zeros, after) = reader.zero_run(ticks);
+    if zeros < 11 {
+        return None;
+    }
+    after
+}
+
+/// Returns whether a tag of 1 is here, or needn't be, and consumes it (T.4, 4.2.4).
+fn pass_closing_tag(encoding: EncodingMode, reader: &mut BitReader<'_>) -> bool
+    ensures tag { result ≡ true → here reader.old ≡ tag_of encoding ++ here reader.new }
+    ensures none { result ≡ false → (rest : Bits) → here reader.old ≡ tag_of encoding ++ rest → ⊥ }
+{
+    match encoding {
+        EncodingMode::Group3_2D => match reader.read_bit() {
+            Ok(bit) => bit == 1,
+            Err(_) => false,
+        },
+        EncodingMode::Group3_1D | EncodingMode::Group4 => true,
+    }
+}
+
+/// Returns a reader behind the EOL of RTC that is here, and its tag, if there is one (T.4, 4.1.4 and 4.2.4).
+fn behind_tagged_eol<'a>(
+    encoding: EncodingMode,
+    reader: &BitReader<'a>,
+    ticks: &mut Ticks,
+) -> Option<BitReader<'a>>
+    ensures found { IfSome result (λ after. TaggedEolStands encoding (here reader.now) (here after)) }
+    ensures none { IfNone result ((rest : Bits) → TaggedEolStands encoding (here reader.now) rest → ⊥) }
+{
+    match behind_eol(reader, ticks) {
+        Some(mut after) => {
+            if pass_closing_tag(encoding, &mut after) {
+                Some(after)
+            } else {
+                None
+            }
+        }
+        None => None,
+    }
+}
+
+/// Returns whether six EOLs are here, each with its tag (T.4, 4.1.4 and 4.2.4).
+fn has_six_eols(encoding: EncodingMode, reader: &BitReader<'_>, ticks: &mut Ticks) -> bool
+    ensures { IsTrue result ↔ EolsStand encoding 6 (here reader.now) }
+{
+    let Some(mut next) = behind_tagged_eol(encoding, reader, ticks) else {
+        return false;
+    };
+    let mut left: usize = 5;
+    'eols: while left > 0 {
+        match behind_tagged_eol(encoding, &next, ticks) {
+            Some(after) => next = after,
+            None => return false,
+        }
+        left -= 1;
+    }
+    true
+}
+
+/// Returns whether RTC is here after some row, and the settings look for it (T.4, 4.1.4).
+fn is_rtc(settings: DecodeSettings, taken: u64, reader: &BitReader<'_>, ticks: &mut Ticks) -> bool
+    ensures { IsTrue result ↔ RtcStands settings taken (here reader.now) }
+{
+    settings.end_of_block && taken > 0 && has_six_eols(settings.encoding, reader, ticks)
+}
+
+/// Consumes the EOL that is here with its fill, and returns whether there is one (T.4, 4.1.2 and 4.1.3).
+fn pass_eol(reader: &mut BitReader<'_>, ticks: &mut Ticks) -> bool
+    ensures found { result ≡ true → EolStands (here reader.old) (here reader.new) }
+    ensures none { result ≡ false → (rest : Bits) → EolStands (here reader.old) rest → ⊥ }
+    ensures same_bits { reader.new.bits ≡ reader.old.bits }
+{
+    match behind_eol(reader, ticks) {
+        Some(after) => {
+            *reader = after;
+            true
+        }
+        None => false,
+    }
+}
+
+/// Reads the EOL before a line and the line, and leaves the changes of its row (T.4, 4.1.2).
+fn draw_line_behind_eol(
+    words: &mut Words,
+    reader: &mut BitReader<'_>,
+    settings: DecodeSettings,
+    reference: &[u32],
+    coding: &mut Vec<u32>,
+) -> Result<(), Stop>
+    requires wide { 0 < settings.columns }
+    requires reference { AreChanges settings.columns reference.now }
+    ensures row { OnOk result (Leads settings.columns
+        (λ row rest. EolLineStands settings (pixels settings.columns reference.now) row (here reader.old) rest)
+        (IsOnly (pixels settings.columns coding.new.items) (here reader.new))) }
+    ensures lawful { OnOk result (AreChanges settings.columns coding.new.items) }
+    ensures shorter { OnOk result (length (here reader.new) < length (here reader.old)) }
+    ensures fit { length reader.old.bits + 64 < 2 ^ 64 }
+    ensures none { IfErr result (λ e. IsBroken e → Never settings.columns
+        (λ row rest. EolLineStands settings (pixels settings.columns reference.now) row (here reader.old) rest)) }
+    ensures same_bits { reader.new.bits ≡ reader.old.bits }
+{
+    // The range of a number is known once it is read.
+    let _columns = settings.columns;
+    let place = reader.bit_pos();
+    if !pass_eol(reader, &mut words.ticks) {
+        return broken(place, Rule::Eol);
+    }
+    draw_line(words, reader, settings, reference, coding)
+}
+
+/// Reads lines up to their end, each behind an EOL: by the row limit, or by RTC (T.4, 4.1.2 and 4.1.4).
+pub fn read_lines(
+    words: &mut Words,
+    reader: &mut BitReader<'_>,
+    settings: DecodeSettings,
+    reference: &mut Vec<u32>,
+    coding: &mut Vec<u32>,
+) -> Result<(), Stop>
+    requires wide { 0 < settings.columns }
+    ensures stands { OnOk result (LinesStand settings 0 (white_row settings.columns) (here reader.old)) }
+    ensures none { IfErr result (λ e. IsBroken e → LinesStand settings 0 (white_row settings.columns) (here reader.old) → ⊥) }
+{
+    reference.clear();
+    let mut taken = 0;
+    'rows: loop {
+        if limit_met(settings, taken) || is_rtc(settings, taken, reader, &mut words.ticks) {
+            return Ok(());
+        }
+        draw_line_behind_eol(words, reader, settings, reference.as_slice(), coding)?;
+        mem::swap(reference, coding);
+        taken += 1;
+    }
+}
+
+/// Returns whether an EOL is here, with its fill (T.4, 4.1.2 and 4.1.3).
+pub fn has_eol(reader: &BitReader<'_>, ticks: &mut Ticks) -> bool
+    ensures found { result ≡ true → (rest : Bits) × EolStands (here reader.now) rest }
+    ensures none { result ≡ false → (rest : Bits) → EolStands (here reader.now) rest → ⊥ }
+{
+    behind_eol(reader, ticks).is_some()
+}

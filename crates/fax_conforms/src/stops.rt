@@ -1,0 +1,51 @@
+//! Where data breaks a rule, and which one.
+
+ghost use Rattle.fax_conforms.specs.Stops.{IsViolated};
+
+/// A rule of T.4 or T.6 that data breaks.
+#[derive(Debug, Clone, Copy, PartialEq, Eq)]
+pub enum Rule {
+    /// A word of a mode is expected (T.4 table 4, T.6 table 1).
+    Mode,
+    /// The words of a run are expected: make-up words and one terminating word (T.4, 4.1.1).
+    Run,
+    /// A run or a vertical mode ends beyond the row's end (T.4, 4.1.1 and 4.2.1.3).
+    RowEnd,
+    /// A run of no pixels that isn't a row's first (T.4, 4.1.1), or a vertical mode that isn't right of a0 (T.4, 4.2.1.3).
+    NoPixels,
+    /// The row has no columns.
+    Columns,
+    /// An EOL is expected: before a line, or in RTC (T.4, 4.1.2 and 4.1.4).
+    Eol,
+    /// A tag bit is expected (T.4, 4.2.2).
+    Tag,
+    /// Zeros up to a whole byte are expected after a line (T.4, 4.1.3).
+    Padding,
+    /// Pass mode where b2 is the row's end, so that it isn't left of a1 (T.4, 4.2.1.3.2).
+    PassToEnd,
+}
+
+/// Where data breaks a rule: the offset in bits of the word that breaks it.
+#[derive(Debug, Clone, Copy, PartialEq, Eq)]
+pub struct Violation {
+    /// The number of bits before that word.
+    pub place: usize,
+    /// The rule that it breaks.
+    pub rule: Rule,
+}
+
+/// Why a check ended early.
+#[derive(Debug, Clone, Copy, PartialEq, Eq)]
+pub enum Stop {
+    /// The data breaks a rule.
+    Violation(Violation),
+    /// An allocation failed.
+    OutOfMemory,
+}
+
+/// Returns the stop at a place where a rule is broken.
+pub fn broken<T>(place: usize, rule: Rule) -> Result<T, Stop>
+    ensures { IsViolated result }
+{
+    Err(Stop::Violation(Violation { place, rule }))
+}
