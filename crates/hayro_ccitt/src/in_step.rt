@@ -132,6 +132,13 @@ fn needs_no_reference(settings: DecodeSettings, count: usize, behind: &BitReader
     is_before_1d(settings, count, behind)
 }
 
+/// Returns whether as many consecutive EOLs are one alone.
+fn is_alone(count: usize) -> bool
+    ensures { IsTrue result ↔ (count ≡ 1) }
+{
+    count == 1
+}
+
 /// Returns whether an EOL and the line behind it put readings in step, and then moves behind the next EOL and those that
 /// follow it.
 fn pass_to_step(ctx: &mut DecoderContext, reader: &mut BitReader<'_>) -> bool
@@ -147,7 +154,7 @@ fn pass_to_step(ctx: &mut DecoderContext, reader: &mut BitReader<'_>) -> bool
     ensures at_most { ctx.new.ticks ≤ ctx.old.ticks + most_for_lines (length (here reader.old)) }
     ensures space { ctx.new.space ≡ ctx.old.space }
 {
-    if read_eols(ctx, reader) != 1 {
+    if !is_alone(read_eols(ctx, reader)) {
         return false;
     }
     let line = copy(reader);

@@ -1,5 +1,5 @@
 use Rattle.hayro_ccitt.proofs.Names.{◌≡◌, ℕ, ◌+◌, ◌*◌, ◌≤◌, length, Some, sym, ap, subst, ◌∙◌, arith, IsTrue, ◌↔◌, DecodeSettings}
-use Rattle.hayro_ccitt.proofs.Names.{BitsAt, here, Held, after_eol, next_eol, eols_here, EndsByWords, looked}
+use Rattle.hayro_ccitt.proofs.Names.{Bits, BitsAt, here, Held, after_eol, next_eol, eols_here, EndsByWords, looked}
 use Rattle.hayro_ccitt.proofs.Names.{most_for_lines, Group3_2D, ComesBefore1D, false≢true}
 use Rattle.hayro_ccitt.proofs.DamagedLines.LinesPassed.{eol_passed}
 use Rattle.hayro_ccitt.proofs.KeptRows.StepsTold.{one_alone, told_by, no_step_beyond, step_next, eols_work, line_test_work}
@@ -11,7 +11,7 @@ use Rattle.hayro_ccitt.proofs.in_step.pass_to_step.Goals as goal
 alone : (c : After-line_ends_before) → eols_here c.args.ctx.now.held.settings (here c.args.reader.now)
     ≡ (1, here c.copy-line.result)
 alone c =
-    c.read_eols.ensures.eols ∙ ap (λ (n : ℕ). (n, here c.read_eols.new.reader)) c.if-read_eols-ne1.false
+    c.read_eols.ensures.eols ∙ ap (λ (n : ℕ). (n, here c.read_eols.new.reader)) (c.is_alone.ensures.0 c.if-not-is_alone.false)
     ∙ ap (λ (at : BitsAt). (1, here at)) (sym c.copy-line.ensures.value)
 
 -- the next one, and what follows it
@@ -69,13 +69,18 @@ counted c =
           tested,
     )
 
-pub returns-then-read_eols-ne1-clause-at_most : goal.returns-then-read_eols-ne1-clause-at_most
-returns-then-read_eols-ne1-clause-at_most c =
+pub returns-then-not-is_alone-clause-at_most : goal.returns-then-not-is_alone-clause-at_most
+returns-then-not-is_alone-clause-at_most c =
     omega (
       arith,
       eols_work c.args.ctx.now.held.settings.encoding (here c.args.reader.now) (here c.read_eols.new.reader)
           c.args.ctx.now.ticks c.read_eols.new.ctx.ticks c.read_eols.ensures.work,
     )
+
+pub returns-then-not-is_alone-clause-no_step : goal.returns-then-not-is_alone-clause-no_step
+returns-then-not-is_alone-clause-no_step c = λ e line rest told.
+    false≢true (sym c.if-not-is_alone.true
+    ∙ c.is_alone.ensures.1 (ap (λ (f : ℕ × Bits). f.0) (sym c.read_eols.ensures.eols ∙ told.step.alone)))
 
 pub returns-then-not-skip_to_eol-clause-at_most : goal.returns-then-not-skip_to_eol-clause-at_most
 returns-then-not-skip_to_eol-clause-at_most c =
