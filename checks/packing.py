@@ -197,6 +197,23 @@ PACK = [  # arguments, input, status, output, error
 ]
 
 
+USAGE = """\
+faxpack MODE FLAGS [K]
+faxpack -o MODE COLUMNS ROWS FLAGS [K]
+faxpack --help
+faxpack --version
+
+MODE is g4, 1d or 2d. FLAGS are letters, or - for none:
+  b  EOFB or RTC after the last line
+  l  an EOL before each line
+  f  fill before EOLs, so that they end at whole bytes
+  a  rows aligned to bytes
+  r  the lowest bit of each byte first
+  m  the shortest lines: the fewest bits
+  s  no effect; faxrows then reads strictly
+"""
+
+
 def packing_cases():
     """Small inputs with bytes that were worked out from T.4 and T.6, inputs that are no pictures, and wrong arguments; `--help` and
     `--version`; a reader and a writer that fail."""
@@ -204,8 +221,7 @@ def packing_cases():
         done = run(data, PROGRAM, *words)
         told = f"faxpack: {error}\n".encode() if error else b""
         assert (done.returncode, done.stdout.hex(), done.stderr) == (status, output, told), (words, data, done)
-    usage = "faxpack MODE FLAGS [K]\nfaxpack -o MODE COLUMNS ROWS FLAGS [K]\nfaxpack --help\nfaxpack --version\n"
-    for word, expected in (("--help", usage), ("--version", "faxpack 0.6.0\n")):
+    for word, expected in (("--help", USAGE), ("--version", "faxpack 0.6.0\n")):
         done = run(b"", PROGRAM, word)
         assert (done.returncode, done.stdout.decode(), done.stderr) == (0, expected, b""), done
     with open("/dev/full", "wb") as full:

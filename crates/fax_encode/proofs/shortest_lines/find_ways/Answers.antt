@@ -2,7 +2,7 @@ use Rattle.fax_encode.proofs.Names.{◌≡◌, ◌+◌, ◌-◌, ◌∷◌, ◌�
 use Rattle.fax_encode.proofs.Names.{cases_lt}
 use Rattle.fax_encode.proofs.Names.{length-append, pixels, Place, color_after}
 use Rattle.fax_encode.specs.declared.shortest_lines.Way.{Way}
-use Rattle.fax_encode.specs.Ways.{right_of_changes, bits_right_of, IsShortest, end_way}
+use Rattle.fax_encode.specs.Ways.{right_of_changes, bits_right_of, IsShortest, no_way}
 use Rattle.fax_encode.proofs.StepsToB1.{near_within}
 use Rattle.fax_encode.proofs.ShortestSteps.{right_from, none_right, few_right, bits_of_way, no_more_changes, stands_right}
 use Rattle.fax_encode.proofs.ShortestSteps.{pushed_before, pushed_last}
@@ -15,13 +15,13 @@ changes-init c =
     record {
       within = omega arith;
       few = omega arith;
-      count = omega (
+      count = omega (arith, ap length c.reserve_exact.ensures.items, ap length c.clear.ensures.items);
+      room = omega (
         arith,
-        ap length c.in_ok-push-2.ensures.items,
-        ap length c.in_ok-push.ensures.items,
-        ap length c.clear.ensures.items,
-        length-append c.push.new.self.items (end_way ∷ []),
-        length-append c.clear.new.self.items (end_way ∷ []),
+        c.in_ok-reserve_exact.ensures.ok,
+        c.in_ok-reserve_exact.ensures.len,
+        c.reserve_exact.ensures.len,
+        c.clear.ensures.len,
       );
       each = λ n ge le. absurd (omega (arith, ge, le));
       vertical = sym (none_right columns c.args.reference.now changes c.requires.reference c.requires.changes (length changes + 1)
@@ -56,6 +56,17 @@ find_way-way-requires-clause-few c = (
   ),
 )
 
+pub find_way-way-requires-clause-ahead : goal.find_way-way-requires-clause-ahead
+find_way-way-requires-clause-ahead c =
+    let one : c.changes.next ≡ c.changes.next - 1 + 1 = omega (arith, c.changes-test.true) in
+    let two : c.changes.next + 1 ≡ c.changes.next - 1 + 2 = omega (arith, c.changes-test.true) in
+    record {
+      a1 = c.change_or_end.ensures;
+      a2 = c.change_or_end-in-changes.ensures;
+      after_a1 = c.changes.invariant.vertical ∙ ap (bits_right_of c.args.columns c.args.reference.now c.args.changes.now) one;
+      after_a2 = c.changes.invariant.horizontal ∙ ap (bits_right_of c.args.columns c.args.reference.now c.args.changes.now) two;
+    }
+
 pub changes-preserved : goal.changes-preserved
 changes-preserved c =
     let columns : ℕ = c.args.columns in
@@ -71,18 +82,18 @@ changes-preserved c =
     let stands = stands_right columns changes c.requires.changes n (omega
     (arith, c.changes.invariant.within, c.changes-test.true)) in
     let is : (i : ℕ) → n ≤ i → i ≤ length changes → IsShortest (pixels columns above) (pixels columns changes)
-    (right_of_changes columns changes i) (get_or c.push-in-changes.new.self.items (length changes + 2 - i) end_way) = λ i ge le.
+    (right_of_changes columns changes i) (get_or c.push_reserved.new.self.items (length changes - i) no_way) = λ i ge le.
     elim (cases_lt i c.changes.next) [
       | inl lt ↦
           (let here : n ≡ i = omega (arith, lt, ge, c.changes-test.true) in
-          let last = ap (λ (l : List Way). get_or l (length changes + 2 - i) end_way) c.in_ok-push-3.ensures.items
-          ∙ pushed_last ways way (length changes + 2 - i) (omega (arith, here, c.changes.invariant.count, c.changes-test.true)) in
+          let last = ap (λ (l : List Way). get_or l (length changes - i) no_way) c.push_reserved.ensures.items
+          ∙ pushed_last ways way (length changes - i) (omega (arith, here, c.changes.invariant.count, c.changes-test.true)) in
           subst (λ (w : Way). IsShortest (pixels columns above) (pixels columns changes) (right_of_changes columns changes i) w)
           (sym last) (subst (λ (p : Place). IsShortest (pixels columns above) (pixels columns changes) p way)
           (place ∙ ap (right_of_changes columns changes) here) shortest))
       | inr later ↦
-          (let kept = ap (λ (l : List Way). get_or l (length changes + 2 - i) end_way) c.in_ok-push-3.ensures.items
-          ∙ pushed_before ways way (length changes + 2 - i) (omega (arith, later, le, c.changes.invariant.count)) in
+          (let kept = ap (λ (l : List Way). get_or l (length changes - i) no_way) c.push_reserved.ensures.items
+          ∙ pushed_before ways way (length changes - i) (omega (arith, later, le, c.changes.invariant.count)) in
           subst (λ (w : Way). IsShortest (pixels columns above) (pixels columns changes) (right_of_changes columns changes i) w)
           (sym kept) (c.changes.invariant.each i later le))
     ] in
@@ -93,9 +104,16 @@ changes-preserved c =
           (omega (arith, stands.inside, c.place_right_of-from.ensures));
       count = omega (
         arith,
-        ap length c.in_ok-push-3.ensures.items,
+        ap length c.push_reserved.ensures.items,
         length-append ways (way ∷ []),
         c.changes.invariant.count,
+        c.changes-test.true,
+      );
+      room = omega (
+        arith,
+        c.push_reserved.ensures.len,
+        c.push_reserved.ensures.capacity,
+        c.changes.invariant.room,
         c.changes-test.true,
       );
       each = is;
