@@ -2,6 +2,7 @@
 use Rattle.fax_encode.proofs.Names.{◌≡◌, ℕ, zero, suc, ◌+◌, ◌-◌, ◌*◌, ◌^◌, ◌<◌, ◌≤◌, ◌≢◌, Bool, true, false, cond, leb, ◌&&◌}
 use Rattle.fax_encode.proofs.Names.{List, [], ◌∷◌}
 use Rattle.fax_encode.proofs.Names.{◌++◌, length, get_or, refl, sym, ap, subst, ◌∙◌, arith, inl, inr, length-append, append-nil}
+use Rattle.fax_encode.proofs.Names.{Vertical, pos}
 use Rattle.fax_encode.proofs.Names.{le-leb, cases_lt, Color, White, Mode, Pass, Horizontal, Bits, Row, AreChanges, AscendFrom}
 use Rattle.fax_encode.proofs.Names.{pixels, length-pixels, opposite, a1, a2, b1, b2, Place, vertical_mode, is_near, place_after}
 use Rattle.fax_encode.proofs.Names.{word_of_mode, a1_next, b2_above, shorter, shortest_runs_of_mode}
@@ -21,6 +22,7 @@ use Rattle.fax_encode.proofs.Names.{get_or_past}
 use Rattle.fax_encode.proofs.ModesWritten.{one_width}
 use Rattle.fax_encode.proofs.ShortestWays.{rest_over, rest_bounded}
 use Rattle.fax_encode.proofs.RunLengths.{word_length}
+use Rattle.fax_encode.proofs.ShortestRunsWritten.{two_runs_least}
 use Rattle.std.proofs.lemmas.Bool.{lt-leb}
 
 -- ---- Places right of changes.
@@ -266,6 +268,15 @@ pub vertical_count : (start to : ℕ) (word : Word) → IsWord (word_of_mode (ve
 unfolding bits_of_vertical
 vertical_count start to word is = word_length (word_of_mode (vertical_mode start to)) word is
 
+-- a1 below b1
+pub below_is : (start to : ℕ) → start ≡ to → (is_near start to ≡ true) × (vertical_mode start to ≡ Vertical (pos 0))
+below_is start to e =
+    let one : leb to (start + 3) ≡ true = le-leb to (start + 3) (omega (arith, e)) in
+    let two : leb start (to + 3) ≡ true = le-leb start (to + 3) (omega (arith, e)) in
+    let same : leb start to ≡ true = le-leb start to (omega (arith, e)) in
+    let none : to - start ≡ 0 = omega (arith, e) in
+    (rw (one, two) refl, rw (same, none) refl)
+
 pub is_taken : (near : Bool) (m n : ℕ) → near ≡ true → m ≤ n → true ≡ (near && leb m n)
 is_taken near m n e le = sym (rw e (le-leb m n le))
 
@@ -445,6 +456,36 @@ found_ahead columns reference changes are n k at now way ahead start color stand
       word = counts.word;
       first = counts.first;
     })
+
+-- of a1 below b1, where what follows has few bits
+pub below_counts : (color : Color) (from start : ℕ) (ahead : Ahead) (word : Word) → start ≡ ahead.a1
+    → ahead.after_a1 ≤ ahead.after_a2 + 8 → IsWord (word_of_mode (Vertical (pos 0))) word
+    → Counts color from start 0 ahead (record {
+      bits = 0 * 4 + (word.count + ahead.after_a1);
+      passes = 0;
+      first = 0;
+      word = word;
+      is_vertical = true;
+    })
+below_counts color from start ahead word e few is =
+    let below = below_is start ahead.a1 e in
+    let coded : IsWord (word_of_mode (vertical_mode start ahead.a1)) word
+    = subst (λ (m : Mode). IsWord (word_of_mode m) word) (sym below.1) is in
+    let one : length (word_of_mode (Vertical (pos 0))) ≡ 1 = refl in
+    let count : word.count ≡ 1 = omega (arith, one, word_length (word_of_mode (Vertical (pos 0))) word is) in
+    record {
+      passes = refl;
+      vertical = is_taken (is_near start ahead.a1) (vertical_bits start ahead) (horizontal_bits color from ahead) below.0 (omega (
+        arith,
+        few,
+        count,
+        vertical_count start ahead.a1 word coded,
+        two_runs_least color (ahead.a1 - (from - 1)) (ahead.a2 - ahead.a1),
+      ));
+      bits = omega (arith, vertical_count start ahead.a1 word coded);
+      word = coded;
+      first = λ no. absurd (false≢true (sym no));
+    }
 
 -- ---- The search.
 -- what is best of the ways with no more than this number of passes

@@ -294,8 +294,8 @@ pub fn shortest_run_bits(color: Color, pixels: u32) -> u32
     ensures is { result ≡ length (shortest_run color pixels) }
     ensures few { result ≤ pixels + 26 }
 {
-    if pixels >= 2624 {
+    if pixels >= 64 {
         return long_shortest_run_bits(color, pixels);
     }
-    rest_bits(color, pixels)
+    u32::from(terminating_word(color, pixels).count)
 }

@@ -1,10 +1,10 @@
 //! The shortest two-dimensional lines (T.4, 4.2.1.3; T.6, 2.2): the modes with the fewest bits are found from the
 //! right to the left, and written from the left to the right.
 
-ghost use Rattle.std.specs.Prelude.{◌≡◌, ℕ, ◌+◌, ◌-◌, ◌*◌, ◌^◌, ◌<◌, ◌≤◌, ◌++◌, ◌&&◌, length, get_or, nat_le, IfOk, OnOk};
+ghost use Rattle.std.specs.Prelude.{◌≡◌, ℕ, ◌+◌, ◌-◌, ◌*◌, ◌%◌, ◌^◌, ◌<◌, ◌≤◌, ◌++◌, ◌&&◌, length, get_or, nat_le, IfOk, OnOk};
 ghost use Rattle.std.specs.Prelude.{if◌then◌else◌, true, false};
 ghost use Rattle.hayro_ccitt.specs.Mode.TheVariants.{Horizontal};
-ghost use Rattle.hayro_ccitt.specs.Rows.{AreChanges, pixels, opposite};
+ghost use Rattle.hayro_ccitt.specs.Rows.{AreChanges, b1, b2, pixels, opposite};
 ghost use Rattle.fax_encode.specs.Chosen.{word_of_mode, vertical_mode, is_near};
 ghost use Rattle.fax_encode.specs.Coding.{place_of, IsNear, color_after};
 ghost use Rattle.fax_encode.specs.Shortest.{shortest_run, shortest_line_2d};
@@ -13,9 +13,9 @@ ghost use Rattle.fax_encode.specs.Ways.{vertical_bits, horizontal_bits, words_of
 ghost use Rattle.fax_encode.specs.Writing.{all_bits, IsWord};
 
 use crate::bit_writer::BitWriter;
-use crate::group4::{Coding, b2_left_of, color_after, find_above};
+use crate::group4::{Above, Coding, b2_left_of, color_after, find_above};
 use crate::runs::{put_code_word, put_shortest_run, shortest_run_bits};
-use crate::words::{Word, horizontal_word, pass_word, vertical_word};
+use crate::words::{Word, below_word, horizontal_word, pass_word, vertical_word};
 use hayro_ccitt::changes::change_or_end;
 use hayro_ccitt::codes::Color;
 use std::alloc::AllocError;
@@ -162,19 +162,33 @@ fn search_passes(
     best
 }
 
-/// Finds how a line is coded from a change on with the fewest bits.
+/// Finds how a line is coded from a change on with the fewest bits. Takes where b1 is. Where a1 is below
+/// b1 no pass can be made, and vertical mode takes one bit.
 #[inline(always)]
-fn find_way(columns: u32, reference: &[u32], _changes: &[u32], at: Coding, ahead: Ahead) -> Way
+fn find_way(
+    columns: u32,
+    reference: &[u32],
+    _changes: &[u32],
+    at: Coding,
+    above: Above,
+    ahead: Ahead,
+) -> Way
     requires reference { AreChanges columns reference.now }
     requires changes { AreChanges columns _changes.now }
     requires inside { at.next ≤ length _changes.now }
     requires right { place_of at ≡ right_of_changes columns _changes.now at.next }
     requires near { IsNear columns reference.now (place_of at) at.above }
+    requires within { above.index ≤ length reference.now + 1 }
+    requires first { above.b1 ≡ get_or reference.now above.index columns }
+    requires b1 { b1 (pixels columns reference.now) at.from (color_after at.next) ≡ above.b1 }
+    requires b2 { b2 (pixels columns reference.now) at.from (color_after at.next) ≡ get_or reference.now (above.index + 1) columns }
     requires ahead { IsAhead columns reference.now _changes.now at.next ahead }
     requires few { (ahead.after_a1 < 2 ^ 40) × (ahead.after_a2 < 2 ^ 40) }
     ensures { IsShortest (pixels columns reference.now) (pixels columns _changes.now) (place_of at) result }
 {
-    let above = find_above(columns, reference, at);
+    if above.b1 == ahead.a1 && ahead.after_a1 <= ahead.after_a2 + 8 {
+        return vertical_way(0, below_word(), ahead.after_a1);
+    }
     let way = way_without_pass(color_after(at.next), at.from, above.b1, 0, ahead);
     match b2_left_of(columns, reference, above.index, above.b1, ahead.a1) {
         None => way,
@@ -182,22 +196,34 @@ fn find_way(columns: u32, reference: &[u32], _changes: &[u32], at: Coding, ahead
     }
 }
 
-/// Returns an index from which b1 is found, at a position or left of it: in steps of two from an index on.
+/// Finds b1 of a position (T.4, 4.2.1.1), in steps of two changes to the left, from the index after that of b1 of a position further
+/// right.
 #[inline(always)]
-fn step_back(columns: u32, reference: &[u32], from: u64, next: usize, index: usize) -> usize
+fn step_back(columns: u32, reference: &[u32], from: u64, _next: usize, index: usize) -> Above
     requires lawful { AreChanges columns reference.now }
-    requires few { (index ≤ length reference.now + 1) × (next ≤ columns) }
-    ensures near { IsNear columns reference.now (record { from = from; color = color_after next }) result }
-    ensures few { result ≤ index + 1 }
+    requires inside { from ≤ columns }
+    requires few { index ≤ length reference.now + 2 }
+    requires turns { index % 2 ≡ _next % 2 }
+    requires right { from ≤ get_or reference.now index columns }
+    ensures b1 { b1 (pixels columns reference.now) from (color_after _next) ≡ result.b1 }
+    ensures b2 { b2 (pixels columns reference.now) from (color_after _next) ≡ get_or reference.now (result.index + 1) columns }
+    ensures first { result.b1 ≡ get_or reference.now result.index columns }
+    ensures near { IsNear columns reference.now (record { from = from; color = color_after _next }) result.index }
+    ensures within { result.index ≤ length reference.now + 1 }
+    ensures turns { result.index % 2 ≡ _next % 2 }
+    ensures right { from ≤ result.b1 }
 {
-    let mut above = index + (index + next) % 2;
+    let mut above = index;
+    let mut b1 = change_or_end(reference, above, columns);
     'back: while above >= 2 {
-        if u64::from(change_or_end(reference, above - 2, columns)) < from {
-            return above;
+        let before = change_or_end(reference, above - 2, columns);
+        if u64::from(before) < from {
+            return Above { index: above, b1 };
         }
         above -= 2;
+        b1 = before;
     }
-    above
+    Above { index: above, b1 }
 }
 
 /// Returns the first position right of a change, or 0 before the first one.
@@ -225,13 +251,14 @@ fn find_ways(
     ways.clear();
     ways.reserve_exact(changes.len() + 1)?;
     let mut next = changes.len() + 1;
-    let mut index = reference.len();
+    let mut index = reference.len() + (reference.len() + next) % 2;
     let mut after_a1 = 0;
     let mut after_a2 = 0;
     'changes: while next > 0 {
         next -= 1;
         let from = place_right_of(columns, changes, next);
-        index = step_back(columns, reference, from, next, index);
+        let above = step_back(columns, reference, from, next, index + 1);
+        index = above.index;
         let at = Coding {
             from,
             next,
@@ -243,7 +270,7 @@ fn find_ways(
             after_a1,
             after_a2,
         };
-        let way = find_way(columns, reference, changes, at, ahead);
+        let way = find_way(columns, reference, changes, at, above, ahead);
         ways.push_reserved(way);
         after_a2 = after_a1;
         after_a1 = way.bits;

@@ -1,15 +1,13 @@
-use Rattle.fax_encode.proofs.Names.{◌+◌, ℕ, refl, arith, Row, pixels, Place, place_of}
-use Rattle.fax_encode.specs.Ways.{IsFound, passed_by}
+use Rattle.fax_encode.proofs.Names.{◌≡◌, ◌+◌, ◌*◌, ◌≤◌, ℕ, true, List, refl, sym, subst, arith, Row, pixels, Place, place_of}
+use Rattle.fax_encode.proofs.Names.{AreChanges, a1, b2}
+use Rattle.fax_encode.specs.declared.shortest_lines.Way.{Way}
+use Rattle.fax_encode.specs.Ways.{IsFound, IsShortest, passed_by}
 use Rattle.fax_encode.proofs.Elements.{next_is_right}
 use Rattle.fax_encode.proofs.ModesWritten.{one_width}
-use Rattle.fax_encode.proofs.ShortestSteps.{stands_at, not_right, in_row, a1_here, found_ahead, first_searched, searched_to_end}
+use Rattle.fax_encode.proofs.ShortestSteps.{Stands, stands_at, not_right, in_row, a1_here, found_ahead, first_searched, searched_to_end}
+use Rattle.fax_encode.proofs.ShortestSteps.{below_counts}
 use Rattle.fax_encode.proofs.shortest_lines.find_way.Goals.{After-way_without_pass-way}
 use Rattle.fax_encode.proofs.shortest_lines.find_way.Goals as goal
-
-pub find_above-above-requires-clause-inside : goal.find_above-above-requires-clause-inside
-find_above-above-requires-clause-inside c =
-    (stands_at c.args.columns c.args._changes.now c.requires.changes c.args.at.next
-    (place_of c.args.at) c.requires.inside c.requires.right).inside
 
 pub way_without_pass-way-requires-clause-right : goal.way_without_pass-way-requires-clause-right
 way_without_pass-way-requires-clause-right c =
@@ -37,8 +35,8 @@ found c =
     let stands = stands_at c.args.columns c.args._changes.now c.requires.changes c.args.at.next (place_of c.args.at)
     c.requires.inside c.requires.right in
     found_ahead c.args.columns c.args.reference.now c.args._changes.now c.requires.changes c.args.at.next 0 (place_of c.args.at)
-    (place_of c.args.at) c.way_without_pass-way.result c.args.ahead c.find_above-above.result.b1 c.color_after.result stands refl
-    c.requires.ahead c.find_above-above.ensures.b1 c.color_after.ensures (record {
+    (place_of c.args.at) c.way_without_pass-way.result c.args.ahead c.args.above.b1 c.color_after.result stands refl
+    c.requires.ahead c.requires.b1 c.color_after.ensures (record {
       passes = c.way_without_pass-way.ensures.passes;
       vertical = c.way_without_pass-way.ensures.vertical;
       bits = c.way_without_pass-way.ensures.bits;
@@ -46,26 +44,65 @@ found c =
       first = c.way_without_pass-way.ensures.first;
     })
 
-pub search_passes-requires-clause-found : goal.search_passes-requires-clause-found
-search_passes-requires-clause-found c = found (goal.at.search_passes-requires-clause-found c).After-way_without_pass-way
-
-pub returns-in-None : goal.returns-in-None
+-- it is the shortest where no pass can be made
+at_end : (columns : ℕ) (above changes : List ℕ) → AreChanges columns above → (are : AreChanges columns changes) → (n : ℕ)
+    (at : Place) (way : Way) → Stands columns changes n at → IsFound (pixels columns above) (pixels columns changes) at 0 way
+    → a1 (pixels columns changes) at.from ≤ b2 (pixels columns above) at.from at.color
+    → IsShortest (pixels columns above) (pixels columns changes) at way
 unfolding passed_by
-returns-in-None c =
+at_end columns above changes lawful are n at way stands found le =
+    let same = one_width columns above changes lawful are in
+    searched_to_end (pixels columns above) (pixels columns changes) same at 0 way
+    (first_searched (pixels columns above) (pixels columns changes) same at way (in_row columns changes are n at stands) found) le
+
+-- and where a1 is below b1
+pub returns-then-ahead : goal.returns-then-ahead
+unfolding passed_by
+returns-then-ahead c =
     let columns : ℕ = c.args.columns in
     let R : Row = pixels columns c.args.reference.now in
     let C : Row = pixels columns c.args._changes.now in
     let at : Place = place_of c.args.at in
-    let same = one_width columns c.args.reference.now c.args._changes.now c.requires.reference c.requires.changes in
     let stands = stands_at columns c.args._changes.now c.requires.changes c.args.at.next at c.requires.inside c.requires.right in
-    searched_to_end R C same at 0 c.way_without_pass-way.result
-    (first_searched R C same at c.way_without_pass-way.result
-    (in_row columns c.args._changes.now c.requires.changes c.args.at.next at stands)
-    (found (goal.at.returns-in-None c).After-way_without_pass-way))
-    (omega (
+    let here = a1_here columns c.args._changes.now c.requires.changes c.args.at.next at stands in
+    let below : c.args.above.b1 ≡ c.args.ahead.a1 = c.if-above-ahead.true in
+    let way : Way = record {
+      bits = 0 * 4 + (c.below_word.result.count + c.args.ahead.after_a1);
+      passes = 0;
+      first = 0;
+      word = c.below_word.result;
+      is_vertical = true;
+    } in
+    let found : IsFound R C at 0 way =
+    found_ahead columns c.args.reference.now c.args._changes.now c.requires.changes c.args.at.next 0 at at way c.args.ahead
+    c.args.above.b1 at.color stands refl c.requires.ahead c.requires.b1 refl
+    (below_counts at.color at.from c.args.above.b1 c.args.ahead c.below_word.result below
+    (omega (arith, c.if-ahead.true)) c.below_word.ensures) in
+    subst (λ (w : Way). IsShortest R C at w) (sym c.vertical_way.ensures)
+    (at_end columns c.args.reference.now c.args._changes.now c.requires.reference c.requires.changes c.args.at.next at way
+    stands found (omega (
+      arith,
+      below,
+      here,
+      c.requires.ahead.a1,
+      c.requires.first,
+      c.requires.b2,
+      next_is_right 0 columns c.args.reference.now c.args.above.index (c.args.above.index + 1) refl c.requires.reference,
+    )))
+
+pub search_passes-requires-clause-found : goal.search_passes-requires-clause-found
+search_passes-requires-clause-found c = found (goal.at.search_passes-requires-clause-found c).After-way_without_pass-way
+
+pub returns-in-None : goal.returns-in-None
+returns-in-None c =
+    let columns : ℕ = c.args.columns in
+    let at : Place = place_of c.args.at in
+    let stands = stands_at columns c.args._changes.now c.requires.changes c.args.at.next at c.requires.inside c.requires.right in
+    at_end columns c.args.reference.now c.args._changes.now c.requires.reference c.requires.changes c.args.at.next at
+    c.way_without_pass-way.result stands (found (goal.at.returns-in-None c).After-way_without_pass-way) (omega (
       arith,
       c.in-None.ensures,
-      c.find_above-above.ensures.b2,
+      c.requires.b2,
       c.requires.ahead.a1,
       a1_here columns c.args._changes.now c.requires.changes c.args.at.next at stands,
     ))
