@@ -162,6 +162,66 @@ fn search_passes(
     best
 }
 
+/// Searches passes over copies. What is passed to a call that isn't inlined stands in memory from where it is made: here that is
+/// the copies, and not what every change makes.
+#[inline(always)]
+fn search_copies(
+    columns: u32,
+    reference: &[u32],
+    _changes: &[u32],
+    at: Coding,
+    ahead: Ahead,
+    without: Way,
+) -> Way
+    requires reference { AreChanges columns reference.now }
+    requires changes { AreChanges columns _changes.now }
+    requires inside { at.next ≤ length _changes.now }
+    requires right { place_of at ≡ right_of_changes columns _changes.now at.next }
+    requires near { IsNear columns reference.now (place_of at) at.above }
+    requires ahead { IsAhead columns reference.now _changes.now at.next ahead }
+    requires few { (ahead.after_a1 < 2 ^ 40) × (ahead.after_a2 < 2 ^ 40) }
+    requires found { IsFound (pixels columns reference.now) (pixels columns _changes.now) (place_of at) 0 without }
+    ensures { IsShortest (pixels columns reference.now) (pixels columns _changes.now) (place_of at) result }
+{
+    let at = Coding {
+        from: at.from,
+        next: at.next,
+        above: at.above,
+    };
+    let ahead = Ahead {
+        a1: ahead.a1,
+        a2: ahead.a2,
+        after_a1: ahead.after_a1,
+        after_a2: ahead.after_a2,
+    };
+    let way = search_passes(
+        columns,
+        reference,
+        _changes,
+        at,
+        ahead,
+        copy_of_way(without),
+    );
+    copy_of_way(way)
+}
+
+/// Returns a copy.
+#[inline(always)]
+fn copy_of_way(way: Way) -> Way
+    ensures { result ≡ way }
+{
+    Way {
+        bits: way.bits,
+        passes: way.passes,
+        first: way.first,
+        word: Word {
+            count: way.word.count,
+            bits: way.word.bits,
+        },
+        is_vertical: way.is_vertical,
+    }
+}
+
 /// Finds how a line is coded from a change on with the fewest bits. Takes where b1 is. Where a1 is below
 /// b1 no pass can be made, and vertical mode takes one bit.
 #[inline(always)]
@@ -192,7 +252,7 @@ fn find_way(
     let way = way_without_pass(color_after(at.next), at.from, above.b1, 0, ahead);
     match b2_left_of(columns, reference, above.index, above.b1, ahead.a1) {
         None => way,
-        Some(_) => search_passes(columns, reference, _changes, at, ahead, way),
+        Some(_) => search_copies(columns, reference, _changes, at, ahead, way),
     }
 }
 

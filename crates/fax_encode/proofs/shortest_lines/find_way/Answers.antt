@@ -90,8 +90,8 @@ returns-then-ahead c =
       next_is_right 0 columns c.args.reference.now c.args.above.index (c.args.above.index + 1) refl c.requires.reference,
     )))
 
-pub search_passes-requires-clause-found : goal.search_passes-requires-clause-found
-search_passes-requires-clause-found c = found (goal.at.search_passes-requires-clause-found c).After-way_without_pass-way
+pub search_copies-requires-clause-found : goal.search_copies-requires-clause-found
+search_copies-requires-clause-found c = found (goal.at.search_copies-requires-clause-found c).After-way_without_pass-way
 
 pub returns-in-None : goal.returns-in-None
 returns-in-None c =
