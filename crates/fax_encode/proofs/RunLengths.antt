@@ -123,7 +123,7 @@ run_least : (color : Color) (n : ℕ) → least_run color ≤ length (chosen_run
 run_least color n = omega (arith, run_parts color n, rest_least color (n % 2560))
 
 -- and the runs of a row: three bits for each change, and a few
-abbrev least_rest : Color → ℕ
+abbrev pub least_rest : Color → ℕ
 least_rest White = 3
 least_rest Black = 2
 

@@ -5,7 +5,9 @@ use Rattle.fax_encode.proofs.Names.{arith, length-append, length-replicate, case
 use Rattle.fax_encode.proofs.Names.{EncodingMode, Group4, BitOrder}
 use Rattle.fax_encode.proofs.Names.{Bits, Row, white_row, EncodesRows, IsPicture, padding, eol, Effort, Shortest}
 use Rattle.fax_encode.proofs.Names.{EncodeSettings, NoLineIsShorter, NoneIsShorter, chosen, chosen_lines, left_after}
-use Rattle.fax_encode.proofs.Names.{chosen_line_1d, with_end, shortest_line_2d, shortest_lines_2d}
+use Rattle.fax_encode.proofs.Names.{with_end, shortest_line_2d, shortest_lines_2d, NoRunsAreShorter}
+use Rattle.fax_encode.specs.Shortest.{shortest_line_1d}
+use Rattle.fax_encode.proofs.ShortestRows.{shortest_1d_least}
 use Rattle.fax_encode.proofs.{ShortestLines.shortest_lines, ShortestPictures.lines_least}
 
 -- the chosen lines are the shortest
@@ -81,4 +83,8 @@ first_no_longer two one = by_leb (leb (length two) (length one)) refl
 pub no_line_is_shorter : NoLineIsShorter
 no_line_is_shorter left reference row bits same encodes =
     let least = (shortest_lines reference row same).1 bits encodes in
-    omega (arith, least, first_no_longer (shortest_line_2d reference row) (chosen_line_1d row))
+    omega (arith, least, first_no_longer (shortest_line_2d reference row) (shortest_line_1d row))
+
+-- the law
+pub no_runs_are_shorter : NoRunsAreShorter
+no_runs_are_shorter left reference row bits some encodes = shortest_1d_least row bits some encodes

@@ -162,8 +162,11 @@ shortest_least color (suc bound) n le = elim (cases_lt n 2624) [
       )
 ]
 
+pub least_of_run : (color : Color) (n : ℕ) → least_run color ≤ length (shortest_run color n)
+least_of_run color n = shortest_least color n n (omega arith)
+
 -- and two runs, one of each colour
 pub two_runs_least : (color : Color) (m n : ℕ) → 6 ≤ length (shortest_run color m) + length (shortest_run (opposite color) n)
 unfolding least_run
-two_runs_least White m n = omega (arith, shortest_least White m m (omega arith), shortest_least Black n n (omega arith))
-two_runs_least Black m n = omega (arith, shortest_least Black m m (omega arith), shortest_least White n n (omega arith))
+two_runs_least White m n = omega (arith, least_of_run White m, least_of_run Black n)
+two_runs_least Black m n = omega (arith, least_of_run Black m, least_of_run White n)

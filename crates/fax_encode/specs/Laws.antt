@@ -9,11 +9,11 @@ use Rattle.hayro_ccitt.specs.Bits.{Bits, AreWholeBytes, bits_in, bits_of}
 use Rattle.hayro_ccitt.specs.Locality.{EndAlike}
 use Rattle.hayro_ccitt.specs.LocalityByK.{IsTaggedBody, RowsDiffer}
 use Rattle.hayro_ccitt.specs.Rows.{Row, HaveWidth, white_row, pixels}
-use Rattle.hayro_ccitt.specs.Encodings.{IsPicture, PictureT6, PictureT4, EncodesLine2D, EncodesRows, EncodesRowsWithEols}
+use Rattle.hayro_ccitt.specs.Encodings.{IsPicture, PictureT6, PictureT4, EncodesLine1D, EncodesLine2D, EncodesRows, EncodesRowsWithEols}
 use Rattle.hayro_ccitt.specs.Encodings.{ClosesWithEols}
 use Rattle.hayro_ccitt.specs.BitOrder.TheVariants.{HighestFirst}
 use Rattle.hayro_ccitt.specs.PlainReading.{plain}
-use Rattle.fax_encode.specs.Chosen.{chosen_line_1d, chosen_t6, chosen_t4, filled_up, rows_of}
+use Rattle.fax_encode.specs.Chosen.{chosen_t6, chosen_t4, filled_up, rows_of}
 use Rattle.fax_encode.specs.Packed.{packed, shown, with_packed_row}
 use Rattle.fax_encode.specs.Refusals.{AreRows}
 use Rattle.fax_encode.specs.RowByRow.{no_rows, with_rows}
@@ -22,7 +22,7 @@ use Rattle.fax_encode.specs.declared.settings.Effort.TheVariants.{Procedure, Sho
 use Rattle.hayro_ccitt.specs.Color.TheVariants.{White}
 use Rattle.fax_encode.specs.declared.settings.EncodeSettings.{EncodeSettings}
 use Rattle.fax_encode.specs.Settings.{chosen, chosen_line, chosen_lines, chosen_lines_with_eols, chosen_eols, fill_of, needs_row}
-use Rattle.fax_encode.specs.Settings.{with_end, decode_settings_for}
+use Rattle.fax_encode.specs.Settings.{line_1d, with_end, decode_settings_for}
 
 -- what is chosen for a picture is an encoding of it
 abbrev pub ChosenIsAnEncoding : Type 0
@@ -91,7 +91,7 @@ ChosenLinesEncode = (effort : Effort) (encoding : EncodingMode) (columns k : ℕ
 abbrev pub NeverLonger : Type 0
 NeverLonger =
     (effort : Effort) (left : ℕ) (reference row : Row) → length (chosen_line effort Group3_2D left reference row) ≤ suc
-    (length (chosen_line_1d row))
+    (length (line_1d effort row))
 
 -- auxiliary: the reading of some data yields these rows, without a fault, and this number of bytes is consumed
 abbrev pub GivesAll : DecodeSettings → Bits → List Row → ℕ → Type 0
@@ -161,6 +161,11 @@ abbrev pub NoLineIsShorter : Type 0
 NoLineIsShorter = (left : ℕ) (reference row : Row) (bits : Bits) → length reference ≡ length row
     → EncodesLine2D reference row 0 White bits
     → length (chosen_line Shortest Group3_2D (suc left) reference row) ≤ suc (length bits)
+
+-- A line of one-dimensional Group 3, with the effort `Shortest`, has no more bits than any that encodes its row (T.4, 4.1.1).
+abbrev pub NoRunsAreShorter : Type 0
+NoRunsAreShorter = (left : ℕ) (reference row : Row) (bits : Bits) → 0 < length row → EncodesLine1D White row bits
+    → length (chosen_line Shortest Group3_1D left reference row) ≤ length bits
 
 -- ---- damage
 

@@ -1,4 +1,4 @@
-use Rattle.fax_encode.proofs.ShortestBySettings.{none_is_shorter, no_line_is_shorter}
+use Rattle.fax_encode.proofs.ShortestBySettings.{none_is_shorter, no_line_is_shorter, no_runs_are_shorter}
 use Rattle.fax_encode.proofs.ShortestRuns.{shortest_runs}
 use Rattle.fax_encode.proofs.ShortestLines.{shortest_lines}
 use Rattle.fax_encode.proofs.ShortestPictures.{shortest_pictures_t6}
@@ -18,3 +18,6 @@ returns-clause-chosen c = none_is_shorter
 
 pub returns-clause-kinds : goal.returns-clause-kinds
 returns-clause-kinds c = no_line_is_shorter
+
+pub returns-clause-rows : goal.returns-clause-rows
+returns-clause-rows c = no_runs_are_shorter
