@@ -2,7 +2,8 @@
 use Rattle.fax_encode.proofs.Names.{◌≡◌, ◌≢◌, ℕ, zero, suc, ◌+◌, ◌-◌, ◌*◌, ◌<◌, ◌≤◌, Bool, not, List, [], ◌∷◌, ◌++◌, length}
 use Rattle.fax_encode.proofs.Names.{get_or, drop, replicate, refl, sym, ap, subst, ◌∙◌, arith, length-append, length-replicate}
 use Rattle.fax_encode.proofs.Names.{append-nil, Color, White, Black, Bits, Row, is_black, opposite, changes, pixels, pixels_from}
-use Rattle.fax_encode.proofs.Names.{AreChanges, AscendFrom, AscendFrom-wider, AreChanges-changes, EncodesLine1D, pixels_from-first}
+use Rattle.fax_encode.proofs.Names.{AreChanges, AscendFrom, AscendFrom-wider, AreChanges-changes, EncodesLine1D}
+use Rattle.fax_encode.proofs.Names.{pixels_from-first}
 use Rattle.fax_encode.proofs.Names.{pixels-changes, changes-pixels, length-pixels, shortest_run}
 use Rattle.fax_encode.specs.Shortest.{shortest_runs_1d, shortest_line_1d}
 use Rattle.fax_encode.proofs.ChosenLines.{not_black, begins_other}
@@ -59,7 +60,8 @@ least_from color row bits EncodesLine1D.over place width (change ∷ places) lt 
       ap length first,
       length-append (replicate (change - place) (is_black color)) (pixels_from change (not (is_black color)) width places),
     ))
-least_from color row bits (EncodesLine1D.run n word {row = behind} {bits = more} spells some other rest) place width [] lt ascend e =
+least_from color row bits (EncodesLine1D.run n word {row = behind} {bits = more} spells some other rest) place width []
+    lt ascend e =
     let same = same_run (is_black color) n (width - place) behind [] other (λ r f. absurd cc)
     (e ∙ sym (append-nil (replicate (width - place) (is_black color)))) in
     omega (

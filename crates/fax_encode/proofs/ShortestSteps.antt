@@ -6,13 +6,13 @@ use Rattle.fax_encode.proofs.Names.{Vertical, pos}
 use Rattle.fax_encode.proofs.Names.{le-leb, cases_lt, Color, White, Mode, Pass, Horizontal, Bits, Row, AreChanges, AscendFrom}
 use Rattle.fax_encode.proofs.Names.{pixels, length-pixels, opposite, a1, a2, b1, b2, Place, vertical_mode, is_near, place_after}
 use Rattle.fax_encode.proofs.Names.{word_of_mode, a1_next, b2_above, shorter, shortest_runs_of_mode}
-use Rattle.fax_encode.proofs.Names.{shortest_run, AreAllLeft, color_after, Word, IsWord, append_assoc, in_list_if_below}
+use Rattle.fax_encode.proofs.Names.{shortest_run, AreAllLeft, color_after, Word, IsWord, append_assoc}
 use Rattle.fax_encode.proofs.Names.{false≢true}
 use Rattle.fax_encode.specs.declared.shortest_lines.Way.{Way}
 use Rattle.fax_encode.specs.Ways.{shortest_rest, begun_in, vertical_at, mode_of, without_pass, passed, passed_by}
 use Rattle.fax_encode.specs.Ways.{words_of_passes, way_bits}
 use Rattle.fax_encode.specs.Ways.{MayPass, IsFound, IsLawful, IsShortest, IsSpelled, right_of_changes, bits_right_of}
-use Rattle.fax_encode.specs.Ways.{bits_of_vertical, IsAhead, vertical_bits, horizontal_bits, AreWays, no_way}
+use Rattle.fax_encode.specs.Ways.{mode_word, bits_of_vertical, IsAhead, bits_in_vertical, bits_in_horizontal, AreWays, no_way}
 use Rattle.fax_encode.specs.declared.shortest_lines.Ahead.{Ahead}
 use Rattle.fax_encode.proofs.Elements.{a1_found, a2_found, left_of_next, still_left}
 use Rattle.fax_encode.proofs.StepsToB1.{color_next, color_second}
@@ -91,12 +91,6 @@ module _ (columns : ℕ) (changes : List ℕ) (are : AreChanges columns changes)
             (left_of_next 0 columns changes n (suc n) here (omega arith) are refl below);
       }
 
-  -- and a position in the row is right of changes of the list
-  pub right_in_list : (n : ℕ) → (right_of_changes columns changes n).from ≤ columns → n ≤ length changes
-  unfolding right_of_changes
-  right_in_list zero le = omega arith
-  right_in_list (suc n) le = let lt = in_list_if_below columns changes are n (omega (arith, le)) in omega (arith, lt)
-
   module _ (n : ℕ) (at : Place) (stands : Stands columns changes n at) where
     pub a1_here : a1 (pixels columns changes) at.from ≡ get_or changes n columns
     a1_here = a1_found columns changes are at.from n stands.left
@@ -149,16 +143,6 @@ module _ (columns : ℕ) (changes : List ℕ) (are : AreChanges columns changes)
           left = still_left columns changes at.from (suc (b2 reference at.from at.color)) n
               (omega (arith, ahead.0, ahead.1)) stands.left (omega (arith, lt, a1_here));
         }
-
--- the position right of the next change
-pub right_of_next : (columns : ℕ) (changes : List ℕ) (m n from : ℕ) → m ≡ n + 1 → from ≡ get_or changes n columns + 1
-    → record { from = from; color = color_after m } ≡ right_of_changes columns changes m
-right_of_next columns changes m n from is here =
-    let one : m ≡ suc n = omega (arith, is) in
-    let place : from ≡ suc (get_or changes n columns) = omega (arith, here) in
-    ap (λ (a : ℕ). record { from = a; color = color_after m }) place
-    ∙ ap (λ (i : ℕ). record { from = suc (get_or changes n columns); color = color_after i }) one
-    ∙ sym (ap (right_of_changes columns changes) one ∙ right_is columns changes n)
 
 pub stands_at : (columns : ℕ) (changes : List ℕ) → AreChanges columns changes → (n : ℕ) (at : Place) → n ≤ length changes
     → at ≡ right_of_changes columns changes n → Stands columns changes n at
@@ -284,9 +268,6 @@ pub is_longer : (near : Bool) (m n : ℕ) → n < m → false ≡ (near && leb m
 is_longer true m n lt = sym (lt-leb m n lt)
 is_longer false m n lt = refl
 
-pub is_far : (near l : Bool) → near ≡ false → false ≡ (near && l)
-is_far near l e = sym (rw e refl)
-
 -- ---- A way, after a number of passes.
 length-words_of_passes : (k : ℕ) → length (words_of_passes k) ≡ k * 4
 unfolding words_of_passes
@@ -310,7 +291,7 @@ module _ (columns : ℕ) (reference changes : List ℕ) (are : AreChanges column
       (length (shortest_run now.color (to - (now.from - 1))) + behind))
       → way.bits ≡ k * 4 + cond way.is_vertical (bits_of_vertical start to + after)
       (length (shortest_run now.color (to - (now.from - 1))) + behind)
-      → IsWord (word_of_mode (cond way.is_vertical (vertical_mode start to) Horizontal)) way.word
+      → IsWord (word_of_mode (cond way.is_vertical (vertical_mode start to) Horizontal)) (mode_word way)
       → (way.is_vertical ≡ false → way.first ≡ to - (now.from - 1))
       → IsFound (pixels columns reference) (pixels columns changes) at k way
   unfolding bits_right_of way_bits near bits_of_vertical
@@ -356,12 +337,13 @@ module _ (columns : ℕ) (reference changes : List ℕ) (are : AreChanges column
         is = ap (λ (b : Bits). words_of_passes k ++ b) (ends_in R C place way.is_vertical
             (is_near start to) _ nearly less vertical);
         spelled = record {
-          word = subst (λ (b : Bits). IsWord b way.word) (by_mode_word R C place way.is_vertical _ (sym words)) word;
+          word = subst (λ (b : Bits). IsWord b (mode_word way)) (by_mode_word R C place way.is_vertical _ (sym words)) word;
           first = λ e. first e ∙ ap (λ (m : ℕ). m - (place.from - 1)) (sym f);
         };
       }
     where
-      by_mode_word : (R C : Row) (place : Place) (vertical : Bool) (m : Mode) → word_of_mode m ≡ word_of_mode (vertical_at R C place)
+      by_mode_word : (R C : Row) (place : Place) (vertical : Bool) (m : Mode)
+          → word_of_mode m ≡ word_of_mode (vertical_at R C place)
           → word_of_mode (cond vertical m Horizontal) ≡ word_of_mode (mode_of R C place vertical)
       by_mode_word R C place true m e = e
       by_mode_word R C place false m e = refl
@@ -395,7 +377,7 @@ pub record Adds (columns : ℕ) (reference changes : List ℕ) (n k : ℕ) (at :
       (length (shortest_run color (to - (from - 1))) + behind))
   pub bits : way.bits ≡ k * 4 + cond way.is_vertical (bits_of_vertical start to + after)
       (length (shortest_run color (to - (from - 1))) + behind)
-  pub word : IsWord (word_of_mode (cond way.is_vertical (vertical_mode start to) Horizontal)) way.word
+  pub word : IsWord (word_of_mode (cond way.is_vertical (vertical_mode start to) Horizontal)) (mode_word way)
   pub first : way.is_vertical ≡ false → way.first ≡ to - (from - 1)
 
 pub found_by : (columns : ℕ) (reference changes : List ℕ) (are : AreChanges columns changes) (n k : ℕ) (at now : Place)
@@ -424,9 +406,10 @@ found_by columns reference changes are n k at p way stands e adds =
 -- the numbers of a way, with what is ahead
 pub record Counts (color : Color) (from start k : ℕ) (ahead : Ahead) (way : Way) : Type 0 where
   pub passes : way.passes ≡ k
-  pub vertical : way.is_vertical ≡ (is_near start ahead.a1 && leb (vertical_bits start ahead) (horizontal_bits color from ahead))
-  pub bits : way.bits ≡ k * 4 + cond way.is_vertical (vertical_bits start ahead) (horizontal_bits color from ahead)
-  pub word : IsWord (word_of_mode (cond way.is_vertical (vertical_mode start ahead.a1) Horizontal)) way.word
+  pub vertical : way.is_vertical ≡ (is_near start ahead.a1
+      && leb (bits_in_vertical start ahead) (bits_in_horizontal color from ahead))
+  pub bits : way.bits ≡ k * 4 + cond way.is_vertical (bits_in_vertical start ahead) (bits_in_horizontal color from ahead)
+  pub word : IsWord (word_of_mode (cond way.is_vertical (vertical_mode start ahead.a1) Horizontal)) (mode_word way)
   pub first : way.is_vertical ≡ false → way.first ≡ ahead.a1 - (from - 1)
 
 pub found_ahead : (columns : ℕ) (reference changes : List ℕ) → AreChanges columns changes → (n k : ℕ) (at now : Place)
@@ -464,7 +447,8 @@ pub below_counts : (color : Color) (from start : ℕ) (ahead : Ahead) (word : Wo
       bits = 0 * 4 + (word.count + ahead.after_a1);
       passes = 0;
       first = 0;
-      word = word;
+      word = word.bits;
+      count = word.count;
       is_vertical = true;
     })
 below_counts color from start ahead word e few is =
@@ -475,13 +459,14 @@ below_counts color from start ahead word e few is =
     let count : word.count ≡ 1 = omega (arith, one, word_length (word_of_mode (Vertical (pos 0))) word is) in
     record {
       passes = refl;
-      vertical = is_taken (is_near start ahead.a1) (vertical_bits start ahead) (horizontal_bits color from ahead) below.0 (omega (
-        arith,
-        few,
-        count,
-        vertical_count start ahead.a1 word coded,
-        two_runs_least color (ahead.a1 - (from - 1)) (ahead.a2 - ahead.a1),
-      ));
+      vertical = is_taken (is_near start ahead.a1) (bits_in_vertical start ahead)
+          (bits_in_horizontal color from ahead) below.0 (omega (
+            arith,
+            few,
+            count,
+            vertical_count start ahead.a1 word coded,
+            two_runs_least color (ahead.a1 - (from - 1)) (ahead.a2 - ahead.a1),
+          ));
       bits = omega (arith, vertical_count start ahead.a1 word coded);
       word = coded;
       first = λ no. absurd (false≢true (sym no));
@@ -501,7 +486,8 @@ pub record IsSearched (reference row : Row) (at : Place) (k : ℕ) (way : Way) :
   pub spelled : IsSpelled reference row (passed_by reference at way.passes) way
 
 module _ (reference row : Row) (same : length reference ≡ length row) (at : Place) where
-  is_spelled : (k : ℕ) (way : Way) → IsFound reference row at k way → IsSpelled reference row (passed_by reference at way.passes) way
+  is_spelled : (k : ℕ) (way : Way) → IsFound reference row at k way
+      → IsSpelled reference row (passed_by reference at way.passes) way
   is_spelled k way is = subst (λ (m : ℕ). IsSpelled reference row (passed_by reference at m) way) (sym is.passes) is.spelled
 
   is_lawful : (k : ℕ) (way : Way) → IsFound reference row at k way

@@ -9,6 +9,7 @@ use Rattle.hayro_ccitt.specs.Bits.{Bits}
 use Rattle.hayro_ccitt.specs.Rows.{Row, opposite, pixels, a1, b1, b2}
 use Rattle.fax_encode.specs.declared.shortest_lines.Ahead.{Ahead}
 use Rattle.fax_encode.specs.declared.shortest_lines.Way.{Way}
+use Rattle.fax_encode.specs.declared.words.Word.{Word}
 use Rattle.fax_encode.specs.Chosen.{Place, word_of_mode, vertical_mode, is_near, place_after}
 use Rattle.fax_encode.specs.Coding.{color_after}
 use Rattle.fax_encode.specs.Shortest.{shortest_run, shortest_from, shortest_runs_of_mode, shortest_of}
@@ -71,9 +72,13 @@ pub record IsLawful (reference row : Row) (at : Place) (way : Way) : Type 0 wher
   pub near : way.is_vertical ≡ true → is_near (b1 reference (passed_by reference at way.passes).from
       (passed_by reference at way.passes).color) (a1 row (passed_by reference at way.passes).from) ≡ true
 
+-- the word of the mode after the passes of a way
+abbrev pub mode_word : Way → Word
+mode_word way = record { count = way.count; bits = way.word }
+
 -- the word of the mode from a position on, and in horizontal mode the length of its first run (T.4, 4.2.1.3.1)
 pub record IsSpelled (reference row : Row) (at : Place) (way : Way) : Type 0 where
-  pub word : IsWord (word_of_mode (mode_of reference row at way.is_vertical)) way.word
+  pub word : IsWord (word_of_mode (mode_of reference row at way.is_vertical)) (mode_word way)
   pub first : way.is_vertical ≡ false → way.first ≡ a1 row at.from - (at.from - 1)
 
 -- a way with this number of passes, the shortest without another pass
@@ -111,18 +116,18 @@ pub record IsAhead (columns : ℕ) (reference changes : List ℕ) (n : ℕ) (ahe
   pub after_a2 : ahead.after_a2 ≡ bits_right_of columns reference changes (n + 2)
 
 -- the bits of vertical mode and of what follows it
-abbrev pub vertical_bits : ℕ → Ahead → ℕ
-vertical_bits start ahead = bits_of_vertical start ahead.a1 + ahead.after_a1
+abbrev pub bits_in_vertical : ℕ → Ahead → ℕ
+bits_in_vertical start ahead = bits_of_vertical start ahead.a1 + ahead.after_a1
 
 -- the bits of horizontal mode from a position, and of what follows it
-abbrev pub horizontal_bits : Color → ℕ → Ahead → ℕ
-horizontal_bits color from ahead =
+abbrev pub bits_in_horizontal : Color → ℕ → Ahead → ℕ
+bits_in_horizontal color from ahead =
     length (shortest_run color (ahead.a1 - (from - 1)))
     + (length (shortest_run (opposite color) (ahead.a2 - ahead.a1)) + 3 + ahead.after_a2)
 
 -- auxiliary: no way
 abbrev pub no_way : Way
-no_way = record { bits = 0; passes = 0; first = 0; word = record { count = 0; bits = 0 }; is_vertical = false }
+no_way = record { bits = 0; passes = 0; first = 0; word = 0; count = 0; is_vertical = false }
 
 -- a line's ways, one for each number of changes, the last first
 pub record AreWays (columns : ℕ) (reference changes : List ℕ) (ways : List Way) : Type 0 where

@@ -9,7 +9,7 @@ ghost use Rattle.fax_encode.specs.Chosen.{word_of_mode, vertical_mode, is_near};
 ghost use Rattle.fax_encode.specs.Coding.{place_of, IsNear, color_after};
 ghost use Rattle.fax_encode.specs.Shortest.{shortest_run, shortest_line_2d};
 ghost use Rattle.fax_encode.specs.Ways.{right_of_changes, bits_right_of, IsFound, IsShortest, AreWays, IsAhead};
-ghost use Rattle.fax_encode.specs.Ways.{vertical_bits, horizontal_bits, words_of_passes, shortest_rest, way_bits};
+ghost use Rattle.fax_encode.specs.Ways.{mode_word, bits_in_vertical, bits_in_horizontal, words_of_passes, shortest_rest, way_bits};
 ghost use Rattle.fax_encode.specs.Writing.{all_bits, IsWord};
 
 use crate::bit_writer::BitWriter;
@@ -21,13 +21,15 @@ use hayro_ccitt::codes::Color;
 use std::alloc::AllocError;
 
 /// How a line is coded from a change on with the fewest bits: first this many passes, then the word of vertical mode, or else
-/// that of horizontal mode, whose first run has this length; and the number of bits from there to the line's end.
+/// that of horizontal mode, whose first run has this length; and the number of bits from there to the line's end. The fields
+/// leave no gaps, which would be copied too.
 #[derive(Clone, Copy)]
 pub struct Way {
     pub bits: u64,
-    pub passes: u32,
+    pub passes: u64,
     pub first: u32,
-    pub word: Word,
+    pub word: u16,
+    pub count: u8,
     pub is_vertical: bool,
 }
 
@@ -42,39 +44,49 @@ pub struct Ahead {
 
 /// Returns the way with this number of passes and then vertical mode.
 #[inline(always)]
-fn vertical_way(passes: u32, word: Word, after: u64) -> Way
-    requires few { (word.count ≤ 13) × (after < 2 ^ 40) }
-    ensures { result ≡ record { bits = passes * 4 + (word.count + after); passes = passes; first = 0; word = word; is_vertical = true } }
+fn vertical_way(passes: u64, word: Word, after: u64) -> Way
+    requires few { (passes < 2 ^ 40) × (word.count ≤ 13) × (after < 2 ^ 40) }
+    ensures { result ≡ record {
+      bits = passes * 4 + (word.count + after);
+      passes = passes;
+      first = 0;
+      word = word.bits;
+      count = word.count;
+      is_vertical = true;
+    } }
 {
     Way {
-        bits: u64::from(passes) * 4 + (u64::from(word.count) + after),
+        bits: passes * 4 + (u64::from(word.count) + after),
         passes,
         first: 0,
-        word,
+        word: word.bits,
+        count: word.count,
         is_vertical: true,
     }
 }
 
 /// Returns the way with this number of passes up to a position and then horizontal mode.
 #[inline(always)]
-fn horizontal_way(color: Color, from: u64, passes: u32, ahead: Ahead) -> Way
+fn horizontal_way(color: Color, from: u64, passes: u64, ahead: Ahead) -> Way
     requires right { from - 1 ≤ ahead.a1 }
     requires order { ahead.a1 ≤ ahead.a2 }
-    requires few { ahead.after_a2 < 2 ^ 40 }
+    requires few { (passes < 2 ^ 40) × (ahead.after_a2 < 2 ^ 40) }
     ensures passes { result.passes ≡ passes }
     ensures vertical { result.is_vertical ≡ false }
-    ensures bits { result.bits ≡ passes * 4 + horizontal_bits color from ahead }
-    ensures word { IsWord (word_of_mode Horizontal) result.word }
+    ensures bits { result.bits ≡ passes * 4 + bits_in_horizontal color from ahead }
+    ensures word { IsWord (word_of_mode Horizontal) (mode_word result) }
     ensures first { result.first ≡ ahead.a1 - (from - 1) }
 {
     let first = ahead.a1 - from.saturating_sub(1) as u32;
     let second = shortest_run_bits(color.opposite(), ahead.a2 - ahead.a1);
     let behind = u64::from(second) + 3 + ahead.after_a2;
+    let word = horizontal_word();
     Way {
-        bits: u64::from(passes) * 4 + (u64::from(shortest_run_bits(color, first)) + behind),
+        bits: passes * 4 + (u64::from(shortest_run_bits(color, first)) + behind),
         passes,
         first,
-        word: horizontal_word(),
+        word: word.bits,
+        count: word.count,
         is_vertical: false,
     }
 }
@@ -83,14 +95,14 @@ fn horizontal_way(color: Color, from: u64, passes: u32, ahead: Ahead) -> Way
 /// bits, else in horizontal mode. Takes the number of passes before. The runs of horizontal mode aren't counted where it takes
 /// more bits in any case: it has three, a white run four or more, and a black one two or more.
 #[inline(always)]
-fn way_without_pass(color: Color, from: u64, b1: u32, passes: u32, ahead: Ahead) -> Way
+fn way_without_pass(color: Color, from: u64, b1: u32, passes: u64, ahead: Ahead) -> Way
     requires right { from - 1 ≤ ahead.a1 }
     requires order { ahead.a1 ≤ ahead.a2 }
-    requires few { (ahead.after_a1 < 2 ^ 40) × (ahead.after_a2 < 2 ^ 40) }
+    requires few { (passes < 2 ^ 40) × (ahead.after_a1 < 2 ^ 40) × (ahead.after_a2 < 2 ^ 40) }
     ensures passes { result.passes ≡ passes }
-    ensures vertical { result.is_vertical ≡ (is_near b1 ahead.a1 && nat_le (vertical_bits b1 ahead) (horizontal_bits color from ahead)) }
-    ensures bits { result.bits ≡ passes * 4 + (if result.is_vertical then vertical_bits b1 ahead else horizontal_bits color from ahead) }
-    ensures word { IsWord (word_of_mode (if result.is_vertical then vertical_mode b1 ahead.a1 else Horizontal)) result.word }
+    ensures vertical { result.is_vertical ≡ (is_near b1 ahead.a1 && nat_le (bits_in_vertical b1 ahead) (bits_in_horizontal color from ahead)) }
+    ensures bits { result.bits ≡ passes * 4 + (if result.is_vertical then bits_in_vertical b1 ahead else bits_in_horizontal color from ahead) }
+    ensures word { IsWord (word_of_mode (if result.is_vertical then vertical_mode b1 ahead.a1 else Horizontal)) (mode_word result) }
     ensures first { result.is_vertical ≡ false → result.first ≡ ahead.a1 - (from - 1) }
 {
     match vertical_word(b1, ahead.a1) {
@@ -214,10 +226,8 @@ fn copy_of_way(way: Way) -> Way
         bits: way.bits,
         passes: way.passes,
         first: way.first,
-        word: Word {
-            count: way.word.count,
-            bits: way.word.bits,
-        },
+        word: way.word,
+        count: way.count,
         is_vertical: way.is_vertical,
     }
 }
@@ -355,7 +365,7 @@ fn put_shortest_runs(
 
 /// Writes the words of passes.
 #[inline(always)]
-fn put_passes(writer: &mut BitWriter, passes: u32) -> Result<(), AllocError>
+fn put_passes(writer: &mut BitWriter, passes: u64) -> Result<(), AllocError>
     ensures { OnOk result (all_bits writer.new ≡ all_bits writer.old ++ words_of_passes passes) }
 {
     let mut left = passes;
@@ -387,7 +397,11 @@ fn put_way(
         way.passes way.is_vertical) }
 {
     put_passes(writer, way.passes)?;
-    put_code_word(writer, way.word)?;
+    let word = Word {
+        count: way.count,
+        bits: way.word,
+    };
+    put_code_word(writer, word)?;
     if way.is_vertical {
         return Ok(next + 1);
     }

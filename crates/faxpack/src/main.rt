@@ -4,7 +4,7 @@
 //! FLAGS`, with the rows that `faxrows -o` writes for the same arguments. The mode is `g4`, `1d` or `2d`, columns and rows
 //! are decimal numbers, 0 rows for all, and the flags are `-` or letters: `b` for EOFB or RTC after the last line, `l` for
 //! an EOL before each, `f` for fill before EOLs so that they end at whole bytes, `a` for aligned rows, `r` for the lowest
-//! bit of each byte first, `m` for two-dimensional lines of the fewest bits; `s`, with which `faxrows` reads strictly, has no
+//! bit of each byte first, `m` for lines of the fewest bits; `s`, with which `faxrows` reads strictly, has no
 //! effect. A last argument may be the K of
 //! two-dimensional lines, which is 4 without it.
 #![tactic(auto)]

@@ -13,10 +13,12 @@ answered c = shorter_is (all_bits c.put.new.self) (all_bits c.put_line_2d.new.wr
 
 pub returns-then-line_1d_takes_at_least-clause-shorter : goal.returns-then-line_1d_takes_at_least-clause-shorter
 returns-then-line_1d_takes_at_least-clause-shorter c =
-    sym c.if-line_1d_takes_at_least.true ∙ answered (goal.at.returns-then-line_1d_takes_at_least-clause-shorter c).After-line_1d_takes_at_least
+    sym c.if-line_1d_takes_at_least.true
+    ∙ answered (goal.at.returns-then-line_1d_takes_at_least-clause-shorter c).After-line_1d_takes_at_least
 
 pub returns-clause-shorter : goal.returns-clause-shorter
-returns-clause-shorter c = sym c.if-line_1d_takes_at_least.false ∙ answered (goal.at.returns-clause-shorter c).After-line_1d_takes_at_least
+returns-clause-shorter c = sym c.if-line_1d_takes_at_least.false
+    ∙ answered (goal.at.returns-clause-shorter c).After-line_1d_takes_at_least
 
 -- the tag and the line
 tag_and_line : (c : After-line_1d_takes_at_least) → all_bits c.put_line_2d.new.writer ≡ all_bits c.args.writer.now
@@ -34,5 +36,6 @@ cut_back-requires c = marked_within c.args.writer.now c.mark-mark.result (all_bi
 pub returns-clause-written : goal.returns-clause-written
 returns-clause-written c = cut_to_mark c.args.writer.now c.mark-mark.result
     (all_bits c.put_line_2d.new.writer) _ c.mark-mark.ensures
-    (tag_and_line (goal.at.returns-clause-written c).After-line_1d_takes_at_least) (all_bits c.cut_back.new.self) c.cut_back.ensures
+    (tag_and_line (goal.at.returns-clause-written c).After-line_1d_takes_at_least)
+    (all_bits c.cut_back.new.self) c.cut_back.ensures
     ∙ sym (append-nil (all_bits c.args.writer.now))

@@ -25,7 +25,8 @@ changes-preserved c =
         c.shortest_run_bits.ensures.is,
         c.changes.invariant.taken,
         ap length (next_shortest columns place i color changes c.changes-test.true ascend),
-        length-append (shortest_run color (change - place)) (shortest_runs_1d columns (opposite color) change (drop (i + 1) changes)),
+        length-append (shortest_run color (change - place))
+            (shortest_runs_1d columns (opposite color) change (drop (i + 1) changes)),
         ap (λ (k : Color). length (shortest_runs_1d columns k change (drop (i + 1) changes))) c.opposite-color.ensures,
       );
     }

@@ -4,7 +4,8 @@ use Rattle.fax_encode.specs.declared.shortest_lines.Way.{Way}
 use Rattle.fax_encode.specs.Ways.{IsFound, IsShortest, passed_by}
 use Rattle.fax_encode.proofs.Elements.{next_is_right}
 use Rattle.fax_encode.proofs.ModesWritten.{one_width}
-use Rattle.fax_encode.proofs.ShortestSteps.{Stands, stands_at, not_right, in_row, a1_here, found_ahead, first_searched, searched_to_end}
+use Rattle.fax_encode.proofs.ShortestSteps.{Stands, stands_at, not_right, in_row, a1_here, found_ahead}
+use Rattle.fax_encode.proofs.ShortestSteps.{first_searched, searched_to_end}
 use Rattle.fax_encode.proofs.ShortestSteps.{below_counts}
 use Rattle.fax_encode.proofs.shortest_lines.find_way.Goals.{After-way_without_pass-way}
 use Rattle.fax_encode.proofs.shortest_lines.find_way.Goals as goal
@@ -28,10 +29,10 @@ way_without_pass-way-requires-clause-order c = omega (
 )
 
 -- the way without a pass
-found : (c : After-way_without_pass-way) → IsFound (pixels c.args.columns c.args.reference.now)
+found_without : (c : After-way_without_pass-way) → IsFound (pixels c.args.columns c.args.reference.now)
     (pixels c.args.columns c.args._changes.now) (place_of c.args.at) 0 c.way_without_pass-way.result
 unfolding passed_by
-found c =
+found_without c =
     let stands = stands_at c.args.columns c.args._changes.now c.requires.changes c.args.at.next (place_of c.args.at)
     c.requires.inside c.requires.right in
     found_ahead c.args.columns c.args.reference.now c.args._changes.now c.requires.changes c.args.at.next 0 (place_of c.args.at)
@@ -70,7 +71,8 @@ returns-then-ahead c =
       bits = 0 * 4 + (c.below_word.result.count + c.args.ahead.after_a1);
       passes = 0;
       first = 0;
-      word = c.below_word.result;
+      word = c.below_word.result.bits;
+      count = c.below_word.result.count;
       is_vertical = true;
     } in
     let found : IsFound R C at 0 way =
@@ -91,7 +93,7 @@ returns-then-ahead c =
     )))
 
 pub search_copies-requires-clause-found : goal.search_copies-requires-clause-found
-search_copies-requires-clause-found c = found (goal.at.search_copies-requires-clause-found c).After-way_without_pass-way
+search_copies-requires-clause-found c = found_without (goal.at.search_copies-requires-clause-found c).After-way_without_pass-way
 
 pub returns-in-None : goal.returns-in-None
 returns-in-None c =
@@ -99,7 +101,7 @@ returns-in-None c =
     let at : Place = place_of c.args.at in
     let stands = stands_at columns c.args._changes.now c.requires.changes c.args.at.next at c.requires.inside c.requires.right in
     at_end columns c.args.reference.now c.args._changes.now c.requires.reference c.requires.changes c.args.at.next at
-    c.way_without_pass-way.result stands (found (goal.at.returns-in-None c).After-way_without_pass-way) (omega (
+    c.way_without_pass-way.result stands (found_without (goal.at.returns-in-None c).After-way_without_pass-way) (omega (
       arith,
       c.in-None.ensures,
       c.requires.b2,

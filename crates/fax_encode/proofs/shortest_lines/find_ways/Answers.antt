@@ -23,7 +23,8 @@ changes-init c =
             stands.inside,
             ap (λ (m : ℕ). (right_of_changes columns changes m).from) one,
             get_or_past c.args.reference.now
-                (length c.args.reference.now + (length c.args.reference.now + (length changes + 1)) % 2 + 1) columns (omega arith),
+                (length c.args.reference.now + (length c.args.reference.now + (length changes + 1)) % 2 + 1)
+                columns (omega arith),
           );
       count = omega (arith, ap length c.reserve_exact.ensures.items, ap length c.clear.ensures.items);
       room = omega (
@@ -133,7 +134,8 @@ changes-preserved c =
         c.place_right_of-from.ensures,
         c.step_back-above.ensures.right,
         c.step_back-above.ensures.first,
-        next_is_right 0 columns above c.step_back-above.result.index (c.step_back-above.result.index + 1) refl c.requires.reference,
+        next_is_right 0 columns above c.step_back-above.result.index (c.step_back-above.result.index + 1) refl
+            c.requires.reference,
       );
       count = omega (
         arith,

@@ -1,4 +1,5 @@
-use Rattle.fax_encode.proofs.Names.{◌≡◌, ◌-◌, ◌++◌, ℕ, suc, sym, ap, ◌∙◌, arith, append-nil, append_assoc, Bits, word_of_mode, Pass}
+use Rattle.fax_encode.proofs.Names.{◌≡◌, ◌-◌, ◌++◌, ℕ, suc, sym, ap, ◌∙◌, arith, append-nil, append_assoc, Bits, Pass}
+use Rattle.fax_encode.proofs.Names.{word_of_mode}
 use Rattle.fax_encode.proofs.Names.{all_bits}
 use Rattle.fax_encode.specs.Ways.{words_of_passes}
 use Rattle.fax_encode.proofs.ShortestWays.{passes_more}

@@ -72,6 +72,19 @@ way_without_pass-way-requires-clause-order c = omega (
   next_is_right 0 c.args.columns c.args._changes.now c.args.at.next (c.args.at.next + 1) refl c.requires.changes,
 )
 
+pub way_without_pass-way-requires-clause-few : goal.way_without_pass-way-requires-clause-few
+way_without_pass-way-requires-clause-few c = (
+  omega (
+    arith,
+    c.passes.invariant.count,
+    c.passes.invariant.within,
+    c.ranges.columns.fits,
+    no_more_changes 0 c.args.columns c.args.reference.now c.requires.reference (omega arith),
+  ),
+  c.requires.few.0,
+  c.requires.few.1,
+)
+
 pub overflow_add-passes : goal.overflow_add-passes
 overflow_add-passes c = omega (
   arith,

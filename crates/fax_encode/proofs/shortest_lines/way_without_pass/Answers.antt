@@ -1,5 +1,5 @@
 use Rattle.fax_encode.proofs.Names.{◌-◌, ap, ◌∙◌, arith, is_near}
-use Rattle.fax_encode.specs.Ways.{vertical_bits, horizontal_bits}
+use Rattle.fax_encode.specs.Ways.{bits_in_vertical, bits_in_horizontal}
 use Rattle.fax_encode.proofs.ShortestRunsWritten.{two_runs_least}
 use Rattle.fax_encode.proofs.ShortestSteps.{is_taken, is_longer, vertical_count}
 use Rattle.fax_encode.specs.declared.shortest_lines.Way.{Way}
@@ -8,8 +8,8 @@ use Rattle.fax_encode.proofs.shortest_lines.way_without_pass.Goals as goal
 pub returns-then-from-ahead-clause-vertical : goal.returns-then-from-ahead-clause-vertical
 returns-then-from-ahead-clause-vertical c =
     ap (λ (w : Way). w.is_vertical) c.vertical_way-vertical.ensures
-    ∙ is_taken (is_near c.args.b1 c.args.ahead.a1) (vertical_bits c.args.b1 c.args.ahead)
-    (horizontal_bits c.args.color c.args.from c.args.ahead) c.in-Some.ensures.0
+    ∙ is_taken (is_near c.args.b1 c.args.ahead.a1) (bits_in_vertical c.args.b1 c.args.ahead)
+    (bits_in_horizontal c.args.color c.args.from c.args.ahead) c.in-Some.ensures.0
     (omega (
       arith,
       c.if-from-ahead.true,
@@ -27,8 +27,8 @@ returns-then-from-ahead-clause-bits c = rw c.vertical_way-vertical.ensures (omeg
 pub returns-then-vertical-horizontal-clause-vertical : goal.returns-then-vertical-horizontal-clause-vertical
 returns-then-vertical-horizontal-clause-vertical c =
     ap (λ (w : Way). w.is_vertical) c.vertical_way-vertical.ensures
-    ∙ is_taken (is_near c.args.b1 c.args.ahead.a1) (vertical_bits c.args.b1 c.args.ahead)
-    (horizontal_bits c.args.color c.args.from c.args.ahead) c.in-Some.ensures.0
+    ∙ is_taken (is_near c.args.b1 c.args.ahead.a1) (bits_in_vertical c.args.b1 c.args.ahead)
+    (bits_in_horizontal c.args.color c.args.from c.args.ahead) c.in-Some.ensures.0
     (omega (
       arith,
       c.if-vertical-horizontal.true,
@@ -46,8 +46,8 @@ returns-then-vertical-horizontal-clause-bits c = rw c.vertical_way-vertical.ensu
 pub returns-else-vertical-horizontal-clause-vertical : goal.returns-else-vertical-horizontal-clause-vertical
 returns-else-vertical-horizontal-clause-vertical c =
     c.horizontal_way-horizontal.ensures.vertical
-    ∙ is_longer (is_near c.args.b1 c.args.ahead.a1) (vertical_bits c.args.b1 c.args.ahead)
-    (horizontal_bits c.args.color c.args.from c.args.ahead)
+    ∙ is_longer (is_near c.args.b1 c.args.ahead.a1) (bits_in_vertical c.args.b1 c.args.ahead)
+    (bits_in_horizontal c.args.color c.args.from c.args.ahead)
     (omega (
       arith,
       c.if-vertical-horizontal.false,
