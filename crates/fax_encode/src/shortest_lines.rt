@@ -9,7 +9,8 @@ ghost use Rattle.fax_encode.specs.Chosen.{word_of_mode, vertical_mode, is_near};
 ghost use Rattle.fax_encode.specs.Coding.{place_of, IsNear, color_after};
 ghost use Rattle.fax_encode.specs.Shortest.{shortest_run, shortest_line_2d};
 ghost use Rattle.fax_encode.specs.Ways.{right_of_changes, bits_right_of, IsFound, IsShortest, AreWays, IsAhead};
-ghost use Rattle.fax_encode.specs.Ways.{mode_word, bits_in_vertical, bits_in_horizontal, words_of_passes, shortest_rest, way_bits};
+ghost use Rattle.fax_encode.specs.Ways.{mode_word, bits_in_vertical, bits_in_horizontal, words_of_passes};
+ghost use Rattle.fax_encode.specs.Ways.{shortest_rest, way_bits};
 ghost use Rattle.fax_encode.specs.Writing.{all_bits, IsWord};
 
 use crate::bit_writer::BitWriter;
