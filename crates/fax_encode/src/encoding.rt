@@ -39,6 +39,7 @@ pub fn names_encoding(settings: EncodeSettings) -> bool
 
 /// Writes a one-dimensional line.
 #[inline(always)]
+#[tactic(auto, using(crate::proofs::RowLists::line_of_list, crate::proofs::ShortestRows::shortest_of_list))]
 fn put_line_1d(
     writer: &mut BitWriter,
     effort: Effort,
@@ -56,6 +57,7 @@ fn put_line_1d(
 
 /// Returns whether a one-dimensional line has at least this many bits.
 #[inline(always)]
+#[tactic(auto, using(crate::proofs::RowLists::line_of_list, crate::proofs::ShortestRows::shortest_of_list))]
 fn line_1d_takes_at_least(effort: Effort, columns: u32, changes: &[u32], bits: u128) -> bool
     requires { AreChanges columns changes.now }
     ensures { result ≡ nat_le bits (length (line_1d effort (pixels columns changes.now))) }
