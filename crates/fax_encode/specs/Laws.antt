@@ -168,6 +168,19 @@ abbrev pub NoRunsAreShorter : Type 0
 NoRunsAreShorter = (left : ℕ) (reference row : Row) (bits : Bits) → 0 < length row → EncodesLine1D White row bits
     → length (chosen_line Shortest Group3_1D left reference row) ≤ length bits
 
+-- lines of one-dimensional Group 3 that encode these rows: with an EOL before each, or without EOLs (T.4, 4.1)
+abbrev pub EncodesRows1D : Bool → Bool → Row → List Row → Bits → Type 0
+EncodesRows1D true aligned white rows lines = EncodesRowsWithEols Group3_1D white rows lines
+EncodesRows1D false aligned white rows lines = EncodesRows Group3_1D aligned white rows lines
+
+-- What is chosen for a picture as one-dimensional Group 3 with the effort `Shortest`, without fill, has no more bits than any
+-- lines that encode its rows, with EOLs if it has them and with the same alignment, with the same end (T.4, 4.1).
+abbrev pub NoneIsShorter1D : Type 0
+NoneIsShorter1D = (settings : EncodeSettings) (columns : ℕ) (rows : List Row) (lines : Bits) → IsPicture columns rows
+    → settings.encoding ≡ Group3_1D → settings.effort ≡ Shortest → settings.eols_end_at_bytes ≡ false
+    → EncodesRows1D settings.end_of_line settings.rows_are_byte_aligned (white_row columns) rows lines
+    → length (chosen settings columns rows) ≤ length (with_end settings lines)
+
 -- ---- damage
 
 -- the lenient settings that read what is chosen for this number of rows
