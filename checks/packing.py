@@ -176,6 +176,9 @@ PACK = [  # arguments, input, status, output, error
     (("-o", "g4", "0", "0", "b"), b"", 1, "", "no columns"),
     (("-o", "g4", "9", "0", "b"), b"\x18\x00\x00", 1, "", "the picture ends early"),
     (("g4", "b"), b"P4\n8 0\n", 0, "001001", ""),
+    # 8320 white pixels: three words of 2560 and one of 640, or five of 1664
+    (("1d", "-"), b"P4\n8320 1\n" + bytes(1040), 0, "01f01f01f67350", ""),
+    (("1d", "m"), b"P4\n8320 1\n" + bytes(1040), 0, "61861860d4", ""),
     (("1d", "l"), b"P4\n8 0\n", 1, "", "no rows"),
     (("g4", "b"), b"P4\n0 8\n", 1, "", "no columns"),
     (("g4", "b"), b"P4\n8 2\n\x18", 1, "", "the picture ends early"),
