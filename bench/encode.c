@@ -2,7 +2,7 @@
  *
  *   encode ENCODER ENCODING COLUMNS BITMAP STRIP
  *
- * ENCODER is `ours` or `tiff`. ENCODING is 0 for Group 4, 1 for one-dimensional Group 3, 2 for two-dimensional, in which K is 4,
+ * ENCODER is `ours`, `shortest`, which is ours with FAX_ENCODE_SHORTEST, or `tiff`. ENCODING is 0 for Group 4, 1 for one-dimensional Group 3, 2 for two-dimensional, in which K is 4,
  * as libtiff chooses for 200 lines an inch. The strip is written to STRIP.
  * Callgrind is given --toggle-collect=measured. */
 #include "../c/fax_encode.h"
@@ -54,6 +54,8 @@ int main(int count, char **words)
     settings = (fax_encode_settings){strtoul(words[3], NULL, 10), strtoul(words[2], NULL, 10), FAX_ENCODE_END_OF_BLOCK, 4};
     if (settings.encoding != FAX_ENCODE_GROUP_4)
         settings.flags += FAX_ENCODE_END_OF_LINE;
+    if (!strcmp(words[1], "shortest"))
+        settings.flags += FAX_ENCODE_SHORTEST;
     FILE *file = fopen(words[4], "rb");
     if (!file || fseek(file, 0, SEEK_END))
         return 3;

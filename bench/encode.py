@@ -1,6 +1,6 @@
 """python3 bench/encode.py [FILE COLUMNS ..]: prints a table of instructions, as callgrind counts them, of one encoding of each
-picture by this library and by libtiff: of the pictures of bench/strips.py, and of each FILE, a bitmap of COLUMNS. Figures are
-instructions a change; for blank pages, a row.
+picture by this library, with each effort, and by libtiff: of the pictures of bench/strips.py, and of each FILE, a bitmap of COLUMNS.
+Figures are instructions a change; for blank pages, a row.
 
 It needs gcc, valgrind, libtiff-dev, and libhayro_ccitt_c.a as `rt lib` builds it. What both write is compared first: it is the
 same, except that libtiff writes no RTC after Group 3. In two dimensions, with K 4, libtiff makes each line two-dimensional that
@@ -46,8 +46,8 @@ def pictures(words):
 
 
 def main():
-    print("| picture | changes | ours | libtiff | ours / libtiff |")
-    print("|---|---|---|---|---|")
+    print("| picture | changes | ours | shortest | libtiff | ours / libtiff | shortest / ours |")
+    print("|---|---|---|---|---|---|---|")
     with tempfile.TemporaryDirectory() as folder:
         program = f"{folder}/encode"
         run.subprocess.run(["gcc", "-O2", "-Wall", "-o", program, "bench/encode.c", "c/heap.c", run.LIBRARY, "-ltiff"], check=True)
@@ -57,7 +57,7 @@ def main():
             changes = changes_in(columns, bitmap)
             for mode, encoding in MODES.items():
                 written, cost = {}, {}
-                for encoder in ("ours", "tiff"):
+                for encoder in ("ours", "shortest", "tiff"):
                     command = [program, encoder, encoding, str(columns), f"{folder}/bitmap", f"{folder}/strip"]
                     cost[encoder] = run.instructions(folder, command)
                     with open(f"{folder}/strip", "rb") as file:
@@ -69,7 +69,9 @@ def main():
                     last = -1 if mode == "1d" else None
                     assert written["ours"].startswith(written["tiff"][:last]) and more in ((0,) if mode == "g4" else (8, 9)), name
                 figures = [f"{cost[encoder] / (changes or len(bitmap) // ((columns + 7) // 8)):.0f}" for encoder in cost]
-                print(f"| {name} {mode} | {changes} | " + " | ".join(figures) + f" | {cost['ours'] / cost['tiff']:.2f} |", flush=True)
+                assert mode == "2d" or len(written["shortest"]) <= len(written["ours"]), name
+                ratios = [f"{cost['ours'] / cost['tiff']:.2f}", f"{cost['shortest'] / cost['ours']:.2f}"]
+                print(f"| {name} {mode} | {changes} | " + " | ".join(figures + ratios) + " |", flush=True)
 
 
 if __name__ == "__main__":

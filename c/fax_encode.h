@@ -26,8 +26,8 @@ enum {
     FAX_ENCODE_ALIGNED_ROWS = 4,      /* each row is padded up to a whole byte */
     FAX_ENCODE_LOW_FIRST = 16,        /* each byte's lowest bit comes first (TIFF's FillOrder 2), rather than its highest */
     FAX_ENCODE_EOLS_END_AT_BYTES = 32, /* fill precedes EOLs, so that they end at whole bytes (TIFF's T4Options bit 2) */
-    FAX_ENCODE_SHORTEST = 64          /* two-dimensional lines have the fewest bits that encode them, rather than those of T.6's
-                                       * procedure; every decoder reads either */
+    FAX_ENCODE_SHORTEST = 64          /* lines have the fewest bits that encode them, rather than those of T.4's make-up words and
+                                       * T.6's procedure; every decoder reads either */
 };
 
 typedef struct {

@@ -176,6 +176,9 @@ PACK = [  # arguments, input, status, output, error
     (("-o", "g4", "0", "0", "b"), b"", 1, "", "no columns"),
     (("-o", "g4", "9", "0", "b"), b"\x18\x00\x00", 1, "", "the picture ends early"),
     (("g4", "b"), b"P4\n8 0\n", 0, "001001", ""),
+    # 8320 white pixels: three words of 2560 and one of 640, or five of 1664
+    (("1d", "-"), b"P4\n8320 1\n" + bytes(1040), 0, "01f01f01f67350", ""),
+    (("1d", "m"), b"P4\n8320 1\n" + bytes(1040), 0, "61861860d4", ""),
     (("1d", "l"), b"P4\n8 0\n", 1, "", "no rows"),
     (("g4", "b"), b"P4\n0 8\n", 1, "", "no columns"),
     (("g4", "b"), b"P4\n8 2\n\x18", 1, "", "the picture ends early"),
@@ -197,6 +200,23 @@ PACK = [  # arguments, input, status, output, error
 ]
 
 
+USAGE = """\
+faxpack MODE FLAGS [K]
+faxpack -o MODE COLUMNS ROWS FLAGS [K]
+faxpack --help
+faxpack --version
+
+MODE is g4, 1d or 2d. FLAGS are letters, or - for none:
+  b  EOFB or RTC after the last line
+  l  an EOL before each line
+  f  fill before EOLs, so that they end at whole bytes
+  a  rows aligned to bytes
+  r  the lowest bit of each byte first
+  m  the shortest lines: the fewest bits
+  s  no effect; faxrows then reads strictly
+"""
+
+
 def packing_cases():
     """Small inputs with bytes that were worked out from T.4 and T.6, inputs that are no pictures, and wrong arguments; `--help` and
     `--version`; a reader and a writer that fail."""
@@ -204,8 +224,7 @@ def packing_cases():
         done = run(data, PROGRAM, *words)
         told = f"faxpack: {error}\n".encode() if error else b""
         assert (done.returncode, done.stdout.hex(), done.stderr) == (status, output, told), (words, data, done)
-    usage = "faxpack MODE FLAGS [K]\nfaxpack -o MODE COLUMNS ROWS FLAGS [K]\nfaxpack --help\nfaxpack --version\n"
-    for word, expected in (("--help", usage), ("--version", "faxpack 0.6.0\n")):
+    for word, expected in (("--help", USAGE), ("--version", "faxpack 0.6.0\n")):
         done = run(b"", PROGRAM, word)
         assert (done.returncode, done.stdout.decode(), done.stderr) == (0, expected, b""), done
     with open("/dev/full", "wb") as full:

@@ -32,7 +32,7 @@ def encode(
         black_is_1: whether a sample is 1 for a black pixel, rather than 0.
         low_first: whether each byte's lowest bit comes first, as in TIFF files of FillOrder 2.
         eols_end_at_bytes: whether fill precedes EOLs, so that they end at whole bytes, as TIFF's T4Options bit 2 says.
-        shortest: whether two-dimensional lines have the fewest bits that encode them, rather than those of T.6's procedure. Every
+        shortest: whether lines have the fewest bits that encode them, rather than those of T.4's words and T.6's procedure. Every
             decoder reads either.
 
     Raises:

@@ -24,7 +24,7 @@ pub struct EncodeSettings {
     pub end_of_block: bool,
     /// Whether each byte's lowest bit comes first, as in TIFF files of FillOrder 2.
     pub low_first: bool,
-    /// Whether two-dimensional lines have the fewest bits that encode them, rather than those of T.6's procedure, which other
+    /// Whether lines have the fewest bits that encode them, rather than those of T.4's words and T.6's procedure, which other
     /// encoders follow. Every decoder reads either.
     pub shortest: bool,
 }

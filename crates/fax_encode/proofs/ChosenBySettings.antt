@@ -10,7 +10,8 @@ use Rattle.fax_encode.proofs.Names.{ChosenComesBack, ChosenIsRead, ChosenLinesEn
 use Rattle.fax_encode.proofs.Names.{needs_row, is_closed, decode_settings_for, is_two_dimensional, chosen_line, left_after}
 use Rattle.fax_encode.proofs.Names.{chosen_lines, fill_of, chosen_lines_with_eols, chosen_eols, chosen_picture, chosen_with_eols}
 use Rattle.fax_encode.proofs.Names.{chosen_group4, eols_here}
-use Rattle.fax_encode.proofs.Names.{Effort, Procedure, Shortest, line_2d, EncodesLine2D, White}
+use Rattle.fax_encode.proofs.Names.{Effort, Procedure, Shortest, line_1d, line_2d, EncodesLine1D, EncodesLine2D, White}
+use Rattle.fax_encode.proofs.ShortestRows.{shortest_1d_encodes}
 use Rattle.fax_encode.proofs.{BytesOfBits.same_bytes, ChosenLines.line_1d_encodes, ChosenLines.line_2d_encodes}
 use Rattle.fax_encode.proofs.ShortestLines.{shortest_lines}
 use Rattle.fax_encode.proofs.ReadToTheEnd.{all_but, rounded_up, rtc_few, few_zeros, all_t6, all_t4, all_t4_with_eols}
@@ -22,18 +23,22 @@ pub line_2d_encoded : (effort : Effort) (reference row : Row) → length referen
 line_2d_encoded Procedure reference row same = line_2d_encodes reference row same
 line_2d_encoded Shortest reference row same = (shortest_lines reference row same).0
 
+pub line_1d_encoded : (effort : Effort) (row : Row) → 0 < length row → EncodesLine1D White row (line_1d effort row)
+line_1d_encoded Procedure row some = line_1d_encodes row some
+line_1d_encoded Shortest row some = shortest_1d_encodes row some
+
 -- a line is one of an encoding
 pub line_encodes : (effort : Effort) (encoding : EncodingMode) (left : ℕ) (reference row : Row)
     → length reference ≡ length row → 0 < length row
     → EncodesLine encoding reference row (chosen_line effort encoding left reference row)
 line_encodes effort Group4 left reference row same some = line_2d_encoded effort reference row same
-line_encodes effort Group3_1D left reference row same some = line_1d_encodes row some
+line_encodes effort Group3_1D left reference row same some = line_1d_encoded effort row some
 line_encodes effort Group3_2D left reference row same some = by_two (is_two_dimensional effort left reference row)
   where
     by_two : (two : Bool)
-        → EncodesLine Group3_2D reference row (cond two (false ∷ line_2d effort reference row) (true ∷ chosen_line_1d row))
+        → EncodesLine Group3_2D reference row (cond two (false ∷ line_2d effort reference row) (true ∷ line_1d effort row))
     by_two true = (line_2d effort reference row, inr (refl, line_2d_encoded effort reference row same))
-    by_two false = (chosen_line_1d row, inl (refl, line_1d_encodes row some))
+    by_two false = (line_1d effort row, inl (refl, line_1d_encoded effort row some))
 
 lines_encode : (effort : Effort) (encoding : EncodingMode) (columns k : ℕ) (aligned : Bool) (left : ℕ) (reference : Row)
     (rows : List Row)
@@ -101,8 +106,8 @@ tag_alone two = omega arith
 
 -- the law
 pub never_longer : NeverLonger
-never_longer effort zero reference row = tag_alone (chosen_line_1d row)
-never_longer effort (suc left) reference row = shorter_one (line_2d effort reference row) (chosen_line_1d row)
+never_longer effort zero reference row = tag_alone (line_1d effort row)
+never_longer effort (suc left) reference row = shorter_one (line_2d effort reference row) (line_1d effort row)
 
 -- ---- what is chosen is read again
 -- settings of a decoder that match

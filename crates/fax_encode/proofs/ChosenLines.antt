@@ -14,7 +14,7 @@ use Rattle.fax_encode.proofs.Names.{word_of_mode, ChosenIsAnEncoding}
 use Rattle.fax_encode.proofs.ChosenWords.{run_spelled}
 
 -- ---- One-dimensional lines.
-not_black : (color : Color) → not (is_black color) ≡ is_black (opposite color)
+pub not_black : (color : Color) → not (is_black color) ≡ is_black (opposite color)
 not_black White = refl
 not_black Black = refl
 
@@ -22,7 +22,7 @@ colors_differ : (color : Color) → not (is_black color) ≡ is_black color → 
 colors_differ White e = false≢true (sym e)
 colors_differ Black e = false≢true e
 
-begins_other : (color : Color) (change width : ℕ) (places : List ℕ) → change < width → AscendFrom (suc change) width places
+pub begins_other : (color : Color) (change width : ℕ) (places : List ℕ) → change < width → AscendFrom (suc change) width places
     → (rest : Row) → pixels_from change (not (is_black color)) width places ≢ is_black color ∷ rest
 begins_other color change width places lt ascend rest e =
     let first = pixels_from-first change (not (is_black color)) width places lt ascend in

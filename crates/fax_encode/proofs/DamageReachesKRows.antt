@@ -6,11 +6,11 @@ use Rattle.fax_encode.proofs.Names.{EncodingMode, Group3_2D, BitOrder, Bits, Are
 use Rattle.fax_encode.proofs.Names.{tagged_eols, EncodesRowsWithEols, ClosesWithEols, IsPicture, padding, eol, tag_of, IsEolAt}
 use Rattle.fax_encode.proofs.Names.{EndAlike, IsTaggedBody, ComeBefore1D, RowsDiffer, SameBut, plain, AreSettings, locality_by_k}
 use Rattle.fax_encode.proofs.Names.{encoded_follows, encoded_lines_are_bodies, drop_at, eol_stands, eols_here_two, six_tagged}
-use Rattle.fax_encode.proofs.Names.{eol_before, EncodeSettings, chosen_line_1d, filled_up, DamageReachesKRows}
+use Rattle.fax_encode.proofs.Names.{eol_before, EncodeSettings, line_1d, filled_up, DamageReachesKRows}
 use Rattle.fax_encode.proofs.Names.{lenient_settings_for, tag_after, line_end, ChangesAtMost, DamagedLine, RowsEncoded, no_rows}
 use Rattle.fax_encode.proofs.Names.{with_row, with_rows, chosen, is_two_dimensional, chosen_line, left_after, fill_of}
 use Rattle.fax_encode.proofs.Names.{chosen_lines_with_eols, chosen_eols, with_end}
-use Rattle.fax_encode.proofs.{ChosenLines.line_1d_encodes, ChosenBySettings.line_2d_encoded, FilledEols.length-eol}
+use Rattle.fax_encode.proofs.{ChosenBySettings.line_2d_encoded, ChosenBySettings.line_1d_encoded, FilledEols.length-eol}
 use Rattle.fax_encode.proofs.ChosenBySettings.{line_encodes, lines_with_eols_encode, eols_close, white_is_wide}
 use Rattle.fax_encode.proofs.Names.{Effort, line_2d}
 use Rattle.fax_encode.proofs.LinesOfPictures.{lines_left, lines_pushed, rows_are_chosen}
@@ -71,14 +71,14 @@ module _ (effort : Effort) (d : DecodeSettings) (columns k : ℕ) (wide : 0 < co
 
   -- a one-dimensional line
   one_dimensional : (fill : ℕ) (reference row : Row) (next : Bits) → length row ≡ columns
-      → ComeBefore1D d 0 (eol fill ++ ((true ∷ chosen_line_1d row) ++ next))
-  one_dimensional fill reference row next width = ((_, eol_stands fill _), inr (inl (chosen_line_1d row ++ next, counted)))
+      → ComeBefore1D d 0 (eol fill ++ ((true ∷ line_1d effort row) ++ next))
+  one_dimensional fill reference row next width = ((_, eol_stands fill _), inr (inl (line_1d effort row ++ next, counted)))
     where
-      counted : (tagged_eols (eol fill ++ ((true ∷ chosen_line_1d row) ++ next))).1 ≡ true ∷ (chosen_line_1d row ++ next)
-      counted = ap (λ (f : ℕ × Bits). f.1) (sym (eols_here_two d (eol fill ++ ((true ∷ chosen_line_1d row) ++ next)) encoding)
+      counted : (tagged_eols (eol fill ++ ((true ∷ line_1d effort row) ++ next))).1 ≡ true ∷ (line_1d effort row ++ next)
+      counted = ap (λ (f : ℕ × Bits). f.1) (sym (eols_here_two d (eol fill ++ ((true ∷ line_1d effort row) ++ next)) encoding)
           ∙ eol_before d (omega (arith, wide, columns_are)) (omega (arith, small, columns_are)) Group3_2D reference row fill
-          (true ∷ chosen_line_1d row) next encoding
-          (chosen_line_1d row, inl (refl, line_1d_encodes row (omega (arith, wide, width))))
+          (true ∷ line_1d effort row) next encoding
+          (line_1d effort row, inl (refl, line_1d_encoded effort row (omega (arith, wide, width))))
           (width ∙ sym columns_are))
 
   -- a two-dimensional one, and those that follow it
@@ -122,7 +122,7 @@ module _ (effort : Effort) (d : DecodeSettings) (columns k : ℕ) (wide : 0 < co
           ∙ append_assoc (eol fill) line (others ++ (closing ++ more))
 
       by_two : (two : Bool) → (two ≡ true → 0 < left) → Comes (cond two (left - 1) (k - 1)) (others ++ (closing ++ more))
-          → Comes left (eol fill ++ (cond two (false ∷ line_2d effort reference row) (true ∷ chosen_line_1d row)
+          → Comes left (eol fill ++ (cond two (false ∷ line_2d effort reference row) (true ∷ line_1d effort row)
           ++ (others ++ (closing ++ more))))
       by_two true some (n, le, given) = (
         suc n,

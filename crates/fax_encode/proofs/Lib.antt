@@ -26,6 +26,7 @@ pub mod ScannedWords
 pub mod ShortestBySettings
 pub mod ShortestLines
 pub mod ShortestPictures
+pub mod ShortestRows
 pub mod ShortestRuns
 pub mod ShortestRunsWritten
 pub mod ShortestSteps

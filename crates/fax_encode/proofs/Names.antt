@@ -6,7 +6,8 @@ pub use Rattle.fax_encode.specs.Chosen.{runs_of_mode, vertical_mode, word_of, wo
 pub use Rattle.fax_encode.specs.Coding.{AreAllLeft, AreLeft, IsNear, color_after, place_of}
 pub use Rattle.fax_encode.specs.Laws.{BitmapRoundTripT4, BitmapRoundTripT6, ChangesAtMost, ChosenBySettings, ChosenComesBack}
 pub use Rattle.fax_encode.specs.Laws.{ChosenIsAnEncoding, ChosenIsRead, ChosenLinesEncode, DamageReachesKRows, DamagedLine}
-pub use Rattle.fax_encode.specs.Laws.{GivesAll, NeverLonger, NoLineIsShorter, NoneIsShorter, PackedIsShown, ReadToTheEnd}
+pub use Rattle.fax_encode.specs.Laws.{GivesAll, NeverLonger, NoLineIsShorter, NoRunsAreShorter, NoneIsShorter, PackedIsShown}
+pub use Rattle.fax_encode.specs.Laws.{EncodesRows1D, NoneIsShorter1D, ReadToTheEnd}
 pub use Rattle.fax_encode.specs.Laws.{RoundTripT4, RoundTripT6, RowsAreChosen}
 pub use Rattle.fax_encode.specs.Laws.{RowsArePacked, lenient_settings_for, line_end, tag_after}
 pub use Rattle.fax_encode.specs.Packed.{Bitmap, bytes_of_row, packed, rows_shown, shown, with_packed_row}
@@ -17,7 +18,7 @@ pub use Rattle.fax_encode.specs.Scanning.{differences, ones_from}
 pub use Rattle.fax_encode.specs.Settings.{chosen, chosen_end, chosen_eols, chosen_group4, chosen_line, chosen_lines}
 pub use Rattle.fax_encode.specs.Settings.{chosen_lines_with_eols, chosen_part, chosen_picture, chosen_with_eols}
 pub use Rattle.fax_encode.specs.Settings.{decode_settings_for, fill_of, group3_settings, group4_settings, has_eols, is_closed}
-pub use Rattle.fax_encode.specs.Settings.{is_two_dimensional, left_after, line_2d, names_encoding, needs_row, with_end}
+pub use Rattle.fax_encode.specs.Settings.{is_two_dimensional, left_after, line_1d, line_2d, names_encoding, needs_row, with_end}
 pub use Rattle.fax_encode.specs.Writing.{IsWord, Marked, Written, all_bits}
 pub use Rattle.fax_encode.specs.declared.bit_order.TheConstants.{TURNED}
 pub use Rattle.fax_encode.specs.declared.painting.Brush.{Brush}

@@ -103,27 +103,27 @@ black_least n lt = leb-true 2 (length (word_of_length Black n))
     (agree_below_at (λ m. leb 2 (length (word_of_length Black m))) (λ m. true) 64 n refl lt)
 
 -- what a run has at least
-least_run : Color → ℕ
+unfoldable pub least_run : Color → ℕ
 least_run White = 4
 least_run Black = 2
 
-run_least : (color : Color) (n : ℕ) → least_run color ≤ length (chosen_run color n)
+word_least : (color : Color) (n : ℕ) → n < 64 → least_run color ≤ length (word_of_length color n)
 unfolding least_run
-run_least color n =
-    let rest : ℕ = n % 2560 in
-    omega (
-      arith,
-      run_parts color n,
-      length-append (cond (ltb rest 64) [] (word_of_length color (rest - rest % 64))) (word_of_length color (rest % 64)),
-      word_least color (rest % 64) (omega arith),
-    )
-  where
-    word_least : (k : Color) (m : ℕ) → m < 64 → least_run k ≤ length (word_of_length k m)
-    word_least White m lt = white_least m lt
-    word_least Black m lt = black_least m lt
+word_least White n lt = white_least n lt
+word_least Black n lt = black_least n lt
+
+pub rest_least : (color : Color) (n : ℕ) → least_run color ≤ length (chosen_rest color n)
+rest_least color n = omega (
+  arith,
+  length-append (cond (ltb n 64) [] (word_of_length color (n - n % 64))) (word_of_length color (n % 64)),
+  word_least color (n % 64) (omega arith),
+)
+
+run_least : (color : Color) (n : ℕ) → least_run color ≤ length (chosen_run color n)
+run_least color n = omega (arith, run_parts color n, rest_least color (n % 2560))
 
 -- and the runs of a row: three bits for each change, and a few
-abbrev least_rest : Color → ℕ
+abbrev pub least_rest : Color → ℕ
 least_rest White = 3
 least_rest Black = 2
 

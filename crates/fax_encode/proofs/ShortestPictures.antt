@@ -5,10 +5,10 @@ use Rattle.fax_encode.proofs.Names.{white_row, EncodesRows, eol, padding, shorte
 use Rattle.fax_encode.proofs.ShortestLines.{shortest_lines}
 
 -- a line with zeros up to a whole byte if lines are aligned
-up_to_byte : Bool → Bits → Bits
+unfoldable pub up_to_byte : Bool → Bits → Bits
 up_to_byte aligned line = line ++ cond aligned (padding (length line)) []
 
-up_to_byte_least : (aligned : Bool) (line other : Bits) → length line ≤ length other
+pub up_to_byte_least : (aligned : Bool) (line other : Bits) → length line ≤ length other
     → length (up_to_byte aligned line) ≤ length (up_to_byte aligned other)
 unfolding up_to_byte
 up_to_byte_least true line other le =

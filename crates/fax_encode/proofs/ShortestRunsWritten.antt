@@ -4,11 +4,11 @@ use Rattle.fax_encode.proofs.Names.{sym}
 use Rattle.fax_encode.proofs.Names.{ap, ◌∙◌, arith, inl, inr, lt-ltb, le-ltb, cases_lt, length-append, Color, Bits, Word, IsWord}
 use Rattle.fax_encode.proofs.Names.{word_of_length, chosen_rest, first_makeup}
 use Rattle.fax_encode.proofs.Names.{Bool, leb, ◌&&◌, List, [], ◌∷◌, Code, word_of, cond, eqb, White, Black, codes_of, leb-true}
-use Rattle.fax_encode.proofs.Names.{and_parts}
+use Rattle.fax_encode.proofs.Names.{and_parts, opposite}
 use Rattle.fax_encode.specs.Shortest.{shortest_words, shortest_run}
 use Rattle.fax_encode.proofs.ShortestRuns.{first_long}
 use Rattle.fax_encode.proofs.RunsWritten.{rest_few, rest_more}
-use Rattle.fax_encode.proofs.RunLengths.{word_length}
+use Rattle.fax_encode.proofs.RunLengths.{word_length, least_run, rest_least}
 
 words_enough : (color : Color) (some more n : ℕ) → n < 1664 * suc some → n < 1664 * suc more
     → shortest_words color some n ≡ shortest_words color more n
@@ -144,3 +144,29 @@ run_few color (suc bound) n le = elim (cases_lt n 2624) [
         length_few color (64 * first),
       )
 ]
+
+-- what a run has at least
+shortest_least : (color : Color) (bound n : ℕ) → n ≤ bound → least_run color ≤ length (shortest_run color n)
+shortest_least color zero n le =
+    omega (arith, ap length (shortest_few color n (omega (arith, le))), rest_least color n)
+shortest_least color (suc bound) n le = elim (cases_lt n 2624) [
+  | inl few ↦ omega (arith, ap length (shortest_few color n few), rest_least color n)
+  | inr many ↦
+      let first : ℕ = first_makeup color (n / 64) in
+      let long = first_long color (n / 64) in
+      omega (
+        arith,
+        shortest_least color bound (n - 64 * first) (omega (arith, le, long.0)),
+        ap length (shortest_more color n first many refl),
+        length-append (word_of_length color (64 * first)) (shortest_run color (n - 64 * first)),
+      )
+]
+
+pub least_of_run : (color : Color) (n : ℕ) → least_run color ≤ length (shortest_run color n)
+least_of_run color n = shortest_least color n n (omega arith)
+
+-- and two runs, one of each colour
+pub two_runs_least : (color : Color) (m n : ℕ) → 6 ≤ length (shortest_run color m) + length (shortest_run (opposite color) n)
+unfolding least_run
+two_runs_least White m n = omega (arith, least_of_run White m, least_of_run Black n)
+two_runs_least Black m n = omega (arith, least_of_run Black m, least_of_run White n)

@@ -2,16 +2,18 @@
 use Rattle.fax_encode.proofs.Names.{◌≡◌, ℕ, zero, suc, ◌+◌, ◌-◌, ◌*◌, ◌^◌, ◌<◌, ◌≤◌, ◌≢◌, Bool, true, false, cond, leb, ◌&&◌}
 use Rattle.fax_encode.proofs.Names.{List, [], ◌∷◌}
 use Rattle.fax_encode.proofs.Names.{◌++◌, length, get_or, refl, sym, ap, subst, ◌∙◌, arith, inl, inr, length-append, append-nil}
-use Rattle.fax_encode.proofs.Names.{le-leb, cases_lt, Color, White, Pass, Horizontal, Bits, Row, AreChanges, AscendFrom}
+use Rattle.fax_encode.proofs.Names.{Vertical, pos}
+use Rattle.fax_encode.proofs.Names.{le-leb, cases_lt, Color, White, Mode, Pass, Horizontal, Bits, Row, AreChanges, AscendFrom}
 use Rattle.fax_encode.proofs.Names.{pixels, length-pixels, opposite, a1, a2, b1, b2, Place, vertical_mode, is_near, place_after}
 use Rattle.fax_encode.proofs.Names.{word_of_mode, a1_next, b2_above, shorter, shortest_runs_of_mode}
-use Rattle.fax_encode.proofs.Names.{shortest_run, AreAllLeft, color_after, Word, IsWord, append_assoc, in_list_if_below}
+use Rattle.fax_encode.proofs.Names.{shortest_run, AreAllLeft, color_after, Word, IsWord, append_assoc}
 use Rattle.fax_encode.proofs.Names.{false≢true}
 use Rattle.fax_encode.specs.declared.shortest_lines.Way.{Way}
 use Rattle.fax_encode.specs.Ways.{shortest_rest, begun_in, vertical_at, mode_of, without_pass, passed, passed_by}
 use Rattle.fax_encode.specs.Ways.{words_of_passes, way_bits}
-use Rattle.fax_encode.specs.Ways.{MayPass, IsLawful, IsShortest, right_of_changes, bits_right_of, bits_of_vertical}
-use Rattle.fax_encode.specs.Ways.{AreWays, end_way}
+use Rattle.fax_encode.specs.Ways.{MayPass, IsFound, IsLawful, IsShortest, IsSpelled, right_of_changes, bits_right_of}
+use Rattle.fax_encode.specs.Ways.{mode_word, bits_of_vertical, IsAhead, bits_in_vertical, bits_in_horizontal, AreWays, no_way}
+use Rattle.fax_encode.specs.declared.shortest_lines.Ahead.{Ahead}
 use Rattle.fax_encode.proofs.Elements.{a1_found, a2_found, left_of_next, still_left}
 use Rattle.fax_encode.proofs.StepsToB1.{color_next, color_second}
 use Rattle.fax_encode.proofs.ShortestWays.{going_on, first_goes_on, goes_on, goes_no_further, rest_ends, vertical_place_after}
@@ -20,6 +22,7 @@ use Rattle.fax_encode.proofs.Names.{get_or_past}
 use Rattle.fax_encode.proofs.ModesWritten.{one_width}
 use Rattle.fax_encode.proofs.ShortestWays.{rest_over, rest_bounded}
 use Rattle.fax_encode.proofs.RunLengths.{word_length}
+use Rattle.fax_encode.proofs.ShortestRunsWritten.{two_runs_least}
 use Rattle.std.proofs.lemmas.Bool.{lt-leb}
 
 -- ---- Places right of changes.
@@ -88,12 +91,6 @@ module _ (columns : ℕ) (changes : List ℕ) (are : AreChanges columns changes)
             (left_of_next 0 columns changes n (suc n) here (omega arith) are refl below);
       }
 
-  -- and a position in the row is right of changes of the list
-  pub right_in_list : (n : ℕ) → (right_of_changes columns changes n).from ≤ columns → n ≤ length changes
-  unfolding right_of_changes
-  right_in_list zero le = omega arith
-  right_in_list (suc n) le = let lt = in_list_if_below columns changes are n (omega (arith, le)) in omega (arith, lt)
-
   module _ (n : ℕ) (at : Place) (stands : Stands columns changes n at) where
     pub a1_here : a1 (pixels columns changes) at.from ≡ get_or changes n columns
     a1_here = a1_found columns changes are at.from n stands.left
@@ -146,16 +143,6 @@ module _ (columns : ℕ) (changes : List ℕ) (are : AreChanges columns changes)
           left = still_left columns changes at.from (suc (b2 reference at.from at.color)) n
               (omega (arith, ahead.0, ahead.1)) stands.left (omega (arith, lt, a1_here));
         }
-
--- the position right of the next change
-pub right_of_next : (columns : ℕ) (changes : List ℕ) (m n from : ℕ) → m ≡ n + 1 → from ≡ get_or changes n columns + 1
-    → record { from = from; color = color_after m } ≡ right_of_changes columns changes m
-right_of_next columns changes m n from is here =
-    let one : m ≡ suc n = omega (arith, is) in
-    let place : from ≡ suc (get_or changes n columns) = omega (arith, here) in
-    ap (λ (a : ℕ). record { from = a; color = color_after m }) place
-    ∙ ap (λ (i : ℕ). record { from = suc (get_or changes n columns); color = color_after i }) one
-    ∙ sym (ap (right_of_changes columns changes) one ∙ right_is columns changes n)
 
 pub stands_at : (columns : ℕ) (changes : List ℕ) → AreChanges columns changes → (n : ℕ) (at : Place) → n ≤ length changes
     → at ≡ right_of_changes columns changes n → Stands columns changes n at
@@ -265,6 +252,15 @@ pub vertical_count : (start to : ℕ) (word : Word) → IsWord (word_of_mode (ve
 unfolding bits_of_vertical
 vertical_count start to word is = word_length (word_of_mode (vertical_mode start to)) word is
 
+-- a1 below b1
+pub below_is : (start to : ℕ) → start ≡ to → (is_near start to ≡ true) × (vertical_mode start to ≡ Vertical (pos 0))
+below_is start to e =
+    let one : leb to (start + 3) ≡ true = le-leb to (start + 3) (omega (arith, e)) in
+    let two : leb start (to + 3) ≡ true = le-leb start (to + 3) (omega (arith, e)) in
+    let same : leb start to ≡ true = le-leb start to (omega (arith, e)) in
+    let none : to - start ≡ 0 = omega (arith, e) in
+    (rw (one, two) refl, rw (same, none) refl)
+
 pub is_taken : (near : Bool) (m n : ℕ) → near ≡ true → m ≤ n → true ≡ (near && leb m n)
 is_taken near m n e le = sym (rw e (le-leb m n le))
 
@@ -272,18 +268,7 @@ pub is_longer : (near : Bool) (m n : ℕ) → n < m → false ≡ (near && leb m
 is_longer true m n lt = sym (lt-leb m n lt)
 is_longer false m n lt = refl
 
-pub is_far : (near l : Bool) → near ≡ false → false ≡ (near && l)
-is_far near l e = sym (rw e refl)
-
 -- ---- A way, after a number of passes.
-pub record IsFound (reference row : Row) (at : Place) (k : ℕ) (way : Way) : Type 0 where
-  pub passes : way.passes ≡ k
-  pub near : way.is_vertical ≡ true → is_near (b1 reference (passed_by reference at k).from (passed_by reference at k).color)
-      (a1 row (passed_by reference at k).from) ≡ true
-  pub bits : way.bits ≡ length (way_bits reference row at k way.is_vertical)
-  pub is : words_of_passes k ++ without_pass reference row
-      (passed_by reference at k) ≡ way_bits reference row at k way.is_vertical
-
 length-words_of_passes : (k : ℕ) → length (words_of_passes k) ≡ k * 4
 unfolding words_of_passes
 length-words_of_passes zero = refl
@@ -306,9 +291,11 @@ module _ (columns : ℕ) (reference changes : List ℕ) (are : AreChanges column
       (length (shortest_run now.color (to - (now.from - 1))) + behind))
       → way.bits ≡ k * 4 + cond way.is_vertical (bits_of_vertical start to + after)
       (length (shortest_run now.color (to - (now.from - 1))) + behind)
+      → IsWord (word_of_mode (cond way.is_vertical (vertical_mode start to) Horizontal)) (mode_word way)
+      → (way.is_vertical ≡ false → way.first ≡ to - (now.from - 1))
       → IsFound (pixels columns reference) (pixels columns changes) at k way
   unfolding bits_right_of way_bits near bits_of_vertical
-  found_adds start to second after behind e f g one two passes vertical bits =
+  found_adds start to second after behind e f g one two passes vertical bits word first =
       let place : Place = passed_by (pixels columns reference) at k in
       let R : Row = pixels columns reference in
       let C : Row = pixels columns changes in
@@ -349,8 +336,18 @@ module _ (columns : ℕ) (reference changes : List ℕ) (are : AreChanges column
             ∙ ap (λ (m : ℕ). k * 4 + m) (by_mode R C place way.is_vertical _ _ in_vertical in_horizontal));
         is = ap (λ (b : Bits). words_of_passes k ++ b) (ends_in R C place way.is_vertical
             (is_near start to) _ nearly less vertical);
+        spelled = record {
+          word = subst (λ (b : Bits). IsWord b (mode_word way)) (by_mode_word R C place way.is_vertical _ (sym words)) word;
+          first = λ e. first e ∙ ap (λ (m : ℕ). m - (place.from - 1)) (sym f);
+        };
       }
     where
+      by_mode_word : (R C : Row) (place : Place) (vertical : Bool) (m : Mode)
+          → word_of_mode m ≡ word_of_mode (vertical_at R C place)
+          → word_of_mode (cond vertical m Horizontal) ≡ word_of_mode (mode_of R C place vertical)
+      by_mode_word R C place true m e = e
+      by_mode_word R C place false m e = refl
+
       by_mode : (R C : Row) (place : Place) (vertical : Bool) (one two : ℕ) → length (begun_in R C place
           (vertical_at R C place)) ≡ one
           → length (begun_in R C place Horizontal) ≡ two
@@ -380,6 +377,8 @@ pub record Adds (columns : ℕ) (reference changes : List ℕ) (n k : ℕ) (at :
       (length (shortest_run color (to - (from - 1))) + behind))
   pub bits : way.bits ≡ k * 4 + cond way.is_vertical (bits_of_vertical start to + after)
       (length (shortest_run color (to - (from - 1))) + behind)
+  pub word : IsWord (word_of_mode (cond way.is_vertical (vertical_mode start to) Horizontal)) (mode_word way)
+  pub first : way.is_vertical ≡ false → way.first ≡ to - (from - 1)
 
 pub found_by : (columns : ℕ) (reference changes : List ℕ) (are : AreChanges columns changes) (n k : ℕ) (at now : Place)
     (way : Way)
@@ -402,6 +401,76 @@ found_by columns reference changes are n k at p way stands e adds =
     a.after_is (a.behind_is ∙ other) a.passes
     (a.vertical ∙ ap (λ (m : ℕ). is_near a.start a.to && leb (word + a.after) (m + a.behind)) first)
     (a.bits ∙ ap (λ (m : ℕ). k * 4 + cond way.is_vertical (word + a.after) (m + a.behind)) first)
+    a.word (λ e. a.first e ∙ ap (λ (m : ℕ). a.to - (m - 1)) a.from_is)
+
+-- the numbers of a way, with what is ahead
+pub record Counts (color : Color) (from start k : ℕ) (ahead : Ahead) (way : Way) : Type 0 where
+  pub passes : way.passes ≡ k
+  pub vertical : way.is_vertical ≡ (is_near start ahead.a1
+      && leb (bits_in_vertical start ahead) (bits_in_horizontal color from ahead))
+  pub bits : way.bits ≡ k * 4 + cond way.is_vertical (bits_in_vertical start ahead) (bits_in_horizontal color from ahead)
+  pub word : IsWord (word_of_mode (cond way.is_vertical (vertical_mode start ahead.a1) Horizontal)) (mode_word way)
+  pub first : way.is_vertical ≡ false → way.first ≡ ahead.a1 - (from - 1)
+
+pub found_ahead : (columns : ℕ) (reference changes : List ℕ) → AreChanges columns changes → (n k : ℕ) (at now : Place)
+    (way : Way) (ahead : Ahead) (start : ℕ) (color : Color)
+    → Stands columns changes n (passed_by (pixels columns reference) at k) → now ≡ passed_by (pixels columns reference) at k
+    → IsAhead columns reference changes n ahead → b1 (pixels columns reference) now.from now.color ≡ start → color ≡ now.color
+    → Counts color now.from start k ahead way → IsFound (pixels columns reference) (pixels columns changes) at k way
+found_ahead columns reference changes are n k at now way ahead start color stands e right is_b1 is_color counts =
+    found_by columns reference changes are n k at now way stands e (record {
+      start = start;
+      to = ahead.a1;
+      second = ahead.a2;
+      after = ahead.after_a1;
+      behind = length (shortest_run (opposite color) (ahead.a2 - ahead.a1)) + 3 + ahead.after_a2;
+      from = now.from;
+      color = color;
+      from_is = refl;
+      color_is = is_color;
+      b1_is = is_b1;
+      to_is = right.a1;
+      second_is = right.a2;
+      after_is = right.after_a1;
+      behind_is = ap (λ (m : ℕ). length (shortest_run (opposite color) (ahead.a2 - ahead.a1)) + 3 + m) right.after_a2;
+      passes = counts.passes;
+      vertical = counts.vertical;
+      bits = counts.bits;
+      word = counts.word;
+      first = counts.first;
+    })
+
+-- of a1 below b1, where what follows has few bits
+pub below_counts : (color : Color) (from start : ℕ) (ahead : Ahead) (word : Word) → start ≡ ahead.a1
+    → ahead.after_a1 ≤ ahead.after_a2 + 8 → IsWord (word_of_mode (Vertical (pos 0))) word
+    → Counts color from start 0 ahead (record {
+      bits = 0 * 4 + (word.count + ahead.after_a1);
+      passes = 0;
+      first = 0;
+      word = word.bits;
+      count = word.count;
+      is_vertical = true;
+    })
+below_counts color from start ahead word e few is =
+    let below = below_is start ahead.a1 e in
+    let coded : IsWord (word_of_mode (vertical_mode start ahead.a1)) word
+    = subst (λ (m : Mode). IsWord (word_of_mode m) word) (sym below.1) is in
+    let one : length (word_of_mode (Vertical (pos 0))) ≡ 1 = refl in
+    let count : word.count ≡ 1 = omega (arith, one, word_length (word_of_mode (Vertical (pos 0))) word is) in
+    record {
+      passes = refl;
+      vertical = is_taken (is_near start ahead.a1) (bits_in_vertical start ahead)
+          (bits_in_horizontal color from ahead) below.0 (omega (
+            arith,
+            few,
+            count,
+            vertical_count start ahead.a1 word coded,
+            two_runs_least color (ahead.a1 - (from - 1)) (ahead.a2 - ahead.a1),
+          ));
+      bits = omega (arith, vertical_count start ahead.a1 word coded);
+      word = coded;
+      first = λ no. absurd (false≢true (sym no));
+    }
 
 -- ---- The search.
 -- what is best of the ways with no more than this number of passes
@@ -414,8 +483,13 @@ pub record IsSearched (reference row : Row) (at : Place) (k : ℕ) (way : Way) :
   pub ends : a1 row (passed_by reference at k).from ≤ b2 reference (passed_by reference at k).from
       (passed_by reference at k).color
       → shortest_rest reference row at ≡ way_bits reference row at way.passes way.is_vertical
+  pub spelled : IsSpelled reference row (passed_by reference at way.passes) way
 
 module _ (reference row : Row) (same : length reference ≡ length row) (at : Place) where
+  is_spelled : (k : ℕ) (way : Way) → IsFound reference row at k way
+      → IsSpelled reference row (passed_by reference at way.passes) way
+  is_spelled k way is = subst (λ (m : ℕ). IsSpelled reference row (passed_by reference at m) way) (sym is.passes) is.spelled
+
   is_lawful : (k : ℕ) (way : Way) → IsFound reference row at k way
       → ((i : ℕ) → i < k → MayPass reference row (passed_by reference at i)) → IsLawful reference row at way
   is_lawful k way is passes = record {
@@ -436,6 +510,7 @@ module _ (reference row : Row) (same : length reference ≡ length row) (at : Pl
     passes = λ i lt. absurd (omega arith);
     on = λ lt. first_goes_on reference row same at inside lt ∙ ap (going_on reference row at 1) (is.is ∙ is_bits 0 way is);
     ends = λ le. rest_ends reference row same at inside le ∙ is.is ∙ is_bits 0 way is;
+    spelled = is_spelled 0 way is;
   }
 
   module _ (k : ℕ) (best way : Way) (searched : IsSearched reference row at k best)
@@ -478,6 +553,7 @@ module _ (reference row : Row) (same : length reference ≡ length row) (at : Pl
             passes = all_before reference row at k searched.passes may;
             on = λ more. next_on more ∙ ap (going_on reference row at (suc (suc k))) longer;
             ends = λ le. next_ends le ∙ longer;
+            spelled = searched.spelled;
           })
       | inr ge ↦
           let e : leb way.bits best.bits ≡ true = le-leb way.bits best.bits ge in
@@ -496,6 +572,7 @@ module _ (reference row : Row) (same : length reference ≡ length row) (at : Pl
             passes = all_before reference row at k searched.passes may;
             on = λ more. next_on more ∙ ap (going_on reference row at (suc (suc k))) short;
             ends = λ le. next_ends le ∙ short;
+            spelled = is_spelled (suc k) way is;
           })
     ]
 
@@ -503,7 +580,7 @@ module _ (reference row : Row) (same : length reference ≡ length row) (at : Pl
   pub searched_to_end : (k : ℕ) (way : Way) → IsSearched reference row at k way
       → a1 row (passed_by reference at k).from ≤ b2 reference (passed_by reference at k).from (passed_by reference at k).color
       → IsShortest reference row at way
-  searched_to_end k way is le = record { lawful = is.lawful; bits = is.bits; is = is.ends le }
+  searched_to_end k way is le = record { lawful = is.lawful; bits = is.bits; is = is.ends le; spelled = is.spelled }
 
 -- ---- Ways as they are written.
 pub vertical_written : (reference row : Row) (at after : Place) (k start to : ℕ) (old middle new : Bits)
@@ -563,14 +640,19 @@ module _ (columns : ℕ) (reference changes : List ℕ) (lawful : AreChanges col
   row_same : length (pixels columns reference) ≡ length (pixels columns changes)
   row_same = one_width columns reference changes lawful are
 
-  -- there are none at the line's end
-  pub none_right : (n : ℕ) → length changes < n → bits_right_of columns reference changes n ≡ 0
-  unfolding bits_right_of right_of_changes
-  none_right zero lt = absurd (omega (arith, lt))
-  none_right (suc n) lt =
+  -- nothing is left at the line's end
+  pub none_left : (n : ℕ) → length changes < n
+      → shortest_rest (pixels columns reference) (pixels columns changes) (right_of_changes columns changes n) ≡ []
+  unfolding right_of_changes
+  none_left zero lt = absurd (omega (arith, lt))
+  none_left (suc n) lt =
       let past : get_or changes n columns ≡ columns = get_or_past changes n columns (omega (arith, lt)) in
-      ap length (rest_over (pixels columns reference) (pixels columns changes) row_same (right_of_changes columns changes (suc n))
-      (omega (arith, past, length-pixels columns changes are)))
+      rest_over (pixels columns reference) (pixels columns changes) row_same (right_of_changes columns changes (suc n))
+      (omega (arith, past, length-pixels columns changes are))
+
+  pub none_right : (n : ℕ) → length changes < n → bits_right_of columns reference changes n ≡ 0
+  unfolding bits_right_of
+  none_right n lt = ap length (none_left n lt)
 
   -- and never many
   pub few_right : (n : ℕ) → columns < 2 ^ 32 → bits_right_of columns reference changes n < 2 ^ 40
@@ -595,28 +677,22 @@ module _ (columns : ℕ) (reference changes : List ℕ) (lawful : AreChanges col
 
 -- ---- The list of ways.
 pub pushed_before : (ways : List Way) (way : Way) (i : ℕ) → i < length ways
-    → get_or (ways ++ way ∷ []) i end_way ≡ get_or ways i end_way
+    → get_or (ways ++ way ∷ []) i no_way ≡ get_or ways i no_way
 pushed_before [] way i lt = absurd (omega arith)
 pushed_before (w ∷ ways) way zero lt = refl
 pushed_before (w ∷ ways) way (suc i) lt = pushed_before ways way i (omega arith)
 
-pub pushed_last : (ways : List Way) (way : Way) (i : ℕ) → i ≡ length ways → get_or (ways ++ way ∷ []) i end_way ≡ way
+pub pushed_last : (ways : List Way) (way : Way) (i : ℕ) → i ≡ length ways → get_or (ways ++ way ∷ []) i no_way ≡ way
 pushed_last [] way zero e = refl
 pushed_last [] way (suc i) e = absurd (omega (arith, e))
 pushed_last (w ∷ ways) way zero e = absurd (omega (arith, e))
 pushed_last (w ∷ ways) way (suc i) e = pushed_last ways way i (omega (arith, e))
 
 -- the way at a position
-pub way_there : (columns : ℕ) (reference changes : List ℕ) (ways : List Way) → AreChanges columns changes
-    → AreWays columns reference changes ways → (n : ℕ) (at : Place) → at ≡ right_of_changes columns changes n → at.from ≤ columns
-    → (n ≤ length changes) × IsShortest (pixels columns reference) (pixels columns changes) at
-    (get_or ways (length ways - 1 - n) end_way)
-way_there columns reference changes ways are all n at is inside =
-    let within = right_in_list columns changes are n (omega (arith, inside, ap (λ (p : Place). p.from) is)) in
-    let index : length changes + 2 - n ≡ length ways - 1 - n = omega (arith, all.count) in (
-      within,
-      subst (λ (p : Place). IsShortest (pixels columns reference) (pixels columns changes) p
-          (get_or ways (length ways - 1 - n) end_way)) (sym is)
-          (subst (λ (i : ℕ). IsShortest (pixels columns reference) (pixels columns changes) (right_of_changes columns changes n)
-          (get_or ways i end_way)) index (all.each n within)),
-    )
+pub way_there : (columns : ℕ) (reference changes : List ℕ) (ways : List Way) → AreWays columns reference changes ways
+    → (n : ℕ) → n < length ways → IsShortest (pixels columns reference) (pixels columns changes)
+    (right_of_changes columns changes n) (get_or ways (length ways - 1 - n) no_way)
+way_there columns reference changes ways all n lt =
+    let index : length changes - n ≡ length ways - 1 - n = omega (arith, all.count) in
+    subst (λ (i : ℕ). IsShortest (pixels columns reference) (pixels columns changes) (right_of_changes columns changes n)
+    (get_or ways i no_way)) index (all.each n (omega (arith, lt, all.count)))

@@ -9,11 +9,12 @@ use Rattle.hayro_ccitt.specs.Bits.{Bits, AreWholeBytes, bits_in, bits_of}
 use Rattle.hayro_ccitt.specs.Locality.{EndAlike}
 use Rattle.hayro_ccitt.specs.LocalityByK.{IsTaggedBody, RowsDiffer}
 use Rattle.hayro_ccitt.specs.Rows.{Row, HaveWidth, white_row, pixels}
-use Rattle.hayro_ccitt.specs.Encodings.{IsPicture, PictureT6, PictureT4, EncodesLine2D, EncodesRows, EncodesRowsWithEols}
+use Rattle.hayro_ccitt.specs.Encodings.{IsPicture, PictureT6, PictureT4, EncodesLine1D, EncodesLine2D, EncodesRows}
+use Rattle.hayro_ccitt.specs.Encodings.{EncodesRowsWithEols}
 use Rattle.hayro_ccitt.specs.Encodings.{ClosesWithEols}
 use Rattle.hayro_ccitt.specs.BitOrder.TheVariants.{HighestFirst}
 use Rattle.hayro_ccitt.specs.PlainReading.{plain}
-use Rattle.fax_encode.specs.Chosen.{chosen_line_1d, chosen_t6, chosen_t4, filled_up, rows_of}
+use Rattle.fax_encode.specs.Chosen.{chosen_t6, chosen_t4, filled_up, rows_of}
 use Rattle.fax_encode.specs.Packed.{packed, shown, with_packed_row}
 use Rattle.fax_encode.specs.Refusals.{AreRows}
 use Rattle.fax_encode.specs.RowByRow.{no_rows, with_rows}
@@ -22,7 +23,7 @@ use Rattle.fax_encode.specs.declared.settings.Effort.TheVariants.{Procedure, Sho
 use Rattle.hayro_ccitt.specs.Color.TheVariants.{White}
 use Rattle.fax_encode.specs.declared.settings.EncodeSettings.{EncodeSettings}
 use Rattle.fax_encode.specs.Settings.{chosen, chosen_line, chosen_lines, chosen_lines_with_eols, chosen_eols, fill_of, needs_row}
-use Rattle.fax_encode.specs.Settings.{with_end, decode_settings_for}
+use Rattle.fax_encode.specs.Settings.{line_1d, with_end, decode_settings_for}
 
 -- what is chosen for a picture is an encoding of it
 abbrev pub ChosenIsAnEncoding : Type 0
@@ -91,7 +92,7 @@ ChosenLinesEncode = (effort : Effort) (encoding : EncodingMode) (columns k : ℕ
 abbrev pub NeverLonger : Type 0
 NeverLonger =
     (effort : Effort) (left : ℕ) (reference row : Row) → length (chosen_line effort Group3_2D left reference row) ≤ suc
-    (length (chosen_line_1d row))
+    (length (line_1d effort row))
 
 -- auxiliary: the reading of some data yields these rows, without a fault, and this number of bytes is consumed
 abbrev pub GivesAll : DecodeSettings → Bits → List Row → ℕ → Type 0
@@ -161,6 +162,24 @@ abbrev pub NoLineIsShorter : Type 0
 NoLineIsShorter = (left : ℕ) (reference row : Row) (bits : Bits) → length reference ≡ length row
     → EncodesLine2D reference row 0 White bits
     → length (chosen_line Shortest Group3_2D (suc left) reference row) ≤ suc (length bits)
+
+-- A line of one-dimensional Group 3, with the effort `Shortest`, has no more bits than any that encodes its row (T.4, 4.1.1).
+abbrev pub NoRunsAreShorter : Type 0
+NoRunsAreShorter = (left : ℕ) (reference row : Row) (bits : Bits) → 0 < length row → EncodesLine1D White row bits
+    → length (chosen_line Shortest Group3_1D left reference row) ≤ length bits
+
+-- lines of one-dimensional Group 3 that encode these rows: with an EOL before each, or without EOLs (T.4, 4.1)
+abbrev pub EncodesRows1D : Bool → Bool → Row → List Row → Bits → Type 0
+EncodesRows1D true aligned white rows lines = EncodesRowsWithEols Group3_1D white rows lines
+EncodesRows1D false aligned white rows lines = EncodesRows Group3_1D aligned white rows lines
+
+-- What is chosen for a picture as one-dimensional Group 3 with the effort `Shortest`, without fill, has no more bits than any
+-- lines that encode its rows, with EOLs if it has them and with the same alignment, with the same end (T.4, 4.1).
+abbrev pub NoneIsShorter1D : Type 0
+NoneIsShorter1D = (settings : EncodeSettings) (columns : ℕ) (rows : List Row) (lines : Bits) → IsPicture columns rows
+    → settings.encoding ≡ Group3_1D → settings.effort ≡ Shortest → settings.eols_end_at_bytes ≡ false
+    → EncodesRows1D settings.end_of_line settings.rows_are_byte_aligned (white_row columns) rows lines
+    → length (chosen settings columns rows) ≤ length (with_end settings lines)
 
 -- ---- damage
 

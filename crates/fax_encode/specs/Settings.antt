@@ -12,7 +12,7 @@ use Rattle.fax_encode.specs.declared.settings.EncodeSettings.{EncodeSettings}
 use Rattle.fax_encode.specs.declared.settings.Effort.{Effort}
 use Rattle.fax_encode.specs.declared.settings.Effort.TheVariants.{Procedure, Shortest}
 use Rattle.fax_encode.specs.Chosen.{chosen_line_1d, chosen_line_2d}
-use Rattle.fax_encode.specs.Shortest.{shortest_line_2d}
+use Rattle.fax_encode.specs.Shortest.{shortest_line_1d, shortest_line_2d}
 
 -- ---- settings that name an encoding
 
@@ -43,6 +43,11 @@ needs_row Group3_2D closed = true
 
 -- ---- one line
 
+-- a one-dimensional line, by the words that T.4 prescribes or by the shortest ones (T.4, 4.1.1)
+abbrev pub line_1d : Effort → Row → Bits
+line_1d Procedure row = chosen_line_1d row
+line_1d Shortest row = shortest_line_1d row
+
 -- a two-dimensional line, by the procedure of T.6 or as short as it can be (T.4, 4.2.1.3.2; T.6, 2.2)
 abbrev pub line_2d : Effort → Row → Row → Bits
 line_2d Procedure reference row = chosen_line_2d reference row
@@ -52,14 +57,14 @@ line_2d Shortest reference row = shortest_line_2d reference row
 -- 4.2.1).
 abbrev pub is_two_dimensional : Effort → ℕ → Row → Row → Bool
 is_two_dimensional effort zero reference row = false
-is_two_dimensional effort (suc left) reference row = nat_le (length (line_2d effort reference row)) (length (chosen_line_1d row))
+is_two_dimensional effort (suc left) reference row = nat_le (length (line_2d effort reference row)) (length (line_1d effort row))
 
 -- a line, if `left` more may be two-dimensional; in two-dimensional Group 3 after its tag (T.4, 4.2.2)
 abbrev pub chosen_line : Effort → EncodingMode → ℕ → Row → Row → Bits
 chosen_line effort Group4 left reference row = line_2d effort reference row
-chosen_line effort Group3_1D left reference row = chosen_line_1d row
+chosen_line effort Group3_1D left reference row = line_1d effort row
 chosen_line effort Group3_2D left reference row =
-    if is_two_dimensional effort left reference row then false ∷ line_2d effort reference row else true ∷ chosen_line_1d row
+    if is_two_dimensional effort left reference row then false ∷ line_2d effort reference row else true ∷ line_1d effort row
 
 -- how many lines after a line may be two-dimensional: K - 1 after a one-dimensional one (T.4, 4.2.1). They are counted only in
 -- two-dimensional Group 3.

@@ -6,7 +6,7 @@ use Rattle.hayro_ccitt.specs.Color.TheVariants.{White, Black}
 use Rattle.hayro_ccitt.specs.Mode.{Mode}
 use Rattle.hayro_ccitt.specs.Mode.TheVariants.{Pass, Horizontal, Vertical}
 use Rattle.hayro_ccitt.specs.Bits.{Bits}
-use Rattle.hayro_ccitt.specs.Rows.{Row, white_row, opposite, b1, b2, a1, a2}
+use Rattle.hayro_ccitt.specs.Rows.{Row, white_row, opposite, changes, b1, b2, a1, a2}
 use Rattle.hayro_ccitt.specs.Encodings.{Spells, EncodesLine2D, IsPicture, PictureT6, padding, eol}
 use Rattle.fax_encode.specs.Chosen.{word_of_length, word_of_mode, chosen_rest, Place, vertical_mode}
 use Rattle.fax_encode.specs.Chosen.{is_near, place_after, is_coded}
@@ -36,6 +36,18 @@ shortest_words color (suc words) n =
 -- The shortest words of a run: each word before the last two has at least 1664 pixels (T.4, 4.1.1).
 unfoldable pub shortest_run : Color → ℕ → Bits
 shortest_run color n = shortest_words color (n / 1664) n
+
+-- ---- one-dimensional lines
+
+-- the runs from a position on, up to each change and up to the width, by their shortest words
+abbrev pub shortest_runs_1d : ℕ → Color → ℕ → List ℕ → Bits
+shortest_runs_1d width color place [] = shortest_run color (width - place)
+shortest_runs_1d width color place (change ∷ changes) =
+    shortest_run color (change - place) ++ shortest_runs_1d width (opposite color) change changes
+
+-- the runs of a row, white first, by their shortest words (T.4, 4.1.1)
+abbrev pub shortest_line_1d : Row → Bits
+shortest_line_1d row = shortest_runs_1d (length row) White 0 (changes row)
 
 -- ---- two-dimensional lines
 

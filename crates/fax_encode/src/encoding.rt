@@ -2,8 +2,7 @@
 
 ghost use Rattle.std.specs.Prelude.{◌≡◌, ◌%◌, ◌++◌, [], false, true, ◌∷◌, length, nat_le, IfOk, OnOk, if◌then◌else◌};
 ghost use Rattle.hayro_ccitt.specs.Rows.{AreChanges, pixels};
-ghost use Rattle.fax_encode.specs.Chosen.{chosen_line_1d};
-ghost use Rattle.fax_encode.specs.Settings.{chosen_line, chosen_part, has_eols, left_after, line_2d, names_encoding};
+ghost use Rattle.fax_encode.specs.Settings.{chosen_line, chosen_part, has_eols, left_after, line_1d, line_2d, names_encoding};
 ghost use Rattle.fax_encode.specs.Settings.{names_group3};
 ghost use Rattle.fax_encode.specs.Settings.{with_end};
 ghost use Rattle.fax_encode.specs.Writing.{all_bits};
@@ -11,7 +10,7 @@ ghost use Rattle.fax_encode.specs.Writing.{all_bits};
 use crate::bit_writer::BitWriter;
 use crate::group3::{put_closing_eols, put_eol, put_filled_eol};
 use crate::group4::{put_line, put_padding};
-use crate::runs::{put_row, takes_at_least};
+use crate::runs::{put_row, put_shortest_row, shortest_takes_at_least, takes_at_least};
 use crate::shortest_lines::{Way, put_shortest_line};
 use crate::{Effort, EncodeSettings};
 use hayro_ccitt::EncodingMode;
@@ -35,6 +34,37 @@ pub fn names_encoding(settings: EncodeSettings) -> bool
         EncodingMode::Group4 => !settings.end_of_line && !settings.eols_end_at_bytes,
         EncodingMode::Group3_1D => names_group3(settings),
         EncodingMode::Group3_2D => settings.k > 0 && names_group3(settings),
+    }
+}
+
+/// Writes a one-dimensional line.
+#[inline(always)]
+#[tactic(auto, using(crate::proofs::RowLists::line_of_list, crate::proofs::ShortestRows::shortest_of_list))]
+fn put_line_1d(
+    writer: &mut BitWriter,
+    effort: Effort,
+    columns: u32,
+    changes: &[u32],
+) -> Result<(), AllocError>
+    requires { AreChanges columns changes.now }
+    ensures { OnOk result (all_bits writer.new ≡ all_bits writer.old ++ line_1d effort (pixels columns changes.now)) }
+{
+    match effort {
+        Effort::Procedure => put_row(writer, columns, changes),
+        Effort::Shortest => put_shortest_row(writer, columns, changes),
+    }
+}
+
+/// Returns whether a one-dimensional line has at least this many bits.
+#[inline(always)]
+#[tactic(auto, using(crate::proofs::RowLists::line_of_list, crate::proofs::ShortestRows::shortest_of_list))]
+fn line_1d_takes_at_least(effort: Effort, columns: u32, changes: &[u32], bits: u128) -> bool
+    requires { AreChanges columns changes.now }
+    ensures { result ≡ nat_le bits (length (line_1d effort (pixels columns changes.now))) }
+{
+    match effort {
+        Effort::Procedure => takes_at_least(columns, changes, bits),
+        Effort::Shortest => shortest_takes_at_least(columns, changes, bits),
     }
 }
 
@@ -73,7 +103,7 @@ fn put_if_shorter(
     requires changes { AreChanges columns changes.now }
     ensures shorter { IfOk result (λ is_written. is_written
         ≡ nat_le (length (line_2d effort (pixels columns reference.now) (pixels columns changes.now)))
-        (length (chosen_line_1d (pixels columns changes.now)))) }
+        (length (line_1d effort (pixels columns changes.now)))) }
     ensures written { IfOk result (λ is_written. all_bits writer.new ≡ all_bits writer.old
         ++ (if is_written then false ∷ line_2d effort (pixels columns reference.now) (pixels columns changes.now) else [])) }
 {
@@ -81,7 +111,8 @@ fn put_if_shorter(
     writer.put(0, 1)?;
     let start = writer.bit_count();
     put_line_2d(writer, ways, effort, columns, reference, changes)?;
-    if takes_at_least(columns, changes, writer.bit_count() - start) {
+    let taken = writer.bit_count() - start;
+    if line_1d_takes_at_least(effort, columns, changes, taken) {
         return Ok(true);
     }
     writer.cut_back(mark);
@@ -91,14 +122,15 @@ fn put_if_shorter(
 /// Writes a one-dimensional line of two-dimensional Group 3 and the tag before it (T.4, 4.2.2).
 fn put_one_dimensional(
     writer: &mut BitWriter,
+    effort: Effort,
     columns: u32,
     changes: &[u32],
 ) -> Result<(), AllocError>
     requires { AreChanges columns changes.now }
-    ensures { OnOk result (all_bits writer.new ≡ all_bits writer.old ++ true ∷ chosen_line_1d (pixels columns changes.now)) }
+    ensures { OnOk result (all_bits writer.new ≡ all_bits writer.old ++ true ∷ line_1d effort (pixels columns changes.now)) }
 {
     writer.put(1, 1)?;
-    put_row(writer, columns, changes)
+    put_line_1d(writer, effort, columns, changes)
 }
 
 /// Writes a line of two-dimensional Group 3 and the tag before it (T.4, 4.2.1 and 4.2.2). Takes the number of
@@ -122,13 +154,13 @@ fn put_line_by_k(
 {
     let most = k.saturating_sub(1);
     if left == 0 {
-        put_one_dimensional(writer, columns, changes)?;
+        put_one_dimensional(writer, effort, columns, changes)?;
         return Ok(most);
     }
     if put_if_shorter(writer, ways, effort, columns, reference, changes)? {
         return Ok(left - 1);
     }
-    put_one_dimensional(writer, columns, changes)?;
+    put_one_dimensional(writer, effort, columns, changes)?;
     Ok(most)
 }
 
@@ -157,7 +189,7 @@ fn put_line_of(
             Ok(0)
         }
         EncodingMode::Group3_1D => {
-            put_row(writer, columns, changes)?;
+            put_line_1d(writer, settings.effort, columns, changes)?;
             Ok(0)
         }
         EncodingMode::Group3_2D => {

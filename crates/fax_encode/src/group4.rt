@@ -96,7 +96,7 @@ pub fn above_after_vertical(
 
 /// Returns b2, the change after b1, if it is left of a1.
 #[inline(always)]
-fn b2_left_of(columns: u32, reference: &[u32], index: usize, b1: u32, a1: u32) -> Option<u32>
+pub fn b2_left_of(columns: u32, reference: &[u32], index: usize, b1: u32, a1: u32) -> Option<u32>
     requires lawful { AreChanges columns reference.now }
     requires within { index ≤ length reference.now + 1 }
     requires first { b1 ≡ get_or reference.now index columns }

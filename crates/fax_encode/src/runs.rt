@@ -4,7 +4,7 @@ ghost use Rattle.std.specs.Prelude.{◌≡◌, ◌+◌, ◌^◌, ◌<◌, ◌≤
 ghost use Rattle.hayro_ccitt.specs.Bits.{low_bits};
 ghost use Rattle.hayro_ccitt.specs.Rows.{AreChanges, opposite};
 ghost use Rattle.fax_encode.specs.Chosen.{chosen_rest, chosen_run, chosen_runs};
-ghost use Rattle.fax_encode.specs.Shortest.{first_makeup, shortest_run};
+ghost use Rattle.fax_encode.specs.Shortest.{first_makeup, shortest_run, shortest_runs_1d};
 ghost use Rattle.fax_encode.specs.Writing.{all_bits};
 
 use crate::bit_writer::BitWriter;
@@ -294,8 +294,63 @@ pub fn shortest_run_bits(color: Color, pixels: u32) -> u32
     ensures is { result ≡ length (shortest_run color pixels) }
     ensures few { result ≤ pixels + 26 }
 {
-    if pixels >= 2624 {
+    if pixels >= 64 {
         return long_shortest_run_bits(color, pixels);
     }
-    rest_bits(color, pixels)
+    u32::from(terminating_word(color, pixels).count)
+}
+
+/// Writes the shortest words of the runs of a row, white first, up to each change and up to the row's end.
+pub fn put_shortest_row(
+    writer: &mut BitWriter,
+    columns: u32,
+    changes: &[u32],
+) -> Result<(), AllocError>
+    requires { AreChanges columns changes.now }
+    ensures { OnOk result (all_bits writer.new
+        ≡ all_bits writer.old ++ shortest_runs_1d columns Color.White 0 changes.now) }
+{
+    let mut color = Color::White;
+    let mut place = 0;
+    let mut next = 0;
+    'changes: while next < changes.len() {
+        let change = changes[next];
+        put_shortest_run(writer, color, change - place)?;
+        color = color.opposite();
+        place = change;
+        next += 1;
+    }
+    put_shortest_run(writer, color, columns - place)
+}
+
+/// Returns the number of bits of the shortest words of the runs of a row, white first.
+fn shortest_row_bits(columns: u32, changes: &[u32]) -> u128
+    requires { AreChanges columns changes.now }
+    ensures { result ≡ length (shortest_runs_1d columns Color.White 0 changes.now) }
+{
+    let mut bits = 0;
+    let mut color = Color::White;
+    let mut place = 0;
+    let mut next = 0;
+    'changes: while next < changes.len() {
+        let change = changes[next];
+        bits += u128::from(shortest_run_bits(color, change - place));
+        color = color.opposite();
+        place = change;
+        next += 1;
+    }
+    bits + u128::from(shortest_run_bits(color, columns - place))
+}
+
+/// Returns whether the shortest words of the runs of a row have at least this many bits. They aren't counted where so many changes
+/// have as many at least.
+pub fn shortest_takes_at_least(columns: u32, changes: &[u32], bits: u128) -> bool
+    requires { AreChanges columns changes.now }
+    ensures { result ≡ nat_le bits (length (shortest_runs_1d columns Color.White 0 changes.now)) }
+{
+    let least = changes.len() as u128 * 3 + 3;
+    if bits <= least {
+        return true;
+    }
+    bits <= shortest_row_bits(columns, changes)
 }

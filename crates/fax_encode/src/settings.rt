@@ -3,12 +3,14 @@
 use hayro_ccitt::EncodingMode;
 use hayro_ccitt::bit_reader::BitOrder;
 
-/// How much is done to find the modes of two-dimensional lines (T.4, 4.2.1.3). Every decoder reads either.
+/// How much is done to find the words of a line (T.4, 4.1.1 and 4.2.1.3). Every decoder reads either.
 #[derive(Copy, Clone, Debug, PartialEq, Eq)]
 pub enum Effort {
-    /// The procedure of T.4, 4.2.1.3.2 and T.6, 2.2.5, which other encoders follow: their lines bit for bit.
+    /// The make-up words of T.4, 4.1.1 and the procedure of T.4, 4.2.1.3.2 and T.6, 2.2.5, which other encoders follow: their
+    /// lines bit for bit.
     Procedure,
-    /// The fewest bits that encode the line. Where the procedure's line has as few, it is that line.
+    /// The fewest bits that encode the line. Where the other line has as few, it is that line. One-dimensional lines differ
+    /// only in runs of more than 2623 pixels.
     Shortest,
 }
 
@@ -33,6 +35,6 @@ pub struct EncodeSettings {
     pub end_of_block: bool,
     /// Which bit of each byte comes first.
     pub order: BitOrder,
-    /// How two-dimensional lines are found. It has no effect on one-dimensional ones.
+    /// How the words of lines are found.
     pub effort: Effort,
 }

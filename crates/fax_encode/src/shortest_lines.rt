@@ -1,79 +1,123 @@
 //! The shortest two-dimensional lines (T.4, 4.2.1.3; T.6, 2.2): the modes with the fewest bits are found from the
 //! right to the left, and written from the left to the right.
 
-ghost use Rattle.std.specs.Prelude.{◌≡◌, ℕ, ◌+◌, ◌-◌, ◌*◌, ◌^◌, ◌<◌, ◌≤◌, ◌++◌, ◌&&◌, length, get_or, nat_le, IfOk, OnOk};
-ghost use Rattle.std.specs.Prelude.{if◌then◌else◌};
+ghost use Rattle.std.specs.Prelude.{◌≡◌, ℕ, ◌+◌, ◌-◌, ◌*◌, ◌%◌, ◌^◌, ◌<◌, ◌≤◌, ◌++◌, ◌&&◌, length, get_or, nat_le, IfOk, OnOk};
+ghost use Rattle.std.specs.Prelude.{if◌then◌else◌, true, false};
 ghost use Rattle.hayro_ccitt.specs.Mode.TheVariants.{Horizontal};
-ghost use Rattle.hayro_ccitt.specs.Rows.{AreChanges, pixels, opposite};
-ghost use Rattle.fax_encode.specs.Chosen.{word_of_mode, is_near};
+ghost use Rattle.hayro_ccitt.specs.Rows.{AreChanges, b1, b2, pixels, opposite};
+ghost use Rattle.fax_encode.specs.Chosen.{word_of_mode, vertical_mode, is_near};
 ghost use Rattle.fax_encode.specs.Coding.{place_of, IsNear, color_after};
 ghost use Rattle.fax_encode.specs.Shortest.{shortest_run, shortest_line_2d};
-ghost use Rattle.fax_encode.specs.Ways.{right_of_changes, bits_right_of, IsShortest, IsLawful, AreWays, passed_by};
-ghost use Rattle.fax_encode.specs.Ways.{words_of_passes};
-ghost use Rattle.fax_encode.specs.Ways.{shortest_rest, way_bits, bits_of_vertical};
-ghost use Rattle.fax_encode.specs.Writing.{all_bits};
+ghost use Rattle.fax_encode.specs.Ways.{right_of_changes, bits_right_of, IsFound, IsShortest, AreWays, IsAhead};
+ghost use Rattle.fax_encode.specs.Ways.{mode_word, bits_in_vertical, bits_in_horizontal, words_of_passes};
+ghost use Rattle.fax_encode.specs.Ways.{shortest_rest, way_bits};
+ghost use Rattle.fax_encode.specs.Writing.{all_bits, IsWord};
 
 use crate::bit_writer::BitWriter;
-use crate::group4::{Coding, above_after_vertical, color_after, find_above, put_vertical};
+use crate::group4::{Above, Coding, b2_left_of, color_after, find_above};
 use crate::runs::{put_code_word, put_shortest_run, shortest_run_bits};
-use crate::words::{horizontal_word, pass_word, vertical_word};
+use crate::words::{Word, below_word, horizontal_word, pass_word, vertical_word};
 use hayro_ccitt::changes::change_or_end;
 use hayro_ccitt::codes::Color;
 use std::alloc::AllocError;
 
-/// How a line is coded from a change on with the fewest bits: first this many passes, then vertical mode, or else horizontal
-/// mode; and the number of bits from there to the line's end.
+/// How a line is coded from a change on with the fewest bits: first this many passes, then the word of vertical mode, or else
+/// that of horizontal mode, whose first run has this length; and the number of bits from there to the line's end. The fields
+/// leave no gaps, which would be copied too.
 #[derive(Clone, Copy)]
 pub struct Way {
     pub bits: u64,
-    pub passes: u32,
+    pub passes: u64,
+    pub first: u32,
+    pub word: u16,
+    pub count: u8,
     pub is_vertical: bool,
 }
 
-/// Returns how a line is coded from a position on without another pass: in vertical mode if a1 is near b1 and that takes no more
-/// bits, else in horizontal mode. Takes the number of passes before, and the numbers of bits after vertical mode, and of
-/// horizontal mode without its first run and of what follows it.
+/// What is right of a position: the next two changes of the row, and the fewest bits from each on.
+#[derive(Clone, Copy)]
+pub struct Ahead {
+    pub a1: u32,
+    pub a2: u32,
+    pub after_a1: u64,
+    pub after_a2: u64,
+}
+
+/// Returns the way with this number of passes and then vertical mode.
 #[inline(always)]
-fn way_without_pass(
-    color: Color,
-    from: u64,
-    b1: u32,
-    a1: u32,
-    passes: u32,
-    after_vertical: u64,
-    behind: u64,
-) -> Way
-    requires right { from - 1 ≤ a1 }
-    requires few { (after_vertical < 2 ^ 40) × (behind < 2 ^ 41) }
-    ensures passes { result.passes ≡ passes }
-    ensures vertical { result.is_vertical ≡ (is_near b1 a1 && nat_le (bits_of_vertical b1 a1 + after_vertical)
-        (length (shortest_run color (a1 - (from - 1))) + behind)) }
-    ensures bits { result.bits ≡ passes * 4 + (if result.is_vertical then bits_of_vertical b1 a1 + after_vertical
-        else length (shortest_run color (a1 - (from - 1))) + behind) }
+fn vertical_way(passes: u64, word: Word, after: u64) -> Way
+    requires few { (passes < 2 ^ 40) × (word.count ≤ 13) × (after < 2 ^ 40) }
+    ensures { result ≡ record {
+      bits = passes * 4 + (word.count + after);
+      passes = passes;
+      first = 0;
+      word = word.bits;
+      count = word.count;
+      is_vertical = true;
+    } }
 {
-    let first = a1 - from.saturating_sub(1) as u32;
-    let before = u64::from(passes) * 4;
-    let horizontal = u64::from(shortest_run_bits(color, first)) + behind;
-    match vertical_word(b1, a1) {
-        None => Way {
-            bits: before + horizontal,
-            passes,
-            is_vertical: false,
-        },
+    Way {
+        bits: passes * 4 + (u64::from(word.count) + after),
+        passes,
+        first: 0,
+        word: word.bits,
+        count: word.count,
+        is_vertical: true,
+    }
+}
+
+/// Returns the way with this number of passes up to a position and then horizontal mode.
+#[inline(always)]
+fn horizontal_way(color: Color, from: u64, passes: u64, ahead: Ahead) -> Way
+    requires right { from - 1 ≤ ahead.a1 }
+    requires order { ahead.a1 ≤ ahead.a2 }
+    requires few { (passes < 2 ^ 40) × (ahead.after_a2 < 2 ^ 40) }
+    ensures passes { result.passes ≡ passes }
+    ensures vertical { result.is_vertical ≡ false }
+    ensures bits { result.bits ≡ passes * 4 + bits_in_horizontal color from ahead }
+    ensures word { IsWord (word_of_mode Horizontal) (mode_word result) }
+    ensures first { result.first ≡ ahead.a1 - (from - 1) }
+{
+    let first = ahead.a1 - from.saturating_sub(1) as u32;
+    let second = shortest_run_bits(color.opposite(), ahead.a2 - ahead.a1);
+    let behind = u64::from(second) + 3 + ahead.after_a2;
+    let word = horizontal_word();
+    Way {
+        bits: passes * 4 + (u64::from(shortest_run_bits(color, first)) + behind),
+        passes,
+        first,
+        word: word.bits,
+        count: word.count,
+        is_vertical: false,
+    }
+}
+
+/// Returns how a line is coded from a position on without another pass: in vertical mode if a1 is near b1 and that takes no more
+/// bits, else in horizontal mode. Takes the number of passes before. The runs of horizontal mode aren't counted where it takes
+/// more bits in any case: it has three, a white run four or more, and a black one two or more.
+#[inline(always)]
+fn way_without_pass(color: Color, from: u64, b1: u32, passes: u64, ahead: Ahead) -> Way
+    requires right { from - 1 ≤ ahead.a1 }
+    requires order { ahead.a1 ≤ ahead.a2 }
+    requires few { (passes < 2 ^ 40) × (ahead.after_a1 < 2 ^ 40) × (ahead.after_a2 < 2 ^ 40) }
+    ensures passes { result.passes ≡ passes }
+    ensures vertical { result.is_vertical ≡ (is_near b1 ahead.a1 && nat_le (bits_in_vertical b1 ahead) (bits_in_horizontal color from ahead)) }
+    ensures bits { result.bits ≡ passes * 4 + (if result.is_vertical then bits_in_vertical b1 ahead else bits_in_horizontal color from ahead) }
+    ensures word { IsWord (word_of_mode (if result.is_vertical then vertical_mode b1 ahead.a1 else Horizontal)) (mode_word result) }
+    ensures first { result.is_vertical ≡ false → result.first ≡ ahead.a1 - (from - 1) }
+{
+    match vertical_word(b1, ahead.a1) {
+        None => horizontal_way(color, from, passes, ahead),
         Some(word) => {
-            let vertical = u64::from(word.count) + after_vertical;
-            if vertical <= horizontal {
-                return Way {
-                    bits: before + vertical,
-                    passes,
-                    is_vertical: true,
-                };
+            let vertical = vertical_way(passes, word, ahead.after_a1);
+            if u64::from(word.count) + ahead.after_a1 <= ahead.after_a2 + 9 {
+                return vertical;
             }
-            Way {
-                bits: before + horizontal,
-                passes,
-                is_vertical: false,
+            let horizontal = horizontal_way(color, from, passes, ahead);
+            if vertical.bits <= horizontal.bits {
+                return vertical;
             }
+            horizontal
         }
     }
 }
@@ -90,36 +134,33 @@ fn shorter_way(first: Way, second: Way) -> Way
     }
 }
 
-/// Finds how a line is coded from a change on with the fewest bits. Takes the numbers of bits from the next change on, and from
-/// the one after it.
-#[inline(always)]
-fn find_way(
+/// Finds how a line is coded from a change on with the fewest bits, if a pass is made there or not. Takes how it is coded
+/// without one.
+#[inline(never)]
+fn search_passes(
     columns: u32,
     reference: &[u32],
-    changes: &[u32],
+    _changes: &[u32],
     at: Coding,
-    after_vertical: u64,
-    after_horizontal: u64,
+    ahead: Ahead,
+    without: Way,
 ) -> Way
     requires reference { AreChanges columns reference.now }
-    requires changes { AreChanges columns changes.now }
-    requires inside { at.next ≤ length changes.now }
-    requires right { place_of at ≡ right_of_changes columns changes.now at.next }
+    requires changes { AreChanges columns _changes.now }
+    requires inside { at.next ≤ length _changes.now }
+    requires right { place_of at ≡ right_of_changes columns _changes.now at.next }
     requires near { IsNear columns reference.now (place_of at) at.above }
-    requires vertical { after_vertical ≡ bits_right_of columns reference.now changes.now (at.next + 1) }
-    requires horizontal { after_horizontal ≡ bits_right_of columns reference.now changes.now (at.next + 2) }
-    requires few { (after_vertical < 2 ^ 40) × (after_horizontal < 2 ^ 40) }
-    ensures { IsShortest (pixels columns reference.now) (pixels columns changes.now) (place_of at) result }
+    requires ahead { IsAhead columns reference.now _changes.now at.next ahead }
+    requires few { (ahead.after_a1 < 2 ^ 40) × (ahead.after_a2 < 2 ^ 40) }
+    requires found { IsFound (pixels columns reference.now) (pixels columns _changes.now) (place_of at) 0 without }
+    ensures { IsShortest (pixels columns reference.now) (pixels columns _changes.now) (place_of at) result }
 {
     let color = color_after(at.next);
-    let a1 = change_or_end(changes, at.next, columns);
-    let a2 = change_or_end(changes, at.next + 1, columns);
-    let behind = u64::from(shortest_run_bits(color.opposite(), a2 - a1)) + 3 + after_horizontal;
     let mut above = find_above(columns, reference, at);
     let mut passes = 0;
-    let mut best = way_without_pass(color, at.from, above.b1, a1, passes, after_vertical, behind);
+    let mut best = without;
     let mut b2 = change_or_end(reference, above.index + 1, columns);
-    'passes: while b2 < a1 {
+    'passes: while b2 < ahead.a1 {
         let now = Coding {
             from: u64::from(b2) + 1,
             next: at.next,
@@ -127,37 +168,133 @@ fn find_way(
         };
         above = find_above(columns, reference, now);
         passes += 1;
-        let way = way_without_pass(
-            color,
-            now.from,
-            above.b1,
-            a1,
-            passes,
-            after_vertical,
-            behind,
-        );
+        let way = way_without_pass(color, now.from, above.b1, passes, ahead);
         best = shorter_way(way, best);
         b2 = change_or_end(reference, above.index + 1, columns);
     }
     best
 }
 
-/// Returns an index from which b1 is found, at a position or left of it: in steps of two from an index on.
+/// Searches passes over copies. What is passed to a call that isn't inlined stands in memory from where it is made: here that is
+/// the copies, and not what every change makes.
 #[inline(always)]
-fn step_back(columns: u32, reference: &[u32], from: u64, next: usize, index: usize) -> usize
-    requires lawful { AreChanges columns reference.now }
-    requires few { (index ≤ length reference.now + 1) × (next ≤ columns) }
-    ensures near { IsNear columns reference.now (record { from = from; color = color_after next }) result }
-    ensures few { result ≤ index + 1 }
+fn search_copies(
+    columns: u32,
+    reference: &[u32],
+    _changes: &[u32],
+    at: Coding,
+    ahead: Ahead,
+    without: Way,
+) -> Way
+    requires reference { AreChanges columns reference.now }
+    requires changes { AreChanges columns _changes.now }
+    requires inside { at.next ≤ length _changes.now }
+    requires right { place_of at ≡ right_of_changes columns _changes.now at.next }
+    requires near { IsNear columns reference.now (place_of at) at.above }
+    requires ahead { IsAhead columns reference.now _changes.now at.next ahead }
+    requires few { (ahead.after_a1 < 2 ^ 40) × (ahead.after_a2 < 2 ^ 40) }
+    requires found { IsFound (pixels columns reference.now) (pixels columns _changes.now) (place_of at) 0 without }
+    ensures { IsShortest (pixels columns reference.now) (pixels columns _changes.now) (place_of at) result }
 {
-    let mut above = index + (index + next) % 2;
+    let at = Coding {
+        from: at.from,
+        next: at.next,
+        above: at.above,
+    };
+    let ahead = Ahead {
+        a1: ahead.a1,
+        a2: ahead.a2,
+        after_a1: ahead.after_a1,
+        after_a2: ahead.after_a2,
+    };
+    let way = search_passes(
+        columns,
+        reference,
+        _changes,
+        at,
+        ahead,
+        copy_of_way(without),
+    );
+    copy_of_way(way)
+}
+
+/// Returns a copy.
+#[inline(always)]
+fn copy_of_way(way: Way) -> Way
+    ensures { result ≡ way }
+{
+    Way {
+        bits: way.bits,
+        passes: way.passes,
+        first: way.first,
+        word: way.word,
+        count: way.count,
+        is_vertical: way.is_vertical,
+    }
+}
+
+/// Finds how a line is coded from a change on with the fewest bits. Takes where b1 is. Where a1 is below
+/// b1 no pass can be made, and vertical mode takes one bit.
+#[inline(always)]
+fn find_way(
+    columns: u32,
+    reference: &[u32],
+    _changes: &[u32],
+    at: Coding,
+    above: Above,
+    ahead: Ahead,
+) -> Way
+    requires reference { AreChanges columns reference.now }
+    requires changes { AreChanges columns _changes.now }
+    requires inside { at.next ≤ length _changes.now }
+    requires right { place_of at ≡ right_of_changes columns _changes.now at.next }
+    requires near { IsNear columns reference.now (place_of at) at.above }
+    requires within { above.index ≤ length reference.now + 1 }
+    requires first { above.b1 ≡ get_or reference.now above.index columns }
+    requires b1 { b1 (pixels columns reference.now) at.from (color_after at.next) ≡ above.b1 }
+    requires b2 { b2 (pixels columns reference.now) at.from (color_after at.next) ≡ get_or reference.now (above.index + 1) columns }
+    requires ahead { IsAhead columns reference.now _changes.now at.next ahead }
+    requires few { (ahead.after_a1 < 2 ^ 40) × (ahead.after_a2 < 2 ^ 40) }
+    ensures { IsShortest (pixels columns reference.now) (pixels columns _changes.now) (place_of at) result }
+{
+    if above.b1 == ahead.a1 && ahead.after_a1 <= ahead.after_a2 + 8 {
+        return vertical_way(0, below_word(), ahead.after_a1);
+    }
+    let way = way_without_pass(color_after(at.next), at.from, above.b1, 0, ahead);
+    match b2_left_of(columns, reference, above.index, above.b1, ahead.a1) {
+        None => way,
+        Some(_) => search_copies(columns, reference, _changes, at, ahead, way),
+    }
+}
+
+/// Finds b1 of a position (T.4, 4.2.1.1), in steps of two changes to the left, from the index after that of b1 of a position further
+/// right.
+#[inline(always)]
+fn step_back(columns: u32, reference: &[u32], from: u64, _next: usize, index: usize) -> Above
+    requires lawful { AreChanges columns reference.now }
+    requires inside { from ≤ columns }
+    requires few { index ≤ length reference.now + 2 }
+    requires turns { index % 2 ≡ _next % 2 }
+    requires right { from ≤ get_or reference.now index columns }
+    ensures b1 { b1 (pixels columns reference.now) from (color_after _next) ≡ result.b1 }
+    ensures b2 { b2 (pixels columns reference.now) from (color_after _next) ≡ get_or reference.now (result.index + 1) columns }
+    ensures first { result.b1 ≡ get_or reference.now result.index columns }
+    ensures near { IsNear columns reference.now (record { from = from; color = color_after _next }) result.index }
+    ensures within { result.index ≤ length reference.now + 1 }
+    ensures turns { result.index % 2 ≡ _next % 2 }
+    ensures right { from ≤ result.b1 }
+{
+    let mut above = index;
+    let mut b1 = change_or_end(reference, above, columns);
     'back: while above >= 2 {
-        if u64::from(change_or_end(reference, above - 2, columns)) < from {
-            return above;
+        let before = change_or_end(reference, above - 2, columns);
+        if u64::from(before) < from {
+            return Above { index: above, b1 };
         }
         above -= 2;
+        b1 = before;
     }
-    above
+    Above { index: above, b1 }
 }
 
 /// Returns the first position right of a change, or 0 before the first one.
@@ -171,8 +308,7 @@ fn place_right_of(columns: u32, changes: &[u32], next: usize) -> u64
     u64::from(change_or_end(changes, next - 1, columns)) + 1
 }
 
-/// Finds how a line is coded with the fewest bits from each change on, from the right to the left. The first two are of the
-/// line's end.
+/// Finds how a line is coded with the fewest bits from each change on, from the right to the left.
 fn find_ways(
     ways: &mut Vec<Way>,
     columns: u32,
@@ -183,138 +319,97 @@ fn find_ways(
     requires changes { AreChanges columns changes.now }
     ensures { OnOk result (AreWays columns reference.now changes.now ways.new.items) }
 {
-    let end = Way {
-        bits: 0,
-        passes: 0,
-        is_vertical: false,
-    };
     ways.clear();
-    ways.push(end)?;
-    ways.push(end)?;
+    ways.reserve_exact(changes.len() + 1)?;
     let mut next = changes.len() + 1;
-    let mut index = reference.len();
-    let mut after_vertical = 0;
-    let mut after_horizontal = 0;
+    let mut index = reference.len() + (reference.len() + next) % 2;
+    let mut after_a1 = 0;
+    let mut after_a2 = 0;
     'changes: while next > 0 {
         next -= 1;
         let from = place_right_of(columns, changes, next);
-        index = step_back(columns, reference, from, next, index);
+        let above = step_back(columns, reference, from, next, index + 1);
+        index = above.index;
         let at = Coding {
             from,
             next,
             above: index,
         };
-        let way = find_way(
-            columns,
-            reference,
-            changes,
-            at,
-            after_vertical,
-            after_horizontal,
-        );
-        ways.push(way)?;
-        after_horizontal = after_vertical;
-        after_vertical = way.bits;
+        let ahead = Ahead {
+            a1: change_or_end(changes, next, columns),
+            a2: change_or_end(changes, next + 1, columns),
+            after_a1,
+            after_a2,
+        };
+        let way = find_way(columns, reference, changes, at, above, ahead);
+        ways.push_reserved(way);
+        after_a2 = after_a1;
+        after_a1 = way.bits;
     }
     Ok(())
 }
 
-/// Writes horizontal mode and the shortest words of its two runs, the first of this colour (T.4, 4.2.1.3.1).
+/// Writes the shortest words of two runs, the first of this colour.
 #[inline(never)]
-fn put_shortest_horizontal(
+fn put_shortest_runs(
     writer: &mut BitWriter,
     color: Color,
     first: u32,
     second: u32,
 ) -> Result<(), AllocError>
     ensures { OnOk result (all_bits writer.new ≡ all_bits writer.old
-        ++ (word_of_mode Horizontal ++ (shortest_run color first ++ shortest_run (opposite color) second))) }
+        ++ (shortest_run color first ++ shortest_run (opposite color) second)) }
 {
-    put_code_word(writer, horizontal_word())?;
     put_shortest_run(writer, color, first)?;
     put_shortest_run(writer, color.opposite(), second)
 }
 
-/// Writes passes, and returns the position after them.
+/// Writes the words of passes.
 #[inline(always)]
-fn put_passes(
-    writer: &mut BitWriter,
-    columns: u32,
-    reference: &[u32],
-    at: Coding,
-    passes: u32,
-) -> Result<Coding, AllocError>
-    requires lawful { AreChanges columns reference.now }
-    requires inside { at.from ≤ columns }
-    requires near { IsNear columns reference.now (place_of at) at.above }
-    requires may { (k : ℕ) → k < passes → (passed_by (pixels columns reference.now) (place_of at) (k + 1)).from ≤ columns }
-    ensures place { IfOk result (λ after. place_of after ≡ passed_by (pixels columns reference.now) (place_of at) passes) }
-    ensures next { IfOk result (λ after. after.next ≡ at.next) }
-    ensures near { IfOk result (λ after. IsNear columns reference.now (place_of after) after.above) }
-    ensures written { OnOk result (all_bits writer.new ≡ all_bits writer.old ++ words_of_passes passes) }
+fn put_passes(writer: &mut BitWriter, passes: u64) -> Result<(), AllocError>
+    ensures { OnOk result (all_bits writer.new ≡ all_bits writer.old ++ words_of_passes passes) }
 {
-    let mut now = at;
     let mut left = passes;
     'passes: while left > 0 {
-        let above = find_above(columns, reference, now);
-        let b2 = change_or_end(reference, above.index + 1, columns);
         put_code_word(writer, pass_word())?;
-        now = Coding {
-            from: u64::from(b2) + 1,
-            next: now.next,
-            above: above.index + 2,
-        };
         left -= 1;
     }
-    Ok(now)
+    Ok(())
 }
 
-/// Writes the passes of a way and the mode after them.
+/// Writes the passes of a way and the mode after them, and returns how many changes are left of the new position.
 #[inline(always)]
 fn put_way(
     writer: &mut BitWriter,
     columns: u32,
-    reference: &[u32],
+    _reference: &[u32],
     changes: &[u32],
-    at: Coding,
+    next: usize,
     way: Way,
-) -> Result<Coding, AllocError>
-    requires reference { AreChanges columns reference.now }
+) -> Result<usize, AllocError>
+    requires reference { AreChanges columns _reference.now }
     requires changes { AreChanges columns changes.now }
-    requires inside { at.next ≤ length changes.now }
-    requires right { place_of at ≡ right_of_changes columns changes.now at.next }
-    requires near { IsNear columns reference.now (place_of at) at.above }
-    requires lawful { IsLawful (pixels columns reference.now) (pixels columns changes.now) (place_of at) way }
-    ensures right { IfOk result (λ after. place_of after ≡ right_of_changes columns changes.now after.next) }
-    ensures onward { IfOk result (λ after. at.next < after.next) }
-    ensures near { IfOk result (λ after. IsNear columns reference.now (place_of after) after.above) }
-    ensures written { IfOk result (λ after. all_bits writer.new
-        ++ shortest_rest (pixels columns reference.now) (pixels columns changes.now) (place_of after) ≡ all_bits writer.old
-        ++ way_bits (pixels columns reference.now) (pixels columns changes.now) (place_of at) way.passes way.is_vertical) }
+    requires inside { next ≤ length changes.now }
+    requires way { IsShortest (pixels columns _reference.now) (pixels columns changes.now) (right_of_changes columns changes.now next) way }
+    ensures onward { IfOk result (λ after. next < after) }
+    ensures written { IfOk result (λ after. all_bits writer.new ++ shortest_rest (pixels columns _reference.now)
+        (pixels columns changes.now) (right_of_changes columns changes.now after) ≡ all_bits writer.old
+        ++ way_bits (pixels columns _reference.now) (pixels columns changes.now) (right_of_changes columns changes.now next)
+        way.passes way.is_vertical) }
 {
-    let now = put_passes(writer, columns, reference, at, way.passes)?;
-    let a1 = change_or_end(changes, at.next, columns);
-    let above = find_above(columns, reference, now);
+    put_passes(writer, way.passes)?;
+    let word = Word {
+        count: way.count,
+        bits: way.word,
+    };
+    put_code_word(writer, word)?;
     if way.is_vertical {
-        put_vertical(writer, above.b1, a1)?;
-        return Ok(Coding {
-            from: u64::from(a1) + 1,
-            next: at.next + 1,
-            above: above_after_vertical(columns, reference, now, above, a1),
-        });
+        return Ok(next + 1);
     }
-    let a2 = change_or_end(changes, at.next + 1, columns);
-    put_shortest_horizontal(
-        writer,
-        color_after(at.next),
-        a1 - now.from.saturating_sub(1) as u32,
-        a2 - a1,
-    )?;
-    Ok(Coding {
-        from: u64::from(a2) + 1,
-        next: at.next + 2,
-        above: above.index,
-    })
+    let a1 = change_or_end(changes, next, columns);
+    let a2 = change_or_end(changes, next + 1, columns);
+    put_shortest_runs(writer, color_after(next), way.first, a2 - a1)?;
+    Ok(next + 2)
 }
 
 /// Writes the ways of a line one after another.
@@ -322,23 +417,19 @@ fn put_ways(
     writer: &mut BitWriter,
     ways: &[Way],
     columns: u32,
-    reference: &[u32],
+    _reference: &[u32],
     changes: &[u32],
 ) -> Result<(), AllocError>
-    requires reference { AreChanges columns reference.now }
+    requires reference { AreChanges columns _reference.now }
     requires changes { AreChanges columns changes.now }
-    requires ways { AreWays columns reference.now changes.now ways.now }
+    requires ways { AreWays columns _reference.now changes.now ways.now }
     ensures { OnOk result (all_bits writer.new ≡ all_bits writer.old
-        ++ shortest_line_2d (pixels columns reference.now) (pixels columns changes.now)) }
+        ++ shortest_line_2d (pixels columns _reference.now) (pixels columns changes.now)) }
 {
-    let mut at = Coding {
-        from: 0,
-        next: 0,
-        above: 0,
-    };
-    'modes: while at.from <= u64::from(columns) {
-        let way = ways[ways.len() - 1 - at.next];
-        at = put_way(writer, columns, reference, changes, at, way)?;
+    let mut next = 0;
+    'modes: while next < ways.len() {
+        let way = ways[ways.len() - 1 - next];
+        next = put_way(writer, columns, _reference, changes, next, way)?;
     }
     Ok(())
 }

@@ -36,7 +36,7 @@ k_of [] = Some 4
 k_of (word ∷ []) = number_of word
 k_of (word ∷ other ∷ more) = None
 
--- with m two-dimensional lines have the fewest bits
+-- with m lines have the fewest bits
 unfoldable pub effort_with : List ℕ → Effort
 effort_with flags = if has_flag 109 flags then Shortest else Procedure
 

@@ -4,7 +4,7 @@
 //! FLAGS`, with the rows that `faxrows -o` writes for the same arguments. The mode is `g4`, `1d` or `2d`, columns and rows
 //! are decimal numbers, 0 rows for all, and the flags are `-` or letters: `b` for EOFB or RTC after the last line, `l` for
 //! an EOL before each, `f` for fill before EOLs so that they end at whole bytes, `a` for aligned rows, `r` for the lowest
-//! bit of each byte first, `m` for two-dimensional lines of the fewest bits; `s`, with which `faxrows` reads strictly, has no
+//! bit of each byte first, `m` for lines of the fewest bits; `s`, with which `faxrows` reads strictly, has no
 //! effect. A last argument may be the K of
 //! two-dimensional lines, which is 4 without it.
 #![tactic(auto)]
@@ -63,8 +63,20 @@ fn run_with(rt: &HostRuntime, words: &[String]) -> Result<u8, RunFault>
 }
 
 /// What `--help` prints.
-const USAGE: &str =
-    "faxpack MODE FLAGS [K]\nfaxpack -o MODE COLUMNS ROWS FLAGS [K]\nfaxpack --help\nfaxpack --version";
+const USAGE: &str = "\
+faxpack MODE FLAGS [K]
+faxpack -o MODE COLUMNS ROWS FLAGS [K]
+faxpack --help
+faxpack --version
+
+MODE is g4, 1d or 2d. FLAGS are letters, or - for none:
+  b  EOFB or RTC after the last line
+  l  an EOL before each line
+  f  fill before EOLs, so that they end at whole bytes
+  a  rows aligned to bytes
+  r  the lowest bit of each byte first
+  m  the shortest lines: the fewest bits
+  s  no effect; faxrows then reads strictly";
 
 /// What `--version` prints.
 const VERSION: &str = "faxpack 0.6.0";

@@ -14,7 +14,7 @@ use Rattle.hayro_ccitt_c.specs.Settings.{encoding_of, has_flag}
 use Rattle.hayro_ccitt_c.specs.declared.encoding.EncodeSettings.{EncodeSettings}
 
 -- the settings of the encoder with this encoding: flags as for decoding, 32 if EOLs end at whole bytes, and 64 if
--- two-dimensional lines have the fewest bits
+-- lines have the fewest bits
 abbrev pub encoder_with : EncodeSettings → EncodingMode → EncoderSettings
 encoder_with s encoding = record {
   encoding = encoding;

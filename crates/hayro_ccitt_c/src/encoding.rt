@@ -19,7 +19,7 @@ pub struct EncodeSettings {
     /// 0 for Group 4, 1 for Group 3 in one dimension, 2 for Group 3 in two.
     pub encoding: u32,
     /// A sum: 1 if EOFB or RTC follows the last row, 2 if an EOL precedes each line, 4 if rows are aligned to whole bytes, 16 if
-    /// each byte's lowest bit comes first, 32 if EOLs end at whole bytes, 64 if two-dimensional lines have the fewest bits.
+    /// each byte's lowest bit comes first, 32 if EOLs end at whole bytes, 64 if lines have the fewest bits.
     pub flags: u32,
     /// K of Group 3 in two dimensions, at least 1: at most K - 1 two-dimensional lines follow a one-dimensional one (T.4,
     /// 4.2.1). It has no effect in the other encodings.

@@ -1,25 +1,27 @@
 use Rattle.fax_encode.proofs.Names.{◌≡◌, ◌∷◌, ◌++◌, [], false, leb, length, sym, ap, ◌∙◌, append_assoc, append-nil, Bits, pixels}
-use Rattle.fax_encode.proofs.Names.{chosen_line_1d, line_2d, all_bits}
-use Rattle.fax_encode.proofs.{RowLists.line_of_list, encoding.put_if_shorter.Goals.After-takes_at_least}
+use Rattle.fax_encode.proofs.Names.{line_1d, line_2d, all_bits, refl}
+use Rattle.fax_encode.proofs.encoding.put_if_shorter.Goals.{After-line_1d_takes_at_least}
 use Rattle.fax_encode.proofs.LinesByK.{shorter_is, marked_within, cut_to_mark}
 use Rattle.fax_encode.proofs.encoding.put_if_shorter.Goals as goal
 
-answered : (c : After-takes_at_least) → c.takes_at_least.result
+answered : (c : After-line_1d_takes_at_least) → c.line_1d_takes_at_least.result
     ≡ leb (length (line_2d c.args.effort (pixels c.args.columns c.args.reference.now) (pixels c.args.columns c.args.changes.now)))
-    (length (chosen_line_1d (pixels c.args.columns c.args.changes.now)))
+    (length (line_1d c.args.effort (pixels c.args.columns c.args.changes.now)))
 answered c = shorter_is (all_bits c.put.new.self) (all_bits c.put_line_2d.new.writer) _ _ _ c.bit_count-start.result
-    c.bit_count.result c.takes_at_least.result c.in_ok-put_line_2d.ensures c.bit_count-start.ensures c.bit_count.ensures
-    (sym (line_of_list c.args.columns c.args.changes.now c.requires.changes)) c.takes_at_least.ensures
+    c.bit_count.result c.line_1d_takes_at_least.result c.in_ok-put_line_2d.ensures c.bit_count-start.ensures c.bit_count.ensures
+    refl c.line_1d_takes_at_least.ensures
 
-pub returns-then-takes_at_least-clause-shorter : goal.returns-then-takes_at_least-clause-shorter
-returns-then-takes_at_least-clause-shorter c =
-    sym c.if-takes_at_least.true ∙ answered (goal.at.returns-then-takes_at_least-clause-shorter c).After-takes_at_least
+pub returns-then-line_1d_takes_at_least-clause-shorter : goal.returns-then-line_1d_takes_at_least-clause-shorter
+returns-then-line_1d_takes_at_least-clause-shorter c =
+    sym c.if-line_1d_takes_at_least.true
+    ∙ answered (goal.at.returns-then-line_1d_takes_at_least-clause-shorter c).After-line_1d_takes_at_least
 
 pub returns-clause-shorter : goal.returns-clause-shorter
-returns-clause-shorter c = sym c.if-takes_at_least.false ∙ answered (goal.at.returns-clause-shorter c).After-takes_at_least
+returns-clause-shorter c = sym c.if-line_1d_takes_at_least.false
+    ∙ answered (goal.at.returns-clause-shorter c).After-line_1d_takes_at_least
 
 -- the tag and the line
-tag_and_line : (c : After-takes_at_least) → all_bits c.put_line_2d.new.writer ≡ all_bits c.args.writer.now
+tag_and_line : (c : After-line_1d_takes_at_least) → all_bits c.put_line_2d.new.writer ≡ all_bits c.args.writer.now
     ++ (false ∷ line_2d c.args.effort (pixels c.args.columns c.args.reference.now) (pixels c.args.columns c.args.changes.now))
 tag_and_line c =
     let line : Bits = line_2d c.args.effort (pixels c.args.columns c.args.reference.now)
@@ -29,10 +31,11 @@ tag_and_line c =
 
 pub cut_back-requires : goal.cut_back-requires
 cut_back-requires c = marked_within c.args.writer.now c.mark-mark.result (all_bits c.put_line_2d.new.writer) _ c.mark-mark.ensures
-    (tag_and_line (goal.at.cut_back-requires c).After-takes_at_least)
+    (tag_and_line (goal.at.cut_back-requires c).After-line_1d_takes_at_least)
 
 pub returns-clause-written : goal.returns-clause-written
 returns-clause-written c = cut_to_mark c.args.writer.now c.mark-mark.result
     (all_bits c.put_line_2d.new.writer) _ c.mark-mark.ensures
-    (tag_and_line (goal.at.returns-clause-written c).After-takes_at_least) (all_bits c.cut_back.new.self) c.cut_back.ensures
+    (tag_and_line (goal.at.returns-clause-written c).After-line_1d_takes_at_least)
+    (all_bits c.cut_back.new.self) c.cut_back.ensures
     ∙ sym (append-nil (all_bits c.args.writer.now))

@@ -1,200 +1,110 @@
-use Rattle.fax_encode.proofs.Names.{◌≡◌, ◌+◌, ◌-◌, ◌<◌, ℕ, suc, List, length, b2, refl, sym, ap, subst, ◌∙◌, arith, Color, Row}
-use Rattle.fax_encode.proofs.Names.{pixels}
-use Rattle.fax_encode.proofs.Names.{Place, IsNear, color_after, place_of, shortest_run}
-use Rattle.fax_encode.specs.Ways.{passed_by, MayPass}
+use Rattle.fax_encode.proofs.Names.{◌≡◌, ◌+◌, ◌*◌, ◌≤◌, ℕ, true, List, refl, sym, subst, arith, Row, pixels, Place, place_of}
+use Rattle.fax_encode.proofs.Names.{AreChanges, a1, b2}
 use Rattle.fax_encode.specs.declared.shortest_lines.Way.{Way}
+use Rattle.fax_encode.specs.Ways.{IsFound, IsShortest, passed_by}
 use Rattle.fax_encode.proofs.Elements.{next_is_right}
 use Rattle.fax_encode.proofs.ModesWritten.{one_width}
-use Rattle.fax_encode.proofs.StepsToB1.{near_pass}
-use Rattle.fax_encode.proofs.ShortestSteps.{Stands, stands_at, stands_by, may_pass, may_not_pass, passed_next, IsFound, found_by}
-use Rattle.fax_encode.proofs.ShortestSteps.{IsSearched, first_searched, next_searched, searched_to_end, in_row, no_more_changes}
-use Rattle.fax_encode.proofs.ShortestSteps.{not_right, change_within, all_before}
+use Rattle.fax_encode.proofs.ShortestSteps.{Stands, stands_at, not_right, in_row, a1_here, found_ahead}
+use Rattle.fax_encode.proofs.ShortestSteps.{first_searched, searched_to_end}
+use Rattle.fax_encode.proofs.ShortestSteps.{below_counts}
+use Rattle.fax_encode.proofs.shortest_lines.find_way.Goals.{After-way_without_pass-way}
 use Rattle.fax_encode.proofs.shortest_lines.find_way.Goals as goal
 
-pub overflow_sub-a2 : goal.overflow_sub-a2
-overflow_sub-a2 c = omega (
-  arith,
-  c.change_or_end-a1.ensures,
-  c.change_or_end-a2.ensures,
-  next_is_right 0 c.args.columns c.args.changes.now c.args.at.next (c.args.at.next + 1) refl c.requires.changes,
-)
-
-pub find_above-above-requires-clause-inside : goal.find_above-above-requires-clause-inside
-find_above-above-requires-clause-inside c =
-    (stands_at c.args.columns c.args.changes.now c.requires.changes c.args.at.next
-    (place_of c.args.at) c.requires.inside c.requires.right).inside
-
-pub way_without_pass-best-requires-clause-right : goal.way_without_pass-best-requires-clause-right
-way_without_pass-best-requires-clause-right c =
-    let stands = stands_at c.args.columns c.args.changes.now c.requires.changes c.args.at.next
-    (place_of c.args.at) c.requires.inside
-    c.requires.right in
+pub way_without_pass-way-requires-clause-right : goal.way_without_pass-way-requires-clause-right
+way_without_pass-way-requires-clause-right c =
+    let stands = stands_at c.args.columns c.args._changes.now c.requires.changes c.args.at.next (place_of c.args.at)
+    c.requires.inside c.requires.right in
     omega (
       arith,
-      not_right c.args.columns c.args.changes.now c.requires.changes c.args.at.next (place_of c.args.at) stands,
-      c.change_or_end-a1.ensures,
+      not_right c.args.columns c.args._changes.now c.requires.changes c.args.at.next (place_of c.args.at) stands,
+      c.requires.ahead.a1,
     )
 
-pub passes-init : goal.passes-init
+pub way_without_pass-way-requires-clause-order : goal.way_without_pass-way-requires-clause-order
+way_without_pass-way-requires-clause-order c = omega (
+  arith,
+  c.requires.ahead.a1,
+  c.requires.ahead.a2,
+  next_is_right 0 c.args.columns c.args._changes.now c.args.at.next (c.args.at.next + 1) refl c.requires.changes,
+)
+
+-- the way without a pass
+found_without : (c : After-way_without_pass-way) → IsFound (pixels c.args.columns c.args.reference.now)
+    (pixels c.args.columns c.args._changes.now) (place_of c.args.at) 0 c.way_without_pass-way.result
 unfolding passed_by
-passes-init c =
-    let columns : ℕ = c.args.columns in
-    let R : Row = pixels columns c.args.reference.now in
-    let C : Row = pixels columns c.args.changes.now in
-    let at : Place = place_of c.args.at in
-    let stands = stands_at columns c.args.changes.now c.requires.changes c.args.at.next at c.requires.inside c.requires.right in
-    let found : IsFound R C at 0 c.way_without_pass-best.result =
-    found_by columns c.args.reference.now c.args.changes.now c.requires.changes c.args.at.next 0 at at
-    c.way_without_pass-best.result stands refl (record {
-      start = c.find_above-above.result.b1;
-      to = c.change_or_end-a1.result;
-      second = c.change_or_end-a2.result;
-      after = c.args.after_vertical;
-      behind = c.from.result + 3 + c.args.after_horizontal;
-      from = c.args.at.from;
-      color = c.color_after-color.result;
-      from_is = refl;
-      color_is = c.color_after-color.ensures;
-      b1_is = c.find_above-above.ensures.b1;
-      to_is = c.change_or_end-a1.ensures;
-      second_is = c.change_or_end-a2.ensures;
-      after_is = c.requires.vertical;
-      behind_is = omega (
-        arith,
-        c.from.ensures,
-        c.shortest_run_bits.ensures.is,
-        c.requires.horizontal,
-        ap (λ (k : Color). length (shortest_run k (c.change_or_end-a2.result - c.change_or_end-a1.result))) c.opposite.ensures,
-      );
-      passes = c.way_without_pass-best.ensures.passes;
-      vertical = c.way_without_pass-best.ensures.vertical;
-      bits = c.way_without_pass-best.ensures.bits;
-    }) in
-    record {
-      near = c.find_above-above.ensures.near;
-      within = c.find_above-above.ensures.within;
-      b2_is = c.find_above-above.ensures.b2 ∙ sym c.change_or_end-b2.ensures;
-      b2_at = c.change_or_end-b2.ensures;
-      count = omega arith;
-      searched = first_searched R C
-          (one_width columns c.args.reference.now c.args.changes.now c.requires.reference c.requires.changes)
-          at c.way_without_pass-best.result (in_row columns c.args.changes.now c.requires.changes c.args.at.next at stands) found;
-    }
-
-pub find_above-above-requires-in-passes-clause-inside : goal.find_above-above-requires-in-passes-clause-inside
-find_above-above-requires-in-passes-clause-inside c =
-    let stands = stands_at c.args.columns c.args.changes.now c.requires.changes c.args.at.next
-    (place_of c.args.at) c.requires.inside
-    c.requires.right in
-    omega (
-      arith,
-      change_within c.args.columns c.args.changes.now c.requires.changes c.args.at.next (place_of c.args.at) stands,
-      c.change_or_end-a1.ensures,
-      c.passes-test.true,
-      c.from-in-passes.ensures,
-    )
-
-pub find_above-above-requires-in-passes-clause-near : goal.find_above-above-requires-in-passes-clause-near
-find_above-above-requires-in-passes-clause-near c =
-    let columns : ℕ = c.args.columns in
-    let R : Row = pixels columns c.args.reference.now in
-    let at : Place = place_of c.args.at in
-    let stands = stands_at columns c.args.changes.now c.requires.changes c.args.at.next at c.requires.inside c.requires.right in
-    let here = stands_by columns c.args.changes.now c.requires.changes R
-    (one_width columns c.args.reference.now c.args.changes.now c.requires.reference c.requires.changes) c.args.at.next at stands
-    c.passes.passes c.passes.invariant.searched.passes in
-    let next = near_pass columns c.args.reference.now c.requires.reference (passed_by R at c.passes.passes) c.passes.above.index
-    c.passes.invariant.near c.passes.b2 c.passes.invariant.b2_at in
-    subst (λ (n : ℕ). IsNear columns c.args.reference.now (record { from = n + 1; color = color_after c.args.at.next })
-    (c.passes.above.index + 2)) (sym c.from-in-passes.ensures)
-    (subst (λ (k : Color). IsNear columns c.args.reference.now (record { from = c.passes.b2 + 1; color = k })
-    (c.passes.above.index + 2)) here.color next)
-
-pub overflow_add-passes : goal.overflow_add-passes
-overflow_add-passes c = omega (
-  arith,
-  c.passes.invariant.count,
-  c.passes.invariant.within,
-  c.ranges.columns.fits,
-  no_more_changes 0 c.args.columns c.args.reference.now c.requires.reference (omega arith),
-)
-
-pub passes-preserved : goal.passes-preserved
-passes-preserved c =
-    let columns : ℕ = c.args.columns in
-    let above : List ℕ = c.args.reference.now in
-    let changes : List ℕ = c.args.changes.now in
-    let R : Row = pixels columns above in
-    let C : Row = pixels columns changes in
-    let at : Place = place_of c.args.at in
-    let n : ℕ = c.args.at.next in
-    let k : ℕ = c.passes.passes in
-    let here : Place = passed_by R at k in
-    let same = one_width columns above changes c.requires.reference c.requires.changes in
-    let stands = stands_at columns changes c.requires.changes n at c.requires.inside c.requires.right in
-    let before = c.passes.invariant.searched.passes in
-    let standing = stands_by columns changes c.requires.changes R same n at stands k before in
-    let may : MayPass R C here = may_pass columns changes c.requires.changes R same n at stands k here refl
-    (omega (arith, c.passes-test.true, c.passes.invariant.b2_is, c.change_or_end-a1.ensures)) before in
-    let all : (i : ℕ) → i < suc k → MayPass R C (passed_by R at i) = all_before R C at k before may in
-    let now : Place = record { from = c.from-in-passes.result + 1; color = color_after n } in
-    let place : now ≡ passed_by R at (k + 1)
-    = ap (λ (j : Color). record { from = c.from-in-passes.result + 1; color = j }) (sym standing.color)
-    ∙ passed_next R at here k (k + 1) (c.from-in-passes.result + 1) refl refl
-    (omega (arith, c.from-in-passes.ensures, c.passes.invariant.b2_is)) in
-    let one : suc k ≡ k + 1 = omega arith in
-    let standing_on = stands_by columns changes c.requires.changes R same n at stands (suc k) all in
-    let way : Way = c.way_without_pass-way.result in
-    let found : IsFound R C at (k + 1) way =
-    found_by columns above changes c.requires.changes n (k + 1) at now way
-    (subst (λ (m : ℕ). Stands columns changes n (passed_by R at m)) one standing_on) place (record {
-      start = c.find_above-above-in-passes.result.b1;
-      to = c.change_or_end-a1.result;
-      second = c.change_or_end-a2.result;
-      after = c.args.after_vertical;
-      behind = c.from.result + 3 + c.args.after_horizontal;
-      from = c.from-in-passes.result + 1;
-      color = c.color_after-color.result;
-      from_is = refl;
-      color_is = c.color_after-color.ensures;
-      b1_is = c.find_above-above-in-passes.ensures.b1;
-      to_is = c.change_or_end-a1.ensures;
-      second_is = c.change_or_end-a2.ensures;
-      after_is = c.requires.vertical;
-      behind_is = omega (
-        arith,
-        c.from.ensures,
-        c.shortest_run_bits.ensures.is,
-        c.requires.horizontal,
-        ap (λ (k : Color). length (shortest_run k (c.change_or_end-a2.result - c.change_or_end-a1.result))) c.opposite.ensures,
-      );
+found_without c =
+    let stands = stands_at c.args.columns c.args._changes.now c.requires.changes c.args.at.next (place_of c.args.at)
+    c.requires.inside c.requires.right in
+    found_ahead c.args.columns c.args.reference.now c.args._changes.now c.requires.changes c.args.at.next 0 (place_of c.args.at)
+    (place_of c.args.at) c.way_without_pass-way.result c.args.ahead c.args.above.b1 c.color_after.result stands refl
+    c.requires.ahead c.requires.b1 c.color_after.ensures (record {
       passes = c.way_without_pass-way.ensures.passes;
       vertical = c.way_without_pass-way.ensures.vertical;
       bits = c.way_without_pass-way.ensures.bits;
-    }) in
-    record {
-      near = subst (λ (p : Place). IsNear columns above p c.find_above-above-in-passes.result.index) place
-          c.find_above-above-in-passes.ensures.near;
-      within = c.find_above-above-in-passes.ensures.within;
-      b2_is = ap (λ (p : Place). b2 R p.from p.color) (sym place) ∙ c.find_above-above-in-passes.ensures.b2
-          ∙ sym c.change_or_end-b2-in-passes.ensures;
-      b2_at = c.change_or_end-b2-in-passes.ensures;
-      count = omega (arith, c.passes.invariant.count, c.find_above-above-in-passes.ensures.onward);
-      searched = subst (λ (m : ℕ). IsSearched R C at m c.shorter_way-best.result) one
-          (next_searched R C same at k c.passes.best way c.passes.invariant.searched may
-          (in_row columns changes c.requires.changes n (passed_by R at (suc k)) standing_on)
-          (subst (λ (m : ℕ). IsFound R C at m way) (sym one) found) c.shorter_way-best.result c.shorter_way-best.ensures);
-    }
+      word = c.way_without_pass-way.ensures.word;
+      first = c.way_without_pass-way.ensures.first;
+    })
 
-pub returns : goal.returns
-returns c =
+-- it is the shortest where no pass can be made
+at_end : (columns : ℕ) (above changes : List ℕ) → AreChanges columns above → (are : AreChanges columns changes) → (n : ℕ)
+    (at : Place) (way : Way) → Stands columns changes n at → IsFound (pixels columns above) (pixels columns changes) at 0 way
+    → a1 (pixels columns changes) at.from ≤ b2 (pixels columns above) at.from at.color
+    → IsShortest (pixels columns above) (pixels columns changes) at way
+unfolding passed_by
+at_end columns above changes lawful are n at way stands found le =
+    let same = one_width columns above changes lawful are in
+    searched_to_end (pixels columns above) (pixels columns changes) same at 0 way
+    (first_searched (pixels columns above) (pixels columns changes) same at way (in_row columns changes are n at stands) found) le
+
+-- and where a1 is below b1
+pub returns-then-ahead : goal.returns-then-ahead
+unfolding passed_by
+returns-then-ahead c =
     let columns : ℕ = c.args.columns in
     let R : Row = pixels columns c.args.reference.now in
-    let C : Row = pixels columns c.args.changes.now in
+    let C : Row = pixels columns c.args._changes.now in
     let at : Place = place_of c.args.at in
-    let same = one_width columns c.args.reference.now c.args.changes.now c.requires.reference c.requires.changes in
-    let stands = stands_at columns c.args.changes.now c.requires.changes c.args.at.next at c.requires.inside c.requires.right in
-    searched_to_end R C same at c.passes.passes c.passes.best c.passes.invariant.searched
-    (may_not_pass columns c.args.changes.now c.requires.changes R same c.args.at.next at stands c.passes.passes
-    (passed_by R at c.passes.passes) refl
-    (omega (arith, c.passes-test.false, c.passes.invariant.b2_is, c.change_or_end-a1.ensures)) c.passes.invariant.searched.passes)
+    let stands = stands_at columns c.args._changes.now c.requires.changes c.args.at.next at c.requires.inside c.requires.right in
+    let here = a1_here columns c.args._changes.now c.requires.changes c.args.at.next at stands in
+    let below : c.args.above.b1 ≡ c.args.ahead.a1 = c.if-above-ahead.true in
+    let way : Way = record {
+      bits = 0 * 4 + (c.below_word.result.count + c.args.ahead.after_a1);
+      passes = 0;
+      first = 0;
+      word = c.below_word.result.bits;
+      count = c.below_word.result.count;
+      is_vertical = true;
+    } in
+    let found : IsFound R C at 0 way =
+    found_ahead columns c.args.reference.now c.args._changes.now c.requires.changes c.args.at.next 0 at at way c.args.ahead
+    c.args.above.b1 at.color stands refl c.requires.ahead c.requires.b1 refl
+    (below_counts at.color at.from c.args.above.b1 c.args.ahead c.below_word.result below
+    (omega (arith, c.if-ahead.true)) c.below_word.ensures) in
+    subst (λ (w : Way). IsShortest R C at w) (sym c.vertical_way.ensures)
+    (at_end columns c.args.reference.now c.args._changes.now c.requires.reference c.requires.changes c.args.at.next at way
+    stands found (omega (
+      arith,
+      below,
+      here,
+      c.requires.ahead.a1,
+      c.requires.first,
+      c.requires.b2,
+      next_is_right 0 columns c.args.reference.now c.args.above.index (c.args.above.index + 1) refl c.requires.reference,
+    )))
+
+pub search_copies-requires-clause-found : goal.search_copies-requires-clause-found
+search_copies-requires-clause-found c = found_without (goal.at.search_copies-requires-clause-found c).After-way_without_pass-way
+
+pub returns-in-None : goal.returns-in-None
+returns-in-None c =
+    let columns : ℕ = c.args.columns in
+    let at : Place = place_of c.args.at in
+    let stands = stands_at columns c.args._changes.now c.requires.changes c.args.at.next at c.requires.inside c.requires.right in
+    at_end columns c.args.reference.now c.args._changes.now c.requires.reference c.requires.changes c.args.at.next at
+    c.way_without_pass-way.result stands (found_without (goal.at.returns-in-None c).After-way_without_pass-way) (omega (
+      arith,
+      c.in-None.ensures,
+      c.requires.b2,
+      c.requires.ahead.a1,
+      a1_here columns c.args._changes.now c.requires.changes c.args.at.next at stands,
+    ))

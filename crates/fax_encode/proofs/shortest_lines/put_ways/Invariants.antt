@@ -1,14 +1,11 @@
-use Rattle.fax_encode.proofs.Names.{◌≡◌, ◌+◌, ◌-◌, ◌++◌, length, pixels, IsNear, place_of, all_bits, shortest_line_2d}
+use Rattle.fax_encode.proofs.Names.{◌≡◌, ◌-◌, ◌++◌, length, pixels, all_bits, shortest_line_2d}
 use Rattle.fax_encode.specs.Ways.{right_of_changes, shortest_rest}
 use Rattle.fax_encode.proofs.shortest_lines.put_ways.Given as goal
 
 abbrev pub invariant-modes : goal.invariant-modes
-invariant-modes l = record {
-  right : place_of l.at ≡ right_of_changes l.columns l.changes l.at.next;
-  near : IsNear l.columns l.reference (place_of l.at) l.at.above;
-  written : all_bits l.writer ++ shortest_rest (pixels l.columns l.reference) (pixels l.columns l.changes) (place_of l.at)
-      ≡ all_bits l.fn.writer ++ shortest_line_2d (pixels l.columns l.reference) (pixels l.columns l.changes);
-}
+invariant-modes l = all_bits l.writer
+    ++ shortest_rest (pixels l.columns l._reference) (pixels l.columns l.changes) (right_of_changes l.columns l.changes l.next)
+    ≡ all_bits l.fn.writer ++ shortest_line_2d (pixels l.columns l._reference) (pixels l.columns l.changes)
 
 abbrev pub decreases-modes : goal.decreases-modes
-decreases-modes l = length l.changes + 3 - l.at.next
+decreases-modes l = length l.ways - l.next

@@ -1,10 +1,12 @@
-use Rattle.fax_encode.proofs.Names.{◌+◌, ◌≤◌, TurnsFrom, color_after}
+use Rattle.fax_encode.proofs.Names.{◌≡◌, ◌+◌, ◌%◌, ◌≤◌, length, get_or}
 use Rattle.fax_encode.proofs.shortest_lines.step_back.Given as goal
 
 abbrev pub invariant-back : goal.invariant-back
 invariant-back l = record {
-  turns : TurnsFrom l.above (color_after l.next);
-  few : l.above ≤ l.index + 1;
+  turns : l.above % 2 ≡ l._next % 2;
+  few : l.above ≤ length l.reference + 2;
+  here : l.b1 ≡ get_or l.reference l.above l.columns;
+  right : l.from ≤ l.b1;
 }
 
 abbrev pub decreases-back : goal.decreases-back

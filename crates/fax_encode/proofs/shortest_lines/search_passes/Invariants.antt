@@ -1,7 +1,7 @@
 use Rattle.fax_encode.proofs.Names.{◌≡◌, ◌*◌, ◌+◌, ◌-◌, ◌≤◌, length, get_or, pixels, b2, IsNear, place_of}
 use Rattle.fax_encode.specs.Ways.{passed_by}
 use Rattle.fax_encode.proofs.ShortestSteps.{IsSearched}
-use Rattle.fax_encode.proofs.shortest_lines.find_way.Given as goal
+use Rattle.fax_encode.proofs.shortest_lines.search_passes.Given as goal
 
 abbrev pub invariant-passes : goal.invariant-passes
 invariant-passes l = record {
@@ -11,7 +11,7 @@ invariant-passes l = record {
       (passed_by (pixels l.columns l.reference) (place_of l.at) l.passes).color ≡ l.b2;
   b2_at : l.b2 ≡ get_or l.reference (l.above.index + 1) l.columns;
   count : 2 * l.passes ≤ l.above.index;
-  searched : IsSearched (pixels l.columns l.reference) (pixels l.columns l.changes) (place_of l.at) l.passes l.best;
+  searched : IsSearched (pixels l.columns l.reference) (pixels l.columns l._changes) (place_of l.at) l.passes l.best;
 }
 
 abbrev pub decreases-passes : goal.decreases-passes
