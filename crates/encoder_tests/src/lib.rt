@@ -9,6 +9,8 @@ mod callers_tests;
 #[cfg(test)]
 mod cases;
 #[cfg(test)]
+mod conforms_tests;
+#[cfg(test)]
 mod large_tests;
 #[cfg(test)]
 mod settings_tests;

@@ -1,8 +1,8 @@
 -- Lines without EOLs, from one to the next.
 use Rattle.hayro_ccitt.proofs.Names.{◌≡◌, ℕ, ◌+◌, ◌<◌, ◌≤◌, false, List, [], ◌∷◌, ◌++◌, ◌↔◌, length, refl, ap, sym, subst}
-use Rattle.hayro_ccitt.proofs.Names.{◌∙◌, append_assoc, arith, inl, inr, All-cons, All-nil, All-head, All-tail, White}
+use Rattle.hayro_ccitt.proofs.Names.{◌∙◌, append_assoc, arith, inl, inr, All-cons, All-head, All-tail, White}
 use Rattle.hayro_ccitt.proofs.Names.{length-append, Bits, Row, DecodeSettings, EncodingMode, Group4, Group3_1D, Group3_2D}
-use Rattle.hayro_ccitt.proofs.Names.{EncodesLine, EncodesRows, Allows, at_end, false≢true}
+use Rattle.hayro_ccitt.proofs.Names.{EncodesLine, EncodesRows, at_end, false≢true}
 use Rattle.hayro_ccitt.proofs.EncodedPictures.PictureLines.{line_2d_starts}
 use Rattle.hayro_ccitt.proofs.EncodedPictures.PicturesT4.{line_t4_starts}
 use Rattle.fax_conforms.specs.Standing.{Leads, Never, IsOnly}
@@ -26,7 +26,8 @@ line_has_bits settings wide small Group3_2D reference row line same is len =
 -- so what follows it is shorter
 pub filled_shorter : (settings : DecodeSettings) (reference row : Row) (here next : Bits) → 0 < settings.columns
     → settings.columns ≤ 4294967295 → length row ≡ settings.columns
-    → Leads settings.columns (λ row rest. FilledStands settings reference row here rest) (IsOnly row next) → length next < length here
+    → Leads settings.columns (λ row rest. FilledStands settings reference row here rest) (IsOnly row next)
+    → length next < length here
 filled_shorter settings reference row here next wide small len leads =
     let (line, is_line, is) = (leads row next len).1 (refl, refl) in
     let some = line_has_bits settings wide small settings.encoding reference row line refl is_line len in
@@ -43,15 +44,6 @@ one_more_row n rows row = omega arith
 module _ (settings : DecodeSettings) (taken : ℕ) (reference : Row) (here : Bits) where
   abbrev HasRow : Row → Type 0
   HasRow row = length row ≡ settings.columns
-
-  over : BodyEnds settings taken here → BodyStands settings taken reference here
-  over ends = ([], [], here, All-nil HasRow, refl, refl, subst (λ (n : ℕ). BodyEnds settings n here) (sym (none_more taken)) ends)
-
-  pub body_over_limit : settings.rows ≡ taken → 0 < taken → BodyStands settings taken reference here
-  body_over_limit met some = over (inl (met, some))
-
-  pub body_over_eofb : EofbStands settings here → Allows settings taken → BodyStands settings taken reference here
-  body_over_eofb eofb allows = over (inr (eofb, allows))
 
   -- a line is here
   module _ (unmet : settings.rows ≡ taken → 0 < taken → ⊥) (no_eofb : EofbStands settings here → ⊥) where

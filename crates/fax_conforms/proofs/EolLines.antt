@@ -1,7 +1,7 @@
 -- Lines with an EOL before each, from one to the next.
 use Rattle.hayro_ccitt.proofs.Names.{◌≡◌, ℕ, ◌+◌, ◌<◌, ◌≤◌, [], ◌∷◌, ◌++◌, ◌↔◌, length, refl, ap, sym, subst, ◌∙◌}
-use Rattle.hayro_ccitt.proofs.Names.{append_assoc, arith, inl, inr, All-cons, All-nil, All-head, All-tail}
-use Rattle.hayro_ccitt.proofs.Names.{length-append, Bits, Row, DecodeSettings, EncodesRowsWithEols, Allows, eol}
+use Rattle.hayro_ccitt.proofs.Names.{append_assoc, arith, inl, inr, All-cons, All-head, All-tail}
+use Rattle.hayro_ccitt.proofs.Names.{length-append, Bits, Row, DecodeSettings, EncodesRowsWithEols, eol}
 use Rattle.fax_conforms.specs.Standing.{LineStands, Leads, Never, IsOnly}
 use Rattle.fax_conforms.specs.Conforming.{EolStands, EolLineStands, RtcStands, LinesEnd, LinesStand}
 use Rattle.fax_conforms.proofs.BodyLines.{none_more, one_more_row, line_has_bits}
@@ -23,7 +23,8 @@ no_eol_line settings reference here none row rest len (fill, line, is_line, is) 
 -- what follows it is shorter
 pub eol_line_shorter : (settings : DecodeSettings) (reference row : Row) (here next : Bits) → 0 < settings.columns
     → settings.columns ≤ 4294967295 → length row ≡ settings.columns
-    → Leads settings.columns (λ row rest. EolLineStands settings reference row here rest) (IsOnly row next) → length next < length here
+    → Leads settings.columns (λ row rest. EolLineStands settings reference row here rest) (IsOnly row next)
+    → length next < length here
 eol_line_shorter settings reference row here next wide small len leads =
     let (fill, line, is_line, is) = (leads row next len).1 (refl, refl) in
     let some = line_has_bits settings wide small settings.encoding reference row line refl is_line len in
@@ -33,15 +34,6 @@ eol_line_shorter settings reference row here next wide small len leads =
 module _ (settings : DecodeSettings) (taken : ℕ) (reference : Row) (here : Bits) where
   abbrev HasRow : Row → Type 0
   HasRow row = length row ≡ settings.columns
-
-  ended : LinesEnd settings taken here → LinesStand settings taken reference here
-  ended ends = ([], [], here, All-nil HasRow, refl, refl, subst (λ (n : ℕ). LinesEnd settings n here) (sym (none_more taken)) ends)
-
-  pub lines_over_limit : settings.rows ≡ taken → 0 < taken → LinesStand settings taken reference here
-  lines_over_limit met some = ended (inl (met, some))
-
-  pub lines_over_rtc : RtcStands settings taken here → Allows settings taken → LinesStand settings taken reference here
-  lines_over_rtc rtc allows = ended (inr (rtc, allows))
 
   -- a line is here
   module _ (unmet : settings.rows ≡ taken → 0 < taken → ⊥) (no_rtc : RtcStands settings taken here → ⊥) where

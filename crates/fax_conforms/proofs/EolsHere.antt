@@ -57,7 +57,8 @@ one_eol_left encoding (suc m) here next some stands =
     let e : m ≡ suc m - 1 = omega arith in
     subst (λ (k : ℕ). EolsStand encoding (suc m) here ↔ EolsStand encoding k next) e (one_eol_less encoding m here next stands)
 
-pub no_eol_left : (encoding : EncodingMode) (n : ℕ) (here : Bits) → 0 < n → ((rest : Bits) → TaggedEolStands encoding here rest → ⊥)
+pub no_eol_left : (encoding : EncodingMode) (n : ℕ) (here : Bits) → 0 < n → ((rest : Bits)
+    → TaggedEolStands encoding here rest → ⊥)
     → EolsStand encoding n here → ⊥
 no_eol_left encoding zero here some none stands = omega arith
 no_eol_left encoding (suc m) here some none stands = no_eol_more encoding m here none stands

@@ -1,9 +1,9 @@
 -- Where lines begin and end, and one step behind another.
 use Rattle.hayro_ccitt.proofs.Names.{◌≡◌, ℕ, suc, ◌+◌, ◌-◌, [], ◌∷◌, ◌++◌, length, take, refl, ap, sym, subst, ◌∙◌, arith}
-use Rattle.hayro_ccitt.proofs.Names.{append-nil, length-append, length-replicate, replicate, Color, White, Bits, Row}
-use Rattle.hayro_ccitt.proofs.Names.{is_black, Group4, Group3_1D, EncodesLine1D, EncodesLine2D}
+use Rattle.hayro_ccitt.proofs.Names.{append-nil, length-append, length-replicate, replicate, Color, Bits, Row}
+use Rattle.hayro_ccitt.proofs.Names.{is_black, EncodesLine1D, EncodesLine2D}
 use Rattle.std.proofs.lemmas.List.{take_all}
-use Rattle.fax_conforms.specs.Standing.{Spot, LineFrom, RunsFrom, LineStands, Leads, Never, IsOnly, line_start}
+use Rattle.fax_conforms.specs.Standing.{Spot, LineFrom, RunsFrom, Leads, Never, IsOnly}
 
 pub leads_on : {P Q R : Row → Bits → Type 0} (columns : ℕ) → Leads columns P Q → Leads columns Q R → Leads columns P R
 leads_on columns f g row rest len =
@@ -11,18 +11,6 @@ leads_on columns f g row rest len =
 
 pub leads_never : {P Q : Row → Bits → Type 0} (columns : ℕ) → Leads columns P Q → Never columns Q → Never columns P
 leads_never columns f none row rest len p = none row rest len ((f row rest len).0 p)
-
-pub steps_begin : (columns : ℕ) (reference : Row) (here : Bits)
-    → Leads columns (λ row rest. LineStands Group4 reference row here rest) (LineFrom reference line_start here)
-steps_begin columns reference here row rest len =
-    (λ stands. (record { front = refl; color = λ le. refl }, stands), λ (goes, stands). stands)
-
-pub runs_begin : (columns : ℕ) (reference : Row) (here : Bits)
-    → Leads columns (λ row rest. LineStands Group3_1D reference row here rest) (RunsFrom line_start here)
-runs_begin columns reference here row rest len = (
-  λ (bits, line, is). (row, bits, refl, (λ begun. absurd (omega arith)), line, is),
-  λ (others, bits, row_is, first, line, is). (bits, subst (λ (r : Row). EncodesLine1D White r bits) (sym row_is) line, is),
-)
 
 no_steps : (reference row : Row) (from : ℕ) (color : Color) (bits : Bits) → from ≡ suc (length row)
     → EncodesLine2D reference row from color bits → bits ≡ []

@@ -22,9 +22,6 @@ painted_on at place color = record {
 other_pixel : (color : Color) → is_black (opposite color) ≡ not (is_black color)
 other_pixel color = grind (arith, common_steps)
 
-same_pixel : (color : Color) → is_black color ≡ not (is_black (opposite color))
-same_pixel color = grind (arith, common_steps)
-
 up_to : (p : ℕ) (row : Row) → take (suc p - 1) row ≡ take p row
 up_to p row = let e : suc p - 1 ≡ p = omega arith in ap (λ (n : ℕ). take n row) e
 
@@ -158,13 +155,15 @@ module _ (columns : ℕ) (reference : Row) (at : Spot) (small : columns ≤ 4294
       (LineFrom reference (painted_on at place (opposite at.color)) here)
   vertical_leads here k place is above within row rest row_len = (on, back)
     where
-      on : ModeFrom reference at (Vertical k) here row rest → LineFrom reference (painted_on at place (opposite at.color)) here row rest
+      on : ModeFrom reference at (Vertical k) here row rest → LineFrom reference (painted_on at place
+          (opposite at.color)) here row rest
       on (goes, (exact, steps)) =
           let e : a1 row at.from ≡ place = same_place (a1 row at.from) place (exact ∙ is) in
           let behind = goes_on_behind row at (omega (arith, row_len, inside)) len goes in
           (rw e at behind, rw e at steps)
 
-      back : LineFrom reference (painted_on at place (opposite at.color)) here row rest → ModeFrom reference at (Vertical k) here row rest
+      back : LineFrom reference (painted_on at place (opposite at.color)) here row rest
+          → ModeFrom reference at (Vertical k) here row rest
       back (goes, steps) =
           let again = a1_again row at place len start above (omega (arith, row_len, within)) goes in
           (again.goes, (ap pos again.is ∙ sym is, rw again.is steps))
@@ -191,7 +190,8 @@ module _ (columns : ℕ) (reference : Row) (at : Spot) (small : columns ≤ 4294
     pub within2 : length at.front + one + two ≤ columns
     pub some : length at.front + one < columns → 0 < two
 
-  pub horizontal_runs : (here : Bits) (row : Row) (rest : Bits) → length row ≡ columns → ModeFrom reference at Horizontal here row rest
+  pub horizontal_runs : (here : Bits) (row : Row) (rest : Bits) → length row ≡ columns
+      → ModeFrom reference at Horizontal here row rest
       → HasRuns here
   horizontal_runs here row rest row_len (goes, (middle, behind, read1, read2, steps)) =
       let one = a1_next row at.from in
@@ -216,7 +216,8 @@ module _ (columns : ℕ) (reference : Row) (at : Spot) (small : columns ≤ 4294
       }
 
   module _ (here middle behind : Bits) (one two p r : ℕ) (read1 : run_from at.color (0, here) ≡ Ok (one, middle))
-      (read2 : run_from (opposite at.color) (0, middle) ≡ Ok (two, behind)) (to_p : p ≡ length at.front + one) (to_r : r ≡ p + two)
+      (read2 : run_from (opposite at.color) (0, middle) ≡ Ok (two, behind)) (to_p : p ≡ length at.front + one)
+      (to_r : r ≡ p + two)
       (above : at.from ≤ p) (within : r ≤ columns) (some : p < columns → 0 < two) where
     -- between the two runs
     abbrev between_runs : Spot
@@ -286,7 +287,8 @@ module _ (columns : ℕ) (reference : Row) (at : Spot) (small : columns ≤ 4294
       horizontal_on (goes, (middle2, behind2, first, second, steps)) =
           let same1 = same_run (a1 row at.from - (at.from - 1)) one middle2 middle (sym first ∙ read1) in
           let second2 : run_from (opposite at.color) (0, middle) ≡ Ok (a2 row at.from - a1 row at.from, behind2) =
-          subst (λ (x : Bits). run_from (opposite at.color) (0, x) ≡ Ok (a2 row at.from - a1 row at.from, behind2)) same1.1 second in
+          subst (λ (x : Bits). run_from (opposite at.color) (0, x) ≡ Ok
+          (a2 row at.from - a1 row at.from, behind2)) same1.1 second in
           let same2 = same_run (a2 row at.from - a1 row at.from) two behind2 behind (sym second2 ∙ read2) in
           let right : at.from ≤ a1 row at.from = (a1_next row at.from).above (omega (arith, row_len, inside)) in
           let least : a1 row at.from ≤ a2 row at.from = a2_least row at.from in

@@ -29,7 +29,8 @@ run_before row from place c run (suc q) le lt = run.same q le (omega arith)
 pub run_unchanged : (row : Row) (from place : ℕ) (c : Bool) → IsRunTo row from place c → (q : ℕ) → from ≤ q → q < place
     → is_change row q ≡ false
 run_unchanged row from place c run q le lt =
-    not_same (pixel_before row q) (pixel row q) c (run_before row from place c run q le (omega arith)) (run.same q (omega arith) lt)
+    not_same (pixel_before row q) (pixel row q) c (run_before row from place c run q le (omega arith)) (run.same q
+    (omega arith) lt)
 
 -- there is one at its end
 pub run_changes : (row : Row) (from place : ℕ) (c : Bool) → IsRunTo row from place c → from ≤ place → pixel row place ≡ not c
@@ -52,14 +53,16 @@ next_is row from place p c next le within run turns = elim (cases_lt p place) [
 
 -- ---- A front that pixels of one colour continue.
 -- what is painted up to a position, taken back
-pub painted_front_is : (row front : Row) (n place : ℕ) (c : Bool) → length front + n ≡ place → front ++ replicate n c ≡ take place row
+pub painted_front_is : (row front : Row) (n place : ℕ) (c : Bool) → length front + n ≡ place
+    → front ++ replicate n c ≡ take place row
     → front ≡ take (length front) row
 painted_front_is row front n place c sum is =
     let p : ℕ = length front in
     sym (take_all p front (omega arith)) ∙ sym (take-append-le p front (replicate n c) (omega arith))
     ∙ ap (take p) is ∙ take-take p place row (omega arith)
 
-pub painted_pixel : (row front : Row) (n place : ℕ) (c : Bool) → length front + n ≡ place → front ++ replicate n c ≡ take place row
+pub painted_pixel : (row front : Row) (n place : ℕ) (c : Bool) → length front + n ≡ place
+    → front ++ replicate n c ≡ take place row
     → (q : ℕ) → length front ≤ q → q < place → pixel row q ≡ c
 painted_pixel row front n place c sum is q le lt =
     sym (get_or-take place row q false lt) ∙ ap (λ (r : Row). get_or r q false) (sym is)

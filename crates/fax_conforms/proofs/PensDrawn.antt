@@ -4,7 +4,7 @@ use Rattle.hayro_ccitt.proofs.Names.{refl, ap, sym, subst, ◌∙◌, arith, len
 use Rattle.hayro_ccitt.proofs.Names.{Row, Mode, mode_codes, read_code, opposite, right_of, b1, b2, right_of_painted, pos}
 use Rattle.hayro_ccitt.proofs.Names.{◌+ℤ◌, ℤ, Pass}
 use Rattle.hayro_ccitt.proofs.Names.{Vertical, Ok, pixels, AreChanges, cond}
-use Rattle.hayro_ccitt.proofs.PixelRows.ChangePlaces.{b1_right, b2_right, b2_above}
+use Rattle.hayro_ccitt.proofs.PixelRows.ChangePlaces.{b2_right, b2_above}
 use Rattle.hayro_ccitt.proofs.PixelRows.ChangesAndPixels.{length-pixels}
 use Rattle.fax_conforms.specs.declared.lines.Pen.{Pen}
 use Rattle.fax_conforms.specs.Standing.{Spot, Leads, Never, LineFrom, ModeFrom, spot_of, from_of, IsDrawn, IsAbove, DrawsOn}
@@ -45,10 +45,6 @@ module _ (reference : Row) (pen : Pen) (black : pen.begun ≡ true → pen.paint
 
   first_black : from_of pen ≡ 1 → pen.color ≡ Black
   first_black e = let one = from_one pen.begun pen.painted e in black one.0 one.1
-
-  pub b1_same : b1 reference (from_of pen) pen.color ≡ b1 reference (right_of_painted pen.painted) pen.color
-  b1_same = sym (b1_right reference front (from_of pen) pen.color front_len first_black)
-      ∙ ap (λ (n : ℕ). b1 reference n pen.color) (right_of_white pen.painted)
 
   pub b2_same : b2 reference (from_of pen) pen.color ≡ b2 reference (right_of_painted pen.painted) pen.color
   b2_same = sym (b2_right reference front (from_of pen) pen.color front_len first_black)
@@ -147,7 +143,8 @@ module _ (columns : ℕ) (pen : Pen) (places : List ℕ) (small : columns ≤ 42
           onward = onward_to next new to is right_of_b1.0;
         }
 
-        pub pass_drawn : (here : Bits) → Leads columns (ModeFrom above_row at Pass here) (LineFrom above_row (spot_of next new) here)
+        pub pass_drawn : (here : Bits) → Leads columns (ModeFrom above_row at Pass here) (LineFrom above_row
+            (spot_of next new) here)
         pass_drawn here = subst (λ (s : Spot). Leads columns (ModeFrom above_row at Pass here) (LineFrom above_row s here))
             (sym (spot_painted pen next places new to drawn.lawful is))
             (pass_leads columns above_row at small len_above len inside white here to to_is lt)
@@ -160,21 +157,10 @@ module _ (columns : ℕ) (pen : Pen) (places : List ℕ) (small : columns ≤ 42
     module _ (k : ℤ) (place : ℕ) (is_at : pos (b1 above_row (from_of pen) pen.color) +ℤ k ≡ pos place) where
       module _ (right : from_of pen ≤ place) (within : place ≤ columns) (next : Pen) (new : List ℕ)
           (is : IsPainted pen next places new place) where
-        black_at_first : place ≡ 0 → opposite next.color ≡ Black
-        black_at_first e = ap opposite (is.color ∙ white (omega (arith, right, e)))
-
-        pub vertical_on : (q : ℕ) → IsAbove columns (record pen { passed = q }) reference
-            → DrawsOn columns reference pen (record next { passed = q; color = opposite next.color }) new
-        vertical_on q more = record {
-          drawn = drawn_to next new place is q (opposite next.color) within black_at_first;
-          above = above_on columns (record pen { passed = q }) (record next { passed = q; color = opposite next.color }) reference
-              more (omega (arith, right, from_is, is.painted)) refl;
-          onward = onward_to next new place is right;
-        }
-
         pub vertical_drawn : (here : Bits) → Leads columns (ModeFrom above_row at (Vertical k) here)
             (LineFrom above_row (spot_of (record next { color = opposite next.color }) new) here)
-        vertical_drawn here = subst (λ (s : Spot). Leads columns (ModeFrom above_row at (Vertical k) here) (LineFrom above_row s here))
+        vertical_drawn here = subst (λ (s : Spot). Leads columns (ModeFrom above_row at (Vertical k) here)
+            (LineFrom above_row s here))
             (sym (spot_turned pen next places new place drawn.lawful is))
             (vertical_leads columns above_row at small len_above len inside white here k place is_at right within)
 
@@ -183,11 +169,6 @@ module _ (columns : ℕ) (pen : Pen) (places : List ℕ) (small : columns ≤ 42
       vertical_misses none here = vertical_within columns above_row at small len_above len inside white here k
           (λ other other_is right within. let e : pos place ≡ pos other = sym is_at ∙ other_is in
           let same : place ≡ other = cc in none (omega (arith, same, right)) (omega (arith, same, within)))
-
-    pub vertical_fails : (k : ℤ) → ((place : ℕ) → pos (b1 above_row (from_of pen) pen.color) +ℤ k ≡ pos place → place ≤ columns → ⊥)
-        → (here : Bits) → Never columns (ModeFrom above_row at (Vertical k) here)
-    vertical_fails k none here = vertical_within columns above_row at small len_above len inside white here k
-        (λ other other_is right within. none other other_is within)
 
     -- ---- The mode here.
     pub mode_here_leads : {Q : Row → Bits → Type 0} (mode : Mode) (here behind : Bits)

@@ -20,20 +20,25 @@ begins_with_eol settings reference (row ∷ rows) bits behind whole some (fill, 
     (line ++ (next ++ behind), (fill, is ∙ ap (λ (x : Bits). x ++ behind) split ∙ simp append_assoc refl))
 
 -- lines of T.4 without EOLs don't
-begins_with_no_eol : (settings : DecodeSettings) → 0 < settings.columns → settings.columns ≤ 4294967295 → settings.encoding ≢ Group4
+begins_with_no_eol : (settings : DecodeSettings) → 0 < settings.columns → settings.columns ≤ 4294967295
+    → settings.encoding ≢ Group4
     → (reference : Row) (rows : List Row) (bits behind whole : Bits) → 0 < length rows
     → EncodesRows settings.encoding settings.rows_are_byte_aligned reference rows bits
     → ((row : Row) (more : List Row) → rows ≡ row ∷ more → length row ≡ settings.columns) → whole ≡ bits ++ behind
     → (rest : Bits) → EolStands whole rest → ⊥
-begins_with_no_eol settings wide small three reference [] bits behind whole some lines widths is rest stands = absurd (omega arith)
-begins_with_no_eol settings wide small three reference (row ∷ rows) bits behind whole some (line, next, is_line, lines, split) widths
+begins_with_no_eol settings wide small three reference [] bits behind whole some lines widths is rest stands = absurd
+    (omega arith)
+begins_with_no_eol settings wide small three reference (row ∷ rows) bits behind whole some
+    (line, next, is_line, lines, split) widths
     is rest (fill, stands) =
     let fill_of : Bits = cond settings.rows_are_byte_aligned (padding (length line)) [] in
     let start = line_t4_starts settings wide small settings.encoding reference row line (fill_of ++ (next ++ behind))
     (matches_itself settings three) is_line (widths row rows refl) in
     let here : whole ≡ line ++ (fill_of ++ (next ++ behind)) =
-    is ∙ ap (λ (x : Bits). x ++ behind) split ∙ append_assoc (line ++ fill_of) next behind ∙ append_assoc line fill_of (next ++ behind) in
-    absurd (let e : Option.Some rest ≡ None = sym (eol_stands fill rest) ∙ ap (after_eol 0) (sym stands ∙ here) ∙ start.no_eol in cc)
+    is ∙ ap (λ (x : Bits). x ++ behind) split ∙ append_assoc (line ++ fill_of) next behind
+    ∙ append_assoc line fill_of (next ++ behind) in
+    absurd (let e : Option.Some rest ≡ None = sym (eol_stands fill rest) ∙ ap (after_eol 0) (sym stands ∙ here)
+    ∙ start.no_eol in cc)
 
 module _ (settings : DecodeSettings) (wide : 0 < settings.columns) (whole : Bits) where
   abbrev white : Row
@@ -50,7 +55,8 @@ module _ (settings : DecodeSettings) (wide : 0 < settings.columns) (whole : Bits
           eol 0 ++ (eol 0 ++ rest),
           is.1,
           subst (λ (e : EncodingMode). EncodesRows e settings.rows_are_byte_aligned white rows body) (sym four) lines,
-          starts ∙ ap (λ (x : Bits). x ++ rest) split ∙ append_assoc (body ++ eol 0) (eol 0) rest ∙ append_assoc body (eol 0) (eol 0 ++ rest),
+          starts ∙ ap (λ (x : Bits). x ++ rest) split ∙ append_assoc (body ++ eol 0) (eol 0) rest
+              ∙ append_assoc body (eol 0) (eol 0 ++ rest),
           inr (((four, begins.end_of_block), (rest, refl)), subst (Allows settings) (added_none (length rows)) begins.limit),
         )
     group4_to (rows, inl (count, IsClosedPicture.by_rtc bits behind begins counted)) = absurd (begins.encoding four)

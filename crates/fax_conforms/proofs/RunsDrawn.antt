@@ -7,8 +7,7 @@ use Rattle.fax_conforms.specs.Standing.{Spot, Leads, Never, LineFrom, ModeFrom, 
 use Rattle.fax_conforms.specs.Standing.{DrawsOn}
 use Rattle.fax_conforms.specs.Standing.{NextRun, PaintsRun}
 use Rattle.fax_conforms.proofs.ModesLead.{painted_on, horizontal_leads, horizontal_runs}
-use Rattle.fax_conforms.proofs.PensDrawn.{spot_painted, spot_turned, above_on, len_front, len, inside, white, drawn_to}
-use Rattle.fax_conforms.proofs.PensDrawn.{onward_to}
+use Rattle.fax_conforms.proofs.PensDrawn.{spot_painted, spot_turned, above_on, len_front, len, inside, white}
 use Rattle.fax_conforms.proofs.RunsLead.{run_leads, one_run}
 use Rattle.fax_conforms.proofs.SpelledRuns.{same_run}
 
@@ -41,7 +40,8 @@ module _ (columns : ℕ) (pen : Pen) (places : List ℕ) (small : columns ≤ 42
   front_len = len_front columns pen places small drawn open_end
 
   -- no run is here that a lawful line may have
-  pub run_fails : (here : Bits) → ((run : ℕ) (rest : Bits) → NextRun columns pen here rest run → ⊥) → Never columns (RunsFrom spot here)
+  pub run_fails : (here : Bits) → ((run : ℕ) (rest : Bits) → NextRun columns pen here rest run → ⊥)
+      → Never columns (RunsFrom spot here)
   run_fails here none row rest row_len stands =
       let has = one_run columns spot here small (omega (arith, front_len, open_end)) row rest row_len stands in
       none has.run has.behind (record {
@@ -55,7 +55,8 @@ module _ (columns : ℕ) (pen : Pen) (places : List ℕ) (small : columns ≤ 42
       → length reference ≡ columns → Never columns (ModeFrom reference spot Horizontal here)
   horizontal_fails here none reference ref_len row rest row_len stands =
       let has = horizontal_runs columns reference spot small ref_len (len columns pen places small drawn open_end)
-      (inside columns pen places small drawn open_end) (white columns pen places small drawn open_end) here row rest row_len stands in
+      (inside columns pen places small drawn open_end) (white columns pen places small drawn open_end) here row rest row_len
+      stands in
       none has.one has.middle (record {
         read = has.read1;
         within = omega (arith, has.within1, front_len);
@@ -75,14 +76,6 @@ module _ (columns : ℕ) (pen : Pen) (places : List ℕ) (small : columns ≤ 42
     right : from_of pen ≤ pen.painted + run
     right = from_above pen.begun pen.painted run some
 
-    pub run_drawn_on : IsDrawn columns next new
-    run_drawn_on = subst (λ (p : Pen). IsDrawn columns p new) (turned_is pen next paints.turned)
-        (drawn_to columns pen places small drawn open_end flat new (pen.painted + run) paints.painted next.passed (opposite pen.color)
-        paints.stands.within (λ e. ap opposite (white columns pen places small drawn open_end (omega (arith, right, e)))))
-
-    pub run_onward : from_of pen < from_of next
-    run_onward = onward_to columns pen places small drawn open_end flat new (pen.painted + run) paints.painted right
-
     run_spot : spot_of next new ≡ painted_on spot (pen.painted + run) (opposite pen.color)
     run_spot = ap (λ (p : Pen). spot_of p new) (sym (turned_is pen next paints.turned))
         ∙ spot_turned pen flat places new (pen.painted + run) drawn.lawful paints.painted
@@ -97,7 +90,8 @@ module _ (columns : ℕ) (pen : Pen) (places : List ℕ) (small : columns ≤ 42
         → length reference ≡ columns → Never columns (ModeFrom reference spot Horizontal here)
     second_fails none reference ref_len row rest row_len stands =
         let has = horizontal_runs columns reference spot small ref_len (len columns pen places small drawn open_end)
-        (inside columns pen places small drawn open_end) (white columns pen places small drawn open_end) here row rest row_len stands in
+        (inside columns pen places small drawn open_end) (white columns pen places small drawn open_end) here row rest row_len
+        stands in
         let same = same_run has.one run has.middle behind (sym has.read1 ∙ paints.stands.read) in
         none has.two has.behind (record {
           read = rw (paints.turned, ← same.1) has.read2;
@@ -134,11 +128,13 @@ module _ (columns : ℕ) (pen : Pen) (places : List ℕ) (small : columns ≤ 42
         };
         above = above_on columns pen last reference above (omega (arith, paints.painted.painted, second.painted.painted))
             (second.painted.passed ∙ paints.painted.passed);
-        onward = let from : from_of last ≡ suc last.painted = ap (λ (b : Bool). cond b (suc last.painted) 0) second.painted.begun in
+        onward = let from : from_of last ≡ suc last.painted = ap (λ (b : Bool). cond b
+            (suc last.painted) 0) second.painted.begun in
             omega (arith, from, right, paints.painted.painted, second.painted.painted);
       }
 
-      spots : spot_of last final ≡ painted_on (painted_on spot (pen.painted + run) (opposite pen.color)) (next.painted + two) pen.color
+      spots : spot_of last final ≡ painted_on (painted_on spot (pen.painted + run) (opposite pen.color))
+          (next.painted + two) pen.color
       spots = ap (λ (c : Color). record (spot_of last final) { color = c }) color_is
           ∙ ap (λ (s : Spot). record s { color = pen.color })
           (spot_painted next flat_last new final (next.painted + two) paints.painted.lawful second.painted)

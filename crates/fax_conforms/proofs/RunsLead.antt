@@ -53,7 +53,8 @@ run_length at n others row row_is =
 has_run : (at : Spot) (here : Bits) (row : Row) (rest : Bits) (columns : ℕ) → length row ≡ columns → columns ≤ 4294967295
     → length at.front < columns → RunsFrom at here row rest → HasRun at here row rest
 has_run at here row rest columns row_len small open_end (others, bits, row_is, first, EncodesLine1D.over, is) =
-    absurd (let l : length row ≡ length at.front = ap length (row_is ∙ append-nil at.front) in omega (arith, l, row_len, open_end))
+    absurd (let l : length row ≡ length at.front = ap length (row_is ∙ append-nil at.front) in omega
+    (arith, l, row_len, open_end))
 has_run at here row rest columns row_len small open_end
     (others, bits, row_is, first, EncodesLine1D.run n word {row = behind} {bits = next} spells some maximal line, is) =
     let few = run_length at n behind row row_is in
@@ -117,7 +118,8 @@ module _ (columns : ℕ) (at : Spot) (here : Bits) (small : columns ≤ 42949672
           sym same.1 ∙ has.stands,
         )
 
-    run_back : (row : Row) (rest : Bits) → length row ≡ columns → RunsFrom (painted_on at place (opposite at.color)) behind row rest
+    run_back : (row : Row) (rest : Bits) → length row ≡ columns → RunsFrom (painted_on at place
+        (opposite at.color)) behind row rest
         → RunsFrom at here row rest
     run_back row rest row_len (others, line, row_is, maximal, encodes, stands) =
         let word = run_is_spelled at.color run here behind read in
@@ -130,7 +132,8 @@ module _ (columns : ℕ) (at : Spot) (here : Bits) (small : columns ≤ 42949672
           replicate run (is_black at.color) ++ others,
           word.0 ++ line,
           split,
-          (λ begun more e. not_itself (is_black at.color) (begins_with run (is_black at.color) (is_black (opposite at.color)) others
+          (λ begun more e. not_itself (is_black at.color) (begins_with run (is_black at.color) (is_black
+              (opposite at.color)) others
               more (some begun) e ∙ opposite_pixel at.color)),
           EncodesLine1D.run run word.0 word.1 (omega (arith, size, row_len, open_end)) last encodes,
           word.2 ∙ ap (λ (x : Bits). word.0 ++ x) stands ∙ sym (append_assoc word.0 line rest),

@@ -48,7 +48,8 @@ last_word_alone color total m n here behind rest h small same =
       stands = word.2 ∙ ap (λ (x : Bits). word.0 ++ x) found.1;
     }
 
-spelled_by : (k : ℕ) (color : Color) (total n : ℕ) (here rest : Bits) → length here < k → run_from color (total, here) ≡ Ok (n, rest)
+spelled_by : (k : ℕ) (color : Color) (total n : ℕ) (here rest : Bits) → length here < k
+    → run_from color (total, here) ≡ Ok (n, rest)
     → IsSpelled color total n here rest
 spelled_by zero color total n here rest lt e = absurd (omega arith)
 spelled_by (suc k) color total n here rest lt e =

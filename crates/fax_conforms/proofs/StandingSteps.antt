@@ -33,7 +33,12 @@ split_word word bits rest here is = is ∙ append_assoc word bits rest
 pub mode_of_steps : (reference row : Row) (from : ℕ) (color : Color) (here rest : Bits) → from ≤ length row
     → length row ≤ 4294967295 → StepsStand reference row from color here rest → HasMode reference row from color here rest
 mode_of_steps reference row from color here rest le small (bits, EncodesLine2D.over, is) = absurd (omega arith)
-mode_of_steps reference row from color here rest le small (bits, EncodesLine2D.pass from2 word {bits = next} inside has left steps, is)
+mode_of_steps reference row from color here rest le small (
+  bits,
+  EncodesLine2D.pass from2 word {bits =
+      next} inside has left steps,
+  is,
+)
     = record {
       mode = Pass;
       behind = next ++ rest;
@@ -89,6 +94,7 @@ steps_of_mode reference row from color here behind rest Horizontal le read (midd
     simp append_assoc refl in (
       word.0 ++ (one.0 ++ (two.0 ++ bits)),
       EncodesLine2D.horizontal from word.0 le word.1 one.1 two.1 steps,
-      word.2 ∙ ap (λ (x : Bits). word.0 ++ x) (one.2 ∙ ap (λ (x : Bits). one.0 ++ x) (two.2 ∙ ap (λ (x : Bits). two.0 ++ x) split))
+      word.2 ∙ ap (λ (x : Bits). word.0 ++ x) (one.2 ∙ ap (λ (x : Bits). one.0 ++ x) (two.2
+          ∙ ap (λ (x : Bits). two.0 ++ x) split))
           ∙ joined,
     )

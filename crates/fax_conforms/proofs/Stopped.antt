@@ -19,11 +19,6 @@ pub if_broken : {T : Type 0} (r : Result T Stop) (P Q : Type 0) → IfErr r (λ 
 if_broken (Ok x) P Q p on = tt
 if_broken (Err e) P Q p on = λ broken. on (p broken)
 
--- an error that is no broken rule
-pub if_no_rule : {T : Type 0} (r : Result T Stop) (P : Type 0) → IfErr r (λ e. IsBroken e → ⊥) → IfErr r (λ e. IsBroken e → P)
-if_no_rule (Ok x) P none = tt
-if_no_rule (Err e) P none = λ broken. absurd (none broken)
-
 -- what holds where nothing is broken
 pub if_done : {T : Type 0} (r : Result T Stop) (P Q : Type 0) → OnOk r P → (P → Q) → OnOk r Q
 if_done (Ok x) P Q p on = on p

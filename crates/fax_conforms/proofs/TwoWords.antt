@@ -3,7 +3,8 @@ use Rattle.hayro_ccitt.proofs.Names.{◌≡◌, ◌++◌, ◌↔◌, Option, Som
 use Rattle.std.specs.Prelude.{IfNone}
 use Rattle.hayro_ccitt.proofs.Names.{append_cancel_left, Bits, BitsAt, here}
 
-pub two_words : (word start behind : Bits) (o : Option BitsAt) → start ≡ word ++ behind → IfSome o (λ after. behind ≡ word ++ here after)
+pub two_words : (word start behind : Bits) (o : Option BitsAt) → start ≡ word ++ behind
+    → IfSome o (λ after. behind ≡ word ++ here after)
     → IfNone o ((rest : Bits) → behind ≡ word ++ rest → ⊥)
     → IsTrue (is_some o) ↔ ((rest : Bits) × (start ≡ word ++ (word ++ rest)))
 two_words word start behind (Some after) is found none =
@@ -11,5 +12,6 @@ two_words word start behind (Some after) is found none =
 two_words word start behind None is found none =
     (λ t. absurd cc, λ (rest, stands). absurd (none rest (append_cancel_left word behind (word ++ rest) (sym is ∙ stands))))
 
-pub no_words : (word start : Bits) → ((rest : Bits) → start ≡ word ++ rest → ⊥) → (rest : Bits) × (start ≡ word ++ (word ++ rest)) → ⊥
+pub no_words : (word start : Bits) → ((rest : Bits) → start ≡ word ++ rest → ⊥)
+    → (rest : Bits) × (start ≡ word ++ (word ++ rest)) → ⊥
 no_words word start none (rest, stands) = none (word ++ rest) stands

@@ -51,7 +51,8 @@ pub record GoesOnFrom (row : Row) (at : Spot) : Type 0 where
 
 -- lawful steps of a two-dimensional line stand here (T.4, 4.2.1.3; T.6, 2.2)
 abbrev pub StepsStand : Row → Row → ℕ → Color → Bits → Bits → Type 0
-StepsStand reference row from color here rest = (bits : Bits) × EncodesLine2D reference row from color bits × (here ≡ bits ++ rest)
+StepsStand reference row from color here rest = (bits : Bits) × EncodesLine2D reference row from color bits ×
+    (here ≡ bits ++ rest)
 
 -- a row goes on from a position, and its lawful steps stand here (T.4, 4.2.1.3; T.6, 2.2)
 abbrev pub LineFrom : Row → Spot → Bits → Row → Bits → Type 0

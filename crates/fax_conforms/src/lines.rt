@@ -231,7 +231,8 @@ fn paint_run(
 ) -> Result<Pen, Stop>
     requires within { pen.painted ≤ columns }
     requires lawful { AreChanges pen.painted coding.old.items }
-    ensures run { IfOk result (λ next. PaintsRun columns pen next coding.old.items coding.new.items (here reader.old) (here reader.new)) }
+    ensures run { IfOk result (λ next. PaintsRun columns pen next coding.old.items coding.new.items (here reader.old)
+        (here reader.new)) }
     ensures none { IfErr result (λ e. IsBroken e → (run : ℕ) (rest : Bits) → NextRun columns pen (here reader.old) rest run → ⊥) }
     ensures same_bits { reader.new.bits ≡ reader.old.bits }
 {
@@ -306,7 +307,8 @@ pub fn draw_line_2d(
 ) -> Result<(), Stop>
     requires wide { 0 < columns }
     requires reference { AreChanges columns reference.now }
-    ensures row { OnOk result (Leads columns (λ row rest. LineStands Group4 (pixels columns reference.now) row (here reader.old) rest)
+    ensures row { OnOk result (Leads columns (λ row rest. LineStands Group4 (pixels columns reference.now) row
+        (here reader.old) rest)
         (IsOnly (pixels columns coding.new.items) (here reader.new))) }
     ensures lawful { OnOk result (AreChanges columns coding.new.items) }
     ensures none { IfErr result (λ e. IsBroken e
@@ -351,7 +353,8 @@ pub fn draw_line_1d(
     coding: &mut Vec<u32>,
 ) -> Result<(), Stop>
     requires wide { 0 < columns }
-    ensures row { OnOk result ((reference : Row) → Leads columns (λ row rest. LineStands Group3_1D reference row (here reader.old) rest)
+    ensures row { OnOk result ((reference : Row) → Leads columns (λ row rest. LineStands Group3_1D reference row
+        (here reader.old) rest)
         (IsOnly (pixels columns coding.new.items) (here reader.new))) }
     ensures lawful { OnOk result (AreChanges columns coding.new.items) }
     ensures none { IfErr result (λ e. IsBroken e → (reference : Row)

@@ -133,7 +133,8 @@ fn pass_zero(reader: &mut BitReader<'_>) -> bool
 
 /// Consumes zeros up to a whole byte, and returns whether there are as many (T.4, 4.1.3).
 fn pass_padding(reader: &mut BitReader<'_>) -> bool
-    ensures padding { result ≡ true → (rest : Bits) → (here reader.old ≡ padding reader.old.place ++ rest) ↔ (here reader.new ≡ rest) }
+    ensures padding { result ≡ true → (rest : Bits) → (here reader.old ≡ padding reader.old.place ++ rest) ↔
+        (here reader.new ≡ rest) }
     ensures whole { result ≡ true → reader.new.place % 8 ≡ 0 }
     ensures none { result ≡ false → (rest : Bits) → here reader.old ≡ padding reader.old.place ++ rest → ⊥ }
     ensures same_bits { reader.new.bits ≡ reader.old.bits }
@@ -150,7 +151,8 @@ fn pass_padding(reader: &mut BitReader<'_>) -> bool
 
 /// Consumes the padding after a line where lines are aligned, and returns whether it is there (T.4, 4.1.3).
 fn pass_fill(aligned: bool, reader: &mut BitReader<'_>) -> bool
-    ensures fill { result ≡ true → (rest : Bits) → (here reader.old ≡ fill_at aligned reader.old.place ++ rest) ↔ (here reader.new ≡ rest) }
+    ensures fill { result ≡ true → (rest : Bits) → (here reader.old ≡ fill_at aligned reader.old.place ++ rest) ↔
+        (here reader.new ≡ rest) }
     ensures whole { result ≡ true → aligned ≡ true → reader.new.place % 8 ≡ 0 }
     ensures none { result ≡ false → (rest : Bits) → here reader.old ≡ fill_at aligned reader.old.place ++ rest → ⊥ }
     ensures same_bits { reader.new.bits ≡ reader.old.bits }

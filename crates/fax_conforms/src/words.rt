@@ -32,7 +32,8 @@ impl Words {
     /// Reads the mode here, if there is one (T.4 table 4, T.6 table 1).
     pub fn mode(&mut self, reader: &mut BitReader<'_>) -> Option<Mode>
         ensures found { IfSome result (λ mode. read_code mode_codes (here reader.old) ≡ Ok (mode, here reader.new)) }
-        ensures none { IfNone result ((mode : Mode) (rest : Bits) → read_code mode_codes (here reader.old) ≡ Ok (mode, rest) → ⊥) }
+        ensures none { IfNone result ((mode : Mode) (rest : Bits) → read_code mode_codes (here reader.old) ≡ Ok (mode, rest)
+            → ⊥) }
         ensures same_bits { reader.new.bits ≡ reader.old.bits }
     {
         match reader.decode_mode(&mut self.ticks) {

@@ -14,18 +14,21 @@ returns-then-is_group4-clause-stands c = if_done c.read_body.result _ _ c.read_b
 
 pub returns-then-is_group4-clause-none : goal.returns-then-is_group4-clause-none
 returns-then-is_group4-clause-none c = if_broken c.read_body.result _ _ c.read_body.ensures.none (λ none conforms. none
-    ((group4_conforms c.args.settings c.requires.wide (here c.args.reader.now) (c.is_group4.ensures.0 c.if-is_group4.true)).0 conforms))
+    ((group4_conforms c.args.settings c.requires.wide (here c.args.reader.now)
+    (c.is_group4.ensures.0 c.if-is_group4.true)).0 conforms))
 
 pub returns-then-has_eol-clause-stands : goal.returns-then-has_eol-clause-stands
 returns-then-has_eol-clause-stands c =
     let found = c.has_eol.ensures.found c.if-has_eol.true in
-    if_done c.read_lines.result _ _ c.read_lines.ensures.stands (eols_conform c.args.settings c.requires.wide (here c.args.reader.now)
+    if_done c.read_lines.result _ _ c.read_lines.ensures.stands (eols_conform c.args.settings c.requires.wide
+    (here c.args.reader.now)
     (omega arith) (three (goal.at.returns-then-has_eol-clause-stands c).Else-is_group4) found.0 found.1).1
 
 pub returns-then-has_eol-clause-none : goal.returns-then-has_eol-clause-none
 returns-then-has_eol-clause-none c =
     let found = c.has_eol.ensures.found c.if-has_eol.true in
-    if_broken c.read_lines.result _ _ c.read_lines.ensures.none (λ none conforms. none ((eols_conform c.args.settings c.requires.wide
+    if_broken c.read_lines.result _ _ c.read_lines.ensures.none (λ none conforms. none
+    ((eols_conform c.args.settings c.requires.wide
     (here c.args.reader.now) (omega arith) (three (goal.at.returns-then-has_eol-clause-none c).Else-is_group4) found.0 found.1).0
     conforms))
 
@@ -35,7 +38,8 @@ returns-then-settings-clause-none c = if_err c.broken.result _ (no_eols_conform 
     (c.has_eol.ensures.none c.if-has_eol.false) c.if-settings.true)
 
 pub returns-clause-stands : goal.returns-clause-stands
-returns-clause-stands c = if_done c.read_body-2.result _ _ c.read_body-2.ensures.stands (lines_conform c.args.settings c.requires.wide
+returns-clause-stands c = if_done c.read_body-2.result _ _ c.read_body-2.ensures.stands
+    (lines_conform c.args.settings c.requires.wide
     (here c.args.reader.now) (omega arith) (three (goal.at.returns-clause-stands c).Else-is_group4)
     (c.has_eol.ensures.none c.if-has_eol.false) c.if-settings.false).1
 

@@ -5,7 +5,8 @@ use Rattle.fax_conforms.proofs.lines.draw_horizontal.Goals as goal
 pub returns-in_err-between-clause-none : goal.returns-in_err-between-clause-none
 returns-in_err-between-clause-none c =
     let p = err_from_is_err_and c.from_residual.result c.from_residual.ensures.1 in
-    rw (p.1, p.2) (λ broken. horizontal_fails c.args.columns c.args.pen c.args.coding.now.items (omega (arith, c.ranges.columns.fits))
+    rw (p.1, p.2) (λ broken. horizontal_fails c.args.columns c.args.pen c.args.coding.now.items (omega
+    (arith, c.ranges.columns.fits))
     c.requires.drawn c.requires.open_end _ (c.in_err-between.ensures.none broken))
 
 pub returns-in_err-next-clause-none : goal.returns-in_err-next-clause-none

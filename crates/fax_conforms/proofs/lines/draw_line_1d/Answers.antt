@@ -13,7 +13,8 @@ runs-preserved c = record {
 pub returns-in_err-pen-clause-none : goal.returns-in_err-pen-clause-none
 returns-in_err-pen-clause-none c =
     let p = err_from_is_err_and c.from_residual.result c.from_residual.ensures.1 in
-    rw (p.1, p.2) (λ broken reference. leads_never c.args.columns (c.runs.invariant.leads reference) (c.in_err-pen.ensures.none broken))
+    rw (p.1, p.2) (λ broken reference. leads_never c.args.columns (c.runs.invariant.leads reference)
+    (c.in_err-pen.ensures.none broken))
 
 pub returns-clause-row : goal.returns-clause-row
 returns-clause-row c = λ reference. leads_on c.args.columns (c.runs.invariant.leads reference)

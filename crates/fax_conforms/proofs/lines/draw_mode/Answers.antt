@@ -28,7 +28,7 @@ returns-in-Vertical-clause-leads c = if_ok c.draw_vertical.result _ _ c.draw_ver
     c.requires.open_end c.args.reference.now c.requires.above (Vertical (to_z w8 (of_z w8 c.in-Vertical.offset))) _ _
     (c.in-Some.ensures.found ∙ ap (λ (m : Mode). Ok (m, here c.mode.new.reader))
     (c.in-Vertical.is ∙ ap Vertical (sym (to_z-of_z (let narrow : SFits w8 c.in-Vertical.offset = search rules in narrow)))))
-     (leads (here c.mode.new.reader)))
+    (leads (here c.mode.new.reader)))
 
 pub returns-in-Vertical-clause-none : goal.returns-in-Vertical-clause-none
 returns-in-Vertical-clause-none c = if_broken c.draw_vertical.result _ _ c.draw_vertical.ensures.none (λ none.
@@ -36,18 +36,20 @@ returns-in-Vertical-clause-none c = if_broken c.draw_vertical.result _ _ c.draw_
     c.requires.open_end c.args.reference.now c.requires.above (Vertical (to_z w8 (of_z w8 c.in-Vertical.offset))) _ _
     (c.in-Some.ensures.found ∙ ap (λ (m : Mode). Ok (m, here c.mode.new.reader))
     (c.in-Vertical.is ∙ ap Vertical (sym (to_z-of_z (let narrow : SFits w8 c.in-Vertical.offset = search rules in narrow)))))
-     (none (here c.mode.new.reader)))
+    (none (here c.mode.new.reader)))
 
 pub returns-in-Horizontal-clause-leads : goal.returns-in-Horizontal-clause-leads
 returns-in-Horizontal-clause-leads c = if_ok c.draw_horizontal.result _ _ c.draw_horizontal.ensures.leads (λ next leads.
     mode_here_leads c.args.columns c.args.pen c.args.coding.now.items (omega (arith, c.ranges.columns.fits)) c.requires.drawn
     c.requires.open_end c.args.reference.now c.requires.above Horizontal _ _
     (c.in-Some.ensures.found ∙ ap (λ (m : Mode). Ok (m, here c.mode.new.reader)) c.in-Horizontal.is)
-    (leads (pixels c.args.columns c.args.reference.now) (length-pixels c.args.columns c.args.reference.now c.requires.above.lawful)))
+    (leads (pixels c.args.columns c.args.reference.now) (length-pixels c.args.columns c.args.reference.now
+    c.requires.above.lawful)))
 
 pub returns-in-Horizontal-clause-none : goal.returns-in-Horizontal-clause-none
 returns-in-Horizontal-clause-none c = if_broken c.draw_horizontal.result _ _ c.draw_horizontal.ensures.none (λ none.
     mode_here_never c.args.columns c.args.pen c.args.coding.now.items (omega (arith, c.ranges.columns.fits)) c.requires.drawn
     c.requires.open_end c.args.reference.now c.requires.above Horizontal _ _
     (c.in-Some.ensures.found ∙ ap (λ (m : Mode). Ok (m, here c.mode.new.reader)) c.in-Horizontal.is)
-    (none (pixels c.args.columns c.args.reference.now) (length-pixels c.args.columns c.args.reference.now c.requires.above.lawful)))
+    (none (pixels c.args.columns c.args.reference.now) (length-pixels c.args.columns c.args.reference.now
+    c.requires.above.lawful)))

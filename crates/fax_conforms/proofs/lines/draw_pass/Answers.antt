@@ -8,7 +8,11 @@ use Rattle.fax_conforms.proofs.lines.draw_pass.Goals as goal
 pub returns-then-above-columns-clause-none : goal.returns-then-above-columns-clause-none
 returns-then-above-columns-clause-none c = if_err c.broken.result _
     (pass_fails c.args.columns c.args.pen c.args.coding.now.items (omega (arith, c.ranges.columns.fits)) c.requires.drawn
-    c.requires.open_end c.args.reference.now c.requires.above (omega (arith, c.if-above-columns.true, c.find_above-above.ensures.b2)))
+    c.requires.open_end c.args.reference.now c.requires.above (omega (
+      arith,
+      c.if-above-columns.true,
+      c.find_above-above.ensures.b2,
+    )))
 
 pub paint_to-requires-clause-right : goal.paint_to-requires-clause-right
 paint_to-requires-clause-right c =
@@ -19,7 +23,8 @@ paint_to-requires-clause-right c =
 pub returns-clause-leads : goal.returns-clause-leads
 returns-clause-leads c = λ here. subst (λ (p : Pen). Leads c.args.columns
     (ModeFrom (pixels c.args.columns c.args.reference.now) (spot_of c.args.pen c.args.coding.now.items) Pass here)
-    (LineFrom (pixels c.args.columns c.args.reference.now) (spot_of p c.paint_to.new.coding.items) here)) (sym c.with_passed.ensures)
+    (LineFrom (pixels c.args.columns c.args.reference.now) (spot_of p c.paint_to.new.coding.items) here))
+    (sym c.with_passed.ensures)
     (pass_drawn c.args.columns c.args.pen c.args.coding.now.items (omega (arith, c.ranges.columns.fits)) c.requires.drawn
     c.requires.open_end c.args.reference.now c.requires.above c.find_above-above.result.b2 c.find_above-above.ensures.b2
     c.if-above-columns.false c.in_ok-next.next c.paint_to.new.coding.items c.in_ok-next.ensures.painted here)

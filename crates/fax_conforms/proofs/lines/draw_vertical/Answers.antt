@@ -36,7 +36,8 @@ returns-then-place-columns-clause-none c = if_err c.broken-then-place-columns.re
 
 pub returns-clause-leads : goal.returns-clause-leads
 returns-clause-leads c = λ here. subst (λ (p : Pen). Leads c.args.columns
-    (ModeFrom (pixels c.args.columns c.args.reference.now) (spot_of c.args.pen c.args.coding.now.items) (Vertical c.args.offset) here)
+    (ModeFrom (pixels c.args.columns c.args.reference.now) (spot_of c.args.pen c.args.coding.now.items)
+    (Vertical c.args.offset) here)
     (LineFrom (pixels c.args.columns c.args.reference.now) (spot_of p c.paint_to.new.coding.items) here))
     (sym (c.turned.ensures ∙ ap (λ (p : Pen). record p { color = opposite p.color }) c.with_passed.ensures))
     (vertical_drawn c.args.columns c.args.pen c.args.coding.now.items (omega (arith, c.ranges.columns.fits)) c.requires.drawn

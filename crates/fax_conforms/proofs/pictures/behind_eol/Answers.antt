@@ -3,7 +3,8 @@ use Rattle.fax_conforms.proofs.EolsHere.{no_eol_by_zeros, eol_by_zeros, no_eol_a
 use Rattle.fax_conforms.proofs.pictures.behind_eol.Goals as goal
 
 pub returns-then-zeros-lt11-clause-none : goal.returns-then-zeros-lt11-clause-none
-returns-then-zeros-lt11-clause-none c = no_eol_by_zeros c.zero_run-zeros.result.1 c.zero_run-zeros.result.0 (here c.args.reader.now)
+returns-then-zeros-lt11-clause-none c = no_eol_by_zeros c.zero_run-zeros.result.1 c.zero_run-zeros.result.0
+    (here c.args.reader.now)
     c.if-zeros-lt11.true c.zero_run-zeros.ensures.eol c.zero_run-zeros.ensures.no_eol
 
 pub returns-clause-found : goal.returns-clause-found

@@ -9,7 +9,8 @@ use Rattle.fax_conforms.proofs.pictures.draw_filled_line.Goals as goal
 use Rattle.fax_conforms.proofs.pictures.draw_filled_line.Goals.{Else-not-pass_fill}
 
 leads : (c : Else-not-pass_fill) → Leads c.args.settings.columns
-    (λ row rest. FilledStands c.args.settings (pixels c.args.settings.columns c.args.reference.now) row (here c.args.reader.now) rest)
+    (λ row rest. FilledStands c.args.settings (pixels c.args.settings.columns c.args.reference.now) row
+    (here c.args.reader.now) rest)
     (IsOnly (pixels c.args.settings.columns c.draw_line.new.coding.items) (here c.pass_fill.new.reader))
 leads c = filled_leads c.args.settings (pixels c.args.settings.columns c.args.reference.now)
     (pixels c.args.settings.columns c.draw_line.new.coding.items) c.args.reader.now c.draw_line.new.reader c.pass_fill.new.reader

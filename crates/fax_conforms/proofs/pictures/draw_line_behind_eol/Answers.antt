@@ -7,7 +7,8 @@ use Rattle.fax_conforms.proofs.pictures.draw_line_behind_eol.Goals as goal
 
 pub returns-then-not-pass_eol-clause-none : goal.returns-then-not-pass_eol-clause-none
 returns-then-not-pass_eol-clause-none c = if_err c.broken.result _ (no_eol_line c.args.settings
-    (pixels c.args.settings.columns c.args.reference.now) (here c.args.reader.now) (c.pass_eol.ensures.none c.if-not-pass_eol.true))
+    (pixels c.args.settings.columns c.args.reference.now) (here c.args.reader.now)
+    (c.pass_eol.ensures.none c.if-not-pass_eol.true))
 
 pub returns-clause-row : goal.returns-clause-row
 returns-clause-row c = if_done c.draw_line.result _ _ c.draw_line.ensures.row (λ row. leads_on c.args.settings.columns

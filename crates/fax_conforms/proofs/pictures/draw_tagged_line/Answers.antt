@@ -18,7 +18,8 @@ returns-in-Ok-eq0-clause-row c = if_done c.draw_line_2d.result _ _ c.draw_line_2
     (tagged_2d c.args.columns (pixels c.args.columns c.args.reference.now) _ (here c.read_bit.new.self) (zero c)) on)
 
 pub returns-in-Ok-eq0-clause-none : goal.returns-in-Ok-eq0-clause-none
-returns-in-Ok-eq0-clause-none c = if_broken c.draw_line_2d.result _ _ c.draw_line_2d.ensures.none (λ none. leads_never c.args.columns
+returns-in-Ok-eq0-clause-none c = if_broken c.draw_line_2d.result _ _ c.draw_line_2d.ensures.none
+    (λ none. leads_never c.args.columns
     (tagged_2d c.args.columns (pixels c.args.columns c.args.reference.now) _ (here c.read_bit.new.self) (zero c)) none)
 
 pub returns-in-Ok-clause-row : goal.returns-in-Ok-clause-row
