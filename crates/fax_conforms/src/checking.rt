@@ -105,7 +105,7 @@ fn read_data(
 ///
 /// # Example
 ///
-/// In Group 4 with one column and `end_of_block` the bytes 10 01 00 10 01 are pass mode below a white row, and EOFB, from the
+/// In Group 4 with one column and `end_of_block` the bytes 10 01 00 10 are pass mode below a white row, and EOFB, from the
 /// fifth
 /// bit on. A strict reading takes the pass mode, and here it is the violation: place 0, [`Rule::PassToEnd`].
 pub fn first_violation(
