@@ -104,7 +104,7 @@ fn each_rule_is_found_broken(rt: HostRuntime) {
         &rt,
         "g4 0 0 b -: false at 0: Columns
         g4 8 2 - 31C0040040: false at 10: Mode
-        g4 1 0 b 1001001001: false at 0: PassToEnd
+        g4 1 0 b 10010010: false at 0: PassToEnd
         g4 8 1 - 2000: false at 3: Run
         1d 8 1 - A0: false at 0: RowEnd
         1d 8 1 - 80DC: false at 4: NoPixels

@@ -8,9 +8,8 @@ use Rattle.hayro_ccitt.specs.Encodings.{EncodesLine, padding, EncodesRows, Encod
 use Rattle.hayro_ccitt.specs.Pictures.{Allows, IsClosedPicture, IsLimitedPicture}
 use Rattle.hayro_ccitt.specs.Rows.{Row, HaveWidth}
 
--- The data begin with an encoding of a picture, by every rule: closed as the settings ask, by EOFB or RTC, or with as many
--- rows as
--- the row limit (T.4, 4.1.4; T.6, 2.4.1.1).
+-- The data begin with an encoding of a picture, by every rule: closed as the settings ask, by EOFB or RTC, or with as many rows
+-- as the row limit (T.4, 4.1.4; T.6, 2.4.1.1).
 abbrev pub Conforms : DecodeSettings → Bits → Type 0
 Conforms settings whole = (rows : List Row)
     × (((count : ℕ) × IsClosedPicture settings rows count whole) ⊎ IsLimitedPicture settings rows whole)

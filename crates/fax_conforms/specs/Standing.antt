@@ -74,8 +74,8 @@ StepsBehind reference row from color Horizontal here rest = (middle behind : Bit
 abbrev pub ModeFrom : Row → Spot → Mode → Bits → Row → Bits → Type 0
 ModeFrom reference at mode here row rest = GoesOnFrom row at × StepsBehind reference row at.from at.color mode here rest
 
--- Runs of a one-dimensional line stand here, for the pixels after the front; the first one of a line alone may be empty
--- (T.4, 4.1.1).
+-- Runs of a one-dimensional line stand here, for the pixels after the front; the first one of a line alone may be empty (T.4,
+-- 4.1.1).
 abbrev pub RunsFrom : Spot → Bits → Row → Bits → Type 0
 RunsFrom at here row rest = (others : Row) × (bits : Bits) × (row ≡ at.front ++ others)
     × (0 < at.from → (more : Row) → others ≢ is_black (opposite at.color) ∷ more)
@@ -112,8 +112,8 @@ pub record IsPainted (pen next : Pen) (places new : List ℕ) (place : ℕ) : Ty
   pub pixels_are : pixels next.painted new
       ≡ pixels pen.painted places ++ replicate (next.painted - pen.painted) (is_black pen.color)
 
--- The run of the pen's colour here, which isn't beyond the row's end; only the first run of a line is empty, and one at the row's
--- end (T.4, 4.1.1 and 4.2.1.3).
+-- The run of the pen's colour here, which isn't beyond the row's end; only the first run of a line is empty, and one at the
+-- row's end (T.4, 4.1.1 and 4.2.1.3).
 pub record NextRun (columns : ℕ) (pen : Pen) (here rest : Bits) (run : ℕ) : Type 0 where
   pub read : read_run pen.color here ≡ Ok (run, rest)
   pub within : pen.painted + run ≤ columns

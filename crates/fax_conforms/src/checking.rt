@@ -87,17 +87,16 @@ fn read_data(
     )
 }
 
-/// Returns the first place at which data breaks a rule of its encoding, and which rule; `None` if it begins with an encoding of a
-/// picture, by every rule of T.4 and T.6, that is closed as the settings ask: by EOFB (T.6, 2.4.1.1) or RTC (T.4, 4.1.4) with
+/// Returns the first place at which data breaks a rule of its encoding, and which rule; `None` if it begins with an encoding of
+/// a picture, by every rule of T.4 and T.6, that is closed as the settings ask: by EOFB (T.6, 2.4.1.1) or RTC (T.4, 4.1.4) with
 /// `end_of_block`, or by as many rows as the row limit, whichever comes first. What follows the picture isn't looked at. Each
-/// byte
-/// has its bits in this order.
+/// byte has its bits in this order.
 ///
 /// More is asked here than of data that [`hayro_ccitt::decode`] reads strictly. Pass mode is only where b2 is left of a1, and
-/// each
-/// vertical mode to the right of a0 (T.4, 4.2.1.3); only the first run of a row has no pixels, and one at the row's end in
-/// horizontal mode (T.4, 4.1.1); nothing but zeros is between a line and the next whole byte where rows are aligned (T.4, 4.1.3);
-/// and EOLs and their tags are only where they belong (T.4, 4.1.2 and 4.2.2). Whether the settings are strict has no effect.
+/// each vertical mode to the right of a0 (T.4, 4.2.1.3); only the first run of a row has no pixels, and one at the row's end in
+/// horizontal mode (T.4, 4.1.1); nothing but zeros is between a line and the next whole byte where rows are aligned (T.4,
+/// 4.1.3); and EOLs and their tags are only where they belong (T.4, 4.1.2 and 4.2.2). Whether the settings are strict has no
+/// effect.
 ///
 /// # Errors
 ///
@@ -105,9 +104,8 @@ fn read_data(
 ///
 /// # Example
 ///
-/// In Group 4 with one column and `end_of_block` the bytes 10 01 00 10 01 are pass mode below a white row, and EOFB, from the
-/// fifth
-/// bit on. A strict reading takes the pass mode, and here it is the violation: place 0, [`Rule::PassToEnd`].
+/// In Group 4 with one column and `end_of_block` the bytes 10 01 00 10 are pass mode below a white row, and EOFB, from the
+/// fifth bit on. A strict reading takes the pass mode, and here it is the violation: place 0, [`Rule::PassToEnd`].
 pub fn first_violation(
     alloc: Global,
     settings: DecodeSettings,
@@ -125,9 +123,8 @@ pub fn first_violation(
     }
 }
 
-/// Returns whether data begins with an encoding of a picture, by every rule of T.4 and T.6, that is closed as the settings
-/// ask: whether
-/// it has no [`first_violation`].
+/// Returns whether data begins with an encoding of a picture, by every rule of T.4 and T.6, that is closed as the settings ask:
+/// whether it has no [`first_violation`].
 ///
 /// # Errors
 ///
@@ -135,8 +132,8 @@ pub fn first_violation(
 ///
 /// # Example
 ///
-/// In Group 4 with 8 columns and `end_of_block` the bytes 31 C0 04 00 40 are horizontal mode, 3 white pixels, 2 black ones and a
-/// vertical mode, and then EOFB: the result is `Ok(true)`.
+/// In Group 4 with 8 columns and `end_of_block` the bytes 31 C0 04 00 40 are horizontal mode, 3 white pixels, 2 black ones and
+/// a vertical mode, and then EOFB: the result is `Ok(true)`.
 pub fn conforms(
     alloc: Global,
     settings: DecodeSettings,

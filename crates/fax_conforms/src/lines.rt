@@ -16,8 +16,8 @@ use hayro_ccitt::bit_reader::BitReader;
 use hayro_ccitt::changes::{append_pixels, b1_index, change_or_end};
 use hayro_ccitt::codes::{Color, Mode, Ticks};
 
-/// How far a line is drawn: how many pixels are painted, whether a mode or a run was read, the present colour, how many
-/// changes of the reference row are known not to be right of a0, and the offset of the word that is read.
+/// How far a line is drawn: how many pixels are painted, whether a mode or a run was read, the present colour, how many changes
+/// of the reference row are known not to be right of a0, and the offset of the word that is read.
 #[derive(Clone, Copy)]
 pub struct Pen {
     pub painted: u32,
