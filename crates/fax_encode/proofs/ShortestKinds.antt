@@ -21,6 +21,7 @@ kind_least : (two one line : Bits) (b : Bool) (reference row : Row)
     → ((bits : Bits) → EncodesLine1D White row bits → length one ≤ length bits)
     → EncodesLine Group3_2D reference row line → take 1 line ≡ take 1 (cond b (false ∷ two) (true ∷ one))
     → length (cond b (false ∷ two) (true ∷ one)) ≤ length line
+unfolding first_bit
 kind_least two one line true reference row least_two least_one is same = elim is.1 [
   | inl of_one ↦ absurd (false≢true (ap first_bit (sym same ∙ ap (take 1) of_one.0)))
   | inr of_two ↦ omega (arith, least_two is.0 of_two.1, ap length of_two.0)
