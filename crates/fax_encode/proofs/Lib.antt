@@ -24,6 +24,7 @@ pub mod RunsWritten
 pub mod ScannedRows
 pub mod ScannedWords
 pub mod ShortestBySettings
+pub mod ShortestKinds
 pub mod ShortestLines
 pub mod ShortestPictures
 pub mod ShortestRows

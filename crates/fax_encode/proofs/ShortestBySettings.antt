@@ -23,7 +23,7 @@ shortest_chosen k left aligned reference (row ∷ rows) =
     (shortest_line_2d reference row))) []) ++ b)
     (shortest_chosen k (left_after Shortest Group4 k left reference row) aligned row rows)
 
-end_least : (mine other end : Bits) → length mine ≤ length other → length (mine ++ end) ≤ length (other ++ end)
+pub end_least : (mine other end : Bits) → length mine ≤ length other → length (mine ++ end) ≤ length (other ++ end)
 end_least mine other end le = omega (arith, le, length-append mine end, length-append other end)
 
 module _ (columns k : ℕ) (eols fills aligned closed : Bool) (order : BitOrder) (rows : List Row) (lines : Bits)

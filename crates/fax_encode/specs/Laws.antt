@@ -1,6 +1,6 @@
 -- The laws of the chosen encoding.
 use Rattle.std.specs.Prelude.{◌≡◌, ℕ, suc, ◌^◌, ◌<◌, ◌≤◌, Bool, true, false, List, [], ◌∷◌, ◌++◌, length, take, drop, ◌+◌, Ok}
-use Rattle.std.specs.Prelude.{All}
+use Rattle.std.specs.Prelude.{All, if◌then◌else◌}
 use Rattle.hayro_ccitt.specs.EncodingMode.{EncodingMode}
 use Rattle.hayro_ccitt.specs.EncodingMode.TheVariants.{Group4, Group3_1D, Group3_2D}
 use Rattle.hayro_ccitt.specs.DecodeSettings.{DecodeSettings}
@@ -10,7 +10,7 @@ use Rattle.hayro_ccitt.specs.Locality.{EndAlike}
 use Rattle.hayro_ccitt.specs.LocalityByK.{IsTaggedBody, RowsDiffer}
 use Rattle.hayro_ccitt.specs.Rows.{Row, HaveWidth, white_row, pixels}
 use Rattle.hayro_ccitt.specs.Encodings.{IsPicture, PictureT6, PictureT4, EncodesLine1D, EncodesLine2D, EncodesRows}
-use Rattle.hayro_ccitt.specs.Encodings.{EncodesRowsWithEols}
+use Rattle.hayro_ccitt.specs.Encodings.{EncodesLine, EncodesRowsWithEols, eol, padding}
 use Rattle.hayro_ccitt.specs.Encodings.{ClosesWithEols}
 use Rattle.hayro_ccitt.specs.BitOrder.TheVariants.{HighestFirst}
 use Rattle.hayro_ccitt.specs.PlainReading.{plain}
@@ -23,7 +23,7 @@ use Rattle.fax_encode.specs.declared.settings.Effort.TheVariants.{Procedure, Sho
 use Rattle.hayro_ccitt.specs.Color.TheVariants.{White}
 use Rattle.fax_encode.specs.declared.settings.EncodeSettings.{EncodeSettings}
 use Rattle.fax_encode.specs.Settings.{chosen, chosen_line, chosen_lines, chosen_lines_with_eols, chosen_eols, fill_of, needs_row}
-use Rattle.fax_encode.specs.Settings.{line_1d, with_end, decode_settings_for}
+use Rattle.fax_encode.specs.Settings.{left_after, line_1d, with_end, decode_settings_for}
 
 -- what is chosen for a picture is an encoding of it
 abbrev pub ChosenIsAnEncoding : Type 0
@@ -179,6 +179,38 @@ abbrev pub NoneIsShorter1D : Type 0
 NoneIsShorter1D = (settings : EncodeSettings) (columns : ℕ) (rows : List Row) (lines : Bits) → IsPicture columns rows
     → settings.encoding ≡ Group3_1D → settings.effort ≡ Shortest → settings.eols_end_at_bytes ≡ false
     → EncodesRows1D settings.end_of_line settings.rows_are_byte_aligned (white_row columns) rows lines
+    → length (chosen settings columns rows) ≤ length (with_end settings lines)
+
+-- Lines of two-dimensional Group 3 that encode these rows, each with the tag of the line that is chosen with the effort
+-- `Shortest`, and filled up to a whole byte if they are aligned (T.4, 4.2.1 and 4.2.2).
+abbrev pub EncodesInKinds : ℕ → Bool → ℕ → Row → List Row → Bits → Type 0
+EncodesInKinds k aligned left reference [] bits = bits ≡ []
+EncodesInKinds k aligned left reference (row ∷ rows) bits = (line next : Bits) × EncodesLine Group3_2D reference row line
+    × (take 1 line ≡ take 1 (chosen_line Shortest Group3_2D left reference row))
+    × EncodesInKinds k aligned (left_after Shortest Group3_2D k left reference row) row rows next
+    × (bits ≡ line ++ (if aligned then padding (length line) else []) ++ next)
+
+-- such lines, an EOL before each (T.4, 4.1.2)
+abbrev pub EncodesInKindsWithEols : ℕ → ℕ → Row → List Row → Bits → Type 0
+EncodesInKindsWithEols k left reference [] bits = bits ≡ []
+EncodesInKindsWithEols k left reference (row ∷ rows) bits = (fill : ℕ) × (line next : Bits)
+    × EncodesLine Group3_2D reference row line
+    × (take 1 line ≡ take 1 (chosen_line Shortest Group3_2D left reference row))
+    × EncodesInKindsWithEols k (left_after Shortest Group3_2D k left reference row) row rows next
+    × (bits ≡ eol fill ++ line ++ next)
+
+-- such lines of a picture, with an EOL before each or without EOLs (T.4, 4.2)
+abbrev pub EncodesRows2D : Bool → ℕ → Bool → Row → List Row → Bits → Type 0
+EncodesRows2D true k aligned white rows lines = EncodesInKindsWithEols k 0 white rows lines
+EncodesRows2D false k aligned white rows lines = EncodesInKinds k aligned 0 white rows lines
+
+-- What is chosen for a picture as two-dimensional Group 3 with the effort `Shortest`, without fill, has no more bits than any
+-- lines that encode its rows in the same kinds, with EOLs if it has them and with the same alignment, with the same end
+-- (T.4, 4.2).
+abbrev pub NoneIsShorter2D : Type 0
+NoneIsShorter2D = (settings : EncodeSettings) (columns : ℕ) (rows : List Row) (lines : Bits) → IsPicture columns rows
+    → settings.encoding ≡ Group3_2D → settings.effort ≡ Shortest → settings.eols_end_at_bytes ≡ false
+    → EncodesRows2D settings.end_of_line settings.k settings.rows_are_byte_aligned (white_row columns) rows lines
     → length (chosen settings columns rows) ≤ length (with_end settings lines)
 
 -- ---- damage
