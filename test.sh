@@ -52,13 +52,10 @@ built_tests() {
     done
     python3 checks/run.py built_tests
 }
-# All processors for `rt ci`, if there is memory: a task takes up to 4 GB. Without RT_JOBS it counts more for the library, and so
-# tries the library's edits last, alone. checks/edits.py has what the other parts leave, and at least one processor.
-available=$(awk '/^MemAvailable/ { print $2 }' /proc/meminfo)
-jobs=
-[ "${available:-0}" -ge 16000000 ] && jobs=$(nproc)
+# `rt ci` gives a proof that no other waits beside several processors. checks/edits.py has what the other parts leave, and at least one
+# processor.
 pwd >"$said/checkout" || exit 1
-part ci env RT_JOBS="$jobs" rt ci &
+part ci rt ci &
 ci=$!
 part edits python3 "$copy/checks/edits.py" --ready "$said/ready" --ci "$said" --beside 1 &
 edits=$!

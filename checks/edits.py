@@ -68,8 +68,6 @@ from refused_before import RefusedBefore  # noqa: E402
 
 ROOT = os.path.realpath(os.path.join(os.path.dirname(os.path.abspath(__file__)), ".."))
 FOLDERS = ("must-fail", "edits")
-# The memory that three checks of one crate take at most, one of them with several jobs, in bytes.
-ROOM = 16_000_000_000
 
 
 def kit():
@@ -714,10 +712,9 @@ class Whole:
         self.lanes.submit(0, self.prove, crate).result()
 
     def idle_jobs(self, crate):
-        """How many jobs a check of a crate may have, on processors that no other check could use: an `rt ci` beside begins with one job,
-        the proofs of the decoder's two crates, one after the other."""
+        """How many jobs a check of a crate may have, on processors that no other check could use."""
         if self.beside:
-            return max(self.lanes.count - 1, 1) if len(crate.below()) < 2 and self.rt.free() > ROOM else 1
+            return 1
         is_alone = all(it is crate or crate in it.below() or it in crate.below() for it in self.to_try)
         return self.lanes.count if is_alone else 1
 
