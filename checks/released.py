@@ -256,7 +256,7 @@ def crates_in_another_repository():
         files = [f"{at}/{name}" for at, _, names in os.walk(folder) for name in names]
         assert len(files) > 100 and not any(map(os.path.islink, files))
         with open(f"{folder}/crates.txt", encoding="utf-8") as file:
-            assert file.read() == "fax_bits:\nhayro_ccitt: fax_bits\n"
+            assert file.read() == "fax_bits:\nfax_reading: fax_bits\nhayro_ccitt: fax_bits fax_reading\n"
         if not os.environ.get("PROVE"):
             leave_out("the proof of the crate in docs/SINKS.md", "PROVE")
             return

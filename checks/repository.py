@@ -188,16 +188,26 @@ PASSED_ON = {
 }
 
 
+# The crates below the decoder: the file of `hayro_ccitt` that passes their items on, which, and the crates that may depend on them.
+def below():
+    laws = {item.name for item in edits.Source("crates/fax_reading").public()}
+    assert all(name.startswith("laws::") for name in laws), laws
+    yield "fax_bits", "crates/hayro_ccitt/src/lib.rt", PASSED_ON, ["fax_reading", "hayro_ccitt"]
+    yield "fax_reading", "crates/hayro_ccitt/src/laws.rt", laws, ["hayro_ccitt"]
+
+
 def only_what_users_call_is_passed_on():
-    with open("crates/hayro_ccitt/src/lib.rt", encoding="utf-8") as file:
-        found = re.findall(r"^ *pub use fax_bits::(?:([\w:]+)::)?(\{[^}]*\}|\w+);", file.read(), re.MULTILINE)
-    passed = {f"{path}::{name}".removeprefix("::") for path, names in found for name in re.findall(r"\w+", names)}
-    assert passed == PASSED_ON, passed ^ PASSED_ON
-    others = [place for place, line in lines_of_code(".rt", "//") if re.search(r"\bpub(?:\([a-z]+\))? use fax_bits\b", line)]
-    assert len(others) == len(found) and all(place.startswith("crates/hayro_ccitt/src/lib.rt:") for place in others), others
-    with open("crates.txt", encoding="utf-8") as file:
-        above = [line.split(":")[0] for line in file if not line.startswith("#") and "fax_bits" in line.partition(":")[2].split()]
-    assert above == ["hayro_ccitt"], above
+    """Of `fax_bits` what is listed above, and of `fax_reading`, which has laws alone, each of them."""
+    for crate, name, items, crates in below():
+        with open(name, encoding="utf-8") as file:
+            found = re.findall(rf"^ *pub use {crate}::(?:([\w:]+)::)?(\{{[^}}]*\}}|\w+);", file.read(), re.MULTILINE)
+        passed = {f"{path}::{item}".removeprefix("::") for path, names in found for item in re.findall(r"\w+", names)}
+        assert passed == items, passed ^ items
+        others = [place for place, line in lines_of_code(".rt", "//") if re.search(rf"\bpub(?:\([a-z]+\))? use {crate}\b", line)]
+        assert len(others) == len(found) and all(place.startswith(f"{name}:") for place in others), others
+        with open("crates.txt", encoding="utf-8") as file:
+            above = [line.split(":")[0] for line in file if not line.startswith("#") and crate in line.partition(":")[2].split()]
+        assert above == crates, above
 
 
 def is_for_users(crate, item):
@@ -411,6 +421,7 @@ CHECKS = [
     no_name_stands_twice,
     one_line_is_unsafe,
     rust_is_unsafe_in_one_file_only,
+    only_what_users_call_is_passed_on,
     each_public_function_has_an_edit,
     each_edit_can_be_applied,
     no_line_is_too_long,

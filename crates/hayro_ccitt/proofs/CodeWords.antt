@@ -1,5 +1,4 @@
 pub mod PairsOfRuns
-pub mod WordsFound
 pub use Rattle.fax_bits.proofs.CodeWords.CodeReadings
 pub use Rattle.fax_bits.proofs.CodeWords.LookedUp
 pub use Rattle.fax_bits.proofs.CodeWords.LookedUpModes
@@ -8,3 +7,4 @@ pub use Rattle.fax_bits.proofs.CodeWords.ReadCodes
 pub use Rattle.fax_bits.proofs.CodeWords.ReadRuns
 pub use Rattle.fax_bits.proofs.CodeWords.RunWords
 pub use Rattle.fax_bits.proofs.CodeWords.WordsHere
+pub use Rattle.fax_reading.proofs.CodeWords.WordsFound

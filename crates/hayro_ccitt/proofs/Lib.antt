@@ -1,11 +1,11 @@
 pub mod CodeWords
-pub mod DamagedLines
 pub mod Decoded
 pub mod DrawingLines
-pub mod EncodedPictures
-pub mod KeptRows
 pub mod Names
-pub mod PixelRows
 pub mod Readings
 pub mod Work
 pub use Rattle.fax_bits.proofs.BitReading
+pub use Rattle.fax_reading.proofs.DamagedLines
+pub use Rattle.fax_reading.proofs.EncodedPictures
+pub use Rattle.fax_reading.proofs.KeptRows
+pub use Rattle.fax_reading.proofs.PixelRows

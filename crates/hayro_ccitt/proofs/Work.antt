@@ -1,6 +1,6 @@
 pub mod CallsPaid
-pub mod ChangesStored
-pub mod EolsPassed
 pub mod RoomTaken
-pub mod TurnsPaid
-pub mod WordsPay
+pub use Rattle.fax_reading.proofs.Work.ChangesStored
+pub use Rattle.fax_reading.proofs.Work.EolsPassed
+pub use Rattle.fax_reading.proofs.Work.TurnsPaid
+pub use Rattle.fax_reading.proofs.Work.WordsPay

@@ -1,8 +1,7 @@
 -- Rows one at a time: what a reader of rows has read, and what a call leaves that reads the next row.
-use Rattle.std.specs.Prelude.{sum_by, slice_get, take, ◌==◌, if◌then◌else◌, ◌≡◌, ◌≢◌, ◌≤◌, ◌<◌, ◌+◌, ◌-◌, ◌*◌, ◌/◌, ℕ, Bool}
+use Rattle.std.specs.Prelude.{sum_by, slice_get, take, ◌≡◌, ◌≢◌, ◌≤◌, ◌<◌, ◌+◌, ◌-◌, ◌*◌, ◌/◌, ℕ, Bool}
 use Rattle.std.specs.Prelude.{true, false, not, drop, [], length, get_or, Option, None, Some, Result, Ok, Err, OnErr, IfOk}
 use Rattle.std.specs.Prelude.{IfErr, min, suc}
-use Rattle.fax_bits.specs.declared.codes.Color.TheVariants.{White}
 use Rattle.fax_bits.specs.declared.error.DecodeError.{DecodeError}
 use Rattle.fax_bits.specs.declared.error.DecodeError.TheVariants.{OutOfMemory, Refused}
 use Rattle.hayro_ccitt.specs.declared.row_reader.RowReader.TheInside.{Inside}
@@ -14,9 +13,9 @@ use Rattle.hayro_ccitt.specs.Answers.{IsFault, PaintsBlack}
 use Rattle.hayro_ccitt.specs.Bits.{Bits, BitsAt}
 use Rattle.hayro_ccitt.specs.Context.{Context, Held, Repairs}
 use Rattle.hayro_ccitt.specs.Damage.{fault_in, cut_in, missed_before, repairs_by_line, cuts_by_line, misses_by_line}
-use Rattle.hayro_ccitt.specs.Decoding.{repairs_with}
+use Rattle.hayro_ccitt.specs.Decoding.{context_at, repairs_with}
 use Rattle.hayro_ccitt.specs.Lines.{Line}
-use Rattle.hayro_ccitt.specs.PlainReading.{Progress, row_before, with_row, first_gap, move_on, row_of_line, line_here}
+use Rattle.hayro_ccitt.specs.PlainReading.{Progress, with_row, first_gap, move_on, row_of_line, line_here}
 use Rattle.hayro_ccitt.specs.PlainReading.{end_of, line_of_turn, plain, lines_of, line_starts, row_ends, failed_at}
 use Rattle.hayro_ccitt.specs.Repetition.{Turn, Reaches}
 use Rattle.fax_bits.specs.declared.settings.EncodingMode.TheVariants.{Group4}
@@ -99,18 +98,6 @@ stand_after (Ok true) = AtEnd
 stand_after (Ok false) = AtLine
 stand_after (Err error) = AtFault error
 
--- the fault of the last row, if it was repaired: if more rows are repaired now than before it
-abbrev pub damage_since : Repairs → ℕ → Option DecodeError
-damage_since repairs before = if repairs.rows == before then None else Some repairs.fault
-
--- whether a run of the last row was cut: if runs are cut in more rows now than before it
-abbrev pub cut_since : Repairs → ℕ → Bool
-cut_since repairs before = not (repairs.cut == before)
-
--- the offset of a gap if its EOL was missed: if more EOLs were missed after it than before
-abbrev pub missed_since : Repairs → ℕ → ℕ → Option ℕ
-missed_since repairs before place = if repairs.missed == before then None else Some place
-
 -- where the line of the last row begins, or after a faulty gap, the offset of that gap
 abbrev pub start_after : Result Bool DecodeError → ℕ → ℕ → ℕ
 start_after (Ok over) place before = before
@@ -191,19 +178,6 @@ at_end_of_rows (Ok x) = Ok false
 at_end_of_rows (Err error) = Err error
 
 -- ---- The invariant: not part of the trusted specification
-
--- the context between two rows of the reading, with this number of repaired rows
-abbrev pub context_at : DecodeSettings → Progress → Repairs → Held
-context_at settings so_far repairs = record {
-  reference = row_before settings.columns so_far.rows;
-  front = [];
-  color = White;
-  taken = length so_far.rows;
-  repairs = repairs;
-  has_eols = so_far.has_eols;
-  fault_start = None;
-  settings = settings;
-}
 
 -- the reading reaches a line here
 pub record StandsAtLine (settings : DecodeSettings) (bits : Bits) (held : Held) (rest : Bits) : Type 0 where

@@ -497,7 +497,7 @@ impl DecoderContext {
     }
 
     /// Passes the row to the sink, continued in its last colour if it isn't full.
-    #[tactic(auto, using(crate::proofs::PixelRows::ChangesAndPixels::front_fits))]
+    #[tactic(auto, using(fax_reading::proofs::PixelRows::ChangesAndPixels::front_fits))]
     fn hand_over<D: Decoder>(&self, decoder: &mut D) -> Result<()>
         requires { self.now.held.settings.columns ≤ D.width decoder.old }
         ensures width { D.width decoder.new ≡ D.width decoder.old }
@@ -518,7 +518,7 @@ impl DecoderContext {
     /// # Errors
     ///
     /// `Refused` if the sink refuses the row. The context and the sink's meaning are then as before.
-    #[tactic(auto, using(crate::proofs::PixelRows::ChangesAndPixels::front_fits))]
+    #[tactic(auto, using(fax_reading::proofs::PixelRows::ChangesAndPixels::front_fits))]
     #[inline(always)]
     pub fn next_line<D: Decoder>(&mut self, decoder: &mut D) -> Result<()>
         requires width { self.old.held.settings.columns ≤ D.width decoder.old }
@@ -541,7 +541,7 @@ impl DecoderContext {
 
     /// Makes the row that was drawn, continued in its last colour if it isn't full, the reference row. The front is empty
     /// then, the colour is white, and one more row is counted. It allocates nothing.
-    #[tactic(auto, using(crate::proofs::PixelRows::ChangesAndPixels::front_fits))]
+    #[tactic(auto, using(fax_reading::proofs::PixelRows::ChangesAndPixels::front_fits))]
     #[inline(always)]
     pub(crate) fn end_line(&mut self)
         requires rows { self.old.held.taken + 1 < 2 ^ 64 }

@@ -11,7 +11,8 @@ ghost use Rattle.hayro_ccitt.specs.Rows.{AreChanges, pixels, opposite};
 ghost use Rattle.hayro_ccitt.specs.Runs.{codes_of};
 ghost use Rattle.hayro_ccitt.specs.Space.{room_for};
 ghost use Rattle.hayro_ccitt.specs.UsualModes.{AreEnded, changes_in, row_in, IsB1, IsStroke, GoesOn2d};
-ghost use Rattle.hayro_ccitt.specs.UsualRuns.{AreTwoRunsHere, pen_at};
+ghost use Rattle.hayro_ccitt.specs.UsualRuns.{pen_at};
+ghost use Rattle.hayro_ccitt.specs.TwoRunsHere.{AreTwoRunsHere};
 ghost use Rattle.hayro_ccitt.specs.Window.{moved};
 
 use crate::changes::{change_or_end, make_room};

@@ -10,7 +10,8 @@ ghost use Rattle.hayro_ccitt.specs.Damage.{repairs_by_line, cuts_by_line, misses
 ghost use Rattle.hayro_ccitt.specs.PlainReading.{line_here};
 ghost use Rattle.hayro_ccitt.specs.Space.{most_room, most_stored, room_for};
 ghost use Rattle.hayro_ccitt.specs.Work.{CountsWork};
-ghost use Rattle.hayro_ccitt.specs.RowsRead.{damage_since, cut_since, missed_since, start_after, ReaderStands, IsPaid};
+ghost use Rattle.hayro_ccitt.specs.RowsRead.{start_after, ReaderStands, IsPaid};
+ghost use Rattle.hayro_ccitt.specs.Decoding.{damage_since, cut_since, missed_since};
 ghost use Rattle.hayro_ccitt.specs.RowsRead.{ReachesNextLine};
 ghost use Rattle.hayro_ccitt.specs.RowsRead.{stand_after, line_after, is_at_line, at_end_of_rows, ended, seen, IsStanding};
 ghost use Rattle.hayro_ccitt.specs.PlainReading.{failed_at};

@@ -9,7 +9,8 @@ ghost use Rattle.hayro_ccitt.specs.LookUps.{AreEntries};
 ghost use Rattle.hayro_ccitt.specs.Rows.{AreChanges, pixels, opposite};
 ghost use Rattle.hayro_ccitt.specs.UsualModes.{AreEnded, changes_in, IsNear, IsB1};
 ghost use Rattle.hayro_ccitt.specs.Runs.{codes_of};
-ghost use Rattle.hayro_ccitt.specs.UsualRuns.{IsWordHere, IsRunHere, IsShort, AreTwoRunsHere, IsOpen, CanFollow, IsReached};
+ghost use Rattle.hayro_ccitt.specs.UsualRuns.{IsWordHere, IsRunHere, IsShort, IsOpen, IsReached};
+ghost use Rattle.hayro_ccitt.specs.TwoRunsHere.{AreTwoRunsHere, CanFollow};
 ghost use Rattle.hayro_ccitt.specs.UsualRuns.{GoesOn, pen_at};
 ghost use Rattle.hayro_ccitt.specs.Window.{moved};
 

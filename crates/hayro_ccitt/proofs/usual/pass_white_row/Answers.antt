@@ -1,4 +1,4 @@
-use Rattle.hayro_ccitt.proofs.Names.{◌≡◌, ◌⊎◌, ◌-◌, ◌≤◌, ℕ, [], refl, subst, arith, false}
+use Rattle.hayro_ccitt.proofs.Names.{◌≡◌, ◌-◌, [], refl, arith}
 use Rattle.hayro_ccitt.proofs.DrawingLines.UsualStrokes.{white_ends}
 use Rattle.hayro_ccitt.proofs.usual.pass_white_row.Goals as goal
 

@@ -1,0 +1,198 @@
+-- The tests of a local body, as they are made.
+use Rattle.fax_reading.proofs.DamagedLines.LineStarts.{not_some}
+use Rattle.fax_reading.proofs.Names.{◌≡◌, ◌≢◌, ℕ, zero, suc, ◌+◌, ◌-◌, ◌<◌, ◌≤◌, ◌⊎◌, Bool, true, false, cond, eqb, ltb, leb, []}
+use Rattle.fax_reading.proofs.Names.{◌∷◌, ◌++◌, length, take, drop, replicate, Option, Some, None, Err, IsTrue, refl, sym, ap}
+use Rattle.fax_reading.proofs.Names.{subst, ◌∙◌, arith, inl, inr, ◌↔◌, is_some, cases_lt, lt-ltb, le-leb, lt-leb, ltb-true}
+use Rattle.fax_reading.proofs.Names.{leb-true, eqb-true, eq-eqb, none-some, length-append, length-replicate, length-drop}
+use Rattle.fax_reading.proofs.Names.{take-append-drop, drop-drop, DecodeError, OutOfMemory, DecodeSettings, Group3_1D, DrawsLine}
+use Rattle.fax_reading.proofs.Names.{line_from_1d, Bits, BitsAt, here, leading_zeros, Held, fresh, after_eol, next_eol, Line}
+use Rattle.fax_reading.proofs.Names.{line_1d, EndsBefore, IsLocal, Row, common_steps}
+use Rattle.fax_reading.proofs.DamagedLines.LinesByEols.{past_shorter}
+use Rattle.fax_bits.proofs.BitReading.ConsecutiveEols.{next_eol_found}
+use Rattle.fax_reading.proofs.DamagedLines.LocalByTests.{local_by_tests}
+use Rattle.fax_reading.proofs.DamagedLines.PastEol.{past, past_is, then_after}
+
+-- ---- An EOL before a position.
+-- the EOL of the twelve bits before a position ends there
+pub behind_eol : (bits rest : Bits) (place zeros : ℕ) → 12 ≤ place → place ≤ length bits → drop (place - 12) bits
+    ≡ replicate zeros false ++ true ∷ rest → after_eol 0 (drop (place - 12) bits) ≡ cond (leb 11 zeros) (Some rest) None
+    → IsTrue (eqb zeros 11) ↔ ((place ≡ 0) ⊎ ((12 ≤ place) × (after_eol 0 (drop (place - 12) bits) ≡ Some (drop place bits))))
+behind_eol bits rest place zeros far within is eol = (
+  λ test. inr (far, there (eqb-true zeros 11 test)),
+  λ before. elim before [
+    | inl none ↦ absurd (omega (arith, none, far))
+    | inr found ↦ eq-eqb zeros 11 (eleven found.1)
+  ],
+)
+  where
+    rest_is : zeros ≡ 11 → rest ≡ drop place bits
+    rest_is e = grind (arith, common_steps, drop-drop 12 (place - 12) bits)
+
+    there : zeros ≡ 11 → after_eol 0 (drop (place - 12) bits) ≡ Some (drop place bits)
+    there e = eol ∙ rw (le-leb 11 zeros (omega (arith, e))) (ap (λ (b : Bits). Some b) (rest_is e))
+
+    eleven : after_eol 0 (drop (place - 12) bits) ≡ Some (drop place bits) → zeros ≡ 11
+    eleven found = either_way (leb 11 zeros) (sym eol ∙ found)
+      where
+        either_way : (b : Bool) → cond b (Some rest) None ≡ Some (drop place bits) → zeros ≡ 11
+        either_way false e = absurd (let f : ◌≡◌ {A = Option Bits} None (Some (drop place bits)) = e in cc)
+        either_way true e =
+            let step = length-append (replicate zeros false) (true ∷ rest) in
+            grind (arith, common_steps, step, length-drop place bits, length-drop (place - 12) bits, length-replicate zeros false)
+
+-- ---- A one in a body.
+zeros_only : (m : ℕ) (here : Bits) → m ≤ leading_zeros here → take m here ≡ replicate m false
+zeros_only zero here le = refl
+zeros_only (suc m) [] le = absurd (omega (arith, le))
+zeros_only (suc m) (true ∷ here) le = absurd (omega (arith, le))
+zeros_only (suc m) (false ∷ here) le = ap (λ (b : Bits). false ∷ b) (zeros_only m here (omega (arith, le)))
+
+one_in_front : (m : ℕ) (here : Bits) → m ≤ length here → leading_zeros here < m → take m here ≡ replicate m false → ⊥
+one_in_front zero here fits lt e = absurd (omega (arith, lt))
+one_in_front (suc m) [] fits lt e = absurd (omega (arith, fits))
+one_in_front (suc m) (true ∷ here) fits lt e = absurd cc
+one_in_front (suc m) (false ∷ here) fits lt e =
+    one_in_front m here (omega (arith, fits)) (omega (arith, lt)) (let f : take m here ≡ replicate m false = cc in f)
+
+-- some bits contain a one if fewer zeros are here
+pub one_by_zeros : (m zeros : ℕ) (here : Bits) → m ≤ length here → zeros ≡ leading_zeros here
+    → IsTrue (ltb zeros m) ↔ (take m here ≢ replicate m false)
+one_by_zeros m zeros here fits is = grind (arith, common_steps, cases_lt, lt-ltb, ltb-true, one_in_front, zeros_only)
+
+-- ---- An EOL in a body.
+past-front : (seen : ℕ) (front after more : Bits) → past seen front ≡ Some after
+    → past seen (front ++ more) ≡ Some (after ++ more)
+past-front seen [] after more e = absurd cc
+past-front seen (false ∷ front) after more e = past-front (suc seen) front after more e
+past-front seen (true ∷ front) after more e = either_way (leb 11 seen) (λ f. past-front 0 front after more f) e
+  where
+    either_way : (b : Bool) → (past 0 front ≡ Some after → past 0 (front ++ more) ≡ Some (after ++ more)) → cond b (Some front)
+        (past 0 front) ≡ Some after → cond b (Some (front ++ more)) (past 0 (front ++ more)) ≡ Some (after ++ more)
+    either_way b on f = grind (arith, common_steps)
+
+past-behind : (seen : ℕ) (front after more : Bits) → past seen front ≡ None → past seen (front ++ more) ≡ Some after
+    → length after < length more
+past-behind seen [] after more none e = past_shorter seen more after e
+past-behind seen (false ∷ front) after more none e = past-behind (suc seen) front after more none e
+past-behind seen (true ∷ front) after more none e = either_way (leb 11 seen) (λ f g. past-behind 0 front after more f g) none e
+  where
+    either_way : (b : Bool) → (past 0 front ≡ None → past 0 (front ++ more) ≡ Some after → length after < length more)
+        → cond b (Some front) (past 0 front) ≡ None → cond b (Some (front ++ more)) (past 0 (front ++ more)) ≡ Some after
+        → length after < length more
+    either_way b on f g = grind (arith, common_steps)
+
+-- an EOL is found where one ends
+found_ends : (here : Bits) → is_some (next_eol here) ≡ is_some (past 0 here)
+found_ends here = by_next_eol (next_eol here) refl ∙ ap is_some (sym (past_is here))
+  where
+    by_next_eol : (o : Option Bits) → next_eol here ≡ o → is_some (next_eol here) ≡ is_some (then_after (next_eol here))
+    by_next_eol None e = rw e refl
+    by_next_eol (Some found) e = let f = next_eol_found here found e in rw (e, f.1.1) refl
+
+-- if there is no EOL, there is none in the first bits
+pub no_eol_in_front : (m : ℕ) (here : Bits) → next_eol here ≡ None → is_some (next_eol (take m here)) ≡ false
+no_eol_in_front m here none = found_ends (take m here) ∙ by_past (past 0 (take m here)) refl
+  where
+    by_past : (o : Option Bits) → past 0 (take m here) ≡ o → is_some (past 0 (take m here)) ≡ false
+    by_past None e = rw e refl
+    by_past (Some after) e = absurd (
+        let whole = past-front 0 (take m here) after (drop m here) e in
+        let nothing : past 0 here ≡ None = past_is here ∙ ap then_after none in
+        let both : ◌≡◌ {A = Option Bits} None (Some (after ++ drop m here)) =
+        sym nothing ∙ ap (past 0) (sym (take-append-drop m here)) ∙ whole in
+        cc)
+
+-- the next EOL is in the first bits if it ends there
+eol_in_front : (m : ℕ) (here found after : Bits) → next_eol here ≡ Some found → after_eol 0 found ≡ Some after
+    → is_some (next_eol (take m here)) ≡ leb (length (drop m here)) (length after)
+eol_in_front m here found after next eol = found_ends (take m here) ∙ by_past (past 0 (take m here)) refl
+  where
+    whole : past 0 (take m here ++ drop m here) ≡ Some after
+    whole = ap (past 0) (take-append-drop m here) ∙ past_is here ∙ ap then_after next ∙ eol
+
+    by_past : (o : Option Bits) → past 0 (take m here) ≡ o
+        → is_some (past 0 (take m here)) ≡ leb (length (drop m here)) (length after)
+    by_past None e =
+        rw (e, lt-leb (length (drop m here)) (length after) (past-behind 0 (take m here) after (drop m here) e whole)) refl
+    by_past (Some front) e =
+        let both : ◌≡◌ {A = Option Bits} (Some (front ++ drop m here)) (Some after) =
+        sym (past-front 0 (take m here) front (drop m here) e) ∙ whole in
+        grind (arith, common_steps, le-leb, length-append)
+
+-- an EOL is between two positions if the next one ends there
+pub eol_by_ends : (bits : Bits) (from to end : ℕ) (found : Bits) → from ≤ to
+    → to ≤ length bits → end ≤ length bits → next_eol (drop from bits) ≡ Some found → after_eol 0 found ≡ Some (drop end bits)
+    → is_some (next_eol (take (to - from) (drop from bits))) ≡ leb end to
+eol_by_ends bits from to end found order within le next eol =
+    let step = eol_in_front (to - from) (drop from bits) found (drop end bits) next eol in
+    let step2 = le-leb (length (drop to bits)) (length (drop end bits)) in
+    let step3 = lt-leb (length (drop to bits)) (length (drop end bits)) in
+    let step4 = drop-drop (to - from) from bits in
+    let step5 = length-drop end bits in
+    let step6 = length-drop to bits in
+    grind (arith, common_steps, cases_lt to end, step4, step, step2, le-leb end to, step5, step6, step3, lt-leb end to)
+
+-- the next EOL, if one is found, is there
+pub eol_found_stands : (here found : Bits) → next_eol here ≡ Some found → after_eol 0 found ≡ None → ⊥
+eol_found_stands here found next none = let stands = next_eol_found here found next in
+    none-some stands.1.0 (sym none ∙ stands.1.1)
+
+-- ---- The end of a line.
+-- the line that a lenient context reads
+pub lenient_line : (held : Held) (settings : DecodeSettings) (at : BitsAt) (rest : Bits) → held ≡ fresh settings
+    → settings.strict ≡ false → here at ≡ rest → line_from_1d held (here at) ≡ line_1d false settings.columns rest
+lenient_line held settings at rest is lenient same =
+    ap (λ (h : Held). line_from_1d h (here at)) is ∙ ap (λ (b : Bool). line_1d b settings.columns (here at)) lenient
+    ∙ ap (λ (b : Bits). line_1d false settings.columns b) same
+
+-- a whole line ends before an EOL does by twelve bits
+pub whole_ends : (columns place end : ℕ) (bits here rest : Bits) (row : Row) → line_1d false columns here ≡ Line.whole row rest
+    → rest ≡ drop place bits → place ≤ length bits → end ≤ length bits → IsTrue (leb (place + 12) end)
+    ↔ EndsBefore columns (drop end bits) here
+whole_ends columns place end bits here rest row is at within le = (
+  λ test. λ row2 rest2 is2.
+      let same : ◌≡◌ {A = Line} (Line.whole row rest) (Line.whole row2 rest2) = sym is ∙ is2 in
+      let rests : rest ≡ rest2 = cc in
+      omega (
+        arith,
+        leb-true (place + 12) end test,
+        ap length rests,
+        ap length at,
+        length-drop place bits,
+        length-drop end bits,
+        within,
+        le,
+      ),
+  λ ends. le-leb (place + 12) end
+      (omega (arith, ends row rest is, ap length at, length-drop place bits, length-drop end bits, within, le)),
+)
+
+-- a broken line has no end
+pub broken_ends : (columns : ℕ) (after here rest : Bits) (front : Row) (fault : DecodeError) → fault ≢ OutOfMemory
+    → DrawsLine (line_1d false columns here) (Err fault) front rest → EndsBefore columns after here
+broken_ends columns after here rest front fault other is row rest2 is2 = grind (arith, common_steps)
+
+-- if the other tests succeed, a body is local if its line ends before the EOL after it
+pub local_by_end : (settings : DecodeSettings) (bits : Bits) (from to end : ℕ) (before : Bool)
+    → (settings.encoding ≡ Group3_1D) × (settings.strict ≡ false) → from ≤ to → to ≤ length bits → (from ≡ 0) ⊎ ((12 ≤ from)
+    × (after_eol 0 (drop (from - 12) bits) ≡ Some (drop from bits))) → take (to - from) (drop from bits) ≢ replicate (to - from)
+    false → is_some (next_eol (take (to - from) (drop from bits))) ≡ false → after_eol 0 (drop to bits) ≡ Some (drop end bits)
+    → IsTrue before ↔ EndsBefore settings.columns (drop end bits) (drop from bits) → IsTrue before ↔ IsLocal settings bits from to
+local_by_end settings bits from to end before lenient order within starts one no_eol eol ends = (
+  λ test. (local_by_tests settings bits from to).1 (record {
+    encoding = lenient.0;
+    lenient = lenient.1;
+    order = order;
+    within = within;
+    starts = starts;
+    one = one;
+    no_eol = not_some (next_eol (take (to - from) (drop from bits))) no_eol;
+    closes = (drop end bits, eol, ends.0 test);
+  }),
+  λ local. ends.1 (same_end local.closes.0 (sym local.closes.1 ∙ eol) local.closes.2),
+)
+  where
+    same_end : (after : Bits) → ◌≡◌ {A = Option Bits} (Some after) (Some (drop end bits))
+        → EndsBefore settings.columns after (drop from bits) → EndsBefore settings.columns (drop end bits) (drop from bits)
+    same_end after e is = let same : after ≡ drop end bits = cc in
+        subst (λ (x : Bits). EndsBefore settings.columns x (drop from bits)) same is

@@ -1,0 +1,234 @@
+-- Damage to a line of two-dimensional data ends at the next one-dimensional line.
+use Rattle.fax_reading.proofs.Names.{◌≡◌, ℕ, zero, suc, ◌+◌, ◌-◌, ◌<◌, ◌≤◌, eqb, true, false, List, [], ◌∷◌, ◌++◌, length, take}
+use Rattle.fax_reading.proofs.Names.{drop, replicate, Option, Some, None, Result, Ok, refl, sym, ap, subst, ◌∙◌, append_assoc}
+use Rattle.fax_reading.proofs.Names.{arith, ◌⊎◌, inl, inr, cases_lt, cases_eq, cond-true, eq-eqb, length-append}
+use Rattle.fax_reading.proofs.Names.{length-replicate, White, DecodeError, EncodingMode, Group3_2D, DecodeSettings, Bits}
+use Rattle.fax_reading.proofs.Names.{AreWholeBytes, AreSettings, Reaches, Row, EncodesLine2D, after_eol, one_more, pass_last_tag}
+use Rattle.fax_reading.proofs.Names.{tagged_eols, first_line, move_on, line_by, eols_by, line_here, eols_here, plain, Reading}
+use Rattle.fax_reading.proofs.Names.{nothing_read, whole_reading, end_of, IsEolAt, EndAlike, IsTaggedBody, ComesBefore1D}
+use Rattle.fax_reading.proofs.Names.{IsLine2D, ComeBefore1D, RowsDiffer, DamageEndsAt1D, LocalityByK}
+use Rattle.fax_reading.proofs.DamagedLines.AnyReference.{quiet_line, scan_past, modes_read, encoded_ends}
+use Rattle.fax_reading.proofs.DamagedLines.Damage.{LinesDiffer, damage}
+use Rattle.fax_reading.proofs.DamagedLines.LineTails.{after_eol_is, past_before, line_past_by, is_tagged_tail, stays_2d}
+use Rattle.fax_reading.proofs.DamagedLines.PastEol.{past, past_is, then_after}
+use Rattle.fax_bits.proofs.BitReading.ConsecutiveEols.{all_tagged-some, all_tagged-none}
+use Rattle.fax_reading.proofs.DamagedLines.RunsAlike.{RowsAlike, Settles, Unreferred, IsTail}
+use Rattle.fax_reading.proofs.DamagedLines.SoughtTurns.{sought, rest_of, found_next, eols_here_same}
+use Rattle.fax_reading.proofs.EncodedPictures.PicturesT4.{line_2d_after_tag}
+use Rattle.fax_reading.proofs.Readings.TurnsMoveOn.{eols_end}
+use Rattle.fax_bits.proofs.BitReading.ConsecutiveEols.{after_eol_shorter, next_eol_found}
+
+-- ---- The lines that follow
+
+-- an EOL is twelve bits at least
+eol_longer : (next after : Bits) → after_eol 0 next ≡ Some after → length after + 12 ≤ length next
+eol_longer next after e =
+    let eol = after_eol_is 0 next after e in
+    omega (arith, eol.2, ap length eol.1, length-append (replicate eol.0 false) (true ∷ after), length-replicate eol.0 false)
+
+module _ (settings : DecodeSettings) (encoding : settings.encoding ≡ Group3_2D) where
+  -- the EOL before the lines that follow
+  pub eol_before_lines : (lines : ℕ) (here : Bits) → ComeBefore1D settings lines here → IsEolAt here
+  eol_before_lines zero here (eol, ends) = eol
+  eol_before_lines (suc lines) here (line, next, e, is, more) = (false ∷ line, e)
+
+  -- a one-dimensional line has no reference row
+  unreferred : (here : Bits) → ComesBefore1D settings here → Unreferred settings (eols_here settings here)
+  unreferred here (eol, ends) = rw is_2d (in_each_case ends)
+    where
+      is_2d : eols_here settings here ≡ eols_by Group3_2D settings.end_of_block here
+      is_2d = ap (λ (e : EncodingMode). eols_by e settings.end_of_block here) encoding
+
+      same : (tagged : Bits) → ((reference other : Row)
+          → line_by Group3_2D settings.strict settings.columns reference tagged ≡ line_by Group3_2D settings.strict
+          settings.columns other tagged)
+          → (reference other : Row) → line_here settings reference tagged ≡ line_here settings other tagged
+      same tagged f reference other = rw encoding (f reference other)
+
+      in_each_case : ((settings.end_of_block ≡ true) × (6 ≤ (eols_by Group3_2D settings.end_of_block here).0))
+          ⊎ (((line : Bits) × ((eols_by Group3_2D settings.end_of_block here).1 ≡ true ∷ line))
+          ⊎ ((eols_by Group3_2D settings.end_of_block here).1 ≡ []))
+          → Unreferred settings (eols_by Group3_2D settings.end_of_block here)
+      in_each_case (inl (block, six)) =
+          inl ((eols_end settings (eols_by Group3_2D settings.end_of_block here).0).2 block six)
+      in_each_case (inr (inl (line, e))) = inr (rw e (same (true ∷ line) (λ reference other. refl)))
+      in_each_case (inr (inr e)) = inr (rw e (same [] (λ reference other. refl)))
+
+  -- one EOL is counted before a two-dimensional line
+  one_before : (line found : Bits) → after_eol 0 (false ∷ line) ≡ None → after_eol 0 found ≡ Some (false ∷ line)
+      → eols_here settings found ≡ (1, false ∷ line)
+  one_before line found none e =
+      ap (λ (e : EncodingMode). eols_by e settings.end_of_block found) encoding
+      ∙ ap pass_last_tag (all_tagged-some found (false ∷ line) e ∙ ap one_more (all_tagged-none (false ∷ line) none))
+
+  -- the next EOL is the one behind it, whatever it is read against
+  next_behind : (other : Row) (line next : Bits) (is : IsLine2D line next)
+      → past 0 (rest_of (line_here settings other (false ∷ line)) (false ∷ line)) ≡ Some is.ends.0
+  next_behind other line next is =
+      line_past_by settings other (false ∷ line) is.ends.0
+      (past_is (false ∷ line) ∙ ap then_after is.next_is ∙ is.ends.1)
+      (λ row rest e. is.ends.2 rest (modes_read settings.strict settings.columns other line row rest
+      (sym (ap (λ (e : EncodingMode). line_by e settings.strict settings.columns other (false ∷ line)) encoding) ∙ e)))
+
+  -- the lines that follow are read with the same EOLs behind them, whatever they are read against
+  settles : (lines : ℕ) (here after : Bits) → ComeBefore1D settings lines here → after_eol 0 here ≡ Some after
+      → Settles settings lines after
+  settles zero here after comes e = λ found f. rw (eols_here_same settings found here after f e) (unreferred here comes)
+  settles (suc lines) here after (line, next, f, is, more) e =
+      let same : ◌≡◌ {A = Option Bits} (Some (false ∷ line)) (Some after) = sym f ∙ e in
+      let after_is : false ∷ line ≡ after = cc in
+      subst (Settles settings (suc lines)) after_is (
+        is.ends.0,
+        omega (arith, after_eol_shorter 0 next is.ends.0 is.ends.1, (next_eol_found (false ∷ line) next is.next_is).0),
+        λ found g. one_before line found is.no_eol g,
+        λ other. next_behind other line next is,
+        settles lines next is.ends.0 more is.ends.1,
+      )
+
+  -- what follows an EOL decides
+  comes_same : (lines : ℕ) (here there after : Bits) → after_eol 0 here ≡ Some after → after_eol 0 there ≡ Some after
+      → ComeBefore1D settings lines here → ComeBefore1D settings lines there
+  comes_same zero here there after e f (eol, ends) =
+      let same : tagged_eols here ≡ tagged_eols there
+      = ap pass_last_tag (all_tagged-some here after e ∙ sym (all_tagged-some there after f)) in (
+        (after, f),
+        subst (λ (c : ℕ × Bits). ((settings.end_of_block ≡ true) × (6 ≤ c.0))
+            ⊎ (((line : Bits) × (c.1 ≡ true ∷ line)) ⊎ (c.1 ≡ []))) same ends,
+      )
+  comes_same (suc lines) here there after e f (line, next, g, is, more) =
+      (line, next, f ∙ sym e ∙ g, is, more)
+
+  -- a two-dimensional line of an encoding is such a line
+  pub encoded_follows : (lines : ℕ) (reference row : Row) (line next here : Bits) → EncodesLine2D reference row 0 White line
+      → ComeBefore1D settings lines next → after_eol 0 here ≡ Some (false ∷ line ++ next) → ComeBefore1D settings (suc lines) here
+  encoded_follows lines reference row line next here encodes more e =
+      let eol = eol_before_lines lines next more in
+      let after = eol.0 in
+      let q = quiet_line reference row 0 White line encodes 1 (omega arith) in
+      let found = found_next (false ∷ line ++ next) after
+      (past_before 0 (false ∷ line) next after (scan_past 1 q.0 line (omega arith) q.1) eol.1) in (
+        line ++ next,
+        found.0,
+        e,
+        record {
+          no_eol = line_2d_after_tag reference row 0 White line next encodes (omega arith);
+          next_is = found.1;
+          ends = (
+            after,
+            found.2,
+            λ rest reads. omega (
+              arith,
+              eol_longer next after eol.1,
+              encoded_ends reference row line next after rest encodes eol.1 reads,
+            ),
+          );
+        },
+        comes_same lines next found.0 after eol.1 found.2 more,
+      )
+
+-- ---- Rows of which some may differ
+
+drop_past : {A : Type 0} (n : ℕ) (front rest : List A) → length front ≤ n → drop n (front ++ rest) ≡ drop (n - length front) rest
+drop_past n [] rest le = ap (λ (m : ℕ). drop m rest) (let e : n ≡ n - 0 = omega arith in e)
+drop_past zero (a ∷ front) rest le = absurd (omega arith)
+drop_past (suc n) (a ∷ front) rest le =
+    let less : n - length front ≡ suc n - suc (length front) = omega arith in
+    drop_past n front rest (omega arith) ∙ ap (λ (m : ℕ). drop m rest) less
+
+pub take_front : {A : Type 0} (front rest : List A) → take (length front) (front ++ rest) ≡ front
+take_front [] rest = refl
+take_front {A} (a ∷ front) rest = ap (λ (l : List A). a ∷ l) (take_front front rest)
+
+-- rows that are alike differ in that many at most
+rows_differ : (settings : DecodeSettings) (one two : Bits) (from differ : ℕ) (rows others : List Row)
+    → RowsAlike differ (λ before. Reaches (move_on settings) (first_line settings one) (sought before (drop from one))
+    × Reaches (move_on settings) (first_line settings two) (sought before (drop from two))) rows others
+    → RowsDiffer settings one two from differ rows others
+rows_differ settings one two from differ rows others (inl e) = inl (sym e)
+rows_differ settings one two from differ rows others (inr (before, these, those, more, same, few, e, f, begins)) =
+    inr (
+      length before,
+      (sought before (drop from one), begins.0, refl, refl),
+      (sought before (drop from two), begins.1, refl, refl),
+      (
+        omega (
+          arith,
+          ap length e,
+          ap length f,
+          same,
+          length-append before (these ++ more),
+          length-append before (those ++ more),
+          length-append these more,
+          length-append those more,
+        ),
+        ap (take (length before)) f ∙ take_front before (those ++ more)
+            ∙ sym (ap (take (length before)) e ∙ take_front before (these ++ more)),
+        behind those others f (omega (arith, same, few))
+            ∙ ap (λ (n : ℕ). drop (length before + differ - (length before + n)) more) (sym same) ∙ sym (behind these rows e few),
+      ),
+    )
+  where
+    behind : (some all : List Row) → all ≡ before ++ (some ++ more) → length some ≤ differ
+        → drop (length before + differ) all ≡ drop (length before + differ - (length before + length some)) more
+    behind some all g le =
+        ap (drop (length before + differ)) (g ∙ sym (append_assoc before some more))
+        ∙ drop_past (length before + differ) (before ++ some) more (omega (arith, length-append before some, le))
+        ∙ ap (λ (n : ℕ). drop (length before + differ - n) more) (length-append before some)
+
+-- the law
+pub locality_by_k : LocalityByK
+locality_by_k settings one are whole_one two from to to2 lines whole_two differ = in_each_case (cases_eq settings.columns 0)
+  where
+    body : IsTaggedBody settings one from to
+    body = differ.body
+
+    other : IsTaggedBody settings two from to2
+    other = differ.other
+
+    same_after : other.closes.0 ≡ body.closes.0
+    same_after =
+        let same : ◌≡◌ {A = Option Bits} (Some other.closes.0) (Some body.closes.0) = sym other.closes.1
+        ∙ ap (after_eol 0) (sym differ.behind) ∙ body.closes.1 in
+        cc
+
+    lines_differ : LinesDiffer settings one two from body.closes.0 lines
+    lines_differ = record {
+      group3 = inr differ.encoding;
+      lenient = differ.lenient;
+      fits_one = omega (arith, body.one.1, body.one.2, body.within);
+      fits_two = omega (arith, other.one.1, other.one.2, other.within);
+      same = differ.before;
+      starts = body.starts;
+      sought_by = differ.sought;
+      tail_one = is_tagged_tail settings one from to body;
+      tail_two = subst (λ (a : Bits). IsTail settings a (drop from two)) same_after (is_tagged_tail settings two from to2 other);
+      few_one = λ e. body.tag;
+      few_two = λ e. other.tag;
+      stays_one = λ rows reached. stays_2d settings one from to body rows reached;
+      stays_two = λ rows reached. stays_2d settings two from to2 other rows reached ∙ ap Some same_after;
+      settles = settles settings differ.encoding lines (drop to one) body.closes.0 differ.follow body.closes.1;
+    }
+
+    in_each_case : (settings.columns ≡ 0) ⊎ (settings.columns ≡ 0 → ⊥)
+        → RowsDiffer settings one two from (suc lines) (plain settings one).rows (plain settings two).rows
+        × EndAlike settings one two from (suc lines) (plain settings one).rows (plain settings one).outcome
+        (plain settings two).outcome
+    in_each_case (inl e) =
+        let nothing : (bits : Bits) → plain settings bits ≡ nothing_read
+        = λ bits. cond-true (eqb settings.columns 0) nothing_read (whole_reading bits (end_of settings bits))
+        (eq-eqb settings.columns 0 e) in
+        let outcome : (bits : Bits) → (plain settings bits).outcome ≡ Ok 0 = λ bits. ap (λ (r : Reading). r.outcome)
+        (nothing bits) in
+        (inl (ap (λ (r : Reading). r.rows) (nothing two ∙ sym (nothing one))), EndAlike.no_columns e (outcome one) (outcome two))
+    in_each_case (inr e) =
+        let wide : 0 < settings.columns = elim (cases_lt 0 settings.columns) [ inl lt ↦ lt | inr ge ↦ absurd (e (omega arith)) ]
+        in
+        let both = damage settings one two from body.closes.0 lines lines_differ wide whole_one whole_two in
+        (rows_differ settings one two from (suc lines) (plain settings one).rows (plain settings two).rows both.0, both.1)
+
+-- a run with the rows and the result of the plain reading has what the law says
+pub damage_ends : (settings : DecodeSettings) (bits : Bits) (rows : List Row) (outcome : Result ℕ DecodeError)
+    → AreSettings settings → AreWholeBytes bits
+    → rows ≡ (plain settings bits).rows → outcome ≡ (plain settings bits).outcome → DamageEndsAt1D settings bits rows outcome
+damage_ends settings bits rows outcome are whole rows_are outcome_is = rw (rows_are, outcome_is)
+    (locality_by_k settings bits are whole)

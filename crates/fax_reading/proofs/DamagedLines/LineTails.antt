@@ -1,0 +1,257 @@
+-- What the premises of locality say of the bits from a line on, and of those before it.
+use Rattle.fax_reading.proofs.Names.{◌≡◌, ℕ, zero, suc, ◌+◌, ◌-◌, ◌<◌, ◌≤◌, true, false, List, [], ◌∷◌, ◌++◌, length, take, drop}
+use Rattle.fax_reading.proofs.Names.{replicate, Option, Some, None, refl, sym, ap, ◌∙◌, append_assoc, arith, cases_lt, lt-leb}
+use Rattle.fax_reading.proofs.Names.{le-leb, length-append, length-take-le, length-drop, length-replicate, take-append-drop}
+use Rattle.fax_reading.proofs.Names.{drop-drop, DecodeSettings, Bits, IsPrefix, after_eol, past_tag, Reaches, Row, Line}
+use Rattle.fax_reading.proofs.Names.{first_line, row_before, line_here, line_of_turn, move_on, IsEol, IsLocal, IsTaggedBody}
+use Rattle.fax_reading.proofs.Names.{common_steps}
+use Rattle.fax_reading.proofs.DamagedLines.PastEol.{past, past-eol, past_later, next_eol_leaves}
+use Rattle.fax_reading.proofs.DamagedLines.RunsAlike.{IsTail}
+use Rattle.fax_reading.proofs.DamagedLines.SoughtTurns.{sought, rest_of, found_next, sought_line_is}
+use Rattle.fax_reading.proofs.DrawingLines.LinesLeaveBits.{LineLeaves, line_by_leaves}
+
+-- without a prefix the rest is left
+pub drop_front : {A : Type 0} (front rest : List A) → drop (length front) (front ++ rest) ≡ rest
+drop_front [] rest = refl
+drop_front (a ∷ front) rest = drop_front front rest
+
+-- the same, at a number
+pub drop_at : {A : Type 0} (whole front rest : List A) (n : ℕ) → whole ≡ front ++ rest → length front ≡ n → drop n whole ≡ rest
+drop_at whole front rest n e f = ap (drop n) e ∙ ap (λ (k : ℕ). drop k (front ++ rest)) (sym f) ∙ drop_front front rest
+
+-- at a one eleven zeros were seen, and what follows is the rest
+pub eol_at_one : (seen : ℕ) (here rest : Bits) → after_eol seen (true ∷ here) ≡ Some rest → (11 ≤ seen) × (here ≡ rest)
+eol_at_one seen here rest e = grind (arith, common_steps)
+
+-- the zeros and the one of an EOL
+pub after_eol_is : (seen : ℕ) (here rest : Bits) → after_eol seen here ≡ Some rest → (k : ℕ)
+    × (here ≡ replicate k false ++ true ∷ rest) × (11 ≤ seen + k)
+after_eol_is seen [] rest e = absurd cc
+after_eol_is seen (false ∷ here) rest e = let f = after_eol_is (suc seen) here rest e in
+    (suc f.0, ap (λ (x : Bits). false ∷ x) f.1, omega (arith, f.2))
+after_eol_is seen (true ∷ here) rest e = let f = eol_at_one seen here rest e in
+    (0, ap (λ (x : Bits). true ∷ x) f.1, omega (arith, f.0))
+
+-- the first one is at or before any other
+pub first_one : (k : ℕ) (rest before after : Bits) → replicate k false ++ true ∷ rest ≡ before ++ true ∷ after → k ≤ length before
+first_one zero rest before after e = omega arith
+first_one (suc k) rest [] after e = absurd cc
+first_one (suc k) rest (b ∷ before) after e = grind (arith, common_steps, first_one k rest before after)
+
+-- zeros before an EOL belong to it
+pub after_eol_more : (seen more : ℕ) (here rest : Bits) → seen ≤ more → after_eol seen here ≡ Some rest
+    → after_eol more here ≡ Some rest
+after_eol_more seen more [] rest le e = absurd cc
+after_eol_more seen more (false ∷ here) rest le e = after_eol_more (suc seen) (suc more) here rest (omega arith) e
+after_eol_more seen more (true ∷ here) rest le e = let f = eol_at_one seen here rest e in
+    rw (le-leb 11 more (omega (arith, f.0))) (ap Some f.1)
+
+-- an EOL stays one, whatever follows
+pub after_eol-append : (seen : ℕ) (here rest z : Bits) → after_eol seen here ≡ Some rest
+    → after_eol seen (here ++ z) ≡ Some (rest ++ z)
+after_eol-append seen [] rest z e = absurd cc
+after_eol-append seen (false ∷ here) rest z e = after_eol-append (suc seen) here rest z e
+after_eol-append seen (true ∷ here) rest z e = let f = eol_at_one seen here rest e in
+    rw (le-leb 11 seen f.0) (ap (λ (b : Bits). Some (b ++ z)) f.1)
+
+-- if no EOL ends within some bits, the next is the one after them
+pub past_before : (seen : ℕ) (bits z after : Bits) → past seen bits ≡ None → after_eol 0 z ≡ Some after
+    → past seen (bits ++ z) ≡ Some after
+past_before seen [] z after none e = past-eol seen z after (after_eol_more 0 seen z after (omega arith) e)
+past_before seen (false ∷ bits) z after none e = past_before (suc seen) bits z after none e
+past_before seen (true ∷ bits) z after none e = grind (arith, common_steps, cases_lt, le-leb, lt-leb, past_before 0 bits z after)
+
+-- a body between two positions, and what follows the EOL behind it
+pub record IsBody (bits : Bits) (from to : ℕ) (after : Bits) : Type 0 where
+  pub order : from ≤ to
+  pub within : to ≤ length bits
+  pub one : (place : ℕ) × (from ≤ place) × (place < to) × IsPrefix (true ∷ []) (drop place bits)
+  pub no_eol : (place end : ℕ) → from ≤ place → end ≤ to → IsEol bits place end → ⊥
+  pub eol : after_eol 0 (drop to bits) ≡ Some after
+
+module _ (bits : Bits) (from to : ℕ) (after : Bits) (local : IsBody bits from to after) where
+  -- the bits from the body on
+  abbrev pub line_on : Bits
+  line_on = drop from bits
+
+  -- the body
+  abbrev pub body : Bits
+  body = take (to - from) (drop from bits)
+
+  -- the bits from the EOL after it on
+  abbrev pub eol_on : Bits
+  eol_on = drop to bits
+
+  -- the body begins within the data
+  pub within_from : from ≤ length bits
+  within_from = omega (arith, local.order, local.within)
+
+  -- as many bits precede it
+  pub front_length : length (take from bits) ≡ from
+  front_length = length-take-le from bits within_from
+
+  -- its length
+  pub body_length : length body ≡ to - from
+  body_length = length-take-le (to - from) line_on (omega (arith, length-drop from bits, local.order, local.within))
+
+  -- the body, and what follows
+  pub cut : line_on ≡ body ++ eol_on
+  cut = grind (arith, common_steps, drop-drop (to - from) from bits, take-append-drop (to - from) line_on)
+
+  -- the data, cut where the body begins
+  pub whole : bits ≡ take from bits ++ line_on
+  whole = sym (take-append-drop from bits)
+
+  -- no EOL begins at or after the line's start and ends at or before `to`
+  not_within : (before rest : Bits) (k : ℕ) (found : Bits) → line_on ≡ before ++ found → found ≡ replicate k false ++ true ∷ rest
+      → after_eol 0 found ≡ Some rest → length before + (k + 1) ≤ to - from → ⊥
+  not_within before rest k found e f eol le =
+      grind (
+        arith,
+        common_steps,
+        append_assoc,
+        drop_at bits (take from bits ++ before) found (from + length before),
+        drop_at bits ((take from bits ++ before) ++ (replicate k false ++ true ∷ [])) rest (from + (length before + (k + 1))),
+        front_length,
+        length-append,
+        length-replicate,
+        whole,
+      )
+
+  -- no EOL ends within the body
+  pub none_in_body : past 0 body ≡ None
+  none_in_body = by_past (past 0 body) refl
+    where
+      by_past : (o : Option Bits) → past 0 body ≡ o → past 0 body ≡ None
+      by_past None e = e
+      by_past (Some rest) e =
+          let next = found_next body rest e in
+          let before = next_eol_leaves body next.0 next.1 in
+          let is = after_eol_is 0 next.0 rest next.2 in
+          let e2 : line_on ≡ before.0 ++ (next.0 ++ eol_on) =
+          cut ∙ ap (λ (b : Bits). b ++ eol_on) before.1 ∙ append_assoc before.0 next.0 eol_on in
+          let f2 : next.0 ++ eol_on ≡ replicate is.0 false ++ true ∷ (rest ++ eol_on) = ap (λ (b : Bits). b ++ eol_on) is.1
+          ∙ append_assoc (replicate is.0 false) (true ∷ rest) eol_on in
+          grind (arith, common_steps, after_eol-append, body_length, length-append, length-replicate, not_within)
+
+  pub no_eol_here : after_eol 0 line_on ≡ None
+  no_eol_here = by_after_eol (after_eol 0 line_on) refl
+    where
+      by_after_eol : (o : Option Bits) → after_eol 0 line_on ≡ o → after_eol 0 line_on ≡ None
+      by_after_eol None e = e
+      by_after_eol (Some rest) e =
+          let is = after_eol_is 0 line_on rest e in
+          let n : ℕ = local.one.0 - from in
+          let sum : from + n ≡ local.one.0 = omega (arith, local.one.1) in
+          let there : drop n line_on ≡ true ∷ local.one.3.0 =
+          drop-drop n from bits ∙ ap (λ (k : ℕ). drop k bits) sum ∙ local.one.3.1 in
+          let split : replicate is.0 false ++ true ∷ rest ≡ take n line_on ++ true ∷ local.one.3.0 =
+          sym is.1 ∙ sym (take-append-drop n line_on) ∙ ap (λ (b : Bits). take n line_on ++ b) there in
+          let short : length (take n line_on) ≡ n =
+          length-take-le n line_on (omega (arith, length-drop from bits, local.one.1, local.one.2, local.within)) in
+          let first = first_one is.0 rest (take n line_on) local.one.3.0 split in
+          absurd (not_within [] rest is.0 line_on refl is.1 e (omega (arith, first, short, local.one.1, local.one.2)))
+
+  pub next_line_is : past 0 line_on ≡ Some after
+  next_line_is = ap (past 0) cut ∙ past_before 0 body eol_on after none_in_body local.eol
+
+-- the next EOL is the same behind a line that is broken or ends before its last twelve bits
+pub line_past_of : (line : Line) (here after : Bits) → LineLeaves here line → past 0 here ≡ Some after
+    → ((row : Row) (rest : Bits) → line ≡ Line.whole row rest → length after + 12 ≤ length rest)
+    → past 0 (rest_of line here) ≡ Some after
+line_past_of (Line.whole row rest) here after leaves next stays =
+    past_later 0 leaves.0 rest after (ap (past 0) (sym leaves.1) ∙ next) (stays row rest refl)
+line_past_of (Line.broken front fault) here after leaves next stays = next
+
+pub line_past_by : (settings : DecodeSettings) (reference : Row) (here after : Bits) → past 0 here ≡ Some after
+    → ((row : Row) (rest : Bits) → line_here settings reference here ≡ Line.whole row rest → length after + 12 ≤ length rest)
+    → past 0 (rest_of (line_here settings reference here) here) ≡ Some after
+line_past_by settings reference here after next stays =
+    line_past_of (line_here settings reference here) here after
+    (line_by_leaves settings.encoding settings.strict settings.columns reference here) next stays
+
+-- ---- One-dimensional data
+
+-- the body of a one-dimensional line
+pub body_1d : (settings : DecodeSettings) (bits : Bits) (from to : ℕ) (local : IsLocal settings bits from to)
+    → IsBody bits from to local.closes.0
+body_1d settings bits from to local =
+    record { order = local.order; within = local.within; one = local.one; no_eol = local.no_eol; eol = local.closes.1 }
+
+-- a local body begins such a tail
+pub is_tail : (settings : DecodeSettings) (bits : Bits) (from to : ℕ) (local : IsLocal settings bits from to)
+    → IsTail settings local.closes.0 (drop from bits)
+is_tail settings bits from to local =
+    let body = body_1d settings bits from to local in
+    record {
+      none = no_eol_here bits from to local.closes.0 body;
+      next = next_line_is bits from to local.closes.0 body;
+      tag = λ e. absurd (let f = local.encoding in cc);
+    }
+
+-- the next EOL behind its line is the one behind it
+pub stays_1d : (settings : DecodeSettings) (bits : Bits) (from to : ℕ) (local : IsLocal settings bits from to) (reference : Row)
+    → past 0 (rest_of (line_here settings reference (drop from bits)) (drop from bits)) ≡ Some local.closes.0
+stays_1d settings bits from to local reference =
+    line_past_by settings reference (drop from bits) local.closes.0
+    (next_line_is bits from to local.closes.0 (body_1d settings bits from to local))
+    (λ row rest e. local.closes.2 row rest (sym (sought_line_is settings local.encoding local.lenient reference (drop from bits))
+    ∙ e))
+
+-- ---- Two-dimensional data
+
+-- the tag and the body of a line of two-dimensional data
+body_2d : (settings : DecodeSettings) (bits : Bits) (from to : ℕ) (local : IsTaggedBody settings bits from to)
+    → IsBody bits from to local.closes.0
+body_2d settings bits from to local = record {
+  order = omega (arith, local.one.1, local.one.2);
+  within = local.within;
+  one = (local.one.0, omega (arith, local.one.1), local.one.2, local.one.3);
+  no_eol = local.no_eol;
+  eol = local.closes.1;
+}
+
+-- the body alone
+body_behind_tag : (settings : DecodeSettings) (bits : Bits) (from to : ℕ) (local : IsTaggedBody settings bits from to)
+    → IsBody bits (suc from) to local.closes.0
+body_behind_tag settings bits from to local = record {
+  order = omega (arith, local.one.1, local.one.2);
+  within = local.within;
+  one = (local.one.0, local.one.1, local.one.2, local.one.3);
+  no_eol = λ place end le le2 eol. local.no_eol place end (omega (arith, le)) le2 eol;
+  eol = local.closes.1;
+}
+
+-- it begins such a tail
+pub is_tagged_tail : (settings : DecodeSettings) (bits : Bits) (from to : ℕ) (local : IsTaggedBody settings bits from to)
+    → IsTail settings local.closes.0 (drop from bits)
+is_tagged_tail settings bits from to local =
+    let body = body_2d settings bits from to local in
+    record {
+      none = no_eol_here bits from to local.closes.0 body;
+      next = next_line_is bits from to local.closes.0 body;
+      tag = λ e. by_drop (drop from bits) refl;
+    }
+  where
+    none : after_eol 0 (drop (suc from) bits) ≡ None
+    none = no_eol_here bits (suc from) to local.closes.0 (body_behind_tag settings bits from to local)
+
+    by_drop : (here : Bits) → drop from bits ≡ here → past_tag here ≡ here
+    by_drop [] e = refl
+    by_drop (false ∷ here) e = refl
+    by_drop (true ∷ here) e =
+        let next : from + 1 ≡ suc from = omega arith in
+        let behind : here ≡ drop (suc from) bits = sym (ap (drop 1) e) ∙ drop-drop 1 from bits
+        ∙ ap (λ (n : ℕ). drop n bits) next in
+        let no_eol : after_eol 0 here ≡ None = ap (after_eol 0) behind ∙ none in
+        rw (no_eol, past_tag) refl
+
+-- the next EOL behind its line, as it is read, is the one behind it
+pub stays_2d : (settings : DecodeSettings) (bits : Bits) (from to : ℕ) (local : IsTaggedBody settings bits from to)
+    (rows : List Row)
+    → Reaches (move_on settings) (first_line settings bits) (sought rows (drop from bits))
+    → past 0 (rest_of (line_of_turn settings (sought rows (drop from bits))) (drop from bits)) ≡ Some local.closes.0
+stays_2d settings bits from to local rows reached =
+    line_past_by settings (row_before settings.columns rows) (drop from bits) local.closes.0
+    (next_line_is bits from to local.closes.0 (body_2d settings bits from to local))
+    (λ row rest e. local.closes.2 (sought rows (drop from bits)) reached refl row rest e)

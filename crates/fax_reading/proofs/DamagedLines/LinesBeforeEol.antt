@@ -1,0 +1,266 @@
+-- A line that begins before the zeros of an EOL ends before their end, whatever comes after them.
+use Rattle.fax_reading.proofs.Names.{◌≡◌, ℕ, suc, ◌-◌, ◌≤◌, Bool, true, false, cond, leb, List, [], ◌∷◌, ◌++◌, length, replicate}
+use Rattle.fax_reading.proofs.Names.{Option, Some, None, Result, Ok, Err, refl, sym, ap, ◌∙◌, append_assoc, arith, inl, inr, pos}
+use Rattle.fax_reading.proofs.Names.{◌+ℤ◌, cases_lt, lt-ltb, le-ltb, append_cancel_left, Color, Mode, Pass, Horizontal, Vertical}
+use Rattle.fax_reading.proofs.Names.{DecodeError, UnexpectedEof, Bits, Code, mode_codes, Has, is_prefix_free, read_code, IsWord}
+use Rattle.fax_reading.proofs.Names.{Turn, Row, opposite, right_of, b1, paint, codes_of, run_turn, run_from, Line, Pen, start}
+use Rattle.fax_reading.proofs.Names.{line_1d, line_2d, place_from, Step, common_steps}
+use Rattle.fax_bits.proofs.BitReading.ZerosInWords.{scan, is_quiet, scan_below, scan-append, quiet_is, word_quiet}
+use Rattle.fax_bits.proofs.BitReading.ZerosInWords.{prefix_of_prefix, codes_free, modes_free}
+use Rattle.fax_bits.proofs.CodeWords.ReadCodes.{read_code_found, read_code_again}
+use Rattle.fax_bits.proofs.CodeWords.ReadRuns.{run_shrinks, size}
+use Rattle.fax_reading.proofs.DrawingLines.Drawings.{try, run_then, mode_step, step_1d, step_2d, step_1d_is, step_2d_is}
+use Rattle.fax_reading.proofs.DrawingLines.Drawings.{horizontal_is}
+use Rattle.fax_reading.proofs.DrawingLines.ReadLines.{pen_left, step_1d_shrinks, step_2d_shrinks}
+use Rattle.fax_bits.proofs.Repetition.Repeated.{Follows, repeated_follows}
+
+scan_stays : (n : ℕ) (a b : Bits) → scan n a ≡ None → scan n (a ++ b) ≡ None
+scan_stays n [] b e = absurd cc
+scan_stays n (true ∷ a) b e = scan_stays 0 a b e
+scan_stays n (false ∷ a) b e = grind (arith, common_steps, cases_lt, le-ltb, lt-ltb, scan_stays (suc n) a b)
+
+-- with more zeros before them the bits contain eleven zeros too
+scan_above : (m n : ℕ) (bits : Bits) → m ≤ n → scan m bits ≡ None → scan n bits ≡ None
+scan_above m n bits le e = by_scan (scan n bits) refl
+  where
+    by_scan : (o : Option ℕ) → scan n bits ≡ o → scan n bits ≡ None
+    by_scan None f = f
+    by_scan (Some k) f = absurd (let g = scan_below m n k bits le f in let h = g.1 in cc)
+
+-- The last bits of some that end with eleven zeros; after three zeros they would contain eleven.
+pub record Inside (bits : Bits) : Type 0 where
+  pub holds : scan 3 bits ≡ None
+  pub last : (before rest : Bits) × (before ++ bits ≡ rest ++ replicate 11 false)
+
+-- two data at one position, before different bits
+abbrev pub InFront : Bits → Bits → Bits → Bits → Type 0
+InFront x y here there = (bits : Bits) × Inside bits × (here ≡ bits ++ x) × (there ≡ bits ++ y)
+
+-- a word that begins inside ends inside
+word_inside : (bits x word rest : Bits) → Inside bits → is_quiet word ≡ true → bits ++ x ≡ word ++ rest → (more : Bits)
+    × Inside more × (bits ≡ word ++ more) × (rest ≡ more ++ x)
+word_inside bits x word rest inside quiet e =
+    let q = quiet_is (scan 3 word) quiet in
+    elim (cases_lt (length bits) (length word)) [
+      | inl lt ↦ absurd (
+          let f = prefix_of_prefix bits x word rest (sym e) (omega arith) in
+          let none : scan 3 word ≡ None = ap (scan 3) f.1 ∙ scan_stays 3 bits f.0 inside.holds in
+          let g = q.1 in cc)
+      | inr ge ↦
+          let f = prefix_of_prefix word rest bits x e ge in
+          let none : scan q.0 f.0 ≡ None = sym (scan-append 3 q.0 word f.0 q.1) ∙ ap (scan 3) (sym f.1) ∙ inside.holds in
+          let after : word ++ (f.0 ++ x) ≡ word ++ rest =
+          sym (append_assoc word f.0 x) ∙ ap (λ (b : Bits). b ++ x) (sym f.1) ∙ e in (
+            f.0,
+            record {
+              holds = scan_above q.0 3 f.0 q.2 none;
+              last = (
+                inside.last.0 ++ word,
+                inside.last.1,
+                append_assoc inside.last.0 word f.0 ∙ ap (λ (b : Bits). inside.last.0 ++ b) (sym f.1) ∙ inside.last.2,
+              );
+            },
+            f.1,
+            sym (append_cancel_left word (f.0 ++ x) rest after),
+          )
+    ]
+
+-- ---- What is found in one is found in the other
+abbrev pub FoundAlike : {V : Type 0} → Bits → Bits → Result (V × Bits) DecodeError → Result (V × Bits) DecodeError → Type 0
+FoundAlike x y (Ok found) (Ok other) = (found.0 ≡ other.0) × InFront x y found.1 other.1
+FoundAlike x y (Ok found) (Err fault) = ⊥
+FoundAlike x y (Err fault) (Ok other) = ⊥
+FoundAlike x y (Err fault) (Err other) = Unit {0}
+
+module _ {V : Type 0} (list : List (Code V)) (free : is_prefix_free list ≡ true)
+    (words : (v : V) (word : Bits) → Has list v word → IsWord word) where
+  reads_too : (bits x y : Bits) (v : V) (rest : Bits) → Inside bits → read_code list (bits ++ x) ≡ Ok (v, rest)
+      → (more : Bits) × Inside more × (rest ≡ more ++ x) × (read_code list (bits ++ y) ≡ Ok (v, more ++ y))
+  reads_too bits x y v rest inside e =
+      let f = read_code_found list (bits ++ x) v rest e in
+      let g = word_inside bits x f.0 rest inside (word_quiet f.0 (words v f.0 f.1)) f.2 in
+      let there : bits ++ y ≡ f.0 ++ (g.0 ++ y) = ap (λ (b : Bits). b ++ y) g.2 ∙ append_assoc f.0 g.0 y in
+      (g.0, g.1, g.3, ap (read_code list) there ∙ read_code_again list v f.0 (g.0 ++ y) free f.1)
+
+  words_alike : (bits x y : Bits) → Inside bits → FoundAlike x y (read_code list (bits ++ x)) (read_code list (bits ++ y))
+  words_alike bits x y inside = by_read_code (read_code list (bits ++ x)) (read_code list (bits ++ y)) refl refl
+    where
+      by_read_code : (r q : Result (V × Bits) DecodeError) → read_code list (bits ++ x) ≡ r → read_code list (bits ++ y) ≡ q
+          → FoundAlike x y r q
+      by_read_code (Ok (v, rest)) (Ok (w, other)) e f =
+          let g = reads_too bits x y v rest inside e in
+          let same : ◌≡◌ {A = Result (V × Bits) DecodeError} (Ok (v, g.0 ++ y)) (Ok (w, other)) = sym g.3 ∙ f in
+          let pairs : (v, g.0 ++ y) ≡ (w, other) = cc in
+          (ap (λ (p : V × Bits). p.0) pairs, (g.0, g.1, g.2, sym (ap (λ (p : V × Bits). p.1) pairs)))
+      by_read_code (Ok (v, rest)) (Err fault) e f =
+          let g = reads_too bits x y v rest inside e in
+          let same : ◌≡◌ {A = Result (V × Bits) DecodeError} (Ok (v, g.0 ++ y)) (Err fault) = sym g.3 ∙ f in cc
+      by_read_code (Err fault) (Ok (w, other)) e f =
+          let g = reads_too bits y x w other inside f in
+          let same : ◌≡◌ {A = Result (V × Bits) DecodeError} (Ok (w, g.0 ++ x)) (Err fault) = sym g.3 ∙ e in cc
+      by_read_code (Err fault) (Err other) e f = tt
+
+  words_in_front : (x y here there : Bits) → InFront x y here there → FoundAlike x y (read_code list here) (read_code list there)
+  words_in_front x y here there (bits, inside, e, f) = rw (e, f) (words_alike bits x y inside)
+
+read_code_alike : (color : Color) (bits x y : Bits) → Inside bits
+    → FoundAlike x y (read_code (codes_of color) (bits ++ x)) (read_code (codes_of color) (bits ++ y))
+read_code_alike color bits x y inside = words_alike (codes_of color) (codes_free color)
+    (λ n word has. inl (color, n, has)) bits x y inside
+
+read_mode_alike : (x y here there : Bits) → InFront x y here there
+    → FoundAlike x y (read_code mode_codes here) (read_code mode_codes there)
+read_mode_alike x y here there front = words_in_front mode_codes modes_free
+    (λ mode word has. inr (mode, has)) x y here there front
+
+module _ (x y : Bits) where
+  -- states of a run that are alike
+  abbrev Runs : ℕ × Bits → ℕ × Bits → Type 0
+  Runs s t = (s.0 ≡ t.0) × InFront x y s.1 t.1
+
+  module _ (color : Color) (rest : ℕ × Bits → Result (ℕ × Bits) DecodeError) where
+    turn_alike : (total : ℕ) (bits : Bits) → Inside bits
+        → Follows Runs (FoundAlike x y) rest (run_turn color (total, bits ++ x)) (run_turn color (total, bits ++ y))
+    turn_alike total bits inside = by_read_code (read_code (codes_of color) (bits ++ x))
+        (read_code (codes_of color) (bits ++ y)) refl refl (read_code_alike color bits x y inside)
+      where
+        by_read_code : (r q : Result (ℕ × Bits) DecodeError)
+            → read_code (codes_of color) (bits ++ x) ≡ r → read_code (codes_of color) (bits ++ y) ≡ q → FoundAlike x y r q
+            → Follows Runs (FoundAlike x y) rest (run_turn color (total, bits ++ x)) (run_turn color (total, bits ++ y))
+        by_read_code r q e f g = grind (arith, common_steps)
+
+    states_alike : (s t : ℕ × Bits) → Runs s t → Follows Runs (FoundAlike x y) rest (run_turn color s) (run_turn color t)
+    states_alike (total, here) (other, there) p = grind (arith, common_steps, turn_alike)
+
+  run_alike : (color : Color) (total : ℕ) (here there : Bits) → InFront x y here there
+      → FoundAlike x y (run_from color (total, here)) (run_from color (total, there))
+  run_alike color total here there front =
+      repeated_follows (run_turn color) (Err UnexpectedEof) size (run_shrinks color) (run_turn color) (Err UnexpectedEof) size
+      (run_shrinks color) Runs (FoundAlike x y) (states_alike color _) (suc (length here)) (suc (length there)) (total, here)
+      (total, there) (omega arith) (omega arith) (refl, front)
+
+  -- ---- Lines
+  abbrev pub LineAlike : Line → Line → Type 0
+  LineAlike (Line.whole row here) (Line.whole other there) = (row ≡ other) × InFront x y here there
+  LineAlike (Line.whole row here) (Line.broken front fault) = ⊥
+  LineAlike (Line.broken front fault) (Line.whole row there) = ⊥
+  LineAlike (Line.broken front fault) (Line.broken other fault2) = front ≡ other
+
+  -- pens that are alike
+  abbrev Pens : Pen → Pen → Type 0
+  Pens s t = (front : Row) × (color : Color) × (here there : Bits) × (s ≡ record { front = front; color = color; rest = here })
+      × (t ≡ record { front = front; color = color; rest = there }) × InFront x y here there
+
+  module _ (columns : ℕ) (rest : Pen → Line) where
+    drew_alike : (front : Row) (color : Color) (here there : Bits) → InFront x y here there
+        → Follows Pens LineAlike rest (step_1d false columns (record { front = front; color = color; rest = here }))
+        (step_1d false columns (record { front = front; color = color; rest = there }))
+    drew_alike front color here there infront =
+        rw (
+          step_1d_is false columns (record { front = front; color = color; rest = here }),
+          step_1d_is false columns (record { front = front; color = color; rest = there }),
+        ) (full (leb columns (length front)))
+      where
+        drawn_by : Result (ℕ × Bits) DecodeError → Step
+        drawn_by r = try front r (λ run. try front (paint false columns front color run.0)
+            (λ more. Turn.next (record { front = more; color = opposite color; rest = run.1 })))
+
+        drew : (r q : Result (ℕ × Bits) DecodeError) → FoundAlike x y r q → Follows Pens LineAlike rest (drawn_by r) (drawn_by q)
+        drew r q g = grind (arith, common_steps)
+
+        full : (b : Bool) → Follows Pens LineAlike rest (cond b (Turn.done (Line.whole front here)) (drawn_by
+            (run_from color (0, here)))) (cond b (Turn.done (Line.whole front there)) (drawn_by (run_from color (0, there))))
+        full b = grind (arith, common_steps, drew, run_alike)
+
+    pens_alike : (s t : Pen) → Pens s t → Follows Pens LineAlike rest (step_1d false columns s) (step_1d false columns t)
+    pens_alike s t (front, color, here, there, a, b, infront) = rw (a, b) (drew_alike front color here there infront)
+
+  -- a line of two data at one position, inside, is the same, and ends inside
+  pub line_1d_alike : (columns : ℕ) (here there : Bits) → InFront x y here there
+      → LineAlike (line_1d false columns here) (line_1d false columns there)
+  line_1d_alike columns here there front =
+      repeated_follows (step_1d false columns) (Line.broken [] UnexpectedEof) pen_left (step_1d_shrinks false columns)
+      (step_1d false columns) (Line.broken [] UnexpectedEof) pen_left (step_1d_shrinks false columns) Pens LineAlike
+      (pens_alike columns _) (suc (length here)) (suc (length there)) (start here) (start there) (omega arith) (omega arith)
+      ([], Color.White, here, there, refl, refl, front)
+
+  -- the same of a two-dimensional line, against one reference row
+  module _ (columns : ℕ) (reference : Row) (rest : Pen → Line) where
+    abbrev Both : Step → Step → Type 0
+    Both step other = Follows Pens LineAlike rest step other
+
+    run_then_alike : (front : Row) (color : Color) (here there : Bits) (behind : Pen → Step) → InFront x y here there
+        → ((s t : Pen) → Pens s t → Both (behind s) (behind t))
+        → Both (run_then false columns (record { front = front; color = color; rest = here }) behind)
+        (run_then false columns (record { front = front; color = color; rest = there }) behind)
+    run_then_alike front color here there behind infront on = by_result (run_from color (0, here)) (run_from color (0, there))
+        (run_alike color 0 here there infront)
+      where
+        step : Result (ℕ × Bits) DecodeError → Step
+        step r = try front r (λ run. try front (paint false columns front color run.0)
+            (λ more. behind (record { front = more; color = opposite color; rest = run.1 })))
+
+        by_result : (r q : Result (ℕ × Bits) DecodeError) → FoundAlike x y r q → Both (step r) (step q)
+        by_result (Ok (n, left)) (Ok (m, other)) (same, still) =
+            rw (← same) (on _ _ (_, opposite color, left, other, refl, refl, still))
+        by_result (Ok found) (Err fault) alike = absurd alike
+        by_result (Err fault) (Ok found) alike = absurd alike
+        by_result (Err fault) (Err other) alike = refl
+
+    mode_alike : (front : Row) (color : Color) (here there : Bits) (mode : Mode) → InFront x y here there
+        → Both (mode_step false columns reference (record { front = front; color = color; rest = here }) mode)
+        (mode_step false columns reference (record { front = front; color = color; rest = there }) mode)
+    mode_alike front color here there Pass infront = (_, color, here, there, refl, refl, infront)
+    mode_alike front color here there Horizontal infront =
+        rw (
+          ← horizontal_is false columns reference (record { front = front; color = color; rest = here }),
+          ← horizontal_is false columns reference (record { front = front; color = color; rest = there }),
+        ) (run_then_alike front color here there (λ p. run_then false columns p Turn.next) infront second)
+      where
+        second : (s t : Pen) → Pens s t → Both (run_then false columns s Turn.next) (run_then false columns t Turn.next)
+        second s t (more, color2, here2, there2, a, b, still) = rw (a, b)
+            (run_then_alike more color2 here2 there2 Turn.next still (λ u v pens. pens))
+    mode_alike front color here there (Vertical k) infront = by_result
+        (place_from (length front) (pos (b1 reference (right_of front) color) +ℤ k))
+      where
+        by_result : (r : Result ℕ DecodeError)
+            → Both (try front r (λ place. try front (paint false columns front color (place - length front))
+            (λ more. Turn.next (record { front = more; color = opposite color; rest = here }))))
+            (try front r (λ place. try front (paint false columns front color (place - length front))
+            (λ more. Turn.next (record { front = more; color = opposite color; rest = there }))))
+        by_result (Ok place) = (_, opposite color, here, there, refl, refl, infront)
+        by_result (Err fault) = refl
+
+    step_2d_alike : (s t : Pen) → Pens s t → Both (step_2d false columns reference s) (step_2d false columns reference t)
+    step_2d_alike s t (front, color, here, there, a, b, infront) =
+        rw (
+          a,
+          b,
+          step_2d_is false columns reference (record { front = front; color = color; rest = here }),
+          step_2d_is false columns reference (record { front = front; color = color; rest = there }),
+        ) (full (leb columns (length front)))
+      where
+        step : Result (Mode × Bits) DecodeError → Step
+        step r = try front r (λ mode. mode_step false columns reference
+            (record { front = front; color = color; rest = mode.1 }) mode.0)
+
+        by_result : (r q : Result (Mode × Bits) DecodeError) → FoundAlike x y r q → Both (step r) (step q)
+        by_result (Ok (mode, left)) (Ok (same_mode, other)) (same, still) =
+            rw (← same) (mode_alike front color left other mode still)
+        by_result (Ok found) (Err fault) alike = absurd alike
+        by_result (Err fault) (Ok found) alike = absurd alike
+        by_result (Err fault) (Err other) alike = refl
+
+        full : (whole : Bool) → Both (cond whole (Turn.done (Line.whole front here)) (step (read_code mode_codes here)))
+            (cond whole (Turn.done (Line.whole front there)) (step (read_code mode_codes there)))
+        full true = (refl, infront)
+        full false = by_result (read_code mode_codes here) (read_code mode_codes there) (read_mode_alike x y here there infront)
+
+  pub line_2d_alike : (columns : ℕ) (reference : Row) (here there : Bits) → InFront x y here there
+      → LineAlike (line_2d false columns reference here) (line_2d false columns reference there)
+  line_2d_alike columns reference here there front =
+      repeated_follows (step_2d false columns reference) (Line.broken [] UnexpectedEof) pen_left
+      (step_2d_shrinks false columns reference) (step_2d false columns reference) (Line.broken [] UnexpectedEof) pen_left
+      (step_2d_shrinks false columns reference) Pens LineAlike (step_2d_alike columns reference _) (suc (length here))
+      (suc (length there)) (start here) (start there) (omega arith) (omega arith)
+      ([], Color.White, here, there, refl, refl, front)

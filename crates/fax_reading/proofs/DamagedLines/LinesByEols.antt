@@ -1,0 +1,173 @@
+-- Lines by EOLs.
+use Rattle.fax_reading.proofs.Readings.TurnsAddRows.{turn_extends, after_row_keeps, move_adds, repeated_adds}
+use Rattle.fax_reading.proofs.Names.{◌≡◌, ℕ, zero, suc, ◌<◌, Bool, true, false, cond, ◌||◌, eqb, ltb, List, [], ◌∷◌, ◌++◌, length}
+use Rattle.fax_reading.proofs.Names.{map, Option, Some, None, Ok, Err, refl, sym, ap, subst, ◌∙◌, append_assoc, arith, ◌⊎◌, All}
+use Rattle.fax_reading.proofs.Names.{All-head, All-tail, All-same, append-nil, cases_lt, lt-leb, le-leb, ne_eqb, and_right}
+use Rattle.fax_reading.proofs.Names.{cond-false, UnexpectedEof, Group3_1D, DecodeSettings, Bits, IsPrefix, Turn, repeated, Row}
+use Rattle.fax_reading.proofs.Names.{line_1d, after_eol, all_eols, Progress, Ending, Move, limit_met, at_end, ends_with, move_on}
+use Rattle.fax_reading.proofs.Names.{begins_line, later_starts, starts, row_at, StaysBefore, IsEolAt, LinesByEols, common_steps}
+use Rattle.fax_reading.proofs.{Readings.GapsAndRows.ending_t4, Readings.RowsAndGaps.after_row, Readings.RowsAndGaps.unless_over}
+use Rattle.fax_reading.proofs.DamagedLines.PastEol.{past, past-eol}
+use Rattle.fax_bits.proofs.BitReading.ConsecutiveEols.{all_eols-some}
+use Rattle.fax_reading.proofs.DamagedLines.LineTails.{line_past_of}
+use Rattle.fax_reading.proofs.DamagedLines.SoughtTurns.{sought, rest_of, found_next, after_row_past, move_line}
+use Rattle.fax_reading.proofs.DrawingLines.LinesLeaveBits.{line_1d_leaves}
+use Rattle.fax_bits.proofs.Repetition.Repeated.{after_turn, repeated_turn, repeated_same}
+use Rattle.fax_reading.proofs.Readings.TurnsMoveOn.{eols_end, left_to_read}
+use Rattle.fax_bits.proofs.BitReading.ConsecutiveEols.{after_eol_shorter, count_shorter, counts_plain}
+use Rattle.fax_reading.proofs.Readings.TurnsMoveOn.{left_below, move_shrinks}
+
+-- what follows the next EOL is shorter
+pub past_shorter : (seen : ℕ) (here after : Bits) → past seen here ≡ Some after → length after < length here
+past_shorter seen [] after e = absurd cc
+past_shorter seen (false ∷ here) after e = omega (arith, past_shorter (suc seen) here after e)
+past_shorter seen (true ∷ here) after e = grind (arith, common_steps, cases_lt, le-leb, lt-leb, past_shorter 0 here after)
+
+-- ---- Where lines begin
+
+-- a line begins here, unless an EOL or the end is here
+abbrev own : Bits → List Bits
+own here = cond (begins_line here) (here ∷ []) []
+
+starts-past : (seen : ℕ) (here after : Bits) → past seen here ≡ Some after
+    → later_starts seen here ≡ own after ++ later_starts 0 after
+starts-past seen [] after e = absurd cc
+starts-past seen (false ∷ here) after e = starts-past (suc seen) here after e
+starts-past seen (true ∷ here) after e = grind (arith, common_steps, cases_lt, le-leb, lt-leb, starts-past 0 here after)
+
+starts-none : (seen : ℕ) (here : Bits) → past seen here ≡ None → later_starts seen here ≡ []
+starts-none seen [] e = refl
+starts-none seen (false ∷ here) e = starts-none (suc seen) here e
+starts-none seen (true ∷ here) e = grind (arith, common_steps, cases_lt, le-leb, lt-leb, starts-none 0 here)
+
+-- the starts from a position on
+abbrev from_here : Bits → List Bits
+from_here [] = []
+from_here (b ∷ here) = (b ∷ here) ∷ later_starts 0 (b ∷ here)
+
+starts_after : (n : ℕ) (here : Bits) → length here < n → own here ++ later_starts 0 here ≡ from_here (all_eols here).1
+starts_after zero here lt = absurd (omega arith)
+starts_after (suc n) here lt = by_after_eol (λ next small. starts_after n next small) (after_eol 0 here) refl
+  where
+    by_after_eol : ((next : Bits) → length next < n → own next ++ later_starts 0 next ≡ from_here (all_eols next).1)
+        → (o : Option Bits) → after_eol 0 here ≡ o → own here ++ later_starts 0 here ≡ from_here (all_eols here).1
+    by_after_eol on (Some next) e =
+        grind (arith, common_steps, after_eol_shorter, all_eols-some, and_right, cond-false, past-eol, starts-past)
+    by_after_eol on None e = grind (arith, common_steps)
+
+-- the later starts are those from the end of the next EOLs on
+pub starts-next : (here after : Bits) → past 0 here ≡ Some after → later_starts 0 here ≡ from_here (all_eols after).1
+starts-next here after e = starts-past 0 here after e ∙ starts_after (suc (length after)) after (omega arith)
+
+-- ---- The next EOL is the same after a line that stays before it
+pub line_past : (columns : ℕ) (here after : Bits) → StaysBefore columns here → past 0 here ≡ Some after
+    → past 0 (rest_of (line_1d false columns here) here) ≡ Some after
+line_past columns here after stays e =
+    let next = found_next here after e in
+    line_past_of (line_1d false columns here) here after (line_1d_leaves false columns here) e
+    (λ row rest l. stays next.0 after next.1 next.2 row rest l)
+
+module _ (settings : DecodeSettings) (encoding : settings.encoding ≡ Group3_1D) (lenient : settings.strict ≡ false)
+    (no_block : settings.end_of_block ≡ false) (unlimited : settings.rows ≡ 0) (wide : 0 < settings.columns) (late : Ending) where
+  -- the reading from a state on
+  abbrev rest_end : Progress → Ending
+  rest_end run = repeated (move_on settings) late (suc (left_to_read run)) run
+
+  extends : (run : Progress) → IsPrefix run.rows (rest_end run).rows
+  extends run = repeated_adds (move_on settings) late left_to_read (move_shrinks settings wide) (move_adds settings)
+      (suc (left_to_read run)) run (omega arith)
+
+  not_met : (n : ℕ) → limit_met settings n ≡ false
+  not_met n = rw unlimited refl
+
+  -- only the end ends the run
+  over_is : (rows : List Row) (rest : Bits) (count : ℕ) (here : Bits) → unless_over settings (sought rows rest) (count, here)
+      ≡ cond (at_end here) (ends_with (sought rows rest) (Ok here)) (Turn.next (sought rows here))
+  over_is rows rest count here = rw ((eols_end settings count).1 no_block, unlimited) refl
+
+  -- the rows so far, and those of the lines that begin from here on
+  by_starts : (n : ℕ) (rows : List Row) (here : Bits) → length here < n → All (StaysBefore settings.columns) (here ∷ later_starts
+      0 here) → IsPrefix (rows ++ map (row_at settings.columns) (here ∷ later_starts 0 here)) (rest_end (sought rows here)).rows
+  by_starts zero rows here lt stay = absurd (omega arith)
+  by_starts (suc n) rows here lt stay =
+      subst (λ (e : Ending). IsPrefix (rows ++ map (row_at settings.columns) (here ∷ later_starts 0 here)) e.rows)
+      (sym (repeated_turn (move_on settings) late left_to_read (move_shrinks settings wide) (sought rows here)))
+      (rw (move_line settings encoding lenient rows here)
+      (by_past (λ rows here small stay. by_starts n rows here small stay) (past 0 here) refl))
+    where
+      first : Row
+      first = row_at settings.columns here
+
+      rest : Bits
+      rest = rest_of (line_1d false settings.columns here) here
+
+      by_past : ((rows : List Row) (here : Bits) → length here < n → All (StaysBefore settings.columns)
+          (here ∷ later_starts 0 here) → IsPrefix (rows ++ map (row_at settings.columns) (here ∷ later_starts 0 here)) (rest_end
+          (sought rows here)).rows) → (o : Option Bits) → past 0 here ≡ o → IsPrefix (rows ++ map (row_at settings.columns)
+          (here ∷ later_starts 0 here)) (after_turn rest_end (after_row settings (sought (rows ++ first ∷ []) rest))).rows
+      by_past on None e = rw (starts-none 0 here e)
+          (turn_extends rest_end extends (rows ++ first ∷ []) (after_row settings (sought (rows ++ first ∷ []) rest))
+          (after_row_keeps settings (sought (rows ++ first ∷ []) rest)))
+      by_past on (Some after) e = go (all_eols after).1 refl
+        where
+          others : List Row
+          others = rows ++ first ∷ []
+
+          turn : (there : Bits) → (all_eols after).1 ≡ there → after_row settings (sought others rest)
+              ≡ cond (at_end there) (ends_with (sought others rest) (Ok there)) (Turn.next (sought others there))
+          turn there is =
+              after_row_past settings encoding lenient others rest after (not_met (length others))
+              (line_past settings.columns here after (All-head (StaysBefore settings.columns) here (later_starts 0 here) stay) e)
+              ∙ over_is others rest (suc (all_eols after).0) (all_eols after).1
+              ∙ ap (λ (x : Bits). cond (at_end x) (ends_with (sought others rest) (Ok x)) (Turn.next (sought others x))) is
+
+          go : (there : Bits) → (all_eols after).1 ≡ there
+              → IsPrefix (rows ++ map (row_at settings.columns) (here ∷ later_starts 0 here))
+              (after_turn rest_end (after_row settings (sought others rest))).rows
+          go [] is =
+              let none : later_starts 0 here ≡ [] = starts-next here after e ∙ ap from_here is in
+              subst (λ (m : Move). IsPrefix (rows ++ map (row_at settings.columns) (here ∷ later_starts 0 here))
+              (after_turn rest_end m).rows) (sym (turn [] is)) (rw none ([], sym (append-nil others)))
+          go (b ∷ there) is =
+              let some : later_starts 0 here ≡ (b ∷ there) ∷ later_starts 0 (b ∷ there) =
+              starts-next here after e ∙ ap from_here is in
+              let smaller : length (b ∷ there) < n =
+              omega (arith, lt, past_shorter 0 here after e, count_shorter counts_plain (length after) after, ap length is) in
+              let tail = All-same (StaysBefore settings.columns) ((b ∷ there) ∷ later_starts 0 (b ∷ there)) (later_starts 0 here)
+              (sym some) (All-tail (StaysBefore settings.columns) here (later_starts 0 here) stay) in
+              let further = on others (b ∷ there) smaller tail in
+              let all : rows ++ map (row_at settings.columns) (here ∷ later_starts 0 here) ≡ others ++ map (row_at
+              settings.columns) ((b ∷ there) ∷ later_starts 0 (b ∷ there)) = grind (arith, common_steps, append_assoc, map) in
+              subst (λ (m : Move). IsPrefix (rows ++ map (row_at settings.columns) (here ∷ later_starts 0 here))
+              (after_turn rest_end m).rows) (sym (turn (b ∷ there) is))
+              (subst (λ (x : List Row). IsPrefix x (rest_end (sought others (b ∷ there))).rows) (sym all) further)
+
+  -- the whole run begins at the first of them
+  by_run : (run : Progress) (here : Bits) → run ≡ sought [] here → All (StaysBefore settings.columns) (here ∷ later_starts 0 here)
+      → IsPrefix (map (row_at settings.columns) (here ∷ later_starts 0 here))
+      (repeated (move_on settings) late (suc (suc (length run.rest))) run).rows
+  by_run run here is stay =
+      subst (λ (e : Ending). IsPrefix (map (row_at settings.columns) (here ∷ later_starts 0 here)) e.rows)
+      (repeated_same (move_on settings) late left_to_read (move_shrinks settings wide) (suc (left_to_read run))
+      (suc (suc (length run.rest))) run (omega arith) (left_below run))
+      (subst (λ (r : Progress). IsPrefix (map (row_at settings.columns) (here ∷ later_starts 0 here)) (rest_end r).rows) (sym is)
+      (by_starts (suc (length here)) [] here (omega arith) stay))
+
+-- EOLs are sought from the start
+pub seeks : (bits : Bits) (end_of_line : Bool) → (end_of_line ≡ true) ⊎ IsEolAt bits
+    → (ltb 0 (all_eols bits).0 || end_of_line) ≡ true
+seeks bits end_of_line given = grind (arith, common_steps)
+
+-- the law
+pub lines_by_eols : LinesByEols
+lines_by_eols settings bits are encoding lenient no_block unlimited wide sought_by stay =
+    let columns : eqb settings.columns 0 ≡ false = ne_eqb settings.columns 0 (λ e. absurd (omega (arith, e, wide))) in
+    let first : Progress =
+    record { rows = []; has_eols = ltb 0 (all_eols bits).0 || settings.end_of_line; rest = (all_eols bits).1 } in
+    let first_is : first ≡ sought [] (all_eols bits).1 =
+    ap (λ (b : Bool). record { rows = []; has_eols = b; rest = (all_eols bits).1 }) (seeks bits settings.end_of_line sought_by) in
+    let ends : IsPrefix (map (row_at settings.columns) (starts bits)) (ending_t4 settings bits).rows =
+    by_run settings encoding lenient no_block unlimited wide
+    (record { rows = []; has_eols = ltb 0 (all_eols bits).0 || settings.end_of_line; outcome = Err UnexpectedEof }) first
+    (all_eols bits).1 first_is stay in
+    grind (arith, common_steps, ending_t4, map)

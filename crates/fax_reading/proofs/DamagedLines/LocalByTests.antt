@@ -1,0 +1,160 @@
+-- Locality of a body, as tests of the bits.
+use Rattle.fax_reading.proofs.Names.{◌≡◌, ◌≢◌, ℕ, zero, suc, ◌+◌, ◌-◌, ◌<◌, ◌≤◌, true, false, List, [], ◌∷◌, ◌++◌, length, take}
+use Rattle.fax_reading.proofs.Names.{drop, replicate, Option, Some, None, refl, sym, ap, ◌∙◌, append_assoc, arith, inl, inr}
+use Rattle.fax_reading.proofs.Names.{length-append, length-take-le, length-drop, length-replicate, take-append-drop, drop-drop}
+use Rattle.fax_reading.proofs.Names.{replicate-append-replicate, DecodeSettings, Bits, after_eol, next_eol, IsEol, IsLocal}
+use Rattle.fax_reading.proofs.Names.{IsLocalByTests, LocalByTests, common_steps}
+use Rattle.fax_reading.proofs.{DamagedLines.EolsAlike.no_one_in_zeros, DamagedLines.PastEol.past_is}
+use Rattle.fax_reading.proofs.DamagedLines.PastEol.{then_after}
+use Rattle.fax_reading.proofs.DamagedLines.LineTails.{after_eol_is, drop_at, none_in_body, body_1d}
+use Rattle.fax_bits.proofs.BitReading.ConsecutiveEols.{next_eol_found, eol_of}
+
+-- bits that aren't all zeros contain a one
+holds_one : (bits : Bits) → bits ≢ replicate (length bits) false → (before after : Bits) × (bits ≡ before ++ true ∷ after)
+holds_one [] not_zeros = absurd (not_zeros refl)
+holds_one (true ∷ bits) not_zeros = ([], bits, refl)
+holds_one (false ∷ bits) not_zeros = let f
+    = holds_one bits (λ e. not_zeros (ap (λ (b : Bits). false ∷ b) e)) in (false ∷ f.0, f.1, ap (λ (b : Bits). false ∷ b) f.2)
+
+-- if none is found, there is none further on
+none_further : (before here : Bits) → next_eol (before ++ here) ≡ None → after_eol 0 here ≡ None
+none_further [] here e = by_here here e
+  where
+    by_here : (here : Bits) → next_eol here ≡ None → after_eol 0 here ≡ None
+    by_here [] e = refl
+    by_here (bit ∷ here) e = grind (arith, common_steps)
+none_further (bit ∷ before) here e = none_further before here (rest (after_eol 0 (bit ∷ (before ++ here))) refl)
+  where
+    rest : (o : Option Bits) → after_eol 0 (bit ∷ (before ++ here)) ≡ o → next_eol (before ++ here) ≡ None
+    rest o f = grind (arith, common_steps)
+
+take_zeros : (k m : ℕ) (rest : Bits) → k < m
+    → take m (replicate k false ++ true ∷ rest) ≡ replicate k false ++ true ∷ take (m - (k + 1)) rest
+take_zeros k zero rest lt = absurd (omega arith)
+take_zeros zero (suc m) rest lt = let e : suc m - (0 + 1) ≡ m = omega arith in ap (λ (n : ℕ). true ∷ take n rest) (sym e)
+take_zeros (suc k) (suc m) rest lt = grind (arith, common_steps, rest, take_zeros k m rest (omega arith))
+
+take-split : {A : Type 0} (j m : ℕ) (xs : List A) → j ≤ m → take m xs ≡ take j xs ++ take (m - j) (drop j xs)
+take-split zero m xs le = let e : m - 0 ≡ m = omega arith in ap (λ (n : ℕ). take n xs) (sym e)
+take-split (suc j) zero xs le = absurd (omega arith)
+take-split (suc j) (suc m) [] le = grind (arith, common_steps)
+take-split {A} (suc j) (suc m) (x ∷ xs) le = grind (arith, common_steps, take-split j m xs (omega arith))
+
+-- how far an EOL reaches
+eol_lengths : (bits : Bits) (place end zeros : ℕ) → drop place bits ≡ replicate zeros false ++ true ∷ drop end bits
+    → length bits - place ≡ zeros + (1 + (length bits - end))
+eol_lengths bits place end zeros is =
+    let step = length-append (replicate zeros false) (true ∷ drop end bits) in
+    grind (arith, common_steps, step, length-drop place bits, length-drop end bits, length-replicate zeros false)
+
+module _ (settings : DecodeSettings) (bits : Bits) (from to : ℕ) where
+  from_tests : IsLocalByTests settings bits from to → IsLocal settings bits from to
+  from_tests tests = record {
+    encoding = tests.encoding;
+    lenient = tests.lenient;
+    order = tests.order;
+    within = tests.within;
+    starts = elim tests.starts
+        [ inl e ↦ inl e | inr e ↦ inr (from - 12, (omega (arith, e.0), omega (arith, tests.order, tests.within), e.1)) ];
+    one = one;
+    no_eol = no_eol;
+    closes = tests.closes;
+  }
+    where
+      body : Bits
+      body = take (to - from) (drop from bits)
+
+      body_length : length body ≡ to - from
+      body_length = length-take-le (to - from) (drop from bits) (omega (arith, length-drop from bits, tests.order, tests.within))
+
+      one : (place : ℕ) × (from ≤ place) × (place < to) × ((more : Bits) × (drop place bits ≡ true ∷ more))
+      one =
+          let f = holds_one body (λ e. tests.one (e ∙ ap (λ (n : ℕ). replicate n false) body_length)) in
+          let line : drop from bits ≡ f.0 ++ (true ∷ (f.1 ++ drop (to - from) (drop from bits))) =
+          sym (take-append-drop (to - from) (drop from bits)) ∙ ap (λ (b : Bits). b ++ drop (to - from) (drop from bits)) f.2
+          ∙ append_assoc f.0 (true ∷ f.1) (drop (to - from) (drop from bits)) in (
+            from + length f.0,
+            omega arith,
+            omega (arith, body_length, ap length f.2, length-append f.0 (true ∷ f.1), tests.order),
+            (
+              f.1 ++ drop (to - from) (drop from bits),
+              sym (drop-drop (length f.0) from bits)
+                  ∙ drop_at (drop from bits) f.0 (true ∷ (f.1 ++ drop (to - from) (drop from bits))) (length f.0) line refl,
+            ),
+          )
+
+      no_eol : (place end : ℕ) → from ≤ place → end ≤ to → IsEol bits place end → ⊥
+      no_eol place end le le2 (lt, inside, eol) =
+          let is = after_eol_is 0 (drop place bits) (drop end bits) eol in
+          let j : ℕ = place - from in
+          let sum : from + j ≡ place = omega (arith, le) in
+          let there : drop j (drop from bits) ≡ replicate is.0 false ++ true ∷ drop end bits =
+          drop-drop j from bits ∙ ap (λ (n : ℕ). drop n bits) sum ∙ is.1 in
+          let lengths = eol_lengths bits place end is.0 is.1 in
+          let fits : is.0 < (to - from) - j = omega (arith, lengths, le, le2, lt, tests.order, tests.within) in
+          let split : body ≡ take j (drop from bits) ++ (replicate is.0 false ++ true ∷ take (((to - from) - j) - (is.0 + 1))
+          (drop end bits)) = take-split j (to - from) (drop from bits) (omega (arith, le, le2, lt))
+          ∙ ap (λ (b : Bits). take j (drop from bits) ++ take ((to - from) - j) b) there
+          ∙ ap (λ (b : Bits). take j (drop from bits) ++ b) (take_zeros is.0 ((to - from) - j) (drop end bits) fits) in
+          let none = none_further (take j (drop from bits)) (replicate is.0 false ++ true ∷ take (((to - from) - j) - (is.0 + 1))
+          (drop end bits)) (ap next_eol (sym split) ∙ tests.no_eol) in
+          let some = eol_of 0 is.0 (take (((to - from) - j) - (is.0 + 1)) (drop end bits)) is.2 in
+          grind (arith, common_steps)
+
+  -- a local body passes the tests
+  pub to_tests : IsLocal settings bits from to → IsLocalByTests settings bits from to
+  to_tests local = record {
+    encoding = local.encoding;
+    lenient = local.lenient;
+    order = local.order;
+    within = local.within;
+    starts = elim local.starts [ inl e ↦ inl e | inr e ↦ inr (twelve e.0 e.1) ];
+    one = one;
+    no_eol = none_found (next_eol (take (to - from) (drop from bits))) refl;
+    closes = local.closes;
+  }
+    where
+      twelve : (place : ℕ) → IsEol bits place from → (12 ≤ from) × (after_eol 0 (drop (from - 12) bits) ≡ Some (drop from bits))
+      twelve place (lt, inside, eol) =
+          let is = after_eol_is 0 (drop place bits) (drop from bits) eol in
+          let lengths = eol_lengths bits place from is.0 is.1 in
+          let more : ℕ = is.0 - 11 in
+          let sum : more + 11 ≡ is.0 = omega (arith, is.2) in
+          let fill : replicate is.0 false ≡ replicate more false ++ replicate 11 false =
+          ap (λ (n : ℕ). replicate n false) (sym sum) ∙ sym (replicate-append-replicate more 11 false) in
+          let whole : drop place bits ≡ replicate more false ++ (replicate 11 false ++ true ∷ drop from bits) =
+          is.1 ∙ ap (λ (b : Bits). b ++ true ∷ drop from bits) fill
+          ∙ append_assoc (replicate more false) (replicate 11 false) (true ∷ drop from bits) in
+          let at : place + more ≡ from - 12 = omega (arith, lengths, is.2, lt, local.order, local.within) in
+          let there : drop (from - 12) bits ≡ replicate 11 false ++ true ∷ drop from bits =
+          ap (λ (n : ℕ). drop n bits) (sym at) ∙ sym (drop-drop more place bits) ∙ drop_at (drop place bits)
+          (replicate more false) (replicate 11 false ++ true ∷ drop from bits) more whole (length-replicate more false) in
+          (omega (arith, lengths, is.2, lt, local.order, local.within), ap (after_eol 0) there)
+
+      one : take (to - from) (drop from bits) ≢ replicate (to - from) false
+      one e =
+          let j : ℕ = local.one.0 - from in
+          let m : ℕ = ((to - from) - j) - 1 in
+          let sum : from + j ≡ local.one.0 = omega (arith, local.one.1) in
+          let left : (to - from) - j ≡ suc m = omega (arith, local.one.1, local.one.2) in
+          let there : drop j (drop from bits) ≡ true ∷ local.one.3.0 =
+          drop-drop j from bits ∙ ap (λ (n : ℕ). drop n bits) sum ∙ local.one.3.1 in
+          let split : take (to - from) (drop from bits) ≡ take j (drop from bits) ++ true ∷ take m local.one.3.0
+          = take-split j (to - from) (drop from bits) (omega (arith, local.one.1, local.one.2))
+          ∙ ap (λ (n : ℕ). take j (drop from bits) ++ take n (drop j (drop from bits))) left
+          ∙ ap (λ (b : Bits). take j (drop from bits) ++ take (suc m) b) there in
+          no_one_in_zeros (to - from) (take j (drop from bits)) (take m local.one.3.0) (sym split ∙ e)
+
+      none_found : (o : Option Bits) → next_eol (take (to - from) (drop from bits)) ≡ o
+          → next_eol (take (to - from) (drop from bits)) ≡ None
+      none_found None e = e
+      none_found (Some found) e =
+          let f = next_eol_found (take (to - from) (drop from bits)) found e in
+          let both : ◌≡◌ {A = Option Bits} None (Some f.1.0) = sym
+          (none_in_body bits from to local.closes.0 (body_1d settings bits from to local))
+          ∙ past_is (take (to - from) (drop from bits)) ∙ ap then_after e ∙ f.1.1 in
+          absurd cc
+
+-- the law
+pub local_by_tests : LocalByTests
+local_by_tests settings bits from to = (to_tests settings bits from to, from_tests settings bits from to)

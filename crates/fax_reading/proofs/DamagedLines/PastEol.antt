@@ -1,0 +1,81 @@
+-- What follows the next EOL.
+use Rattle.fax_reading.proofs.Names.{◌≡◌, ℕ, suc, ◌+◌, ◌≤◌, true, false, cond, leb, [], ◌∷◌, ◌++◌, length, Option, Some, None}
+use Rattle.fax_reading.proofs.Names.{refl, ap, arith, cases_lt, lt-leb, le-leb, length-append, Bits, after_eol}
+use Rattle.fax_reading.proofs.Names.{next_eol, common_steps, Bool, DecodeSettings}
+use Rattle.fax_reading.proofs.Names.{EncodingMode, Group4, Group3_1D, Group3_2D, pass_last_tag, eols_by, eols_here, ◌∙◌}
+use Rattle.fax_bits.proofs.BitReading.ConsecutiveEols.{eols-none}
+use Rattle.fax_bits.proofs.BitReading.ConsecutiveEols.{all_eols-none, all_tagged-none}
+
+-- what follows the next EOL that ends further on, given the number of zeros just before
+abbrev pub past : ℕ → Bits → Option Bits
+past seen [] = None
+past seen (false ∷ here) = past (suc seen) here
+past seen (true ∷ here) = cond (leb 11 seen) (Some here) (past 0 here)
+
+-- the EOL here is the next
+pub past-eol : (seen : ℕ) (here after : Bits) → after_eol seen here ≡ Some after → past seen here ≡ Some after
+past-eol seen [] after e = absurd cc
+past-eol seen (false ∷ here) after e = past-eol (suc seen) here after e
+past-eol seen (true ∷ here) after e = grind (arith, common_steps)
+
+-- if there is none, a zero less makes no difference
+past-none : (seen : ℕ) (here : Bits) → after_eol (suc seen) here ≡ None → past (suc seen) here ≡ past seen here
+past-none seen [] e = refl
+past-none seen (false ∷ here) e = past-none (suc seen) here e
+past-none seen (true ∷ here) e = grind (arith, common_steps)
+
+-- what follows the EOL that was found
+abbrev pub then_after : Option Bits → Option Bits
+then_after None = None
+then_after (Some found) = after_eol 0 found
+
+-- what follows the next EOL, by looking for it
+pub past_is : (here : Bits) → past 0 here ≡ then_after (next_eol here)
+past_is [] = refl
+past_is (true ∷ here) = past_is here
+past_is (false ∷ here) = by_after_eol (past_is here) (after_eol 0 (false ∷ here)) refl
+  where
+    by_after_eol : past 0 here ≡ then_after (next_eol here) → (o : Option Bits) → after_eol 0 (false ∷ here) ≡ o
+        → past 0 (false ∷ here) ≡ then_after (next_eol (false ∷ here))
+    by_after_eol same given e = grind (arith, common_steps, past-eol, past-none)
+
+-- no EOL is counted where there is none
+pub eols_here-none : (settings : DecodeSettings) (here : Bits) → after_eol 0 here ≡ None → eols_here settings here ≡ (0, here)
+eols_here-none settings here e = by_encoding settings.encoding settings.end_of_block
+  where
+    no_tag : (bits : Bits) → pass_last_tag (0, bits) ≡ (0, bits)
+    no_tag [] = refl
+    no_tag (true ∷ bits) = refl
+    no_tag (false ∷ bits) = refl
+
+    by_encoding : (encoding : EncodingMode) (block : Bool) → eols_by encoding block here ≡ (0, here)
+    by_encoding Group3_1D block = all_eols-none here e
+    by_encoding Group3_2D block = ap pass_last_tag (all_tagged-none here e) ∙ no_tag here
+    by_encoding Group4 true = eols-none 2 here e
+    by_encoding Group4 false = all_eols-none here e
+
+-- the next EOL is further on in the same bits
+pub next_eol_leaves : (here found : Bits) → next_eol here ≡ Some found → (before : Bits) × (here ≡ before ++ found)
+next_eol_leaves [] found e = absurd cc
+next_eol_leaves (bit ∷ here) found e = by_before (next_eol_leaves here found) (after_eol 0 (bit ∷ here)) refl
+  where
+    by_before : (next_eol here ≡ Some found → (before : Bits) × (here ≡ before ++ found)) → (o : Option Bits)
+        → after_eol 0 (bit ∷ here) ≡ o → (before : Bits) × ((bit ∷ here) ≡ before ++ found)
+    by_before on None f = let g : next_eol here ≡ Some found = rw (f, next_eol) at e in let h = on g in
+        (bit ∷ h.0, ap (λ (b : Bits). bit ∷ b) h.1)
+    by_before on (Some rest) f = grind (arith, common_steps)
+
+-- If twelve bits are left before the end of the next EOL, it is also the next one from there.
+pub past_here : (seen fewer : ℕ) (here after : Bits) → fewer ≤ seen → past seen here ≡ Some after
+    → length after + 12 ≤ fewer + length here → past fewer here ≡ Some after
+past_here seen fewer [] after le e far = absurd cc
+past_here seen fewer (false ∷ here) after le e far = past_here (suc seen) (suc fewer) here after (omega arith) e (omega arith)
+past_here seen fewer (true ∷ here) after le e far = grind (arith, common_steps)
+
+-- an EOL with its last twelve bits still to come is the next one from further on too
+pub past_later : (seen : ℕ) (before here after : Bits) → past seen (before ++ here) ≡ Some after → length after + 12 ≤ length here
+    → past 0 here ≡ Some after
+past_later seen [] here after e far = past_here seen 0 here after (omega arith) e (omega (arith, far))
+past_later seen (false ∷ before) here after e far = past_later (suc seen) before here after e far
+past_later seen (true ∷ before) here after e far =
+    grind (arith, common_steps, cases_lt, le-leb, length-append, lt-leb, past_later 0 before here after)

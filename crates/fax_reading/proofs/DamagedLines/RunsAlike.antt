@@ -1,0 +1,557 @@
+-- Two runs over data that differ in one line.
+use Rattle.fax_reading.proofs.Names.{◌≡◌, ℕ, zero, suc, ◌+◌, ◌-◌, ◌%◌, ◌<◌, ◌≤◌, Bool, true, false, cond, not, ◌&&◌, ◌||◌, eqb}
+use Rattle.fax_reading.proofs.Names.{List, [], ◌∷◌, ◌++◌, length, replicate, Option, Some, None, Ok, Err, refl, sym, ap, subst}
+use Rattle.fax_reading.proofs.Names.{◌∙◌, append_assoc, arith, ◌⊎◌, inl, inr, cases_Bool, and_parts, eqb-true, length-append}
+use Rattle.fax_reading.proofs.Names.{length-drop, append_cancel_right, DecodeError, InvalidCode, EncodingMode, Group4, Group3_1D}
+use Rattle.fax_reading.proofs.Names.{Group3_2D, DecodeSettings, Bits, Turn, Row, Line, after_eol, all_eols, next_eol, past_tag}
+use Rattle.fax_reading.proofs.Names.{is_end_of_block, is_over, misses_eol, Progress, Ending, Move, row_before, aligned, limit_met}
+use Rattle.fax_reading.proofs.Names.{at_end, ends_with, line_by, eols_by, eols_here, line_here, line_of_turn, after_line, move_on}
+use Rattle.fax_reading.proofs.Names.{row_of}
+use Rattle.fax_bits.proofs.BitReading.ZerosInWords.{scan}
+use Rattle.fax_bits.proofs.Repetition.Repeated.{Follows}
+use Rattle.fax_reading.proofs.DamagedLines.EolsAlike.{Closes, closes_inside, inside_after, leaves_after, leaves_length}
+use Rattle.fax_reading.proofs.DamagedLines.EolsAlike.{past_alike, PastAlike, CountAlike, RestAlike, all_eols_alike, eols_found}
+use Rattle.fax_reading.proofs.DamagedLines.EolsAlike.{all_tagged_alike, tagged_found, last_tag_alike, last_tag_few}
+use Rattle.fax_reading.proofs.DamagedLines.LinesBeforeEol.{Inside, LineAlike, line_1d_alike, line_2d_alike}
+use Rattle.fax_reading.proofs.DamagedLines.PastEol.{past}
+use Rattle.fax_bits.proofs.BitReading.ConsecutiveEols.{all_eols-some, all_eols-none, all_tagged, all_tagged-some}
+use Rattle.fax_bits.proofs.BitReading.ConsecutiveEols.{all_tagged-none}
+use Rattle.fax_reading.proofs.DamagedLines.SoughtTurns.{sought, rest_of, not_past_end, eols_here_same, row_past, move_sought}
+use Rattle.fax_reading.proofs.DamagedLines.SoughtTurns.{sought_done}
+use Rattle.fax_reading.proofs.DrawingLines.LinesLeaveBits.{LeavesBits, LineLeaves, line_by_leaves}
+use Rattle.fax_reading.proofs.EncodedPictures.PictureLines.{row_before_push}
+use Rattle.fax_reading.proofs.Readings.RowsAndGaps.{unless_over, seek_from, seek_eol, after_row, row_added, after_whole-is}
+use Rattle.fax_reading.proofs.Readings.RowsAndGaps.{after_damage-is}
+use Rattle.fax_bits.proofs.BitReading.ConsecutiveEols.{cond_le, length-one_more, count_shorter, counts_plain, counts_tagged}
+use Rattle.fax_reading.proofs.Readings.TurnsMoveOn.{eols_here_counted}
+use Rattle.fax_bits.proofs.BitReading.ConsecutiveEols.{past_tag_shorter, last_tag_shorter, next_eol_found}
+
+-- ---- Rows of which some may differ
+
+-- the rows are equal, or all but a number of consecutive ones, of which something is said by the rows before them
+abbrev pub RowsAlike : ℕ → (List Row → Type 0) → List Row → List Row → Type 0
+RowsAlike differ Begins xs ys = (xs ≡ ys)
+    ⊎ ((before these those more : List Row) × (length these ≡ length those) × (length these ≤ differ)
+    × (xs ≡ before ++ (these ++ more)) × (ys ≡ before ++ (those ++ more)) × Begins before)
+
+rows_length : (differ : ℕ) (Begins : List Row → Type 0) (xs ys : List Row) → RowsAlike differ Begins xs ys → length xs ≡ length ys
+rows_length differ Begins xs ys (inl e) = ap length e
+rows_length differ Begins xs ys (inr (before, these, those, more, same, few, e, f, begins)) =
+    omega (
+      arith,
+      ap length e,
+      ap length f,
+      same,
+      length-append before (these ++ more),
+      length-append before (those ++ more),
+      length-append these more,
+      length-append those more,
+    )
+
+rows_more : (differ : ℕ) (Begins : List Row → Type 0) (xs ys : List Row) (row : Row) → RowsAlike differ Begins xs ys
+    → RowsAlike differ Begins (xs ++ row ∷ []) (ys ++ row ∷ [])
+rows_more differ Begins xs ys row (inl e) = inl (ap (λ (x : List Row). x ++ row ∷ []) e)
+rows_more differ Begins xs ys row (inr (before, these, those, more, same, few, e, f, begins)) =
+    inr (before, these, those, more ++ row ∷ [], same, few, moved these xs e, moved those ys f, begins)
+  where
+    moved : (some all : List Row) → all ≡ before ++ (some ++ more) → all ++ row ∷ [] ≡ before ++ (some ++ (more ++ row ∷ []))
+    moved some all g = ap (λ (x : List Row). x ++ row ∷ []) g ∙ append_assoc before (some ++ more) (row ∷ [])
+        ∙ ap (λ (x : List Row). before ++ x) (append_assoc some more (row ∷ []))
+
+-- a state between lines
+abbrev pub run_at : List Row → Bool → Bits → Progress
+run_at rows has_eols rest = record { rows = rows; has_eols = has_eols; rest = rest }
+
+-- how two runs end: with one fault; at one position among the equal bits; past the EOL after the line; or at the limit
+pub data EndsAlike (settings : DecodeSettings) (Begins : List Row → Type 0) (differ from : ℕ) (x y after : Bits)
+    (r q : Ending) : Type 0 where
+  faults : (fault : DecodeError) → r.outcome ≡ Err fault → q.outcome ≡ Err fault → RowsAlike differ Begins r.rows q.rows
+      → EndsAlike settings Begins differ from x y after r q
+  early : (bits : Bits) → length bits < from → r.outcome ≡ Ok (bits ++ true ∷ x) → q.outcome ≡ Ok (bits ++ true ∷ y)
+      → r.rows ≡ q.rows → EndsAlike settings Begins differ from x y after r q
+  there : r.outcome ≡ Ok x → q.outcome ≡ Ok y → r.rows ≡ q.rows → EndsAlike settings Begins differ from x y after r q
+  later : (rest : Bits) → length rest ≤ length after → r.outcome ≡ Ok rest → q.outcome ≡ Ok rest
+      → RowsAlike differ Begins r.rows q.rows → EndsAlike settings Begins differ from x y after r q
+  limit : (before these those : List Row) (u v : Bits) → Begins before → length these ≡ length those
+      → 0 < length these → length these ≤ differ → settings.rows ≡ length before + length these → r.rows ≡ before ++ these
+      → q.rows ≡ before ++ those → r.outcome ≡ Ok u → q.outcome ≡ Ok v → length u ≤ length x → length v ≤ length y
+      → EndsAlike settings Begins differ from x y after r q
+
+-- EOLs that end the data, or come before a line that is the same whatever its reference row is
+abbrev pub Unreferred : DecodeSettings → ℕ × Bits → Type 0
+Unreferred settings (count, rest) = (is_end_of_block settings count ≡ true)
+    ⊎ ((reference other : Row) → line_here settings reference rest ≡ line_here settings other rest)
+
+-- What follows an EOL: as many lines, each with the same next EOL behind it whatever its reference row is, and then such
+-- EOLs.
+abbrev pub Settles : DecodeSettings → ℕ → Bits → Type 0
+Settles settings zero after = (found : Bits) → after_eol 0 found ≡ Some after → Unreferred settings (eols_here settings found)
+Settles settings (suc n) after = (next : Bits) × (length next ≤ length after)
+    × ((found : Bits) → after_eol 0 found ≡ Some after → eols_here settings found ≡ (1, after))
+    × ((reference : Row) → past 0 (rest_of (line_here settings reference after) after) ≡ Some next) × Settles settings n next
+
+-- where two runs are between lines: at one position among the equal bits; just past them; among the lines that are read
+-- against rows that differ; or past them
+pub data RunsAlike (settings : DecodeSettings) (Begins : List Row → Type 0) (differ : ℕ) (Within : Bits → Type 0)
+    (x y after : Bits) (s t : Progress) : Type 0 where
+  ahead : (rows : List Row) (bits : Bits) → Closes bits → Within bits → s ≡ sought rows (bits ++ true ∷ x)
+      → t ≡ sought rows (bits ++ true ∷ y) → RunsAlike settings Begins differ Within x y after s t
+  there : (rows : List Row) → s ≡ sought rows x → t ≡ sought rows y → RunsAlike settings Begins differ Within x y after s t
+  among : (before these those : List Row) (here : Bits) (left : ℕ) → Begins before → length these ≡ length those → length these
+      + suc left ≤ differ → Settles settings (suc left) here → length here ≤ length after → s ≡ sought (before ++ these) here
+      → t ≡ sought (before ++ those) here → RunsAlike settings Begins differ Within x y after s t
+  beyond : (xs ys : List Row) (has_eols : Bool) (rest : Bits) → RowsAlike differ Begins xs ys → length rest ≤ length after
+      → line_here settings (row_before settings.columns xs) rest ≡ line_here settings (row_before settings.columns ys) rest
+      → s ≡ run_at xs has_eols rest → t ≡ run_at ys has_eols rest → RunsAlike settings Begins differ Within x y after s t
+
+-- the bits from the line on: there is no EOL there, also after a tag if it has one, and the next is followed by some bits
+pub record IsTail (settings : DecodeSettings) (after x : Bits) : Type 0 where
+  pub none : after_eol 0 x ≡ None
+  pub next : past 0 x ≡ Some after
+  pub tag : settings.encoding ≡ Group3_2D → past_tag x ≡ x
+
+-- an encoding of Group 3
+abbrev pub IsGroup3 : EncodingMode → Type 0
+IsGroup3 encoding = (encoding ≡ Group3_1D) ⊎ (encoding ≡ Group3_2D)
+
+-- behind the first of bits that end with the zeros of an EOL there are enough zeros left
+pub closes_tail : (tag : Bool) (bits : Bits) → Closes (tag ∷ bits) → Inside bits
+closes_tail tag bits ([], e) =
+    let ten : bits ≡ replicate 10 false = cc in
+    record { holds = ap (scan 3) ten; last = (tag ∷ [], [], e) }
+closes_tail tag bits (b ∷ first, e) = closes_inside bits (first, cc)
+
+module _ (settings : DecodeSettings) (group3 : IsGroup3 settings.encoding) (lenient : settings.strict ≡ false)
+    (Begins : List Row → Type 0) (differ from : ℕ) (x y after : Bits)
+    (tail_x : IsTail settings after x) (tail_y : IsTail settings after y) (Within : Bits → Type 0)
+    (within_later : (bits rest : Bits) → Within bits → LeavesBits bits rest → Within rest)
+    (within_short : (bits : Bits) → Within bits → length bits < from)
+    (few_x : (bits found : Bits) (count : ℕ) → settings.encoding ≡ Group3_2D → Within bits → LeavesBits (bits ++ true ∷ x) found
+    → all_tagged found ≡ (count, x) → count < 6)
+    (few_y : (bits found : Bits) (count : ℕ) → settings.encoding ≡ Group3_2D → Within bits → LeavesBits (bits ++ true ∷ y) found
+    → all_tagged found ≡ (count, y) → count < 6)
+    (lines : ℕ) (enough : suc lines ≤ differ) (settles : Settles settings lines after)
+    (stays_x : (rows : List Row) → Begins rows → past 0 (rest_of (line_of_turn settings (sought rows x)) x) ≡ Some after)
+    (stays_y : (rows : List Row) → Begins rows → past 0 (rest_of (line_of_turn settings (sought rows y)) y) ≡ Some after)
+    (rest : Progress → Ending) where
+  -- two turns that are alike
+  abbrev Both : Move → Move → Type 0
+  Both m n = Follows (RunsAlike settings Begins differ Within x y after)
+      (EndsAlike settings Begins differ from x y after) rest m n
+
+  abbrev Alike : List Row → List Row → Type 0
+  Alike xs ys = RowsAlike differ Begins xs ys
+
+  -- the line here is the same after both
+  abbrev SameLine : List Row → List Row → Bits → Type 0
+  SameLine xs ys here = line_here settings (row_before settings.columns xs) here ≡ line_here settings
+      (row_before settings.columns ys) here
+
+  -- ---- Past the lines that may differ everything is alike except their rows
+
+  unless_beyond : (xs ys : List Row) (has_eols : Bool) (a b : Bits) (found : ℕ × Bits) → Alike xs ys → length found.1
+      ≤ length after → ((is_end_of_block settings found.0 ≡ true) ⊎ SameLine xs ys found.1)
+      → Both (unless_over settings (run_at xs has_eols a) found) (unless_over settings (run_at ys has_eols b) found)
+  unless_beyond xs ys has_eols a b (count, here) alike short same =
+      subst (λ (n : ℕ). Both (unless_over settings (run_at xs has_eols a) (count, here))
+      (cond (is_over settings n (count, here)) (ends_with (run_at ys has_eols b) (Ok here))
+      (Turn.next (run_at ys has_eols here)))) (rows_length differ Begins xs ys alike) (by_line same)
+    where
+      either_way : (t : Bool) → (t ≡ false → SameLine xs ys here)
+          → Both (cond t (ends_with (run_at xs has_eols a) (Ok here)) (Turn.next (run_at xs has_eols here)))
+          (cond t (ends_with (run_at ys has_eols b) (Ok here)) (Turn.next (run_at ys has_eols here)))
+      either_way true line = EndsAlike.later here short refl refl alike
+      either_way false line = RunsAlike.beyond xs ys has_eols here alike short (line refl) refl refl
+
+      by_line : ((is_end_of_block settings count ≡ true) ⊎ SameLine xs ys here)
+          → Both (unless_over settings (run_at xs has_eols a) (count, here)) (cond (is_over settings (length xs) (count, here))
+          (ends_with (run_at ys has_eols b) (Ok here)) (Turn.next (run_at ys has_eols here)))
+      by_line (inl ends) = rw ends (EndsAlike.later here short refl refl alike)
+      by_line (inr line) = either_way (is_over settings (length xs) (count, here)) (λ e. line)
+
+  row_beyond : (xs ys : List Row) (has_eols : Bool) (here : Bits) → Alike xs ys → length here ≤ length after
+      → ((there : Bits) → SameLine xs ys there)
+      → Both (after_row settings (run_at xs has_eols here)) (after_row settings (run_at ys has_eols here))
+  row_beyond xs ys has_eols here alike short same =
+      subst (λ (n : ℕ). Both (after_row settings (run_at xs has_eols here)) (cond (misses_eol settings n has_eols here)
+      (seek_eol settings (run_at ys has_eols here)) (unless_over settings (run_at ys has_eols here) (eols_here settings here))))
+      (rows_length differ Begins xs ys alike) (either_way (misses_eol settings (length xs) has_eols here))
+    where
+      from_next : (o : Option Bits) → next_eol here ≡ o
+          → Both (seek_from settings (run_at xs has_eols here) o) (seek_from settings (run_at ys has_eols here) o)
+      from_next None e = RunsAlike.beyond xs ys false here alike short (same here) refl refl
+      from_next (Some found) e = unless_beyond xs ys has_eols here here (eols_here settings found) alike
+          (omega (arith, (next_eol_found here found e).0, (eols_here_counted settings found).0, short))
+          (inr (same (eols_here settings found).1))
+
+      strictly : (t : Bool) → Both (cond t (ends_with (run_at xs has_eols here) (Err InvalidCode))
+          (seek_from settings (run_at xs has_eols here) (next_eol here))) (cond t
+          (ends_with (run_at ys has_eols here) (Err InvalidCode)) (seek_from settings (run_at ys has_eols here) (next_eol here)))
+      strictly true = EndsAlike.faults InvalidCode refl refl alike
+      strictly false = from_next (next_eol here) refl
+
+      either_way : (t : Bool) → Both (cond t (seek_eol settings (run_at xs has_eols here)) (unless_over settings
+          (run_at xs has_eols here) (eols_here settings here))) (cond t (seek_eol settings (run_at ys has_eols here))
+          (unless_over settings (run_at ys has_eols here) (eols_here settings here)))
+      either_way true = strictly settings.strict
+      either_way false = unless_beyond xs ys has_eols here here (eols_here settings here) alike
+          (omega (arith, (eols_here_counted settings here).0, short)) (inr (same (eols_here settings here).1))
+
+  -- after the same row the next line is the same
+  same_after : (xs ys : List Row) (row : Row) (here : Bits) → SameLine (xs ++ row ∷ []) (ys ++ row ∷ []) here
+  same_after xs ys row here =
+      ap (λ (r : Row). line_here settings r here)
+      (row_before_push settings.columns xs row ∙ sym (row_before_push settings.columns ys row))
+
+  line_beyond : (xs ys : List Row) (has_eols : Bool) (here : Bits) (line : Line) → Alike xs ys → length here ≤ length after
+      → LineLeaves here line
+      → Both (after_line settings (run_at xs has_eols here) line) (after_line settings (run_at ys has_eols here) line)
+  line_beyond xs ys has_eols here (Line.whole row left) alike short leaves =
+      let al : Bool = settings.rows_are_byte_aligned && not has_eols in
+      let shorter : length (cond al (aligned left) left) ≤ length left
+      = cond_le al (aligned left) left (length left) (omega (arith, length-drop (length left % 8) left)) (omega arith) in
+      rw (after_whole-is settings (run_at xs has_eols here) row left, after_whole-is settings (run_at ys has_eols here) row left)
+      (row_beyond (xs ++ row ∷ []) (ys ++ row ∷ []) has_eols (cond al (aligned left) left)
+      (rows_more differ Begins xs ys row alike)
+      (omega (arith, shorter, short, ap length leaves.1, length-append leaves.0 left)) (same_after xs ys row))
+  line_beyond xs ys has_eols here (Line.broken front fault) alike short leaves =
+      rw (
+        after_damage-is settings (run_at xs has_eols here) front fault,
+        after_damage-is settings (run_at ys has_eols here) front fault,
+      ) (either_way (settings.strict || not has_eols))
+    where
+      row : Row
+      row = front ++ replicate (settings.columns - length front) false
+
+      al : Bool
+      al = settings.rows_are_byte_aligned && not has_eols
+
+      shorter : length (cond al (aligned here) here) ≤ length here
+      shorter = cond_le al (aligned here) here (length here) (omega (arith, length-drop (length here % 8) here)) (omega arith)
+
+      either_way : (t : Bool) → Both
+          (cond t (ends_with (run_at xs has_eols here) (Err fault)) (row_added settings (run_at xs has_eols here) row here))
+          (cond t (ends_with (run_at ys has_eols here) (Err fault)) (row_added settings (run_at ys has_eols here) row here))
+      either_way true = EndsAlike.faults fault refl refl alike
+      either_way false = row_beyond (xs ++ row ∷ []) (ys ++ row ∷ []) has_eols (cond al (aligned here) here)
+          (rows_more differ Begins xs ys row alike) (omega (arith, shorter, short)) (same_after xs ys row)
+
+  move_beyond : (xs ys : List Row) (has_eols : Bool) (here : Bits) → Alike xs ys → length here ≤ length after
+      → SameLine xs ys here → Both (move_on settings (run_at xs has_eols here)) (move_on settings (run_at ys has_eols here))
+  move_beyond xs ys has_eols here alike short same =
+      let line : Line = line_here settings (row_before settings.columns xs) here in
+      subst (λ (other : Line). Both (after_line settings (run_at xs has_eols here) line)
+      (after_line settings (run_at ys has_eols here) other)) same
+      (line_beyond xs ys has_eols here line alike short
+      (line_by_leaves settings.encoding settings.strict settings.columns (row_before settings.columns xs) here))
+
+  -- ---- At or before the line
+  not_end : (bits z : Bits) → at_end (bits ++ true ∷ z) ≡ false
+  not_end [] z = refl
+  not_end (b ∷ bits) z = refl
+
+  -- one EOL is counted before the line
+  alone : (z found : Bits) → IsTail settings after z → after_eol 0 found ≡ Some z → eols_here settings found ≡ (1, z)
+  alone z found tail e = by_encoding settings.encoding settings.end_of_block group3 tail.tag
+    where
+      by_encoding : (encoding : EncodingMode) (block : Bool) → IsGroup3 encoding → (encoding ≡ Group3_2D → past_tag z ≡ z)
+          → eols_by encoding block found ≡ (1, z)
+      by_encoding Group3_1D block is tag = rw (all_eols-some found z e, all_eols-none z tail.none) refl
+      by_encoding Group3_2D block is tag = rw (all_tagged-some found z e, tag refl, all_tagged-none z tail.none)
+          (last_tag_few 1 z (omega arith))
+      by_encoding Group4 block (inl is) tag = absurd cc
+      by_encoding Group4 block (inr is) tag = absurd cc
+
+  -- counting EOLs goes on behind the first
+  counted_shorter : (found z : Bits) → after_eol 0 found ≡ Some z → length (eols_here settings found).1 ≤ length z
+  counted_shorter found z e = by_encoding settings.encoding settings.end_of_block group3
+    where
+      by_encoding : (encoding : EncodingMode) (block : Bool) → IsGroup3 encoding
+          → length (eols_by encoding block found).1 ≤ length z
+      by_encoding Group3_1D block is = rw (all_eols-some found z e)
+          (omega (arith, length-one_more (all_eols z), count_shorter counts_plain (length z) z))
+      by_encoding Group3_2D block is =
+          let more : ℕ × Bits = all_tagged (past_tag z) in
+          omega (
+            arith,
+            last_tag_shorter (all_tagged found),
+            ap (λ (f : ℕ × Bits). length f.1) (all_tagged-some found z e),
+            length-one_more more,
+            count_shorter counts_tagged (length (past_tag z)) (past_tag z),
+            past_tag_shorter z,
+          )
+      by_encoding Group4 block (inl is) = absurd cc
+      by_encoding Group4 block (inr is) = absurd cc
+
+  -- the EOLs from here on are alike
+  counted_here : (bits : Bits) → Within bits
+      → CountAlike x y bits (eols_here settings (bits ++ true ∷ x)) (eols_here settings (bits ++ true ∷ y))
+  counted_here bits within = by_encoding settings.encoding settings.end_of_block refl group3
+    where
+      by_encoding : (encoding : EncodingMode) (block : Bool) → settings.encoding ≡ encoding → IsGroup3 encoding
+          → CountAlike x y bits (eols_by encoding block (bits ++ true ∷ x)) (eols_by encoding block (bits ++ true ∷ y))
+      by_encoding Group3_1D block same is = all_eols_alike x y tail_x.none tail_y.none bits
+      by_encoding Group3_2D block same is = last_tag_alike x y tail_x.none tail_y.none (tail_x.tag same) (tail_y.tag same) bits _
+          _ (all_tagged_alike x y tail_x.none tail_y.none (tail_x.tag same) (tail_y.tag same) bits) (λ count e. few_x bits (bits
+          ++ true ∷ x) count same within ([], refl) e) (λ count e. few_y bits (bits ++ true ∷ y) count same within ([], refl) e)
+      by_encoding Group4 block same (inl is) = absurd cc
+      by_encoding Group4 block same (inr is) = absurd cc
+
+  -- the same from an EOL on that ends among the equal bits
+  counted : (bits more found other : Bits) → Within bits → LeavesBits (bits ++ true ∷ x) found
+      → LeavesBits (bits ++ true ∷ y) other → after_eol 0 found ≡ Some (more ++ true ∷ x) → after_eol 0 other
+      ≡ Some (more ++ true ∷ y) → CountAlike x y more (eols_here settings found) (eols_here settings other)
+  counted bits more found other within leaves leaves2 e f = by_encoding settings.encoding settings.end_of_block refl group3
+    where
+      by_encoding : (encoding : EncodingMode) (block : Bool) → settings.encoding ≡ encoding → IsGroup3 encoding
+          → CountAlike x y more (eols_by encoding block found) (eols_by encoding block other)
+      by_encoding Group3_1D block same is = eols_found x y tail_x.none tail_y.none more found other e f
+      by_encoding Group3_2D block same is = last_tag_alike x y tail_x.none tail_y.none (tail_x.tag same) (tail_y.tag same)
+          more _ _ (tagged_found x y tail_x.none tail_y.none (tail_x.tag same) (tail_y.tag same) more found other e f)
+          (λ count g. few_x bits found count same within leaves g) (λ count g. few_y bits other count same within leaves2 g)
+      by_encoding Group4 block same (inl is) = absurd cc
+      by_encoding Group4 block same (inr is) = absurd cc
+
+  -- after EOLs the last of which ends where the line begins
+  unless_there : (rows : List Row) (u v : Bits) (count : ℕ)
+      → Both (unless_over settings (sought rows u) (count, x)) (unless_over settings (sought rows v) (count, y))
+  unless_there rows u v count = rw (not_past_end x after tail_x.next, not_past_end y after tail_y.next) (either_way
+      ((is_end_of_block settings count || limit_met settings (length rows)) || false))
+    where
+      either_way : (t : Bool) → Both (cond t (ends_with (sought rows u) (Ok x)) (Turn.next (sought rows x)))
+          (cond t (ends_with (sought rows v) (Ok y)) (Turn.next (sought rows y)))
+      either_way true = EndsAlike.there refl refl refl
+      either_way false = RunsAlike.there rows refl refl
+
+  -- after EOLs that end at or before the line
+  unless_ahead : (rows : List Row) (u v bits : Bits) (found other : ℕ × Bits) → Closes bits → Within bits
+      → CountAlike x y bits found other
+      → Both (unless_over settings (sought rows u) found) (unless_over settings (sought rows v) other)
+  unless_ahead rows u v bits (count, here) (count2, other) closes within (same, inl (a, leaves, keeps, e, f)) =
+      rw (← same, e, f, not_end a x, not_end a y) (either_way
+      ((is_end_of_block settings count || limit_met settings (length rows)) || false))
+    where
+      still : Within a
+      still = within_later bits a within leaves
+
+      either_way : (t : Bool) → Both (cond t (ends_with (sought rows u) (Ok (a ++ true ∷ x))) (Turn.next (sought rows
+          (a ++ true ∷ x)))) (cond t (ends_with (sought rows v) (Ok (a ++ true ∷ y))) (Turn.next (sought rows (a ++ true ∷ y))))
+      either_way true = EndsAlike.early a (within_short a still) refl refl refl
+      either_way false = RunsAlike.ahead rows a (keeps closes) still refl refl
+  unless_ahead rows u v bits (count, here) (count2, other) closes within (same, inr (e, f)) = rw (← same, e, f)
+      (unless_there rows u v count)
+
+  -- after a row whose line ended before the EOL that ends where the line begins
+  row_ahead : (rows : List Row) (bits : Bits) → Inside bits → Within bits
+      → Both (after_row settings (sought rows (bits ++ true ∷ x))) (after_row settings (sought rows (bits ++ true ∷ y)))
+  row_ahead rows bits inside within = by_limit (cases_Bool (limit_met settings (length rows)))
+    where
+      at_limit : (found other : ℕ × Bits) → RestAlike x y bits found.1 other.1 → Both
+          (ends_with (sought rows (bits ++ true ∷ x)) (Ok found.1)) (ends_with (sought rows (bits ++ true ∷ y)) (Ok other.1))
+      at_limit found other (inl (a, leaves, keeps, e, f)) = EndsAlike.early a (within_short a (within_later bits a within leaves))
+          (ap Ok e) (ap Ok f) refl
+      at_limit found other (inr (e, f)) = EndsAlike.there (ap Ok e) (ap Ok f) refl
+
+      by_past : limit_met settings (length rows) ≡ false → (o p : Option Bits)
+          → past 0 (bits ++ true ∷ x) ≡ o → past 0 (bits ++ true ∷ y) ≡ p → PastAlike x y bits o p
+          → Both (after_row settings (sought rows (bits ++ true ∷ x))) (after_row settings (sought rows (bits ++ true ∷ y)))
+      by_past open_limit o p e f (inl (before, a, is, g, h)) =
+          let one = row_past settings lenient rows (bits ++ true ∷ x) (a ++ true ∷ x) open_limit (e ∙ g) in
+          let two = row_past settings lenient rows (bits ++ true ∷ y) (a ++ true ∷ y) open_limit (f ∙ h) in
+          rw (one.3, two.3)
+          (unless_ahead rows (bits ++ true ∷ x) (bits ++ true ∷ y) a (eols_here settings one.0) (eols_here settings two.0)
+          (inside_after bits before a inside is) (within_later bits a within (leaves_after bits before a is))
+          (counted bits a one.0 two.0 within one.1 two.1 one.2 two.2))
+      by_past open_limit o p e f (inr (inl (g, h))) =
+          let one = row_past settings lenient rows (bits ++ true ∷ x) x open_limit (e ∙ g) in
+          let two = row_past settings lenient rows (bits ++ true ∷ y) y open_limit (f ∙ h) in
+          rw (one.3, two.3, alone x one.0 tail_x one.2, alone y two.0 tail_y two.2)
+          (unless_there rows (bits ++ true ∷ x) (bits ++ true ∷ y) 1)
+      by_past open_limit o p e f (inr (inr (g, h))) =
+          let one = row_past settings lenient rows (bits ++ true ∷ x) after open_limit (e ∙ g ∙ tail_x.next) in
+          let two = row_past settings lenient rows (bits ++ true ∷ y) after open_limit (f ∙ h ∙ tail_y.next) in
+          rw (one.3, two.3, eols_here_same settings two.0 one.0 after two.2 one.2)
+          (unless_beyond rows rows true (bits ++ true ∷ x) (bits ++ true ∷ y) (eols_here settings one.0) (inl refl)
+          (counted_shorter one.0 after one.2) (inr refl))
+
+      by_limit : (limit_met settings (length rows) ≡ true) ⊎ (limit_met settings (length rows) ≡ false)
+          → Both (after_row settings (sought rows (bits ++ true ∷ x))) (after_row settings (sought rows (bits ++ true ∷ y)))
+      by_limit (inl met) = rw (
+        sought_done settings rows (bits ++ true ∷ x) met,
+        sought_done settings rows (bits ++ true ∷ y) met,
+      ) (at_limit (eols_here settings (bits ++ true ∷ x)) (eols_here settings (bits ++ true ∷ y)) (counted_here bits within).1)
+      by_limit (inr open_limit) =
+          by_past open_limit (past 0 (bits ++ true ∷ x)) (past 0 (bits ++ true ∷ y)) refl refl (past_alike x y 0 bits)
+
+  -- a line that begins before is the same
+  line_in_front : (reference : Row) (bits : Bits) → Closes bits
+      → LineAlike (true ∷ x) (true ∷ y) (line_here settings reference (bits ++ true ∷ x))
+      (line_here settings reference (bits ++ true ∷ y))
+  line_in_front reference bits closes = rw lenient (by_encoding settings.encoding group3 bits closes)
+    where
+      by_encoding : (encoding : EncodingMode) → IsGroup3 encoding → (bits : Bits) → Closes bits
+          → LineAlike (true ∷ x) (true ∷ y) (line_by encoding false settings.columns reference (bits ++ true ∷ x))
+          (line_by encoding false settings.columns reference (bits ++ true ∷ y))
+      by_encoding Group3_1D is bits closes = line_1d_alike (true ∷ x) (true ∷ y) settings.columns _ _
+          (bits, closes_inside bits closes, refl, refl)
+      by_encoding Group3_2D is [] closes = absurd (let e = closes.1 in omega
+          (arith, ap length e, length-append closes.0 (replicate 11 false)))
+      by_encoding Group3_2D is (true ∷ bits) closes = line_1d_alike (true ∷ x) (true ∷ y) settings.columns _ _
+          (bits, closes_tail true bits closes, refl, refl)
+      by_encoding Group3_2D is (false ∷ bits) closes =
+          line_2d_alike (true ∷ x) (true ∷ y) settings.columns reference _ _ (bits, closes_tail false bits closes, refl, refl)
+      by_encoding Group4 (inl is) bits closes = absurd cc
+      by_encoding Group4 (inr is) bits closes = absurd cc
+
+  line_ahead : (rows : List Row) (bits : Bits) → Closes bits → Within bits
+      → Both (move_on settings (sought rows (bits ++ true ∷ x))) (move_on settings (sought rows (bits ++ true ∷ y)))
+  line_ahead rows bits closes within =
+      rw (move_sought settings lenient rows (bits ++ true ∷ x), move_sought settings lenient rows (bits ++ true ∷ y))
+      (by_line (line_here settings (row_before settings.columns rows) (bits ++ true ∷ x))
+      (line_here settings (row_before settings.columns rows) (bits ++ true ∷ y))
+      (line_in_front (row_before settings.columns rows) bits closes)
+      (line_by_leaves settings.encoding settings.strict settings.columns (row_before settings.columns rows) (bits ++ true ∷ x)))
+    where
+      by_line : (line other : Line) → LineAlike (true ∷ x) (true ∷ y) line other → LineLeaves (bits ++ true ∷ x) line
+          → Both (after_row settings (sought (rows ++ row_of settings.columns line ∷ []) (rest_of line (bits ++ true ∷ x))))
+          (after_row settings (sought (rows ++ row_of settings.columns other ∷ []) (rest_of other (bits ++ true ∷ y))))
+      by_line (Line.whole row here) (Line.whole same other) (is, (a, inside, e, f)) leaves =
+          let split : bits ++ true ∷ x ≡ (leaves.0 ++ a) ++ true ∷ x
+          = leaves.1 ∙ ap (λ (b : Bits). leaves.0 ++ b) e ∙ sym (append_assoc leaves.0 a (true ∷ x)) in
+          let suffix : LeavesBits bits a = (leaves.0, append_cancel_right bits (leaves.0 ++ a) (true ∷ x) split) in
+          rw (← is, e, f) (row_ahead (rows ++ row ∷ []) a inside (within_later bits a within suffix))
+      by_line (Line.whole row here) (Line.broken front fault) alike leaves = absurd alike
+      by_line (Line.broken front fault) (Line.whole row here) alike leaves = absurd alike
+      by_line (Line.broken front fault) (Line.broken same other) is leaves =
+          rw (← is) (row_ahead (rows ++ row_of settings.columns (Line.broken front fault) ∷ []) bits
+          (closes_inside bits closes) within)
+
+  -- ---- At the line, and at those that are read against its row
+  -- after a row that may differ, if the next EOL is the same
+  row_there : (before these those : List Row) (u v z : Bits) (left : ℕ)
+      → Begins before → length these ≡ length those → 0 < length these → length these + left ≤ differ → past 0 u ≡ Some z
+      → past 0 v ≡ Some z → length u ≤ length x → length v ≤ length y → length z ≤ length after → Settles settings left z
+      → Both (after_row settings (sought (before ++ these) u)) (after_row settings (sought (before ++ those) v))
+  row_there before these those u v z left begins same some few e f le le2 short settled =
+      in_each_case (cases_Bool (limit_met settings (length (before ++ these))))
+    where
+      as_many : length (before ++ these) ≡ length (before ++ those)
+      as_many = omega (arith, same, length-append before these, length-append before those)
+
+      limit_is : limit_met settings (length (before ++ these)) ≡ true → settings.rows ≡ length before + length these
+      limit_is met = eqb-true settings.rows (length (before ++ these))
+          (and_parts (not (eqb settings.rows 0)) (eqb settings.rows (length (before ++ these))) met).1
+          ∙ length-append before these
+
+      nil : (rows : List Row) → rows ++ [] ≡ rows
+      nil [] = refl
+      nil (row ∷ rows) = ap (λ (r : List Row). row ∷ r) (nil rows)
+
+      alike : Alike (before ++ these) (before ++ those)
+      alike = inr (
+        before,
+        these,
+        those,
+        [],
+        same,
+        omega arith,
+        ap (λ (r : List Row). before ++ r) (sym (nil these)),
+        ap (λ (r : List Row). before ++ r) (sym (nil those)),
+        begins,
+      )
+
+      settle : (n : ℕ) → length these + n ≤ differ → Settles settings n z → (found : Bits) → after_eol 0 found ≡ Some z
+          → Both (unless_over settings (sought (before ++ these) u) (eols_here settings found))
+          (unless_over settings (sought (before ++ those) v) (eols_here settings found))
+      settle zero most unreferred found g = unless_beyond (before ++ these)
+          (before ++ those) true u v (eols_here settings found) alike (omega (arith, counted_shorter found z g, short))
+          (elim (unreferred found g) [ inl ends ↦ inl ends | inr line ↦ inr (line _ _) ])
+      settle (suc n) most (next, shorter, one, behind, further) found g = rw (one found g)
+          (subst (λ (m : ℕ). Both (unless_over settings (sought (before ++ these) u) (1, z))
+          (cond (is_over settings m (1, z)) (ends_with (sought (before ++ those) v) (Ok z))
+          (Turn.next (sought (before ++ those) z)))) as_many (on (is_over settings (length (before ++ these)) (1, z))))
+        where
+          on : (t : Bool) → Both (cond t (ends_with (sought (before ++ these) u) (Ok z)) (Turn.next (sought (before ++ these) z)))
+              (cond t (ends_with (sought (before ++ those) v) (Ok z)) (Turn.next (sought (before ++ those) z)))
+          on true = EndsAlike.later z short refl refl alike
+          on false = RunsAlike.among before these those z n begins same most (next, shorter, one, behind, further) short refl refl
+
+      in_each_case : (limit_met settings (length (before ++ these)) ≡ true) ⊎ (limit_met settings (length (before ++ these))
+          ≡ false) → Both (after_row settings (sought (before ++ these) u)) (after_row settings (sought (before ++ those) v))
+      in_each_case (inl met) =
+          rw (
+            sought_done settings (before ++ these) u met,
+            sought_done settings (before ++ those) v (ap (limit_met settings) (sym as_many) ∙ met),
+          )
+          (EndsAlike.limit before these those (eols_here settings u).1 (eols_here settings v).1 begins same some (omega arith)
+          (limit_is met) refl refl refl refl
+          (omega (arith, (eols_here_counted settings u).0, le)) (omega (arith, (eols_here_counted settings v).0, le2)))
+      in_each_case (inr open_limit) =
+          let one = row_past settings lenient (before ++ these) u z open_limit e in
+          let two = row_past settings lenient (before ++ those) v z (ap (limit_met settings) (sym as_many) ∙ open_limit) f in
+          rw (one.3, two.3, eols_here_same settings two.0 one.0 z two.2 one.2) (settle left few settled one.0 one.2)
+
+  rest_shorter : (line : Line) (here : Bits) → LineLeaves here line → length (rest_of line here) ≤ length here
+  rest_shorter (Line.whole row left) here leaves = leaves_length here left leaves
+  rest_shorter (Line.broken front fault) here leaves = omega arith
+
+  line_there : (rows : List Row) → Begins rows → Both (move_on settings (sought rows x)) (move_on settings (sought rows y))
+  line_there rows begins =
+      let line : Line = line_of_turn settings (sought rows x) in
+      let other : Line = line_of_turn settings (sought rows y) in
+      rw (move_sought settings lenient rows x, move_sought settings lenient rows y)
+      (row_there rows (row_of settings.columns line ∷ []) (row_of settings.columns other ∷ []) (rest_of line x)
+      (rest_of other y) after lines
+      begins refl (omega arith) (omega (arith, enough)) (stays_x rows begins) (stays_y rows begins)
+      (rest_shorter line x (line_by_leaves settings.encoding settings.strict settings.columns
+      (row_before settings.columns rows) x))
+      (rest_shorter other y (line_by_leaves settings.encoding settings.strict settings.columns
+      (row_before settings.columns rows) y))
+      (omega arith) settles)
+
+  -- what follows the next EOL is shorter than the line's bits
+  line_among : (before these those : List Row) (here : Bits) (left : ℕ) → Begins before → length these ≡ length those
+      → length these + suc left ≤ differ → length here ≤ length x → length here ≤ length y
+      → Settles settings (suc left) here → length here ≤ length after
+      → Both (move_on settings (sought (before ++ these) here)) (move_on settings (sought (before ++ those) here))
+  line_among before these those here left begins same few short_x short_y (next, shorter, one, behind, further) short =
+      let line : Line = line_of_turn settings (sought (before ++ these) here) in
+      let other : Line = line_of_turn settings (sought (before ++ those) here) in
+      let row : Row = row_of settings.columns line in
+      let row2 : Row = row_of settings.columns other in
+      rw (
+        move_sought settings lenient (before ++ these) here,
+        move_sought settings lenient (before ++ those) here,
+        append_assoc before these (row ∷ []),
+        append_assoc before those (row2 ∷ []),
+      )
+      (row_there before (these ++ row ∷ []) (those ++ row2 ∷ []) (rest_of line here) (rest_of other here) next left begins
+      (omega (arith, same, length-append these (row ∷ []), length-append those (row2 ∷ [])))
+      (omega (arith, length-append these (row ∷ [])))
+      (omega (arith, few, length-append these (row ∷ []))) (behind (row_before settings.columns (before ++ these)))
+      (behind (row_before settings.columns (before ++ those)))
+      (omega (
+        arith,
+        short_x,
+        rest_shorter line here
+            (line_by_leaves settings.encoding settings.strict settings.columns
+            (row_before settings.columns (before ++ these)) here),
+      )) (omega (
+        arith,
+        short_y,
+        rest_shorter other here
+            (line_by_leaves settings.encoding settings.strict settings.columns
+            (row_before settings.columns (before ++ those)) here),
+      )) (omega (arith, shorter, short)) further)
+
+  -- a turn of two such runs
+  pub moves_alike : (s t : Progress) → ((rows : List Row) → s ≡ sought rows x → t ≡ sought rows y → Begins rows)
+      → length after ≤ length x → length after ≤ length y
+      → RunsAlike settings Begins differ Within x y after s t → Both (move_on settings s) (move_on settings t)
+  moves_alike s t begins le le2 (RunsAlike.ahead rows bits closes within e f) = rw (e, f) (line_ahead rows bits closes within)
+  moves_alike s t begins le le2 (RunsAlike.there rows e f) = rw (e, f) (line_there rows (begins rows e f))
+  moves_alike s t begins le le2 (RunsAlike.among before these those here left given same few settled short e f) =
+      rw (e, f) (line_among before these those here left given same few (omega (arith, short, le))
+      (omega (arith, short, le2)) settled short)
+  moves_alike s t begins le le2 (RunsAlike.beyond xs ys has_eols here alike short same e f) = rw (e, f)
+      (move_beyond xs ys has_eols here alike short same)

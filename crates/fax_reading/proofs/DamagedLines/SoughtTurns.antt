@@ -1,0 +1,128 @@
+-- A turn of a lenient run that seeks EOLs.
+use Rattle.fax_reading.proofs.Names.{◌≡◌, ℕ, Bool, true, false, not, eqb, List, [], ◌∷◌, ◌++◌, length, Option, Some, None}
+use Rattle.fax_reading.proofs.Names.{Ok, refl, sym, ap, ◌∙◌, arith, and_from, not_from_false, cond-true, cond-false, ne_eqb}
+use Rattle.fax_reading.proofs.Names.{EncodingMode, Group4, Group3_1D, Group3_2D, DecodeSettings, Bits, Row, Line, line_1d}
+use Rattle.fax_reading.proofs.Names.{after_eol, one_more, all_eols, next_eol, pass_last_tag, Progress, row_before, line_by}
+use Rattle.fax_reading.proofs.Names.{eols_by, line_here, limit_met, at_end, ends_with, eols_here, after_line, move_on}
+use Rattle.fax_reading.proofs.Names.{line_of_turn, row_of, row_at, misses_eol, repaired, ◌||◌, common_steps}
+use Rattle.fax_reading.proofs.DamagedLines.PastEol.{past, past-eol, past_is, then_after, eols_here-none}
+use Rattle.fax_bits.proofs.BitReading.ConsecutiveEols.{all_eols-some}
+use Rattle.fax_reading.proofs.DamagedLines.PastEol.{next_eol_leaves}
+use Rattle.fax_bits.proofs.BitReading.ConsecutiveEols.{all_tagged-some}
+use Rattle.fax_reading.proofs.DrawingLines.LinesLeaveBits.{LeavesBits}
+use Rattle.fax_reading.proofs.Readings.RowsAndGaps.{unless_over, seek_from, after_row, row_added, after_whole-is, after_damage-is}
+use Rattle.fax_reading.proofs.Readings.RowsAndGaps.{behind_with_eols}
+use Rattle.fax_reading.proofs.Readings.TurnsMoveOn.{eols_here_some}
+use Rattle.fax_bits.proofs.BitReading.ConsecutiveEols.{eols-some}
+
+-- a run that seeks EOLs
+abbrev pub sought : List Row → Bits → Progress
+sought rows rest = record { rows = rows; has_eols = true; rest = rest }
+
+-- where a line ends: a broken one is read again
+abbrev pub rest_of : Line → Bits → Bits
+rest_of (Line.whole row rest) here = rest
+rest_of (Line.broken front fault) here = here
+
+-- the next EOL, by what follows it
+pub found_next : (here after : Bits) → past 0 here ≡ Some after → (found : Bits) × (next_eol here ≡ Some found)
+    × (after_eol 0 found ≡ Some after)
+found_next here after e = grind (arith, common_steps, past_is, then_after)
+
+-- where an EOL is due the data continue
+pub not_past_end : (here after : Bits) → past 0 here ≡ Some after → at_end here ≡ false
+not_past_end here after e = grind (arith, common_steps)
+
+module _ (settings : DecodeSettings) where
+  -- the EOLs from one on are given by what follows it
+  pub eols_here_same : (here there after : Bits) → after_eol 0 here ≡ Some after → after_eol 0 there ≡ Some after
+      → eols_here settings here ≡ eols_here settings there
+  eols_here_same here there after e f = by_encoding settings.encoding settings.end_of_block
+    where
+      by_encoding : (encoding : EncodingMode) (block : Bool) → eols_by encoding block here ≡ eols_by encoding block there
+      by_encoding Group3_1D block = all_eols-some here after e ∙ sym (all_eols-some there after f)
+      by_encoding Group3_2D block = ap pass_last_tag (all_tagged-some here after e ∙ sym (all_tagged-some there after f))
+      by_encoding Group4 true = eols-some 1 here after e ∙ sym (eols-some 1 there after f)
+      by_encoding Group4 false = all_eols-some here after e ∙ sym (all_eols-some there after f)
+
+  -- at the limit a run is over, past the EOLs here
+  pub sought_done : (rows : List Row) (here : Bits) → limit_met settings (length rows) ≡ true
+      → after_row settings (sought rows here) ≡ ends_with (sought rows here) (Ok (eols_here settings here).1)
+  sought_done rows here met = grind (arith, common_steps)
+
+  module _ (lenient : settings.strict ≡ false) where
+    -- if an EOL follows and the limit isn't met, the EOLs are counted from the next on
+    pub row_past : (rows : List Row) (here after : Bits) → limit_met settings (length rows) ≡ false → past 0 here ≡ Some after
+        → (found : Bits) × LeavesBits here found × (after_eol 0 found ≡ Some after)
+        × (after_row settings (sought rows here) ≡ unless_over settings (sought rows here) (eols_here settings found))
+    row_past rows here after short e = by_after_eol (after_eol 0 here) refl
+      where
+        run : Progress
+        run = sought rows here
+
+        by_after_eol : (o : Option Bits) → after_eol 0 here ≡ o → (found : Bits) × LeavesBits here found
+            × (after_eol 0 found ≡ Some after)
+            × (after_row settings (sought rows here) ≡ unless_over settings (sought rows here) (eols_here settings found))
+        by_after_eol (Some next) f =
+            let same : ◌≡◌ {A = Option Bits} (Some next) (Some after) = sym (past-eol 0 here next f) ∙ e in
+            let counts = eols_here_some settings here next f in
+            let none : misses_eol settings (length rows) true here ≡ false =
+            rw (ne_eqb (eols_here settings here).0 0 (λ z. absurd (omega (arith, z, counts)))) refl in
+            (here, ([], refl), f ∙ same, cond-false (misses_eol settings (length rows) true here) _ _ none)
+        by_after_eol None f =
+            let next = found_next here after e in
+            let none : eqb (eols_here settings here).0 0 ≡ true =
+            ap (λ (x : ℕ × Bits). eqb x.0 0) (eols_here-none settings here f) in
+            let missed : misses_eol settings (length rows) true here ≡ true =
+            grind (arith, common_steps, and_from, not_from_false, not_past_end) in (
+              next.0,
+              next_eol_leaves here next.0 next.1,
+              next.2,
+              cond-true (misses_eol settings (length rows) true here) _ _ missed
+                  ∙ cond-false settings.strict _ _ lenient ∙ ap (seek_from settings run) next.1,
+            )
+
+    -- a line's row is added, and what follows it is counted
+    pub move_sought : (rows : List Row) (here : Bits)
+        → move_on settings (sought rows here) ≡ after_row settings
+        (sought (rows ++ row_of settings.columns (line_of_turn settings (sought rows here)) ∷ [])
+        (rest_of (line_of_turn settings (sought rows here)) here))
+    move_sought rows here = by_line (line_of_turn settings (sought rows here))
+      where
+        unaligned : (row : Row) (rest : Bits) → row_added settings (sought rows here) row rest
+            ≡ after_row settings (sought (rows ++ row ∷ []) rest)
+        unaligned row rest = ap (λ (x : Bits). after_row settings (sought (rows ++ row ∷ []) x))
+            (behind_with_eols settings.rows_are_byte_aligned rest)
+
+        by_line : (line : Line) → after_line settings (sought rows here) line ≡ after_row settings
+            (sought (rows ++ row_of settings.columns line ∷ []) (rest_of line here))
+        by_line (Line.whole row rest) = after_whole-is settings (sought rows here) row rest ∙ unaligned row rest
+        by_line (Line.broken front fault) = after_damage-is settings (sought rows here) front fault
+            ∙ cond-false (settings.strict || not true) _ _ (rw lenient refl) ∙ unaligned (repaired settings.columns front) here
+
+-- ---- One-dimensional data
+
+module _ (settings : DecodeSettings) (encoding : settings.encoding ≡ Group3_1D) (lenient : settings.strict ≡ false) where
+  -- EOLs of one-dimensional data have no tags
+  pub eols_here_is : (here : Bits) → eols_here settings here ≡ all_eols here
+  eols_here_is here = ap (λ (e : EncodingMode). eols_by e settings.end_of_block here) encoding
+
+  -- if an EOL follows and the limit isn't met, the EOLs are counted that begin with the next
+  pub after_row_past : (rows : List Row) (here after : Bits) → limit_met settings (length rows) ≡ false → past 0 here ≡ Some after
+      → after_row settings (sought rows here) ≡ unless_over settings (sought rows here) (one_more (all_eols after))
+  after_row_past rows here after short e =
+      let next = row_past settings lenient rows here after short e in
+      next.3 ∙ ap (unless_over settings (sought rows here)) (eols_here_is next.0 ∙ all_eols-some next.0 after next.2)
+
+  -- its lines have no reference row
+  pub sought_line_is : (reference : Row) (here : Bits) → line_here settings reference here ≡ line_1d false settings.columns here
+  sought_line_is reference here = ap (λ (e : EncodingMode). line_by e settings.strict settings.columns reference here) encoding
+      ∙ ap (λ (s : Bool). line_1d s settings.columns here) lenient
+
+  -- a line's row is added, and the EOLs after it are counted
+  pub move_line : (rows : List Row) (here : Bits)
+      → move_on settings (sought rows here) ≡ after_row settings
+      (sought (rows ++ row_at settings.columns here ∷ []) (rest_of (line_1d false settings.columns here) here))
+  move_line rows here = move_sought settings lenient rows here
+      ∙ ap (λ (line : Line). after_row settings (sought (rows ++ row_of settings.columns line ∷ []) (rest_of line here)))
+      (sought_line_is (row_before settings.columns rows) here)

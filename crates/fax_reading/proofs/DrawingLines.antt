@@ -1,0 +1,10 @@
+pub mod CountedLines
+pub mod CutRuns
+pub mod Drawings
+pub mod DrawnLines
+pub mod FullRows
+pub mod LineWidths
+pub mod LinesLeaveBits
+pub mod ReadLines
+pub mod UnreadRows
+pub mod WhatFollows

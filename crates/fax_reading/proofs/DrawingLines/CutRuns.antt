@@ -1,0 +1,266 @@
+-- Runs that are cut: where a strict reading breaks a line.
+use Rattle.fax_reading.proofs.Names.{◌≡◌, ◌<◌, ◌≤◌, ◌-◌, inl, inr, ℕ, Bool, true, false, cond, ◌||◌, ltb, length}
+use Rattle.fax_reading.proofs.Names.{[], Ok, Err, Result, refl, sym, ap, subst, ◌∙◌, false≢true, le-leb}
+use Rattle.fax_reading.proofs.Names.{OnOk, cond-true, cond-false, Color, White, DecodeError, InvalidCode, Step, Bits}
+use Rattle.fax_reading.proofs.Names.{BitsAt}
+use Rattle.fax_reading.proofs.Names.{here, Context, Held, redrawn, Mode, Pass, Horizontal, Row, Line}
+use Rattle.fax_reading.proofs.Names.{Pen}
+use Rattle.fax_reading.proofs.Names.{Turn, turn_behind, is_broken, breaks, TellsCut, exceeds, painted_front, paint}
+use Rattle.fax_reading.proofs.Names.{pen_of}
+use Rattle.fax_reading.proofs.Names.{line_1d, line_2d, read_code, mode_codes, run_from, opposite, right_of, b2}
+use Rattle.fax_reading.proofs.Names.{strict_step_of_run, strict_step_of_mode, GoesOn, GoesOn2d}
+use Rattle.fax_bits.proofs.Repetition.Repeated.{after_turn}
+use Rattle.fax_reading.proofs.DrawingLines.Drawings.{try, run_then, mode_step, step_unless_full, drawn_by, step_1d, step_2d}
+use Rattle.fax_reading.proofs.DrawingLines.Drawings.{step_1d_is, step_2d_is}
+use Rattle.fax_reading.proofs.DrawingLines.DrawnLines.{run_open, line_mode}
+use Rattle.fax_reading.proofs.DrawingLines.ReadLines.{drawn1, drawn2}
+
+-- ---- One step
+
+-- what a strict reading paints, where a reading painted a row
+paint_tells : (strict : Bool) (columns : ℕ) (front : Row) (color : Color) (n : ℕ) (row : Row)
+    → paint strict columns front color n ≡ Ok row → (beyond : Bool) → ltb (columns - length front) n ≡ beyond
+    → paint true columns front color n ≡ cond {A = Result Row DecodeError} beyond (Err InvalidCode) (Ok row)
+paint_tells strict columns front color n row paints true e = cond-true (ltb (columns - length front) n) _ _ e
+paint_tells true columns front color n row paints false e = paints
+paint_tells false columns front color n row paints false e = cond-false (ltb (columns - length front) n) _ _ e ∙ paints
+
+pub or_true : (b : Bool) → (b || true) ≡ true
+or_true true = refl
+or_true false = refl
+
+pub or_false : (b : Bool) → (b || false) ≡ b
+or_false true = refl
+or_false false = refl
+
+-- painting tells whether a run is cut
+pub paint_cuts : (strict : Bool) (columns : ℕ) (front : Row) (color : Color) (n : ℕ) (row : Row) (go_on : Row → Step) (pen : Pen)
+    (before now : Bool) → paint strict columns front color n ≡ Ok row → now ≡ (before || ltb (columns - length front) n)
+    → go_on row ≡ Turn.next pen → TellsCut (try front (paint true columns front color n) go_on) pen before now
+paint_cuts strict columns front color n row go_on pen before now paints told on = by_beyond (ltb (columns - length front) n) refl
+  where
+    by_before : (before now : Bool) → now ≡ (before || false) → (step : Step) → step ≡ Turn.next pen
+        → TellsCut step pen before now
+    by_before true true is step e = inl refl
+    by_before true false is step e = absurd (false≢true is)
+    by_before false true is step e = absurd (false≢true (sym is))
+    by_before false false is step e = (refl, e)
+
+    by_beyond : (beyond : Bool) → ltb (columns - length front) n ≡ beyond
+        → TellsCut (try front (paint true columns front color n) go_on) pen before now
+    by_beyond true e =
+        let step : try front (paint true columns front color n) go_on ≡ Turn.done (Line.broken front InvalidCode) =
+        ap (λ (r : Result Row DecodeError). try front r go_on)
+        (paint_tells strict columns front color n row paints true e) in
+        let cut : now ≡ true = told ∙ ap (λ (b : Bool). before || b) e ∙ or_true before in
+        subst (TellsCut (try front (paint true columns front color n) go_on) pen before) (sym cut) (inr (ap breaks step))
+    by_beyond false e =
+        let step : try front (paint true columns front color n) go_on ≡ go_on row =
+        ap (λ (r : Result Row DecodeError). try front r go_on)
+        (paint_tells strict columns front color n row paints false e) in
+        by_before before now (told ∙ ap (λ (b : Bool). before || b) e) (try front (paint true columns front color n) go_on)
+        (step ∙ on)
+
+-- two steps, one after the other
+pub two_cut : (first : Step) (middle : Pen) (behind : Pen → Step) (last : Pen) (a b c : Bool) → TellsCut first middle a b
+    → TellsCut (behind middle) last b c → TellsCut (turn_behind first behind) last a c
+two_cut first middle behind last a true true (inl is) second = inl is
+two_cut (Turn.done line) middle behind last a true true (inr is) second = inr is
+two_cut (Turn.next pen) middle behind last a true true (inr is) second = absurd (false≢true is)
+two_cut first middle behind last a true false tells second = absurd (false≢true (sym second.0))
+two_cut first middle behind last a false true tells (inl is) = absurd (false≢true is)
+two_cut first middle behind last a false true tells (inr is) =
+    inr (ap (λ (s : Step). breaks (turn_behind s behind)) tells.1 ∙ is)
+two_cut first middle behind last a false false tells second =
+    (tells.0, ap (λ (s : Step). turn_behind s behind) tells.1 ∙ second.1)
+
+-- ---- A line
+
+-- What is known of a strict reading's line, from what is left of it to draw: it is the same while no run was cut, and else it is
+-- broken.
+abbrev pub StrictSoFar : Line → Line → Bool → Type 0
+StrictSoFar line after false = line ≡ after
+StrictSoFar line after true = is_broken line ≡ true
+
+-- after one more step
+pub strict_on : (line : Line) (after : Pen → Line) (now : Line) (step : Step) (pen : Pen) (before cut : Bool)
+    → StrictSoFar line now before → now ≡ after_turn after step → TellsCut step pen before cut → StrictSoFar line (after pen) cut
+strict_on line after now step pen true true so_far is tells = so_far
+strict_on line after now step pen true false so_far is tells = absurd (false≢true (sym tells.0))
+strict_on line after now step pen false true so_far is (inl e) = absurd (false≢true e)
+strict_on line after now (Turn.next p) pen false true so_far is (inr e) = absurd (false≢true e)
+strict_on line after now (Turn.done l) pen false true so_far is (inr e) = ap is_broken (so_far ∙ is) ∙ e
+strict_on line after now step pen false false so_far is tells = so_far ∙ is ∙ ap (after_turn after) tells.1
+
+-- after steps that leave the line as it is
+pub strict_same : (line now next : Line) (cut : Bool) → StrictSoFar line now cut → next ≡ now → StrictSoFar line next cut
+strict_same line now next true so_far is = so_far
+strict_same line now next false so_far is = so_far ∙ sym is
+
+-- at its end
+pub strict_end : (line now : Line) (cut : Bool) → StrictSoFar line now cut → is_broken now ≡ false → cut ≡ is_broken line
+strict_end line now true so_far whole = sym so_far
+strict_end line now false so_far whole = sym (ap is_broken so_far ∙ whole)
+
+-- a full row is whole
+pub full_1d : (columns : ℕ) (pen : Pen) → columns ≤ length pen.front → is_broken (drawn_by (step_1d true columns) pen) ≡ false
+full_1d columns pen full =
+    let whole : step_unless_full columns pen (run_then true columns pen Turn.next) ≡ Turn.done (Line.whole pen.front pen.rest) =
+    rw (le-leb columns (length pen.front) full) refl in
+    ap is_broken (drawn1 true columns pen ∙ ap (after_turn (drawn_by (step_1d true columns))) (step_1d_is true columns pen
+    ∙ whole))
+
+pub full_2d : (columns : ℕ) (reference : Row) (pen : Pen) → columns ≤ length pen.front
+    → is_broken (drawn_by (step_2d true columns reference) pen) ≡ false
+full_2d columns reference pen full =
+    let step : Step = try pen.front (read_code mode_codes pen.rest)
+    (λ mode. mode_step true columns reference (record pen { rest = mode.1 }) mode.0) in
+    let whole : step_unless_full columns pen step ≡ Turn.done (Line.whole pen.front pen.rest) =
+    rw (le-leb columns (length pen.front) full) refl in
+    ap is_broken (drawn2 true columns reference pen
+    ∙ ap (after_turn (drawn_by (step_2d true columns reference))) (step_2d_is true columns reference pen ∙ whole))
+
+-- ---- The steps of a context
+
+-- a run that is read and painted
+pub run_cuts : (held new : Held) (n : ℕ) (rest after : Bits) (before now : Bool) → run_from held.color (0, rest) ≡ Ok (n, after)
+    → painted_front held n ≡ Ok new.front → new.color ≡ opposite held.color → now ≡ (before || exceeds held n)
+    → TellsCut (strict_step_of_run held rest) (pen_of new after) before now
+run_cuts held new n rest after before now reads paints color told =
+    let go_on : Row → Step = λ front. Turn.next (record { front = front; color = opposite held.color; rest = after }) in
+    let step : strict_step_of_run held rest ≡ try held.front (paint true held.settings.columns held.front held.color n) go_on =
+    rw reads refl in
+    subst (λ (s : Step). TellsCut s (pen_of new after) before now) (sym step)
+    (paint_cuts held.settings.strict held.settings.columns held.front held.color n new.front go_on (pen_of new after) before now
+    paints told (ap (λ (c : Color). Turn.next (record { front = new.front; color = c; rest = after })) (sym color)))
+
+-- pass mode
+pub pass_cuts : (old mid new : Context) (count : ℕ) (rest : Bits) (r : Result (Unit {0}) DecodeError) → mid.held ≡ old.held
+    → mid.cut ≡ old.cut → count ≡ b2 old.held.reference (right_of old.held.front) old.held.color - length old.held.front
+    → OnOk r (painted_front mid.held count ≡ Ok new.held.front) → OnOk r (new ≡ record mid {
+      held = redrawn mid.held new.held.front mid.held.color;
+      cut = mid.cut || exceeds mid.held count;
+      space = new.space;
+    }) → OnOk r (TellsCut (strict_step_of_mode old.held rest Pass) (pen_of new.held rest) old.cut new.cut)
+pass_cuts old mid new count rest (Err e) same cut counts painted frame = tt
+pass_cuts old mid new count rest (Ok x) same cut counts painted frame =
+    let h = mid.held in
+    let color : new.held.color ≡ h.color = ap (λ (x : Context). x.held.color) frame in
+    let at_mid : TellsCut (try h.front (paint true h.settings.columns h.front h.color count)
+    (λ front. Turn.next (record (pen_of h rest) { front = front }))) (pen_of new.held rest) mid.cut new.cut =
+    paint_cuts h.settings.strict h.settings.columns h.front h.color count new.held.front
+    (λ front. Turn.next (record (pen_of h rest) { front = front })) (pen_of new.held rest) mid.cut new.cut painted
+    (ap (λ (x : Context). x.cut) frame)
+    (ap (λ (c : Color). Turn.next (record { front = new.held.front; color = c; rest = rest })) (sym color)) in
+    let at_old = subst (λ (h : Held). TellsCut (try h.front (paint true h.settings.columns h.front h.color count)
+    (λ front. Turn.next (record (pen_of h rest) { front = front }))) (pen_of new.held rest) mid.cut new.cut) same at_mid in
+    let there = subst (λ (n : ℕ). TellsCut (try old.held.front
+    (paint true old.held.settings.columns old.held.front old.held.color n)
+    (λ front. Turn.next (record (pen_of old.held rest) { front = front })))
+    (pen_of new.held rest) mid.cut new.cut) counts at_old in
+    subst (λ (b : Bool). TellsCut (strict_step_of_mode old.held rest Pass) (pen_of new.held rest) b new.cut) cut there
+
+-- horizontal mode
+pub horizontal_cuts : (old mid new : Context) (from between after : Bits) (r : Result (Unit {0}) DecodeError)
+    → mid.held ≡ redrawn old.held mid.held.front mid.held.color
+    → TellsCut (strict_step_of_run old.held from) (pen_of mid.held between) old.cut mid.cut
+    → OnOk r (TellsCut (strict_step_of_run mid.held between) (pen_of new.held after) mid.cut new.cut)
+    → OnOk r (TellsCut (strict_step_of_mode old.held from Horizontal) (pen_of new.held after) old.cut new.cut)
+horizontal_cuts old mid new from between after (Err e) kept first second = tt
+horizontal_cuts old mid new from between after (Ok x) kept first second =
+    let columns : mid.held.settings.columns ≡ old.held.settings.columns = ap (λ (h : Held). h.settings.columns) kept in
+    two_cut (strict_step_of_run old.held from) (pen_of mid.held between)
+    (λ pen. run_then true old.held.settings.columns pen Turn.next) (pen_of new.held after) old.cut mid.cut new.cut first
+    (subst (λ (n : ℕ). TellsCut (run_then true n (pen_of mid.held between) Turn.next) (pen_of new.held after) mid.cut new.cut)
+    columns second)
+
+-- ---- A line of a context, step by step
+
+module _ (before now new : Held) (line : Line) (first cut : Bool) (kept : now ≡ redrawn before now.front now.color) where
+  columns_are : now.settings.columns ≡ before.settings.columns
+  columns_are = ap (λ (h : Held). h.settings.columns) kept
+
+  -- a run
+  pub cut_by_run : (at to : Bits) → length now.front < now.settings.columns
+      → StrictSoFar line (drawn_by (step_1d true before.settings.columns) (pen_of now at)) first
+      → TellsCut (strict_step_of_run now at) (pen_of new to) first cut
+      → StrictSoFar line (drawn_by (step_1d true before.settings.columns) (pen_of new to)) cut
+  cut_by_run at to open_row so_far tells =
+      let here = subst (λ (n : ℕ). StrictSoFar line (drawn_by (step_1d true n) (pen_of now at)) first) (sym columns_are) so_far in
+      subst (λ (n : ℕ). StrictSoFar line (drawn_by (step_1d true n) (pen_of new to)) cut) columns_are
+      (strict_on line (drawn_by (step_1d true now.settings.columns)) _ (strict_step_of_run now at) (pen_of new to) first cut here
+      (run_open true now.settings.columns (pen_of now at) open_row) tells)
+
+  -- a mode
+  pub cut_by_mode : (at rest to : Bits) (mode : Mode) → length now.front < now.settings.columns
+      → read_code mode_codes at ≡ Ok (mode, rest)
+      → StrictSoFar line (drawn_by (step_2d true before.settings.columns before.reference) (pen_of now at)) first
+      → TellsCut (strict_step_of_mode now rest mode) (pen_of new to) first cut
+      → StrictSoFar line (drawn_by (step_2d true before.settings.columns before.reference) (pen_of new to)) cut
+  cut_by_mode at rest to mode open_row reads so_far tells =
+      let same : now.reference ≡ before.reference = ap (λ (h : Held). h.reference) kept in
+      let here = subst (λ (r : Row). StrictSoFar line (drawn_by (step_2d true now.settings.columns r) (pen_of now at)) first)
+      (sym same) (subst (λ (n : ℕ). StrictSoFar line (drawn_by (step_2d true n before.reference) (pen_of now at)) first)
+      (sym columns_are) so_far) in
+      subst (λ (n : ℕ). StrictSoFar line (drawn_by (step_2d true n before.reference) (pen_of new to)) cut) columns_are
+      (subst (λ (r : Row). StrictSoFar line (drawn_by (step_2d true now.settings.columns r) (pen_of new to)) cut) same
+      (strict_on line (drawn_by (step_2d true now.settings.columns now.reference)) _ (strict_step_of_mode now rest mode)
+      (pen_of new to) first cut here
+      (line_mode true now.settings.columns now.reference (pen_of now at) mode rest open_row reads) tells))
+
+  -- usual runs
+  pub cut_by_usual : (at to : Bits) {ticks later : ℕ}
+      → GoesOn now.settings.strict now.settings.columns (pen_of now at) (pen_of new to) ticks later → cut ≡ first
+      → StrictSoFar line (drawn_by (step_1d true before.settings.columns) (pen_of now at)) first
+      → StrictSoFar line (drawn_by (step_1d true before.settings.columns) (pen_of new to)) cut
+  cut_by_usual at to goes same so_far =
+      subst (StrictSoFar line (drawn_by (step_1d true before.settings.columns) (pen_of new to))) (sym same)
+      (strict_same line _ _ first so_far (subst (λ (n : ℕ). drawn_by (step_1d true n) (pen_of new to)
+      ≡ drawn_by (step_1d true n) (pen_of now at)) columns_are goes.strictly))
+
+-- a one-dimensional line that is begun
+pub cut_begun_1d : (before now new : Context) (begun next : BitsAt) → now ≡ record before {
+  held = redrawn before.held [] White;
+  passed = 0;
+  cut = false;
+} → GoesOn now.held.settings.strict now.held.settings.columns (pen_of now.held (here begun)) (pen_of new.held
+    (here next)) now.ticks
+    new.ticks → new.cut ≡ now.cut → StrictSoFar (line_1d true before.held.settings.columns (here begun))
+    (drawn_by (step_1d true before.held.settings.columns) (pen_of new.held (here next))) new.cut
+cut_begun_1d before now new begun next frame goes same =
+    let none : new.cut ≡ false = same ∙ ap (λ (x : Context). x.cut) frame in
+    let line = rw frame at goes.strictly in
+    subst (StrictSoFar (line_1d true before.held.settings.columns (here begun))
+    (drawn_by (step_1d true before.held.settings.columns) (pen_of new.held (here next)))) (sym none) (sym line)
+
+-- a two-dimensional line that is begun
+pub cut_begun_2d : (before now new : Context) (begun next : BitsAt) → now ≡ record before {
+  held = redrawn before.held [] White;
+  passed = 0;
+  cut = false;
+} → {passed later : ℕ} → GoesOn2d now.held.settings.strict now.held.settings.columns now.held.reference
+    (pen_of now.held (here begun)) (pen_of new.held (here next)) now.ticks new.ticks passed later → new.cut ≡ now.cut
+    → StrictSoFar (line_2d true before.held.settings.columns before.held.reference (here begun))
+    (drawn_by (step_2d true before.held.settings.columns before.held.reference) (pen_of new.held (here next))) new.cut
+cut_begun_2d before now new begun next frame goes same =
+    let none : new.cut ≡ false = same ∙ ap (λ (x : Context). x.cut) frame in
+    let line = rw frame at goes.strictly in
+    subst (StrictSoFar (line_2d true before.held.settings.columns before.held.reference (here begun))
+    (drawn_by (step_2d true before.held.settings.columns before.held.reference) (pen_of new.held (here next)))) (sym none)
+    (sym line)
+
+-- a line that is drawn
+pub cut_drawn_1d : (before now : Held) (cut : Bool) (line : Line) (at : Bits) → now ≡ redrawn before now.front now.color
+    → now.settings.columns ≤ length now.front
+    → StrictSoFar line (drawn_by (step_1d true before.settings.columns) (pen_of now at)) cut → cut ≡ is_broken line
+cut_drawn_1d before now cut line at kept full so_far =
+    strict_end line _ cut so_far (full_1d before.settings.columns (pen_of now at)
+    (subst (λ (n : ℕ). n ≤ length now.front) (ap (λ (h : Held). h.settings.columns) kept) full))
+
+pub cut_drawn_2d : (before now : Held) (cut : Bool) (line : Line) (at : Bits) → now ≡ redrawn before now.front now.color
+    → now.settings.columns ≤ length now.front
+    → StrictSoFar line (drawn_by (step_2d true before.settings.columns before.reference) (pen_of now at)) cut → cut
+    ≡ is_broken line
+cut_drawn_2d before now cut line at kept full so_far =
+    strict_end line _ cut so_far (full_2d before.settings.columns before.reference (pen_of now at)
+    (subst (λ (n : ℕ). n ≤ length now.front) (ap (λ (h : Held). h.settings.columns) kept) full))

@@ -1,0 +1,397 @@
+-- What a step of a line paints, and what that says of the finished line.
+use Rattle.fax_reading.proofs.Names.{◌≡◌, ◌≢◌, ℕ, zero, suc, ◌-◌, ◌<◌, ◌≤◌, Bool, true, false, cond, ◌&&◌, ltb, leb, [], ◌∷◌}
+use Rattle.fax_reading.proofs.Names.{◌++◌, length, replicate, append_assoc, w32, Option, Some, Result, Ok, Err, refl, sym}
+use Rattle.fax_reading.proofs.Names.{subst, ap, ◌∙◌, arith, ◌⊎◌, inl, inr, ◌↔◌, IsTrue, IfErr, OnOk, OnErr, SomeIff, min, ℤ, pos}
+use Rattle.fax_reading.proofs.Names.{negsuc, ◌+ℤ◌, false≢true, cases_lt, le-leb, lt-leb, nat_abs, FitsUnsigned, ints}
+use Rattle.fax_reading.proofs.Names.{length-append, Contains-append_left, Contains-append_right, Color, Mode, Pass, Horizontal}
+use Rattle.fax_reading.proofs.Names.{Vertical, DecodeError, DecodeSettings, UnexpectedEof, InvalidCode, Overflow, OutOfMemory}
+use Rattle.fax_reading.proofs.Names.{Refused, IsFault, front_of, HasBlack, StopsAtChange, DrawsLine, pen_of, front_after}
+use Rattle.fax_reading.proofs.Names.{DrawsStep, StoresChange, Step, step_of_run, step_of_mode, Bits, BitsAt, here, mode_codes}
+use Rattle.fax_reading.proofs.Names.{read_code, Context, Held, redrawn, Line, Pen, start, place_from, turn_behind, Turn, repeated}
+use Rattle.fax_reading.proofs.Names.{Row, is_black, opposite, right_of, b1, b2, paint, last_pixel, run_from}
+use Rattle.fax_bits.proofs.CodeWords.ReadRuns.{chosen, read_code_shorter}
+use Rattle.fax_reading.proofs.DrawingLines.Drawings.{try, run_then, mode_step, step_unless_full, drawn_by, step_1d, step_2d}
+use Rattle.fax_reading.proofs.DrawingLines.Drawings.{step_1d_is, step_2d_is, horizontal_is}
+use Rattle.fax_reading.proofs.DrawingLines.ReadLines.{draw_mode_next, modes_not_empty, drawn1, drawn2, step_1d_shrinks}
+use Rattle.fax_reading.proofs.DrawingLines.ReadLines.{step_2d_shrinks, pen_left}
+use Rattle.fax_bits.proofs.Repetition.Repeated.{Shrinks, after_turn}
+use Rattle.fax_bits.proofs.CodeWords.ReadRuns.{some_where}
+
+-- ---- What painting yields.
+
+-- what was painted is the front and some more pixels of the colour
+pub paint_ok : (strict : Bool) (columns : ℕ) (front : Row) (color : Color) (n : ℕ) (row : Row)
+    → paint strict columns front color n ≡ Ok row → (k : ℕ) × (front ++ replicate k (is_black color) ≡ row)
+paint_ok strict columns front color n row e = elim (chosen (strict && ltb (columns - length front) n) _ _ _ e) [
+  | inl a ↦ absurd (let f : ◌≡◌ {A = Result Row DecodeError} (Err InvalidCode) (Ok row) = a.1 in cc)
+  | inr a ↦ (
+    min n (columns - length front),
+    let f : ◌≡◌ {A = Result Row DecodeError} (Ok (front ++ replicate (min n (columns - length front)) (is_black color)))
+        (Ok row) = a.1 in cc,
+  )
+]
+
+-- ---- A front that ends at a change.
+
+-- the rows that go on with a change after a front
+abbrev stopping_at : Row → Row → Type 0
+stopping_at front row = StopsAtChange row front
+
+-- a row that continues further has the same change
+later_change : (front row more : Row) → StopsAtChange row front → StopsAtChange (row ++ more) front
+later_change front row more stops =
+    (stops.0, stops.1 ++ more, ap (λ (r : Row). r ++ more) stops.2 ∙ append_assoc front (stops.0 ∷ stops.1) more, stops.3)
+
+-- pixels of another colour than the last make a change
+other_pixels : (front : Row) (color : Color) (k : ℕ) → length front < length (front ++ replicate k (is_black color))
+    → last_pixel false front ≢ is_black color → StopsAtChange (front ++ replicate k (is_black color)) front
+other_pixels front color zero more other = absurd (omega (arith, length-append front (replicate zero (is_black color))))
+other_pixels front color (suc k) more other = (is_black color, replicate k (is_black color), refl, λ e. other (sym e))
+
+-- if a change is stored, the front ends at a change of the new row
+pub stores_change : (held : Held) (count : ℕ) → (stored : StoresChange held count) → StopsAtChange stored.0 held.front
+stores_change held count stored =
+    let p = paint_ok held.settings.strict held.settings.columns held.front held.color count stored.0 stored.1 in
+    subst (λ (r : Row). StopsAtChange r held.front) p.1 (other_pixels held.front held.color p.0 (rw p.1 stored.2) stored.3)
+
+first_black : (row : Row) → HasBlack (true ∷ row)
+first_black row = (0, omega arith, refl)
+
+-- a row whose last pixel is black has a black pixel
+pub last_black : (before : Bool) (row : Row) → before ≡ false → last_pixel before row ≢ false → HasBlack row
+last_black before [] e other = absurd (other e)
+last_black before (true ∷ row) e other = first_black row
+last_black before (false ∷ row) e other = Contains-append_right (false ∷ []) row true (last_black false row refl other)
+
+-- a row with a change has a black pixel: one side of the change
+pub change_has_black : (row front : Row) → StopsAtChange row front → HasBlack row
+change_has_black row front stops = subst HasBlack (sym stops.2) (by_pixel stops.0 stops.3)
+  where
+    by_pixel : (pixel : Bool) → pixel ≢ last_pixel false front → HasBlack (front ++ pixel ∷ stops.1)
+    by_pixel true other = Contains-append_right front (true ∷ stops.1) true (first_black stops.1)
+    by_pixel false other = Contains-append_left front (false ∷ stops.1) true (last_black false front refl (λ e. other (sym e)))
+
+-- a line that is cut off by an allocation failure has a black pixel
+pub memory_has_black : (line : Line) (front : Row) (rest : Bits) → DrawsLine line (Err OutOfMemory) front rest
+    → HasBlack (front_of line)
+memory_has_black line front rest draws = change_has_black (front_of line) front draws
+
+-- ---- What a step returns.
+
+-- a fault of the data ends the line with the front that is left
+pub fault_ends : (step : Step) (e : DecodeError) (pen : Pen) → IsFault e → step ≡ Turn.done (Line.broken pen.front e)
+    → DrawsStep step (Err e) pen
+fault_ends step UnexpectedEof pen fault e = e
+fault_ends step InvalidCode pen fault e = e
+fault_ends step Overflow pen fault e = e
+fault_ends step OutOfMemory pen fault e = absurd fault
+fault_ends step Refused pen fault e = absurd fault
+
+-- why painting this many pixels is refused
+pub record IsUnpainted (held : Held) (count : ℕ) (e : DecodeError) : Type 0 where
+  pub too_many : ◌≡◌ {A = Result (Unit {0}) DecodeError} (Err e) (Err InvalidCode)
+      → paint held.settings.strict held.settings.columns held.front held.color count ≡ Err InvalidCode
+  pub memory : ◌≡◌ {A = Result (Unit {0}) DecodeError} (Err e) (Err OutOfMemory) → StoresChange held count
+  pub only : (e ≡ InvalidCode) ⊎ (e ≡ OutOfMemory)
+
+-- what a result of painting says, if it is an error
+pub unpainted : (held : Held) (count : ℕ) (r : Result (Unit {0}) DecodeError) (e : DecodeError) → r ≡ Err e → ((r
+    ≡ Err InvalidCode) ↔ (paint held.settings.strict held.settings.columns held.front held.color count ≡ Err InvalidCode)) → (r
+    ≡ Err OutOfMemory → StoresChange held count) → IfErr r (λ e. (e ≡ InvalidCode) ⊎ (e ≡ OutOfMemory)) → IsUnpainted held count e
+unpainted held count r e is too_many memory only = record {
+  too_many = λ f. too_many.0 (is ∙ f);
+  memory = λ f. memory (is ∙ f);
+  only = subst (λ (r : Result (Unit {0}) DecodeError). IfErr r (λ e. (e ≡ InvalidCode) ⊎ (e ≡ OutOfMemory))) is only;
+}
+
+-- an error of painting is that of the step that paints and continues
+pub paint_fails : (held : Held) (count : ℕ) (go_on : Row → Step) (e : DecodeError) (pen : Pen) → pen.front ≡ held.front
+    → IsUnpainted held count e → ((row : Row) → StopsAtChange row held.front → StopsAtChange (front_after (go_on row)) held.front)
+    → DrawsStep (try held.front (paint held.settings.strict held.settings.columns held.front held.color count) go_on) (Err e) pen
+paint_fails held count go_on e pen same unpainted keeps = elim unpainted.only [
+  | inl is ↦ rw (is, unpainted.too_many (rw is refl), same) refl
+  | inr is ↦ let stored = unpainted.memory (rw is refl) in
+      rw (is, stored.1, same) (keeps stored.0 (stores_change held count stored))
+]
+
+-- a step that paints and keeps the colour, if the painting returns this
+pub paint_draws : (held new : Held) (count : ℕ) (rest : Bits) (r : Result (Unit {0}) DecodeError)
+    → OnOk r (paint held.settings.strict held.settings.columns held.front held.color count ≡ Ok new.front) → OnOk r
+    (new ≡ redrawn held new.front held.color) → OnErr r (new ≡ held) → ((e : DecodeError) → r ≡ Err e → IsUnpainted held count e)
+    → DrawsStep (try held.front (paint held.settings.strict held.settings.columns held.front held.color count)
+    (λ front. Turn.next (record (pen_of held rest) { front = front }))) r (pen_of new rest)
+paint_draws held new count rest (Ok x) painted kept same unpainted = let color : new.color ≡ held.color =
+    ap (λ (h : Held). h.color) kept in rw (painted, color) refl
+paint_draws held new count rest (Err e) painted kept same unpainted =
+    paint_fails held count (λ front. Turn.next (record (pen_of held rest) { front = front })) e (pen_of new rest)
+    (ap (λ (h : Held). h.front) same) (unpainted e refl) (λ row stops. stops)
+
+-- what pass draws is what its painting draws
+pub pass_draws : (old held new : Held) (count : ℕ) (rest : Bits) (r : Result (Unit {0}) DecodeError) → held ≡ old → count
+    ≡ b2 old.reference (right_of old.front) old.color - length old.front → DrawsStep (try held.front (paint held.settings.strict
+    held.settings.columns held.front held.color count) (λ front. Turn.next (record (pen_of held rest) { front = front }))) r
+    (pen_of new rest) → DrawsStep (step_of_mode old rest Pass) r (pen_of new rest)
+pass_draws old held new count rest r same counts draws =
+    let at_old = subst (λ (h : Held). DrawsStep (try h.front (paint h.settings.strict h.settings.columns h.front h.color count)
+    (λ front. Turn.next (record (pen_of h rest) { front = front }))) r (pen_of new rest)) same draws in
+    subst (λ (n : ℕ). DrawsStep (try old.front (paint old.settings.strict old.settings.columns old.front old.color n)
+    (λ front. Turn.next (record (pen_of old rest) { front = front }))) r (pen_of new rest)) counts at_old
+
+-- the position of a vertical mode, where it fits in 32 bits and is not left of the pixels painted
+pub place_ok : (painted p : ℕ) (z : ℤ) → z ≡ pos p → p ≤ 4294967295 → painted ≤ p → place_from painted z ≡ Ok p
+place_ok painted p z is fits above = rw (is, le-leb painted p above, le-leb p 4294967295 fits) refl
+
+-- a sum that fits in 32 bits unsigned is a position
+pub place_of : (z : ℤ) (o : Option ℕ) (p : ℕ) → SomeIff o (FitsUnsigned w32 z) (nat_abs z) → o ≡ Some p → (z ≡ pos p)
+    × (p ≤ 4294967295)
+place_of (pos n) o p iff is = let a = some_where o p iff is in (ap (λ (m : ℕ). pos m) (sym a.1), omega (arith, ints, a.0.1, a.1))
+place_of (negsuc n) o p iff is = absurd (let a = some_where o p iff is in omega (arith, ints, a.0.0))
+
+-- a vertical mode whose pixels are not painted ends the line
+pub vertical_unpainted : (held new : Held) (k : ℤ) (p : ℕ) (rest : Bits) (e : DecodeError)
+    → pos (b1 held.reference (right_of held.front) held.color) +ℤ k ≡ pos p → p ≤ 4294967295 → length held.front ≤ p → new ≡ held
+    → IsUnpainted held (p - length held.front) e → DrawsStep (step_of_mode held rest (Vertical k)) (Err e) (pen_of new rest)
+vertical_unpainted held new k p rest e is fits above same unpainted =
+    let go_on : Row → Step = λ front. Turn.next (record { front = front; color = opposite held.color; rest = rest }) in
+    let place = place_ok (length held.front) p (pos (b1 held.reference (right_of held.front) held.color) +ℤ k) is fits above in
+    let whole : step_of_mode held rest (Vertical k) ≡ try held.front
+    (paint held.settings.strict held.settings.columns held.front held.color (p - length held.front)) go_on = rw place refl in
+    subst (λ (s : Step). DrawsStep s (Err e) (pen_of new rest)) (sym whole) (paint_fails held (p - length held.front) go_on e
+    (pen_of new rest) (ap (λ (h : Held). h.front) same) unpainted (λ row stops. stops))
+
+-- a run that isn't read ends the line
+pub run_unread : (held : Held) (rest after : Bits) (e : DecodeError) → IsFault e → run_from held.color (0, rest) ≡ Err e
+    → DrawsStep (step_of_run held rest) (Err e) (pen_of held after)
+run_unread held rest after e fault unread = fault_ends _ e (pen_of held after) fault (rw unread refl)
+
+-- a run that is read and not painted ends the line
+pub run_unpainted : (held new : Held) (n : ℕ) (rest after : Bits) (e : DecodeError) → run_from held.color (0, rest)
+    ≡ Ok (n, after) → new ≡ held → IsUnpainted held n e → DrawsStep (step_of_run held rest) (Err e) (pen_of new after)
+run_unpainted held new n rest after e reads same unpainted =
+    let go_on : Row → Step = λ front. Turn.next (record { front = front; color = opposite held.color; rest = after }) in
+    let whole : step_of_run held rest
+    ≡ try held.front (paint held.settings.strict held.settings.columns held.front held.color n) go_on = rw reads refl in
+    subst (λ (s : Step). DrawsStep s (Err e) (pen_of new after)) (sym whole)
+    (paint_fails held n go_on e (pen_of new after) (ap (λ (h : Held). h.front) same) unpainted (λ row stops. stops))
+
+-- ---- A step keeps what is painted: what is true of a front, however the row continues, is true of the finished row.
+
+-- what is true of a front is true of each row that continues it
+abbrev pub Stays : (Row → Type 0) → Type 0
+Stays P = (row more : Row) → P row → P (row ++ more)
+
+-- if it is true of a front, it is after a step from it
+abbrev pub KeepsFront : (Row → Type 0) → (Pen → Step) → Type 0
+KeepsFront P go_on = (pen : Pen) → P pen.front → P (front_after (go_on pen))
+
+-- painting keeps what was painted
+paint_keeps : (P : Row → Type 0) → Stays P → (strict : Bool) (columns : ℕ) (front : Row) (color : Color) (n : ℕ) (row : Row)
+    → paint strict columns front color n ≡ Ok row → P front → P row
+paint_keeps P on strict columns front color n row e holds =
+    let p = paint_ok strict columns front color n row e in
+    subst P p.1 (on front (replicate p.0 (is_black color)) holds)
+
+try_keeps : {A : Type 0} (P : Row → Type 0) (front : Row) (r : Result A DecodeError) (go_on : A → Step) → P front
+    → ((x : A) → r ≡ Ok x → P (front_after (go_on x))) → P (front_after (try front r go_on))
+try_keeps P front (Ok x) go_on holds keeps = keeps x refl
+try_keeps P front (Err fault) go_on holds keeps = holds
+
+draw_run_keeps : (P : Row → Type 0) → Stays P → (strict : Bool) (columns : ℕ) (pen : Pen) (go_on : Pen → Step)
+    → ((p : Pen) → P p.front → P (front_after (go_on p))) → P pen.front
+    → P (front_after (run_then strict columns pen go_on))
+draw_run_keeps P on strict columns pen go_on keeps holds =
+    try_keeps P pen.front (run_from pen.color (0, pen.rest)) _ holds (λ run e. try_keeps P pen.front (paint strict columns
+    pen.front pen.color run.0) _ holds (λ front f. keeps (record { front = front; color = opposite pen.color; rest = run.1 })
+    (paint_keeps P on strict columns pen.front pen.color run.0 front f holds)))
+
+draw_mode_keeps : (P : Row → Type 0) → Stays P → (strict : Bool) (columns : ℕ) (reference : Row) (pen : Pen) (mode : Mode)
+    → P pen.front → P (front_after (mode_step strict columns reference pen mode))
+draw_mode_keeps P on strict columns reference pen Pass holds =
+    let n : ℕ = b2 reference (right_of pen.front) pen.color - length pen.front in
+    try_keeps P pen.front (paint strict columns pen.front pen.color n) (λ front. Turn.next (record pen { front = front }))
+    holds (λ front f. paint_keeps P on strict columns pen.front pen.color n front f holds)
+draw_mode_keeps P on strict columns reference pen Horizontal holds =
+    subst (λ (step : Step). P (front_after step)) (horizontal_is strict columns reference pen)
+    (draw_run_keeps P on strict columns pen (λ pen. run_then strict columns pen Turn.next)
+    (λ p h. draw_run_keeps P on strict columns p Turn.next (λ q g. g) h) holds)
+draw_mode_keeps P on strict columns reference pen (Vertical k) holds =
+    let paints : ℕ → Step = λ place. try pen.front (paint strict columns pen.front pen.color (place - length pen.front))
+    (λ front. Turn.next (record { front = front; color = opposite pen.color; rest = pen.rest })) in
+    try_keeps P pen.front (place_from (length pen.front) (pos (b1 reference (right_of pen.front) pen.color) +ℤ k))
+    paints holds (λ place e. try_keeps P pen.front (paint strict columns pen.front pen.color (place - length pen.front))
+    (λ front. Turn.next (record { front = front; color = opposite pen.color; rest = pen.rest })) holds
+    (λ front f. paint_keeps P on strict columns pen.front pen.color (place - length pen.front) front f holds))
+
+keeps_either : (P : Row → Type 0) (b : Bool) (x y : Step) → P (front_after x) → P (front_after y)
+    → P (front_after (cond b x y))
+keeps_either P true x y one other = one
+keeps_either P false x y one other = other
+
+step_2d_keeps : (P : Row → Type 0) → Stays P → (strict : Bool) (columns : ℕ) (reference : Row)
+    → KeepsFront P (step_2d strict columns reference)
+step_2d_keeps P on strict columns reference pen holds =
+    let modes : Step = try pen.front (read_code mode_codes pen.rest)
+    (λ mode. mode_step strict columns reference (record pen { rest = mode.1 }) mode.0) in
+    subst (λ (step : Step). P (front_after step)) (sym (step_2d_is strict columns reference pen))
+    (keeps_either P (leb columns (length pen.front)) (Turn.done (Line.whole pen.front pen.rest)) modes holds (try_keeps P
+    pen.front (read_code mode_codes pen.rest) (λ mode. mode_step strict columns reference (record pen { rest = mode.1 }) mode.0)
+    holds (λ mode e. draw_mode_keeps P on strict columns reference (record pen { rest = mode.1 }) mode.0 holds)))
+
+step_1d_keeps : (P : Row → Type 0) → Stays P → (strict : Bool) (columns : ℕ) → KeepsFront P (step_1d strict columns)
+step_1d_keeps P on strict columns pen holds =
+    subst (λ (step : Step). P (front_after step)) (sym (step_1d_is strict columns pen))
+    (keeps_either P (leb columns (length pen.front)) (Turn.done (Line.whole pen.front pen.rest))
+    (run_then strict columns pen Turn.next) holds (draw_run_keeps P on strict columns pen Turn.next (λ q h. h) holds))
+
+-- a line keeps what is true of the front that it continues from
+keeps_on : (P : Row → Type 0) (step : Pen → Step) → Shrinks step pen_left → KeepsFront P step → (n : ℕ) (pen : Pen)
+    → pen_left pen < n → P pen.front → P (front_of (repeated step (Line.broken [] UnexpectedEof) n pen))
+keeps_on P step shrinks keeps zero pen lt holds = absurd (omega arith)
+keeps_on P step shrinks keeps (suc n) pen lt holds =
+    by_step (λ p small h. keeps_on P step shrinks keeps n p small h) (step pen) refl (keeps pen holds)
+  where
+    by_step : ((p : Pen) → pen_left p < n → P p.front → P (front_of (repeated step
+        (Line.broken [] UnexpectedEof) n p))) → (turn : Step) → step pen ≡ turn → P (front_after turn)
+        → P (front_of (after_turn (repeated step (Line.broken [] UnexpectedEof) n) turn))
+    by_step on (Turn.next p) e h = on p (omega (arith, shrinks pen p e)) h
+    by_step on (Turn.done line) e h = h
+
+-- so what is true of a front is true of the row of the line that continues it, or of the front of a broken one
+pub drawn_1d_keeps : (P : Row → Type 0) → Stays P → (strict : Bool) (columns : ℕ) (pen : Pen) → P pen.front
+    → P (front_of (drawn_by (step_1d strict columns) pen))
+drawn_1d_keeps P on strict columns pen holds =
+    keeps_on P (step_1d strict columns) (step_1d_shrinks strict columns) (step_1d_keeps P on strict columns)
+    (suc (length pen.rest)) pen (omega arith) holds
+
+pub drawn_2d_keeps : (P : Row → Type 0) → Stays P → (strict : Bool) (columns : ℕ) (reference : Row) (pen : Pen) → P pen.front
+    → P (front_of (drawn_by (step_2d strict columns reference) pen))
+drawn_2d_keeps P on strict columns reference pen holds =
+    keeps_on P (step_2d strict columns reference) (step_2d_shrinks strict columns reference)
+    (step_2d_keeps P on strict columns reference) (suc (length pen.rest)) pen (omega arith) holds
+
+-- ---- The rule of one step of a line.
+
+keeps_after : (P : Row → Type 0) (step : Pen → Step) → Shrinks step pen_left → KeepsFront P step → (turn : Step)
+    → P (front_after turn) → P (front_of (after_turn (drawn_by step) turn))
+keeps_after P step shrinks keeps (Turn.next pen) holds =
+    keeps_on P step shrinks keeps (suc (length pen.rest)) pen (omega arith) holds
+keeps_after P step shrinks keeps (Turn.done line) holds = holds
+
+-- a line that isn't full continues with a run, or with a mode
+pub run_open : (strict : Bool) (columns : ℕ) (pen : Pen) → length pen.front < columns → drawn_by (step_1d strict columns) pen
+    ≡ after_turn (drawn_by (step_1d strict columns)) (run_then strict columns pen Turn.next)
+run_open strict columns pen open_row =
+    let on : step_unless_full columns pen (run_then strict columns pen Turn.next) ≡ run_then strict columns pen Turn.next =
+    rw (lt-leb columns (length pen.front) open_row) refl in
+    drawn1 strict columns pen ∙ ap (after_turn (drawn_by (step_1d strict columns))) (step_1d_is strict columns pen ∙ on)
+
+line_open : (strict : Bool) (columns : ℕ) (reference : Row) (pen : Pen) → length pen.front < columns
+    → drawn_by (step_2d strict columns reference) pen ≡ after_turn (drawn_by (step_2d strict columns reference)) (try pen.front
+    (read_code mode_codes pen.rest) (λ mode. mode_step strict columns reference (record pen { rest = mode.1 }) mode.0))
+line_open strict columns reference pen open_row =
+    let step : Step = try pen.front (read_code mode_codes pen.rest)
+    (λ mode. mode_step strict columns reference (record pen { rest = mode.1 }) mode.0) in
+    let on : step_unless_full columns pen step ≡ step = rw (lt-leb columns (length pen.front) open_row) refl in
+    drawn2 strict columns reference pen
+    ∙ ap (after_turn (drawn_by (step_2d strict columns reference))) (step_2d_is strict columns reference pen ∙ on)
+
+-- after a mode is read, the line is what comes of the step that draws it
+pub line_mode : (strict : Bool) (columns : ℕ) (reference : Row) (pen : Pen) (mode : Mode) (rest : Bits) → length pen.front
+    < columns → read_code mode_codes pen.rest ≡ Ok (mode, rest) → drawn_by (step_2d strict columns reference) pen ≡ after_turn
+    (drawn_by (step_2d strict columns reference)) (mode_step strict columns reference (record pen { rest = rest }) mode)
+line_mode strict columns reference pen mode rest open_row reads = line_open strict columns reference pen open_row ∙ rw reads refl
+
+-- ---- What a line returns.
+
+-- an error of a step is that of the line
+fails_by : (step : Pen → Step) → Shrinks step pen_left → ((P : Row → Type 0) → Stays P → KeepsFront P step)
+    → (line : Line) (turn : Step) (e : DecodeError) (pen : Pen) → line ≡ after_turn (drawn_by step) turn
+    → DrawsStep turn (Err e) pen → DrawsLine line (Err e) pen.front pen.rest
+fails_by step shrinks keeps line turn UnexpectedEof pen is draws = is ∙ rw draws refl
+fails_by step shrinks keeps line turn InvalidCode pen is draws = is ∙ rw draws refl
+fails_by step shrinks keeps line turn Overflow pen is draws = is ∙ rw draws refl
+fails_by step shrinks keeps line turn OutOfMemory pen is draws = subst (λ (l : Line). StopsAtChange (front_of l) pen.front)
+    (sym is) (keeps_after (stopping_at pen.front) step shrinks (keeps (stopping_at pen.front)
+    (later_change pen.front)) turn draws)
+fails_by step shrinks keeps line turn Refused pen is draws = absurd draws
+
+pub line_1d_fails : (strict : Bool) (columns : ℕ) (line : Line) (step : Step) (e : DecodeError) (pen : Pen) → line
+    ≡ after_turn (drawn_by (step_1d strict columns)) step → DrawsStep step (Err e) pen → DrawsLine line (Err e) pen.front pen.rest
+line_1d_fails strict columns =
+    fails_by (step_1d strict columns) (step_1d_shrinks strict columns) (λ P on. step_1d_keeps P on strict columns)
+
+pub line_2d_fails : (strict : Bool) (columns : ℕ) (reference : Row) (line : Line) (step : Step) (e : DecodeError) (pen : Pen)
+    → line ≡ after_turn (drawn_by (step_2d strict columns reference)) step → DrawsStep step (Err e) pen
+    → DrawsLine line (Err e) pen.front pen.rest
+line_2d_fails strict columns reference = fails_by (step_2d strict columns reference) (step_2d_shrinks strict columns reference)
+    (λ P on. step_2d_keeps P on strict columns reference)
+
+-- if the row isn't full, the line of a context is what comes of the run that is drawn
+pub line_by_run : (before now : Held) (line : Line) (at : Bits) → now ≡ redrawn before now.front now.color → drawn_by
+    (step_1d before.settings.strict before.settings.columns) (pen_of now at) ≡ line → length now.front < now.settings.columns
+    → line ≡ after_turn (drawn_by (step_1d before.settings.strict before.settings.columns)) (step_of_run now at)
+line_by_run before now line at kept so_far open_row =
+    let settings : now.settings ≡ before.settings = ap (λ (h : Held). h.settings) kept in
+    let columns : length now.front < before.settings.columns =
+    subst (λ (s : DecodeSettings). length now.front < s.columns) settings open_row in
+    let after : Step → Line = after_turn (drawn_by (step_1d before.settings.strict before.settings.columns)) in
+    sym so_far ∙ run_open before.settings.strict before.settings.columns (pen_of now at) columns
+    ∙ ap (λ (s : DecodeSettings). after (run_then s.strict s.columns (pen_of now at) Turn.next)) (sym settings)
+
+-- if the row isn't full, the line of a context is what comes of the mode that is read
+pub line_by_mode : (before now : Held) (line : Line) (at rest : Bits) (mode : Mode) → now ≡ redrawn before now.front now.color
+    → drawn_by (step_2d before.settings.strict before.settings.columns before.reference) (pen_of now at) ≡ line
+    → length now.front < now.settings.columns → read_code mode_codes at ≡ Ok (mode, rest) → line
+    ≡ after_turn (drawn_by (step_2d before.settings.strict before.settings.columns before.reference)) (step_of_mode now rest mode)
+line_by_mode before now line at rest mode kept so_far open_row reads =
+    let settings : now.settings ≡ before.settings = ap (λ (h : Held). h.settings) kept in
+    let reference : now.reference ≡ before.reference = ap (λ (h : Held). h.reference) kept in
+    let columns : length now.front < before.settings.columns =
+    subst (λ (s : DecodeSettings). length now.front < s.columns) settings open_row in
+    let after : Step → Line = after_turn (drawn_by (step_2d before.settings.strict before.settings.columns before.reference)) in
+    sym so_far ∙ line_mode before.settings.strict before.settings.columns before.reference (pen_of now at) mode rest columns reads
+    ∙ ap (λ (s : DecodeSettings). after (mode_step s.strict s.columns before.reference (pen_of now rest) mode)) (sym settings)
+    ∙ ap (λ (r : Row). after (mode_step now.settings.strict now.settings.columns r (pen_of now rest) mode)) (sym reference)
+
+-- a row that isn't said to be full has room
+pub open_by : (full : Bool) (n columns : ℕ) → full ≡ false → (columns ≤ n → IsTrue full) → n < columns
+open_by true n columns e said = absurd (false≢true (sym e))
+open_by false n columns e said = elim (cases_lt n columns) [ inl lt ↦ lt | inr ge ↦ absurd (false≢true (said ge)) ]
+
+-- a mode that is read and drawn consumes bits
+pub mode_shorter : (strict : Bool) (columns : ℕ) (reference : Row) (pen t : Pen) (at : Bits) (mode : Mode) → read_code mode_codes
+    at ≡ Ok (mode, pen.rest) → mode_step strict columns reference pen mode ≡ Turn.next t → length t.rest < length at
+mode_shorter strict columns reference pen t at mode reads draws =
+    omega (
+      arith,
+      draw_mode_next strict columns reference pen mode t draws,
+      read_code_shorter mode_codes at mode pen.rest modes_not_empty reads,
+    )
+
+-- ---- Two runs.
+
+-- an error of the first step is that of both, if what follows keeps what is painted
+pub behind_fails : (behind : Pen → Step) (step : Step) (e : DecodeError) (pen : Pen) → KeepsFront (stopping_at pen.front) behind
+    → DrawsStep step (Err e) pen → DrawsStep (turn_behind step behind) (Err e) pen
+behind_fails behind step UnexpectedEof pen keeps draws = rw draws refl
+behind_fails behind step InvalidCode pen keeps draws = rw draws refl
+behind_fails behind step Overflow pen keeps draws = rw draws refl
+behind_fails behind (Turn.next p) OutOfMemory pen keeps draws = keeps p draws
+behind_fails behind (Turn.done line) OutOfMemory pen keeps draws = draws
+behind_fails behind step Refused pen keeps draws = absurd draws
+
+-- two runs, if the first is refused
+pub first_run_fails : (held : Held) (rest : Bits) (left : Pen) (e : DecodeError) → DrawsStep (step_of_run held rest) (Err e) left
+    → DrawsStep (step_of_mode held rest Horizontal) (Err e) left
+first_run_fails held rest left e draws =
+    behind_fails (λ pen. run_then held.settings.strict held.settings.columns pen Turn.next) (step_of_run held rest) e left
+    (λ p stops. draw_run_keeps (stopping_at left.front) (later_change left.front) held.settings.strict held.settings.columns
+    p Turn.next (λ q g. g) stops) draws
+
+-- Between two steps of a line: the line from the pen on is the whole line; nothing but the front and the colour of the
+-- context has changed.
+pub record IsDrawnSoFar (step : Pen → Step) (before now : Context) (begun at : BitsAt) : Type 0 where
+  pub line : drawn_by step (pen_of now.held (here at)) ≡ drawn_by step (start (here begun))
+  pub held : now.held ≡ redrawn before.held now.held.front now.held.color
+  pub same_bits : at.bits ≡ begun.bits
+  pub counts : before.ticks ≤ now.ticks

@@ -1,0 +1,121 @@
+-- What a line leaves is a suffix of the bits that it began with.
+use Rattle.fax_reading.proofs.Names.{◌≡◌, ℕ, suc, ◌+◌, Bool, true, false, cond, ltb, leb, [], ◌∷◌, ◌++◌, length, Result, Ok, Err}
+use Rattle.fax_reading.proofs.Names.{refl, sym, ap, subst, ◌∙◌, append_assoc, Color, DecodeError, UnexpectedEof, Overflow}
+use Rattle.fax_reading.proofs.Names.{EncodingMode, Group4, Group3_1D, Group3_2D, Bits, read_code, Turn, Row, opposite, paint}
+use Rattle.fax_reading.proofs.Names.{codes_of, run_of_word, run_turn, run_from, Line, Pen, start, line_1d, line_2d, line_by, Step}
+use Rattle.fax_bits.proofs.CodeWords.ReadCodes.{read_code_found}
+use Rattle.fax_bits.proofs.Repetition.Repeated.{repeated_keeps}
+use Rattle.fax_reading.proofs.DrawingLines.Drawings.{try, run_then, step_1d, step_1d_is}
+use Rattle.fax_reading.proofs.DrawingLines.WhatFollows.{line_2d_found}
+
+-- the second bits are a suffix of the first
+abbrev pub LeavesBits : Bits → Bits → Type 0
+LeavesBits here rest = (before : Bits) × (here ≡ before ++ rest)
+
+-- a suffix of a suffix is a suffix
+pub leaves_trans : (a b c : Bits) → LeavesBits a b → LeavesBits b c → LeavesBits a c
+leaves_trans a b c f g = (f.0 ++ g.0, f.1 ∙ ap (λ (x : Bits). f.0 ++ x) g.1 ∙ sym (append_assoc f.0 g.0 c))
+
+-- what a reading that found something leaves
+abbrev FoundLeaves : Bits → Result (ℕ × Bits) DecodeError → Type 0
+FoundLeaves here (Ok found) = LeavesBits here found.1
+FoundLeaves here (Err fault) = Unit {0}
+
+-- what a turn of a run leaves
+abbrev TurnLeaves : Bits → Turn (ℕ × Bits) (Result (ℕ × Bits) DecodeError) → Type 0
+TurnLeaves here (Turn.next t) = LeavesBits here t.1
+TurnLeaves here (Turn.done r) = FoundLeaves here r
+
+word_leaves : (here : Bits) (total : ℕ) (found : ℕ × Bits) → LeavesBits here found.1 → TurnLeaves here (run_of_word total found)
+word_leaves here total (n, rest) l = either_way (ltb 4294967295 (total + n)) (ltb n 64)
+  where
+    either_way : (b c : Bool) → TurnLeaves here
+        (cond b (Turn.done (Err Overflow)) (cond c (Turn.done (Ok (total + n, rest))) (Turn.next (total + n, rest))))
+    either_way true c = tt
+    either_way false true = l
+    either_way false false = l
+
+run_turn_leaves : (color : Color) (total : ℕ) (here : Bits) → TurnLeaves here (run_turn color (total, here))
+run_turn_leaves color total here = by_read_code (read_code (codes_of color) here) refl
+  where
+    by_read_code : (r : Result (ℕ × Bits) DecodeError) → read_code (codes_of color) here ≡ r
+        → TurnLeaves here (run_turn color (total, here))
+    by_read_code (Ok (n, rest)) e =
+        rw (e, run_turn) (word_leaves here total (n, rest) (let f = read_code_found (codes_of color) here n rest e in (f.0, f.2)))
+    by_read_code (Err fault) e = rw (e, run_turn) tt
+
+run_leaves : (color : Color) (total : ℕ) (here : Bits) → FoundLeaves here (run_from color (total, here))
+run_leaves color total here =
+    repeated_keeps (run_turn color) (Err UnexpectedEof) (λ s. LeavesBits here s.1) (FoundLeaves here) tt
+    (λ s t p e. leaves_trans here s.1 t.1 p (subst (TurnLeaves s.1) e (run_turn_leaves color s.0 s.1))) (λ s r p e. ends s.1 r p
+    (subst (TurnLeaves s.1) e (run_turn_leaves color s.0 s.1))) (suc (length here)) (total, here) ([], refl)
+  where
+    ends : (there : Bits) (r : Result (ℕ × Bits) DecodeError) → LeavesBits here there → FoundLeaves there r → FoundLeaves here r
+    ends there (Ok found) p q = leaves_trans here there found.1 p q
+    ends there (Err fault) p q = tt
+
+-- what a whole line leaves
+abbrev pub LineLeaves : Bits → Line → Type 0
+LineLeaves here (Line.whole row rest) = LeavesBits here rest
+LineLeaves here (Line.broken front fault) = Unit {0}
+
+-- what a step of a line leaves
+abbrev StepLeaves : Bits → Step → Type 0
+StepLeaves here (Turn.next pen) = LeavesBits here pen.rest
+StepLeaves here (Turn.done line) = LineLeaves here line
+
+step_1d_leaves : (strict : Bool) (columns : ℕ) (pen : Pen) → StepLeaves pen.rest (step_1d strict columns pen)
+step_1d_leaves strict columns pen =
+    subst (StepLeaves pen.rest) (sym (step_1d_is strict columns pen)) (full (leb columns (length pen.front)))
+  where
+    painted : (n : ℕ) (rest : Bits) (r : Result Row DecodeError) → LeavesBits pen.rest rest → StepLeaves pen.rest
+        (try pen.front r (λ front. Turn.next (record { front = front; color = opposite pen.color; rest = rest })))
+    painted n rest (Ok front) l = l
+    painted n rest (Err fault) l = tt
+
+    drew : (r : Result (ℕ × Bits) DecodeError) → FoundLeaves pen.rest r
+        → StepLeaves pen.rest (try pen.front r (λ run. try pen.front (paint strict columns pen.front pen.color run.0)
+        (λ front. Turn.next (record { front = front; color = opposite pen.color; rest = run.1 }))))
+    drew (Ok (n, rest)) l = painted n rest (paint strict columns pen.front pen.color n) l
+    drew (Err fault) l = tt
+
+    full : (b : Bool)
+        → StepLeaves pen.rest (cond b (Turn.done (Line.whole pen.front pen.rest)) (run_then strict columns pen Turn.next))
+    full true = ([], refl)
+    full false = drew (run_from pen.color (0, pen.rest)) (run_leaves pen.color 0 pen.rest)
+
+-- a one-dimensional line leaves a suffix of its bits
+pub line_1d_leaves : (strict : Bool) (columns : ℕ) (here : Bits) → LineLeaves here (line_1d strict columns here)
+line_1d_leaves strict columns here =
+    repeated_keeps (step_1d strict columns) (Line.broken [] UnexpectedEof) (λ s. LeavesBits here s.rest) (LineLeaves here) tt
+    (λ s t p e. leaves_trans here s.rest t.rest p (subst (StepLeaves s.rest) e (step_1d_leaves strict columns s))) (λ s r p e.
+    ends s.rest r p (subst (StepLeaves s.rest) e (step_1d_leaves strict columns s))) (suc (length here)) (start here) ([], refl)
+  where
+    ends : (there : Bits) (line : Line) → LeavesBits here there → LineLeaves there line → LineLeaves here line
+    ends there (Line.whole row rest) p q = leaves_trans here there rest p q
+    ends there (Line.broken front fault) p q = tt
+
+-- and a two-dimensional one
+line_2d_leaves : (strict : Bool) (columns : ℕ) (reference : Row) (here : Bits)
+    → LineLeaves here (line_2d strict columns reference here)
+line_2d_leaves strict columns reference here = by_line_2d (line_2d strict columns reference here) refl
+  where
+    by_line_2d : (line : Line) → line_2d strict columns reference here ≡ line → LineLeaves here line
+    by_line_2d (Line.whole row rest) e = let found = line_2d_found strict columns reference here row rest e in
+        (found.bits, found.is)
+    by_line_2d (Line.broken front fault) e = tt
+
+behind_tag : (tag : Bool) (here : Bits) (line : Line) → LineLeaves here line → LineLeaves (tag ∷ here) line
+behind_tag tag here (Line.whole row rest) leaves = (tag ∷ leaves.0, ap (λ (b : Bits). tag ∷ b) leaves.1)
+behind_tag tag here (Line.broken front fault) leaves = tt
+
+-- so does a line of any kind
+pub line_by_leaves : (encoding : EncodingMode) (strict : Bool) (columns : ℕ) (reference : Row) (here : Bits)
+    → LineLeaves here (line_by encoding strict columns reference here)
+line_by_leaves Group3_1D strict columns reference here = line_1d_leaves strict columns here
+line_by_leaves Group3_2D strict columns reference [] = tt
+line_by_leaves Group3_2D strict columns reference (true ∷ here) = behind_tag true here (line_1d strict columns here)
+    (line_1d_leaves strict columns here)
+line_by_leaves Group3_2D strict columns reference (false ∷ here) =
+    behind_tag false here (line_2d strict columns reference here) (line_2d_leaves strict columns reference here)
+line_by_leaves Group4 strict columns reference here = line_2d_leaves strict columns reference here

@@ -1,0 +1,119 @@
+-- A line that isn't read is no row.
+use Rattle.fax_reading.proofs.Names.{◌≡◌, ◌≢◌, Bool, true, false, not, ◌||◌, Result, Err, refl, sym, ap, subst, ◌∙◌}
+use Rattle.fax_reading.proofs.Names.{cond-true, or_from, or_parts, not-false, not_from_true, DecodeError, UnexpectedEof}
+use Rattle.fax_reading.proofs.Names.{InvalidCode, Overflow, OutOfMemory, Refused, DrawsLine, IsFault, IsRepairable}
+use Rattle.fax_reading.proofs.Names.{RepairStoresChange, HasBlack, front_of, Bits, Held, redrawn, TakesOneRow, Line}
+use Rattle.fax_reading.proofs.Names.{Row, row_of_line}
+use Rattle.fax_reading.proofs.DrawingLines.DrawnLines.{memory_has_black, last_black}
+
+module _ (line strict : Line) (row : Result (Row × Bits) DecodeError) (old new : Held) (held : new
+    ≡ redrawn old new.front new.color)
+    (rest : Bits) where
+  -- a fault of the data is the row's
+  pub at_fault : (e : DecodeError) → row ≡ Err e → ◌≢◌ {A = Result (Unit {0}) DecodeError} (Err e) (Err OutOfMemory)
+      → ◌≢◌ {A = Result (Unit {0}) DecodeError} (Err e) (Err Refused) → TakesOneRow line strict row old new (Err e) rest
+  at_fault e is memory refused =
+      record { taken = tt; fault = λ f. is; held = held; memory = λ k. absurd (memory k); not_refused = refused }
+
+  -- an allocation fails only if the line, or what is repaired of it, paints a black pixel
+  wants_rest : HasBlack (front_of line) → TakesOneRow line strict row old new (Err OutOfMemory) rest
+  wants_rest black = record { taken = tt; fault = λ f. absurd f; held = held; memory = λ k. black; not_refused = λ k. cc }
+
+  pub unread_row_wants_memory : DrawsLine line (Err OutOfMemory) new.front rest
+      → TakesOneRow line strict row old new (Err OutOfMemory) rest
+  unread_row_wants_memory draws = wants_rest (memory_has_black line new.front rest draws)
+
+  -- a line that isn't read, and whose fault is the row's
+  pub is_unread : (e : DecodeError) → ((fault : DecodeError) → line ≡ Line.broken new.front fault → row ≡ Err fault)
+      → DrawsLine line (Err e) new.front rest → TakesOneRow line strict row old new (Err e) rest
+  is_unread UnexpectedEof fails draws = at_fault UnexpectedEof (fails UnexpectedEof draws) (λ k. cc) (λ k. cc)
+  is_unread InvalidCode fails draws = at_fault InvalidCode (fails InvalidCode draws) (λ k. cc) (λ k. cc)
+  is_unread Overflow fails draws = at_fault Overflow (fails Overflow draws) (λ k. cc) (λ k. cc)
+  is_unread OutOfMemory fails draws = unread_row_wants_memory draws
+  is_unread Refused fails draws = absurd draws
+
+-- ---- A line of Group 3 that isn't repaired
+
+module _ (line strict : Line) (start : Bits) (old new : Held) (held : new ≡ redrawn old new.front new.color) (rest : Bits) where
+  abbrev row : Result (Row × Bits) DecodeError
+  row = row_of_line old.settings old.has_eols start line
+
+  -- the result of a repair that failed with an error
+  pub isnt_repaired : (e answer : DecodeError) → DrawsLine line (Err e) new.front rest → (IsRepairable new e
+      → answer ≡ OutOfMemory) → (IsRepairable new e → ◌≡◌ {A = Result (Unit {0}) DecodeError} (Err answer) (Err OutOfMemory)
+      → RepairStoresChange new) → ((IsRepairable new e → ⊥) → ◌≡◌ {A = Result (Unit {0}) DecodeError} (Err answer) (Err e))
+      → TakesOneRow line strict row old new (Err answer) rest
+  isnt_repaired e answer draws only_memory memory otherwise = by_strict (old.settings.strict || not old.has_eols) refl
+    where
+      same_strict : new.settings.strict ≡ old.settings.strict
+      same_strict = ap (λ (h : Held). h.settings.strict) held
+
+      same_eols : new.has_eols ≡ old.has_eols
+      same_eols = ap (λ (h : Held). h.has_eols) held
+
+      itself : (e : DecodeError) → DrawsLine line (Err e) new.front rest
+          → ((fault : DecodeError) → line ≡ Line.broken new.front fault → row ≡ Err fault) → ◌≡◌
+          {A = Result (Unit {0}) DecodeError} (Err answer) (Err e) → TakesOneRow line strict row old new (Err answer) rest
+      itself e draws fails is =
+          subst (λ (r : Result (Unit {0}) DecodeError). TakesOneRow line strict row old new r rest) (sym is)
+          (is_unread line strict row old new held rest e fails draws)
+
+      stores : line ≡ Line.broken new.front e → IsRepairable new e → TakesOneRow line strict row old new (Err answer) rest
+      stores is repairable =
+          let wants : ◌≡◌ {A = Result (Unit {0}) DecodeError} (Err answer) (Err OutOfMemory) =
+          ap (λ (x : DecodeError). Err x) (only_memory repairable) in
+          let change = memory repairable wants in
+          let black : HasBlack new.front =
+          last_black false new.front refl (λ none. absurd (let both : true ≡ false = sym change.1 ∙ none in cc)) in
+          subst (λ (r : Result (Unit {0}) DecodeError). TakesOneRow line strict row old new r rest) (sym wants)
+          (wants_rest line strict row old new held rest (subst (λ (l : Line). HasBlack (front_of l)) (sym is) black))
+
+      repairs : (e : DecodeError) → IsFault e → (old.settings.strict || not old.has_eols) ≡ false → IsRepairable new e
+      repairs e fault is =
+          let parts = or_parts old.settings.strict (not old.has_eols) is in
+          record { lenient = same_strict ∙ parts.0; has_eols = same_eols ∙ not-false old.has_eols parts.1; fault = fault }
+
+      broken : (e : DecodeError) → DrawsLine line (Err e) new.front rest → IsFault e → line ≡ Line.broken new.front e
+      broken UnexpectedEof draws f = draws
+      broken InvalidCode draws f = draws
+      broken Overflow draws f = draws
+      broken OutOfMemory draws f = absurd f
+      broken Refused draws f = absurd f
+
+      lenient : (e : DecodeError) → DrawsLine line (Err e) new.front rest → (old.settings.strict || not old.has_eols) ≡ false
+          → (IsRepairable new e → TakesOneRow line strict row old new (Err answer) rest)
+          → ((IsRepairable new e → ⊥) → ◌≡◌ {A = Result (Unit {0}) DecodeError} (Err answer) (Err e))
+          → TakesOneRow line strict row old new (Err answer) rest
+      lenient UnexpectedEof draws is one two = one (repairs UnexpectedEof tt is)
+      lenient InvalidCode draws is one two = one (repairs InvalidCode tt is)
+      lenient Overflow draws is one two = one (repairs Overflow tt is)
+      lenient OutOfMemory draws is one two =
+          subst (λ (r : Result (Unit {0}) DecodeError). TakesOneRow line strict row old new r rest)
+          (sym (two (λ r. r.fault))) (unread_row_wants_memory line strict row old new held rest draws)
+      lenient Refused draws is one two = absurd draws
+
+      by_strict : (b : Bool) → (old.settings.strict || not old.has_eols) ≡ b
+          → TakesOneRow line strict row old new (Err answer) rest
+      by_strict true is =
+          itself e draws (λ fault broken. ap (row_of_line old.settings old.has_eols start) broken ∙ cond-true (old.settings.strict
+          || not old.has_eols) _ _ is) (otherwise (λ r. let both : true ≡ false = sym is ∙ or_from old.settings.strict
+          (not old.has_eols) (sym same_strict ∙ r.lenient) (not_from_true old.has_eols (sym same_eols ∙ r.has_eols)) in cc))
+      by_strict false is = lenient e draws is (λ r. stores (broken e draws r.fault) r) otherwise
+
+-- a line that isn't read says nothing of the bits that are left
+pub draws_anywhere : (line : Line) (e : DecodeError) (front : Row) (rest other : Bits) → DrawsLine line (Err e) front rest
+    → DrawsLine line (Err e) front other
+draws_anywhere line UnexpectedEof front rest other draws = draws
+draws_anywhere line InvalidCode front rest other draws = draws
+draws_anywhere line Overflow front rest other draws = draws
+draws_anywhere line OutOfMemory front rest other draws = draws
+draws_anywhere line Refused front rest other draws = draws
+
+-- a fault of the data breaks the line, with the front that is left
+pub line_breaks : (line : Line) (e : DecodeError) (front : Row) (rest : Bits) → IsFault e → DrawsLine line (Err e) front rest
+    → line ≡ Line.broken front e
+line_breaks line UnexpectedEof front rest fault draws = draws
+line_breaks line InvalidCode front rest fault draws = draws
+line_breaks line Overflow front rest fault draws = draws
+line_breaks line OutOfMemory front rest fault draws = absurd fault
+line_breaks line Refused front rest fault draws = absurd fault

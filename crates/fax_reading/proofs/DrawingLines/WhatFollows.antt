@@ -1,0 +1,215 @@
+-- What is read doesn't depend on what follows it.
+use Rattle.fax_reading.proofs.Names.{◌≡◌, ℕ, zero, suc, ◌+◌, ◌-◌, ◌<◌, Bool, leb, [], ◌++◌, length, Result, Ok, Err, refl, sym}
+use Rattle.fax_reading.proofs.Names.{ap, subst, ◌∙◌, append_assoc, arith, inl, inr, pos, ◌+ℤ◌, cases_lt, le-leb, Color, Mode}
+use Rattle.fax_reading.proofs.Names.{Pass, Horizontal, Vertical, DecodeError, Bits, mode_codes, Has, read_code, Turn, Row}
+use Rattle.fax_reading.proofs.Names.{opposite, right_of, b1, b2, paint, codes_of, run_from, Line, Pen, start, line_2d, place_from}
+use Rattle.fax_reading.proofs.Names.{Step}
+use Rattle.fax_reading.proofs.EncodedPictures.EncodedRuns.{draws}
+use Rattle.fax_bits.proofs.Repetition.Repeated.{after_turn}
+use Rattle.fax_bits.proofs.BitReading.ZerosInWords.{codes_free, modes_free}
+use Rattle.fax_bits.proofs.CodeWords.ReadCodes.{read_code_found, read_code_again}
+use Rattle.fax_bits.proofs.CodeWords.ReadRuns.{chosen, read_code_shorter, words_not_empty, run_fails, run_passes, run_ends}
+use Rattle.fax_bits.proofs.CodeWords.ReadRuns.{run_goes_on}
+use Rattle.fax_reading.proofs.DrawingLines.Drawings.{try, run_then, mode_step, drawn_by, step_2d, step_2d_is, horizontal_is}
+use Rattle.fax_reading.proofs.DrawingLines.ReadLines.{try_next, full_by, try_goes_on, draw_mode_goes_on}
+use Rattle.fax_reading.proofs.DrawingLines.ReadLines.{pen_left, drawn2, step_2d_shrinks}
+use Rattle.fax_bits.proofs.Repetition.Repeated.{next_is, not_next}
+
+-- ---- A run.
+abbrev pub RunFound : Color → ℕ → Bits → ℕ → Bits → Type 0
+RunFound color total here n rest =
+    (w : Bits) × (here ≡ w ++ rest) × ((more : Bits) → run_from color (total, w ++ more) ≡ Ok (n, more))
+
+run_found_by : (fuel : ℕ) (color : Color) (total : ℕ) (here : Bits) (n : ℕ) (rest : Bits) → length here < fuel
+    → run_from color (total, here) ≡ Ok (n, rest) → RunFound color total here n rest
+run_found_by zero color total here n rest lt e = absurd (omega arith)
+run_found_by (suc fuel) color total here n rest lt e =
+    let by_read_code : (r : Result (ℕ × Bits) DecodeError)
+    → read_code (codes_of color) here ≡ r → RunFound color total here n rest = λ r.
+    elim r as (λ (r : Result (ℕ × Bits) DecodeError). read_code (codes_of color) here ≡ r → RunFound color total here n rest) [
+      | Err fault ↦ λ a. absurd (let f : ◌≡◌ {A = Result (ℕ × Bits) DecodeError} (Err fault) (Ok (n, rest)) = sym
+          (run_fails color total here fault a) ∙ e in cc)
+      | Ok found ↦ λ a.
+          let word = read_code_found (codes_of color) here found.0 found.1 a in
+          let again : (more : Bits) → read_code (codes_of color) (word.0 ++ more) ≡ Ok (found.0, more)
+          = λ more. read_code_again (codes_of color) found.0 word.0 more (codes_free color) word.1 in
+          elim (cases_lt 4294967295 (total + found.0)) [
+            | inl big ↦ absurd (let f = sym (run_passes color total found.0 here found.1 a big) ∙ e in cc)
+            | inr fits ↦ elim (cases_lt found.0 64) [
+              | inl last ↦
+                  let f : ◌≡◌ {A = Result (ℕ × Bits) DecodeError} (Ok (total + found.0, found.1)) (Ok (n, rest))
+                  = sym (run_ends color total found.0 here found.1 a fits last) ∙ e in
+                  let p : (total + found.0, found.1) ≡ (n, rest) = cc in
+                  subst (λ (x : ℕ × Bits). RunFound color total here x.0 x.1) p
+                  (word.0, word.2, λ more. run_ends color total found.0 (word.0 ++ more) more (again more) fits last)
+              | inr large ↦
+                  let shorter = read_code_shorter (codes_of color) here found.0 found.1 (words_not_empty color) a in
+                  let on = run_found_by fuel color (total + found.0) found.1 n rest (omega (arith, shorter))
+                  (sym (run_goes_on color total found.0 here found.1 a fits large) ∙ e) in (
+                    word.0 ++ on.0,
+                    word.2 ∙ ap (λ (x : Bits). word.0 ++ x) on.1 ∙ sym (append_assoc word.0 on.0 rest),
+                    λ more. ap (λ (x : Bits). run_from color (total, x)) (append_assoc word.0 on.0 more) ∙ run_goes_on color total
+                        found.0 (word.0 ++ (on.0 ++ more)) (on.0 ++ more) (again (on.0 ++ more)) fits large ∙ on.2 more,
+                  )
+            ]
+          ]
+    ] in
+    by_read_code (read_code (codes_of color) here) refl
+
+-- a run that was read is read again, whatever follows
+pub run_read_again : (color : Color) (here : Bits) (n : ℕ) (rest : Bits) → run_from color (0, here) ≡ Ok (n, rest)
+    → RunFound color 0 here n rest
+run_read_again color here n rest e = run_found_by (suc (length here)) color 0 here n rest (omega arith) e
+
+-- ---- A step of a line.
+abbrev pub Carries : (Pen → Step) → Type 0
+Carries f = (pen t : Pen) → f pen ≡ Turn.next t → (w : Bits) × (pen.rest ≡ w ++ t.rest)
+    × ((more : Bits) → f (record pen { rest = w ++ more }) ≡ Turn.next (record t { rest = more }))
+
+pub next_carries : Carries Turn.next
+next_carries pen t e =
+    let same = next_is pen t e in
+    ([], ap (λ (p : Pen). p.rest) same, λ more. ap (λ (p : Pen). Turn.next (record p { rest = more })) same)
+
+-- what keeps the bits is preserved
+keeps_carries : (f : Pen → Step) → ((pen t : Pen) → f pen ≡ Turn.next t → (pen.rest ≡ t.rest)
+    × ((more : Bits) → f (record pen { rest = more }) ≡ Turn.next (record t { rest = more }))) → Carries f
+keeps_carries f keeps pen t e = let k = keeps pen t e in ([], k.0, k.1)
+
+pub draw_run_carries : (strict : Bool) (columns : ℕ) (g : Pen → Step) → Carries g → Carries (λ pen. run_then strict columns pen g)
+draw_run_carries strict columns g carries pen t e =
+    let a = try_next pen.front (run_from pen.color (0, pen.rest))
+    (λ run. try pen.front (paint strict columns pen.front pen.color run.0)
+    (λ front. g (record { front = front; color = opposite pen.color; rest = run.1 }))) t e in
+    let b = try_next pen.front (paint strict columns pen.front pen.color a.0.0)
+    (λ front. g (record { front = front; color = opposite pen.color; rest = a.0.1 })) t a.2 in
+    let c = carries (record { front = b.0; color = opposite pen.color; rest = a.0.1 }) t b.2 in
+    let d = run_read_again pen.color pen.rest a.0.0 a.0.1 a.1 in (
+      d.0 ++ c.0,
+      d.1 ∙ ap (λ (x : Bits). d.0 ++ x) c.1 ∙ sym (append_assoc d.0 c.0 t.rest),
+      λ more. draws strict columns pen.front pen.color ((d.0 ++ c.0) ++ more) a.0.0 (c.0 ++ more) b.0 g
+          (ap (λ (x : Bits). run_from pen.color (0, x)) (append_assoc d.0 c.0 more) ∙ d.2 (c.0 ++ more)) b.1 ∙ c.2 more,
+    )
+
+mode_carries : (strict : Bool) (columns : ℕ) (reference : Row) (mode : Mode)
+    → Carries (λ pen. mode_step strict columns reference pen mode)
+mode_carries strict columns reference Pass = keeps_carries (λ pen. mode_step strict columns reference pen Pass) (λ pen t e.
+    let painted = paint strict columns pen.front pen.color (b2 reference (right_of pen.front) pen.color - length pen.front) in
+    let a = try_next pen.front painted (λ front. Turn.next (record pen { front = front })) t e in
+    let same : record pen { front = a.0 } ≡ t = next_is _ t a.2 in (
+      ap (λ (p : Pen). p.rest) same,
+      λ more. ap (λ (r : Result Row DecodeError).
+          try pen.front r (λ front. Turn.next (record { front = front; color = pen.color; rest = more }))) a.1
+          ∙ ap (λ (p : Pen). Turn.next (record p { rest = more })) same,
+    ))
+mode_carries strict columns reference Horizontal = λ pen t e.
+    let two = draw_run_carries strict columns (λ pen. run_then strict columns pen Turn.next)
+    (draw_run_carries strict columns Turn.next next_carries) pen t (horizontal_is strict columns reference pen ∙ e) in
+    (two.0, two.1, λ more. sym (horizontal_is strict columns reference (record pen { rest = two.0 ++ more })) ∙ two.2 more)
+mode_carries strict columns reference (Vertical k) =
+    keeps_carries (λ pen. mode_step strict columns reference pen (Vertical k)) (λ pen t e.
+    let place = place_from (length pen.front) (pos (b1 reference (right_of pen.front) pen.color) +ℤ k) in
+    let paints : Bits → ℕ → Step = λ rest place. try pen.front (paint strict columns pen.front pen.color
+    (place - length pen.front)) (λ front. Turn.next (record { front = front; color = opposite pen.color; rest = rest })) in
+    let a = try_next pen.front place (paints pen.rest) t e in
+    let b = try_next pen.front (paint strict columns pen.front pen.color (a.0 - length pen.front))
+    (λ front. Turn.next (record { front = front; color = opposite pen.color; rest = pen.rest })) t a.2 in
+    let same : record { front = b.0; color = opposite pen.color; rest = pen.rest } ≡ t = next_is _ t b.2 in (
+      ap (λ (p : Pen). p.rest) same,
+      λ more. ap (λ (r : Result ℕ DecodeError). try pen.front r (paints more)) a.1 ∙ ap (λ (r : Result Row DecodeError).
+          try pen.front r (λ front. Turn.next (record { front = front; color = opposite pen.color; rest = more }))) b.1
+          ∙ ap (λ (p : Pen). Turn.next (record p { rest = more })) same,
+    ))
+
+-- a step of a two-dimensional line, which begins with the word of its mode
+record StepFound (strict : Bool) (columns : ℕ) (reference : Row) (pen t : Pen) : Type 0 where
+  mode : Mode
+  word : Bits
+  has : Has mode_codes mode word
+  others : Bits
+  is : pen.rest ≡ (word ++ others) ++ t.rest
+  again : (more : Bits)
+      → step_2d strict columns reference (record pen { rest = (word ++ others) ++ more }) ≡ Turn.next (record t { rest = more })
+
+step_2d_found : (strict : Bool) (columns : ℕ) (reference : Row) (pen t : Pen) → step_2d strict columns reference pen ≡ Turn.next t
+    → StepFound strict columns reference pen t
+step_2d_found strict columns reference pen t e =
+    elim (chosen (leb columns (length pen.front)) _ _ _ (sym (step_2d_is strict columns reference pen) ∙ e)) [
+      | inl x ↦ absurd (not_next _ t x.1)
+      | inr x ↦
+          let a = try_next pen.front (read_code mode_codes pen.rest)
+          (λ mode. mode_step strict columns reference (record pen { rest = mode.1 }) mode.0) t x.1 in
+          let word = read_code_found mode_codes pen.rest a.0.0 a.0.1 a.1 in
+          let c = mode_carries strict columns reference a.0.0 (record pen { rest = a.0.1 }) t a.2 in
+          record {
+            mode = a.0.0;
+            word = word.0;
+            has = word.1;
+            others = c.0;
+            is = word.2 ∙ ap (λ (y : Bits). word.0 ++ y) c.1 ∙ sym (append_assoc word.0 c.0 t.rest);
+            again = λ more.
+                let read : read_code mode_codes ((word.0 ++ c.0) ++ more) ≡ Ok (a.0.0, c.0 ++ more) = ap (read_code mode_codes)
+                (append_assoc word.0 c.0 more) ∙ read_code_again mode_codes a.0.0 word.0 (c.0 ++ more) modes_free word.1 in
+                rw x.0 (ap (λ (r : Result (Mode × Bits) DecodeError). try pen.front r
+                (λ mode. mode_step strict columns reference (record pen { rest = mode.1 }) mode.0)) read ∙ c.2 more);
+          }
+    ]
+
+-- ---- A line.
+pub record LineFound (strict : Bool) (columns : ℕ) (reference : Row) (pen : Pen) (row : Row) (rest : Bits) : Type 0 where
+  pub bits : Bits
+  pub is : pen.rest ≡ bits ++ rest
+  pub again : (more : Bits)
+      → drawn_by (step_2d strict columns reference) (record pen { rest = bits ++ more }) ≡ Line.whole row more
+  pub begins : length pen.front < columns → (mode : Mode) × (word others : Bits) × Has mode_codes mode word
+      × (bits ≡ word ++ others)
+
+line_found_by : (fuel : ℕ) (strict : Bool) (columns : ℕ) (reference : Row) (pen : Pen) (row : Row) (rest : Bits)
+    → pen_left pen < fuel → drawn_by (step_2d strict columns reference) pen ≡ Line.whole row rest
+    → LineFound strict columns reference pen row rest
+line_found_by zero strict columns reference pen row rest lt e = absurd (omega arith)
+line_found_by (suc fuel) strict columns reference pen row rest lt e =
+    let step : Pen → Step = step_2d strict columns reference in
+    let rule : (p : Pen) → drawn_by step p ≡ after_turn (drawn_by step) (step p) = drawn2 strict columns reference in
+    let by_step : (turn : Step) → step pen ≡ turn → LineFound strict columns reference pen row rest
+    = λ turn. elim turn as (λ (turn : Step). step pen ≡ turn → LineFound strict columns reference pen row rest) [
+      | Turn.next t ↦ λ a.
+          let one = step_2d_found strict columns reference pen t a in
+          let on = line_found_by fuel strict columns reference t row rest
+          (omega (arith, step_2d_shrinks strict columns reference pen t a))
+          (sym (ap (after_turn (drawn_by step)) a) ∙ sym (rule pen) ∙ e) in
+          let w : Bits = one.word ++ one.others in
+          record {
+            bits = w ++ on.bits;
+            is = one.is ∙ ap (λ (x : Bits). w ++ x) on.is ∙ sym (append_assoc w on.bits rest);
+            again = λ more.
+                ap (λ (x : Bits). drawn_by step (record pen { rest = x })) (append_assoc w on.bits more)
+                ∙ rule (record pen { rest = w ++ (on.bits ++ more) })
+                ∙ ap (after_turn (drawn_by step)) (one.again (on.bits ++ more)) ∙ on.again more;
+            begins = λ open_end. (one.mode, one.word, one.others ++ on.bits, one.has, append_assoc one.word one.others on.bits);
+          }
+      | Turn.done l ↦ λ a.
+          let whole : l ≡ Line.whole row rest = sym (ap (after_turn (drawn_by step)) a) ∙ sym (rule pen) ∙ e in
+          let goes = try_goes_on pen.front (read_code mode_codes pen.rest)
+          (λ mode. mode_step strict columns reference (record pen { rest = mode.1 }) mode.0)
+          (λ mode. draw_mode_goes_on strict columns reference (record pen { rest = mode.1 }) mode.0) in
+          let f = full_by columns pen (try pen.front (read_code mode_codes pen.rest)
+          (λ mode. mode_step strict columns reference (record pen { rest = mode.1 }) mode.0)) row rest goes
+          (sym (step_2d_is strict columns reference pen) ∙ a ∙ ap Turn.done whole) in
+          let front_is : pen.front ≡ row = let w = f.1 in cc in
+          let rest_is : pen.rest ≡ rest = let w = f.1 in cc in
+          record {
+            bits = [];
+            is = rest_is;
+            again = λ more. rule (record pen { rest = more })
+                ∙ rw (le-leb columns (length pen.front) f.0) (ap (λ (r : Row). Line.whole r more) front_is);
+            begins = λ open_end. absurd (omega (arith, f.0));
+          }
+    ] in
+    by_step (step pen) refl
+
+-- a line that was read is read again, whatever follows
+pub line_2d_found : (strict : Bool) (columns : ℕ) (reference : Row) (here : Bits) (row : Row) (rest : Bits)
+    → line_2d strict columns reference here ≡ Line.whole row rest → LineFound strict columns reference (start here) row rest
+line_2d_found strict columns reference here row rest e =
+    line_found_by (suc (length here)) strict columns reference (start here) row rest (omega arith) e

@@ -1,0 +1,343 @@
+-- A T.4 picture is read again.
+use Rattle.fax_bits.proofs.BitReading.PlainEols.{few_keep_the_tag}
+use Rattle.fax_reading.proofs.Names.{◌≡◌, ◌≢◌, ℕ, zero, suc, ◌+◌, ◌<◌, ◌≤◌, Bool, true, false, cond, ◌&&◌, ◌||◌, ltb, List, []}
+use Rattle.fax_reading.proofs.Names.{◌∷◌, ◌++◌, length, replicate, Some, None, Ok, Err, refl, sym, ap, subst, ◌∙◌, append_assoc}
+use Rattle.fax_reading.proofs.Names.{arith, inl, inr, All, and_right, and_from, not_from_false, or_from, cond-false, eq-eqb}
+use Rattle.fax_reading.proofs.Names.{ne_eqb, length-append, length-replicate, append-nil, All-head, All-tail, Color, White}
+use Rattle.fax_reading.proofs.Names.{UnexpectedEof, EncodingMode, Group3_1D, Group3_2D, Group4, DecodeSettings, Bits, Turn}
+use Rattle.fax_reading.proofs.Names.{repeated, Row, codes_of, Line, line_1d, line_2d, after_eol, one_more, eols, all_eols}
+use Rattle.fax_reading.proofs.Names.{past_tag, eols_with_tags, tagged_eols, is_over, misses_eol, cond-true, ending_behind}
+use Rattle.fax_reading.proofs.Names.{Progress, Ending, row_before, aligned, at_end, limit_met, line_here, eols_here, after_line}
+use Rattle.fax_reading.proofs.Names.{move_on, ending_from, end_of, Spells, EncodesLine1D, EncodesLine2D, EncodesLine, eol, tag_of}
+use Rattle.fax_reading.proofs.Names.{IsPicture, EncodesRowsWithEols, ClosesWithEols, PictureT4, each_word, ReadsPictureT4}
+use Rattle.fax_reading.proofs.Names.{ReadsLimitedPictureT4, OnePictureT4, Allows, common_steps}
+use Rattle.fax_reading.proofs.EncodedPictures.EncodedLines.{line_2d_again}
+use Rattle.fax_bits.proofs.BitReading.ZerosInWords.{each_word_at}
+use Rattle.fax_reading.proofs.EncodedPictures.EncodedRuns.{line_1d_again}
+use Rattle.fax_bits.proofs.Repetition.Repeated.{after_turn}
+use Rattle.fax_reading.proofs.EncodedPictures.PictureLines.{closed_settings, begins_no_eol, no_eol_at_word, bits_at_word}
+use Rattle.fax_reading.proofs.EncodedPictures.PictureLines.{IsLineStart, not_met, row_before_push, plain_ends}
+use Rattle.fax_reading.proofs.Readings.GapsAndRows.{first_gap_t4, ending_t4}
+use Rattle.fax_reading.proofs.Readings.RowsAndGaps.{unless_over, after_row, after_whole-is}
+use Rattle.fax_reading.proofs.Readings.TurnsMoveOn.{eols_end}
+use Rattle.fax_bits.proofs.BitReading.ConsecutiveEols.{eols-none, one_more-count, eol_of, eols_with_tags-some}
+use Rattle.fax_bits.proofs.BitReading.ConsecutiveEols.{eols_with_tags-none, last_tag_count}
+
+-- ---- What a line begins with.
+codes_miss : (color : Color) → each_word (begins_no_eol 0) (codes_of color) ≡ true
+codes_miss color = grind (arith, common_steps)
+
+run_starts : (color : Color) (n : ℕ) (word more : Bits) → Spells color n word → IsLineStart (word ++ more)
+run_starts color n word more (Spells.terminating m w has small) =
+    grind (arith, common_steps, codes_miss, each_word_at, bits_at_word, no_eol_at_word, begins_no_eol)
+run_starts color n word more (Spells.makeup m w {n = k} {bits = next} has large rest) =
+    grind (arith, common_steps, append_assoc, codes_miss, each_word_at, bits_at_word, no_eol_at_word, begins_no_eol)
+
+line_1d_starts : (color : Color) (row : Row) (bits more : Bits) → EncodesLine1D color row bits → 0 < length row
+    → IsLineStart (bits ++ more)
+line_1d_starts color row bits more EncodesLine1D.over some = absurd (omega arith)
+line_1d_starts color row bits more (EncodesLine1D.run n word {row = others} {bits = next} spells first maximal rest) some =
+    subst IsLineStart (sym (append_assoc word next more)) (run_starts color n word (next ++ more) spells)
+
+-- no EOL is here, where a zero is the tag before
+pub line_2d_after_tag : (reference row : Row) (from : ℕ) (color : Color) (bits more : Bits)
+    → EncodesLine2D reference row from color bits → from ≤ length row → after_eol 1 (bits ++ more) ≡ None
+line_2d_after_tag reference row from color bits more given le = grind (arith, common_steps)
+
+-- where a line of T.4 begins: there is no EOL there, nor after a tag
+record IsTagStart (here : Bits) : Type 0 where
+  start : IsLineStart here
+  no_tag : past_tag here ≡ here
+
+-- ---- EOLs that are there.
+pub eol_stands : (fill : ℕ) (more : Bits) → after_eol 0 (eol fill ++ more) ≡ Some more
+eol_stands fill more =
+    ap (after_eol 0) (append_assoc (replicate (11 + fill) false) (true ∷ []) more) ∙ eol_of 0 (11 + fill) more (omega arith)
+
+length-eol : (fill : ℕ) (more : Bits) → length (eol fill ++ more) ≡ suc (11 + fill + length more)
+length-eol fill more = grind (arith, common_steps)
+
+eols_more : (most fill : ℕ) (more : Bits) → eols (suc most) (eol fill ++ more) ≡ one_more (eols most more)
+eols_more most fill more = rw (eol_stands fill more, eols) refl
+
+all_eols_more : (fill : ℕ) (more : Bits) → all_eols (eol fill ++ more) ≡ one_more (eols (11 + fill + length more) more)
+all_eols_more fill more =
+    ap (λ (n : ℕ). eols n (eol fill ++ more)) (length-eol fill more) ∙ eols_more (11 + fill + length more) fill more
+
+-- one EOL before a line
+one_eol : (fill : ℕ) (here : Bits) → after_eol 0 here ≡ None → all_eols (eol fill ++ here) ≡ (1, here)
+one_eol fill here none = all_eols_more fill here ∙ ap one_more (eols-none (11 + fill + length here) here none)
+
+tagged_eols_more : (most fill : ℕ) (more : Bits)
+    → eols_with_tags (suc most) (eol fill ++ more) ≡ one_more (eols_with_tags most (past_tag more))
+tagged_eols_more most fill more = eols_with_tags-some most (eol fill ++ more) more (eol_stands fill more)
+
+one_tagged : (fill : ℕ) (here : Bits) → IsTagStart here → tagged_eols (eol fill ++ here) ≡ (1, here)
+one_tagged fill here at = grind (arith, common_steps, eols_with_tags-none, length-eol, few_keep_the_tag, tagged_eols_more)
+
+-- ---- Kinds.
+pub eols_here_one : (settings : DecodeSettings) (here : Bits) → settings.encoding ≡ Group3_1D
+    → eols_here settings here ≡ all_eols here
+eols_here_one settings here e = rw (e, eols_here) refl
+
+-- in two-dimensional data EOLs are counted with their tags
+pub eols_here_two : (settings : DecodeSettings) (here : Bits) → settings.encoding ≡ Group3_2D
+    → eols_here settings here ≡ tagged_eols here
+eols_here_two settings here e = rw (e, eols_here) refl
+
+tagged_line : (settings : DecodeSettings) (reference : Row) (tag : Bool) (here : Bits) → settings.encoding ≡ Group3_2D
+    → line_here settings reference (tag ∷ here) ≡ cond tag (line_1d settings.strict settings.columns here)
+    (line_2d settings.strict settings.columns reference here)
+tagged_line settings reference tag here e = grind (arith, common_steps)
+
+-- ---- The EOLs that close a picture.
+eols_closing : (n most : ℕ) (closing more : Bits) → ClosesWithEols Group3_1D n closing → n ≤ most
+    → n ≤ (eols most (closing ++ more)).0
+eols_closing zero most closing more is le = omega arith
+eols_closing (suc n) zero closing more is le = absurd (omega arith)
+eols_closing (suc n) (suc most) closing more (fill, next, then, is) le =
+    grind (arith, common_steps, append-nil, append_assoc, eols_more, one_more-count, eols_closing n most next more)
+
+length-closing : (encoding : EncodingMode) (n : ℕ) (closing more : Bits) → ClosesWithEols encoding n closing
+    → n ≤ length (closing ++ more)
+length-closing encoding zero closing more is = omega arith
+length-closing encoding (suc n) closing more (fill, next, then, is) =
+    grind (arith, common_steps, append_assoc, common_steps, length-append, length-eol, length-closing encoding n next more)
+
+-- the first of them, and its tag
+tag_after : (fill : ℕ) (closing next more : Bits) → closing ≡ eol fill ++ tag_of Group3_2D ++ next
+    → closing ++ more ≡ eol fill ++ (true ∷ (next ++ more))
+tag_after fill closing next more is = grind (arith, common_steps)
+
+-- a tag before EOLs is consumed
+tagged_eols_behind : (n most : ℕ) (closing more : Bits) → ClosesWithEols Group3_2D n closing
+    → n ≤ (eols_with_tags most (closing ++ more)).0 → n ≤ (eols_with_tags most (past_tag (true ∷ (closing ++ more)))).0
+tagged_eols_behind n most closing more is le = grind (arith, common_steps)
+
+tagged_eols_closing : (n most : ℕ) (closing more : Bits) → ClosesWithEols Group3_2D n closing → n ≤ most
+    → n ≤ (eols_with_tags most (closing ++ more)).0
+tagged_eols_closing zero most closing more is le = omega arith
+tagged_eols_closing (suc n) zero closing more is le = absurd (omega arith)
+tagged_eols_closing (suc n) (suc most) closing more (fill, next, then, is) le =
+    let step = tagged_eols_closing n most next more in
+    grind (arith, common_steps, one_more-count, tag_after, tagged_eols_behind, tagged_eols_more, step)
+
+-- the six EOLs of RTC are counted
+pub six_tagged : (closing more : Bits) → ClosesWithEols Group3_2D 6 closing → 6 ≤ (tagged_eols (closing ++ more)).0
+six_tagged closing more is = grind (arith, common_steps, last_tag_count, length-closing, tagged_eols_closing)
+
+-- the settings are for this encoding, which is one of T.4
+abbrev pub Matches : EncodingMode → DecodeSettings → Type 0
+Matches Group4 settings = ⊥
+Matches Group3_1D settings = settings.encoding ≡ Group3_1D
+Matches Group3_2D settings = settings.encoding ≡ Group3_2D
+
+-- settings for T.4 are for their own encoding
+pub matches_itself : (settings : DecodeSettings) → settings.encoding ≢ Group4 → Matches settings.encoding settings
+matches_itself settings three = grind (arith, common_steps)
+
+-- and so are not for Group 4
+matches_t4 : (settings : DecodeSettings) (encoding : EncodingMode) → Matches encoding settings → settings.encoding ≢ Group4
+matches_t4 settings encoding matches = grind (arith, common_steps)
+
+-- the end of lines that were read with EOLs
+abbrev ended_with_eols : List Row → Bits → Ending
+ended_with_eols rows rest = record { rows = rows; has_eols = true; outcome = Ok rest }
+
+six_close : (settings : DecodeSettings) (encoding : EncodingMode) (closing more : Bits) → Matches encoding settings
+    → ClosesWithEols encoding 6 closing → 6 ≤ (eols_here settings (closing ++ more)).0
+six_close settings Group4 closing more matches is = absurd matches
+six_close settings Group3_1D closing more matches is =
+    rw (eols_here_one settings (closing ++ more) matches)
+    (eols_closing 6 (length (closing ++ more)) closing more is (length-closing Group3_1D 6 closing more is))
+six_close settings Group3_2D closing more matches is =
+    rw (eols_here_two settings (closing ++ more) matches) (six_tagged closing more is)
+
+module _ (settings : DecodeSettings) (wide : 0 < settings.columns) (small : settings.columns ≤ 4294967295) where
+  -- a line is read
+  pub line_t4_again : (encoding : EncodingMode) (reference row : Row) (line more : Bits) → Matches encoding settings
+      → EncodesLine encoding reference row line → length reference ≡ settings.columns → length row ≡ settings.columns
+      → line_here settings reference (line ++ more) ≡ Line.whole row more
+  line_t4_again Group4 reference row line more matches is ref_len row_len = absurd matches
+  line_t4_again Group3_1D reference row line more matches is ref_len row_len =
+      let len : length {A = Bool} [] + length row ≡ settings.columns = omega arith in
+      rw (matches, line_here) (line_1d_again settings.strict settings.columns [] row White line more is small len)
+  line_t4_again Group3_2D reference row line more matches (rest, inl is) ref_len row_len =
+      let len : length {A = Bool} [] + length row ≡ settings.columns = omega arith in
+      ap (λ (x : Bits). line_here settings reference (x ++ more)) is.0 ∙ tagged_line settings reference true
+      (rest ++ more) matches ∙ line_1d_again settings.strict settings.columns [] row White rest more is.1 small len
+  line_t4_again Group3_2D reference row line more matches (rest, inr is) ref_len row_len =
+      grind (arith, common_steps, line_2d_again, tagged_line)
+
+  -- where it begins there is no EOL
+  pub line_t4_starts : (encoding : EncodingMode) (reference row : Row) (line more : Bits) → Matches encoding settings
+      → EncodesLine encoding reference row line → length row ≡ settings.columns → IsLineStart (line ++ more)
+  line_t4_starts Group4 reference row line more matches is row_len = absurd matches
+  line_t4_starts Group3_1D reference row line more matches is row_len = line_1d_starts White row line more is (omega arith)
+  line_t4_starts Group3_2D reference row line more matches (rest, inl is) row_len =
+      rw is.0 (record { no_eol = refl; open_end = refl })
+  line_t4_starts Group3_2D reference row line more matches (rest, inr is) row_len = grind (arith, common_steps, line_2d_after_tag)
+
+  tag_starts : (reference row : Row) (line more : Bits) → EncodesLine Group3_2D reference row line → length row ≡ settings.columns
+      → past_tag (line ++ more) ≡ line ++ more
+  tag_starts reference row line more given row_len = grind (arith, common_steps, common_steps, line_1d_starts)
+
+  -- one EOL is counted before a line
+  pub eol_before : (encoding : EncodingMode) (reference row : Row) (fill : ℕ) (line more : Bits) → Matches encoding settings
+      → EncodesLine encoding reference row line
+      → length row ≡ settings.columns → eols_here settings (eol fill ++ (line ++ more)) ≡ (1, line ++ more)
+  eol_before encoding reference row fill line more matches is row_len =
+      grind (arith, common_steps, eols_here_one, eols_here_two, line_t4_starts, one_eol, one_tagged, tag_starts)
+
+  -- ---- The lines of a picture.
+  abbrev with_eols : List Row → Bits → Progress
+  with_eols rows rest = record { rows = rows; has_eols = true; rest = rest }
+
+  -- EOLs that came after a row are consumed
+  counted_row : (rows : List Row) (here : Bits) (found : ℕ × Bits) → eols_here settings here ≡ found → 0 < found.0
+      → after_row settings (with_eols rows here) ≡ unless_over settings (with_eols rows here) found
+  counted_row rows here found is some = grind (arith, common_steps)
+
+  -- one row is added
+  row_added : (before : List Row) (row : Row) (here tail : Bits) → line_here settings (row_before settings.columns before) here
+      ≡ Line.whole row tail → move_on settings (with_eols before here) ≡ after_row settings (with_eols (before ++ row ∷ []) tail)
+  row_added before row here tail read =
+      ap (after_line settings (with_eols before here)) read ∙ after_whole-is settings (with_eols before here) row tail
+      ∙ ap (λ (x : Bits). after_row settings (with_eols (before ++ row ∷ []) x)) (cond-false
+      (settings.rows_are_byte_aligned && false) (aligned tail) tail (and_right settings.rows_are_byte_aligned false refl))
+
+  module _ (encoding : EncodingMode) (matches : Matches encoding settings) (late : Ending)
+      (tail last : Bits) (whole : List Row) (allows : Allows settings (length whole))
+      (stops : after_row settings (with_eols whole tail) ≡ Turn.done (ended_with_eols whole last)) where
+    lines_t4_again : (before : List Row) (row : Row) (rows : List Row) (line next : Bits) (fuel : ℕ)
+        → before ++ row ∷ rows ≡ whole → length (row_before settings.columns before) ≡ settings.columns → All
+        (λ row. length row ≡ settings.columns) (row ∷ rows) → EncodesLine encoding (row_before settings.columns before) row line
+        → EncodesRowsWithEols encoding row rows next → length rows < fuel
+        → repeated (move_on settings) late fuel (with_eols before (line ++ (next ++ tail))) ≡ ended_with_eols whole last
+    lines_t4_again before row rows line next zero all ref_len widths is lines lt = absurd (omega arith)
+    lines_t4_again before row [] line next (suc fuel) all ref_len widths is lines lt =
+        let row_len : length row ≡ settings.columns = All-head (λ row. length row ≡ settings.columns) row [] widths in
+        grind (arith, common_steps, after_row, after_turn, line_t4_again, row_added)
+    lines_t4_again before row (row2 ∷ rows) line next (suc fuel) all ref_len widths is
+        (fill, line_2d, next2, is2, lines2, split) lt =
+        let row_len : length row ≡ settings.columns = All-head (λ row. length row ≡ settings.columns) row (row2 ∷ rows) widths in
+        let widths2 = All-tail (λ row. length row ≡ settings.columns) row (row2 ∷ rows) widths in
+        let row2_len : length row2 ≡ settings.columns = All-head (λ row. length row ≡ settings.columns) row2 rows widths2 in
+        let rest : Bits = line_2d ++ (next2 ++ tail) in
+        let after : Bits = eol fill ++ rest in
+        let here : line ++ (next ++ tail) ≡ line ++ after = grind (arith, common_steps, append_assoc) in
+        let read : line_here settings (row_before settings.columns before) (line ++ (next ++ tail)) ≡ Line.whole row after
+        = grind (arith, common_steps, line_t4_again) in
+        let rows1 : List Row = before ++ row ∷ [] in
+        let one : eols_here settings after ≡ (1, rest) =
+        eol_before encoding row row2 fill line_2d (next2 ++ tail) matches is2 row2_len in
+        let all2 : rows1 ++ row2 ∷ rows ≡ whole = append_assoc before (row ∷ []) (row2 ∷ rows) ∙ all in
+        let count : length rows1 < length whole = omega (arith, ap length all2, length-append rows1 (row2 ∷ rows)) in
+        let open_end : at_end rest ≡ false =
+        (line_t4_starts encoding row row2 line_2d (next2 ++ tail) matches is2 row2_len).open_end in
+        let over : is_over settings (length rows1) (1, rest) ≡ false = or_from _ _ (or_from _ _
+        ((eols_end settings 1).0 (omega arith)) (not_met settings (length whole) (length rows1) allows count)) open_end in
+        let moved : move_on settings (with_eols before (line ++ (next ++ tail))) ≡ Turn.next (with_eols rows1 rest)
+        = grind (arith, common_steps, cond-false, counted_row, row_added) in
+        let pushed : row_before settings.columns rows1 ≡ row = row_before_push settings.columns before row in
+        ap (after_turn (repeated (move_on settings) late fuel)) moved
+        ∙ lines_t4_again rows1 row2 rows line_2d next2 fuel all2 (ap length pushed ∙ row_len) widths2
+        (subst (λ (r : Row). EncodesLine encoding r row2 line_2d) (sym pushed) is2) lines2 (omega arith)
+
+  -- ---- How a run ends.
+  -- six EOLs end it
+  six_stop : (rows : List Row) (here : Bits) → settings.end_of_block ≡ true → 6 ≤ (eols_here settings here).0
+      → after_row settings (with_eols rows here) ≡ Turn.done (ended_with_eols rows (eols_here settings here).1)
+  six_stop rows here block six =
+      cond-false (misses_eol settings (length rows) true here) _ _
+      (rw (ne_eqb (eols_here settings here).0 0 (λ none. absurd (omega (arith, none, six)))) refl)
+      ∙ cond-true (is_over settings (length rows) (eols_here settings here)) _ _
+      (rw ((eols_end settings (eols_here settings here).0).2 block six) refl)
+
+  -- and so does the limit
+  limit_stops : (rows : List Row) (here : Bits) → limit_met settings (length rows) ≡ true
+      → after_row settings (with_eols rows here) ≡ Turn.done (ended_with_eols rows (eols_here settings here).1)
+  limit_stops rows here met = grind (arith, common_steps)
+
+  -- data of Group 3 are read as such
+  pub end_of_three : (encoding : EncodingMode) (bits : Bits) → Matches encoding settings
+      → end_of settings bits ≡ ending_t4 settings bits
+  end_of_three encoding bits matches =
+      ap (ending_behind settings) (first_gap_t4 settings bits (matches_t4 settings encoding matches))
+
+  length-lines : (encoding : EncodingMode) (reference : Row) (rows : List Row) (bits : Bits)
+      → EncodesRowsWithEols encoding reference rows bits → length rows ≤ length bits
+  length-lines encoding reference [] bits lines = omega arith
+  length-lines encoding reference (row ∷ rows) bits (fill, line, next, is, lines, split) =
+      let on = length-lines encoding row rows next lines in
+      grind (arith, common_steps, append_assoc, length-append, length-eol)
+
+  -- lines with their EOLs are read, and the run ends where it does after the last
+  pub lines_t4_end : (encoding : EncodingMode) (rows : List Row) (lines tail last : Bits) → Matches encoding settings → 0
+      < length rows → IsPicture settings.columns rows → EncodesRowsWithEols encoding (replicate settings.columns false) rows lines
+      → Allows settings (length rows) → after_row settings (with_eols rows tail) ≡ Turn.done (ended_with_eols rows last)
+      → end_of settings (lines ++ tail) ≡ ended_with_eols rows last
+  lines_t4_end encoding [] lines tail last matches some is_picture are allows stops = absurd (omega arith)
+  lines_t4_end encoding (row ∷ rows) lines tail last matches some is_picture (fill, line, next, is, more, split) allows stops =
+      let row_len : length row ≡ settings.columns = All-head (λ row. length row ≡ settings.columns) row rows is_picture.1 in
+      let rest : Bits = line ++ (next ++ tail) in
+      let here : lines ++ tail ≡ eol fill ++ rest = grind (arith, common_steps, append_assoc) in
+      let one : all_eols (eol fill ++ rest) ≡ (1, rest) = grind (arith, common_steps, line_t4_starts, one_eol) in
+      let late : Ending = record { rows = []; has_eols = true; outcome = Err UnexpectedEof } in
+      let started : ending_t4 settings (eol fill ++ rest)
+      ≡ repeated (move_on settings) late (suc (suc (length rest))) (with_eols [] rest) = ap (λ (f : ℕ × Bits).
+      ending_from (move_on settings) (record { rows = []; has_eols = ltb 0 f.0 || settings.end_of_line; rest = f.1 })) one in
+      let short : length rows < suc (suc (length rest)) = grind (arith, common_steps, length-append, length-lines) in
+      end_of_three encoding (lines ++ tail) matches ∙ ap (ending_t4 settings) here
+      ∙ started ∙ lines_t4_again encoding matches late tail last (row ∷ rows) allows stops [] row rows line next
+      (suc (suc (length rest))) refl (length-replicate settings.columns false) is_picture.1 is more short
+
+  -- a T.4 picture, closed by RTC, is read as its rows, whatever follows
+  pub closed_t4_end : (encoding : EncodingMode) (rows : List Row) (lines closing more : Bits) → Matches encoding settings
+      → settings.end_of_block ≡ true → 0 < length rows → IsPicture settings.columns rows → EncodesRowsWithEols encoding
+      (replicate settings.columns false) rows lines → ClosesWithEols encoding 6 closing → Allows settings (length rows)
+      → end_of settings (lines ++ (closing ++ more)) ≡ ended_with_eols rows (eols_here settings (closing ++ more)).1
+  closed_t4_end encoding rows lines closing more matches block some is_picture are closed allows =
+      lines_t4_end encoding rows lines (closing ++ more) (eols_here settings (closing ++ more)).1 matches some is_picture are
+      allows (six_stop rows (closing ++ more) block (six_close settings encoding closing more matches closed))
+
+  -- lines with EOLs are read as their rows, up to the limit
+  pub limited_t4_end : (encoding : EncodingMode) (rows : List Row) (lines more : Bits) → Matches encoding settings
+      → settings.rows ≡ length rows → 0 < length rows → IsPicture settings.columns rows → EncodesRowsWithEols encoding (replicate
+      settings.columns false) rows lines → end_of settings (lines ++ more) ≡ ended_with_eols rows (eols_here settings more).1
+  limited_t4_end encoding rows lines more matches limit some is_picture are =
+      let met : limit_met settings (length rows) ≡ true = grind (arith, common_steps, and_from, eq-eqb, ne_eqb, not_from_false) in
+      lines_t4_end encoding rows lines more (eols_here settings more).1 matches some is_picture are (inr (omega arith))
+      (limit_stops rows more met)
+
+-- ---- Over whole data.
+pub closed_picture_t4 : ReadsPictureT4
+closed_picture_t4 settings rows bits behind stream are begins =
+    grind (arith, common_steps, closed_t4_end settings, matches_itself settings begins.encoding, plain_ends settings stream)
+
+-- the law
+pub limited_picture_t4 : ReadsLimitedPictureT4
+limited_picture_t4 settings rows bits stream are begins =
+    grind (arith, common_steps, limited_t4_end settings, matches_itself settings begins.encoding, plain_ends settings stream)
+
+-- ---- One prefix, one picture.
+one_picture_at : (settings : DecodeSettings) (encoding : EncodingMode) (rows others : List Row) (bits more : Bits)
+    → settings.columns ≤ 4294967295 → Matches encoding settings → settings.end_of_block ≡ true → settings.rows ≡ 0
+    → PictureT4 encoding settings.columns rows bits → PictureT4 encoding settings.columns others (bits ++ more) → rows ≡ others
+one_picture_at settings encoding rows others bits more small matches block none one two =
+    grind (
+      arith,
+      common_steps,
+      append-nil two.1,
+      append_assoc one.0 one.1 more,
+      closed_t4_end settings one.3.0 small encoding rows one.0 one.1 more matches block one.2 one.3 one.4 one.5 (inl none),
+      closed_t4_end settings two.3.0 small encoding others two.0 two.1,
+    )
+
+-- the law
+pub one_picture_t4 : OnePictureT4
+one_picture_t4 Group4 columns rows others bits more three small one two = absurd (three refl)
+one_picture_t4 Group3_1D columns rows others bits more three small one two =
+    one_picture_at (closed_settings Group3_1D columns false) Group3_1D rows others bits more (omega arith) refl refl refl one two
+one_picture_t4 Group3_2D columns rows others bits more three small one two =
+    one_picture_at (closed_settings Group3_2D columns false) Group3_2D rows others bits more (omega arith) refl refl refl one two

@@ -1,0 +1,578 @@
+-- Data that begin with the same bits have the same rows before the first line that may differ.
+use Rattle.fax_reading.proofs.Names.{◌≡◌, ℕ, suc, ◌%◌, ◌<◌, ◌≤◌, Bool, true, false, not, ◌&&◌, ◌||◌, eqb, ltb, List, []}
+use Rattle.fax_reading.proofs.Names.{◌∷◌, ◌++◌, length, take, drop, replicate, Option, Some, None, refl, sym, ap, subst, ◌∙◌}
+use Rattle.fax_reading.proofs.Names.{append_assoc, append_cancel_left, append_cancel_right, arith, ◌⊎◌, inl, inr, cases_Bool}
+use Rattle.fax_reading.proofs.Names.{replicate-append-replicate, cond-true, cond-false, false≢true, length-append}
+use Rattle.fax_reading.proofs.Names.{take-append-drop, ne_eqb}
+use Rattle.fax_reading.proofs.Names.{or_parts, not-false, EncodingMode, Group4, Group3_1D, Group3_2D, DecodeSettings, Bits}
+use Rattle.fax_reading.proofs.Names.{IsPrefix, Turn, repeated, Reaches, Row, repaired, Line, after_eol, next_eol}
+use Rattle.fax_reading.proofs.Names.{all_eols, eols, eols_with_tags, eols_by, eols_here, is_over, misses_eol, limit_met}
+use Rattle.fax_reading.proofs.Names.{at_end, Progress, Ending, Move, row_before, behind_row, row_of, line_by, line_here}
+use Rattle.fax_reading.proofs.Names.{DecodeError, UnexpectedEof, Err, ◌-◌, ◌+◌}
+use Rattle.fax_reading.proofs.Names.{after_line, move_on, at_front, first_line, first_gap, ending_behind, end_of}
+use Rattle.fax_reading.proofs.Names.{whole_reading, plain, Reading, RowsBefore, common_steps}
+use Rattle.fax_bits.proofs.BitReading.ZerosInWords.{holds_a_one, prefix_of_prefix}
+use Rattle.fax_bits.proofs.CodeWords.ReadRuns.{chosen}
+use Rattle.fax_reading.proofs.DamagedLines.EolsAlike.{Closes}
+use Rattle.fax_reading.proofs.DamagedLines.DamageByK.{take_front}
+use Rattle.fax_reading.proofs.DamagedLines.LinesBeforeEol.{LineAlike}
+use Rattle.fax_reading.proofs.DamagedLines.LineTails.{after_eol_is}
+use Rattle.fax_reading.proofs.DamagedLines.PastEol.{past, past-eol, past_is, then_after, eols_here-none, next_eol_leaves}
+use Rattle.fax_reading.proofs.DamagedLines.RunsAlike.{run_at}
+use Rattle.fax_reading.proofs.DamagedLines.SoughtTurns.{sought, rest_of, found_next, eols_here_same, sought_done, row_past}
+use Rattle.fax_reading.proofs.DamagedLines.SoughtTurns.{move_sought}
+use Rattle.fax_reading.proofs.EncodedPictures.AfterEofb.{aligned_split}
+use Rattle.fax_reading.proofs.KeptRows.EqualFronts.{one_in_line, one_in_bits, past_front, all_front, eols_by_front}
+use Rattle.fax_reading.proofs.KeptRows.LinesAgain.{line_again, one_in_whole, one_stays, one_there, line_alike}
+use Rattle.fax_reading.proofs.KeptRows.TurnsLeave.{after_row_leaves, reached_leaves}
+use Rattle.fax_bits.proofs.Repetition.Repeated.{after_turn, repeated_turn, repeated_same, next_is, not_next}
+use Rattle.fax_reading.proofs.Readings.RowsAndGaps.{unless_over, seek_from, after_row, pass_gap-is, after_whole-is}
+use Rattle.fax_reading.proofs.Readings.RowsAndGaps.{after_damage-is, unmissed}
+use Rattle.fax_reading.proofs.Readings.TurnsAddRows.{Keeps, after_row_keeps, first_gap_keeps, turn_extends, repeated_adds}
+use Rattle.fax_reading.proofs.Readings.TurnsAddRows.{move_adds}
+use Rattle.fax_reading.proofs.Readings.TurnsMoveOn.{left_to_read, left_below, move_shrinks, unless_over_next, unless_over_open}
+use Rattle.fax_bits.proofs.BitReading.ConsecutiveEols.{next_eol_found, count_past, count_shorter, counts_plain}
+use Rattle.fax_bits.proofs.BitReading.ConsecutiveEols.{counts_tagged}
+use Rattle.fax_reading.proofs.Readings.TurnsMoveOn.{eols_here_counted}
+use Rattle.fax_bits.proofs.BitReading.ConsecutiveEols.{last_tag_shorter, eols-some, length-one_more}
+
+-- ---- The gap
+
+-- bits that are left aren't the end
+open_bits : (here : Bits) → 0 < length here → at_end here ≡ false
+open_bits [] some = absurd (omega (arith, some))
+open_bits (b ∷ here) some = refl
+
+-- a one is a bit
+some_bits : (bits : Bits) → holds_a_one bits ≡ true → 0 < length bits
+some_bits [] one = absurd (false≢true one)
+some_bits (b ∷ bits) one = omega arith
+
+-- counting EOLs consumes the first
+eols_past : (settings : DecodeSettings) (here rest : Bits) → after_eol 0 here ≡ Some rest
+    → length (eols_here settings here).1 ≤ length rest
+eols_past settings here rest e = by_encoding settings.encoding settings.end_of_block
+  where
+    by_encoding : (encoding : EncodingMode) (block : Bool) → length (eols_by encoding block here).1 ≤ length rest
+    by_encoding Group3_1D block = count_past counts_plain here rest e
+    by_encoding Group3_2D block = omega
+        (arith, last_tag_shorter (eols_with_tags (length here) here), count_past counts_tagged here rest e)
+    by_encoding Group4 true = rw (eols-some 1 here rest e)
+        (omega (arith, length-one_more (eols 1 rest), count_shorter counts_plain 1 rest))
+    by_encoding Group4 false = count_past counts_plain here rest e
+
+-- where the next EOL is, if a lenient reading that seeks EOLs reaches a line and seeks them still
+past_there : (settings : DecodeSettings) → settings.strict ≡ false → (rows : List Row) (here : Bits) (t : Progress)
+    → after_row settings (sought rows here) ≡ Turn.next t → t.has_eols ≡ true
+    → (limit_met settings (length rows) ≡ false) × ((after : Bits) × (past 0 here ≡ Some after) × (length t.rest ≤ length after))
+past_there settings lenient rows here t e seeks = by_limit (cases_Bool (limit_met settings (length rows)))
+  where
+    run : Progress
+    run = sought rows here
+
+    by_past : limit_met settings (length rows) ≡ false → (o : Option Bits) → past 0 here ≡ o
+        → (after : Bits) × (past 0 here ≡ Some after) × (length t.rest ≤ length after)
+    by_past short (Some after) f =
+        let next = row_past settings lenient rows here after short f in
+        let same = unless_over_next settings run t (eols_here settings next.0) (sym next.3 ∙ e) in
+        (after, f, omega (arith, ap (λ (p : Progress). length p.rest) same, eols_past settings next.0 after next.2))
+    by_past short None f = absurd (by_eol (after_eol 0 here) refl)
+      where
+        no_next : (o : Option Bits) → next_eol here ≡ o → o ≡ None
+        no_next None g = refl
+        no_next (Some found) g =
+            let stands = next_eol_found here found g in
+            absurd (let both : ◌≡◌ {A = Option Bits} None (Some stands.1.0) =
+            sym f ∙ past_is here ∙ ap then_after g ∙ stands.1.1 in cc)
+
+        by_eol : (o : Option Bits) → after_eol 0 here ≡ o → ⊥
+        by_eol (Some rest) g = let both : ◌≡◌ {A = Option Bits} None (Some rest) = sym f ∙ past-eol 0 here rest g in cc
+        by_eol None g = elim (chosen (misses_eol settings (length rows) true here) _ _ _ e) [
+          | inl missed ↦ elim (chosen settings.strict _ _ _ missed.1) [
+            | inl over ↦ not_next _ t over.1
+            | inr sought_on ↦
+                let given_up : ◌≡◌ {A = Progress} (record run { has_eols = false }) t =
+                next_is _ t (ap (seek_from settings run) (sym (no_next (next_eol here) refl)) ∙ sought_on.1) in
+                false≢true (ap (λ (p : Progress). p.has_eols) given_up ∙ seeks)
+          ]
+          | inr counted ↦
+              let none = eols_here-none settings here g in
+              let open_end = unless_over_open settings run t (eols_here settings here) counted.1 in
+              let bits_left : at_end here ≡ false = ap (λ (f : ℕ × Bits). at_end f.1) (sym none) ∙ open_end.1 in
+              let zero : eqb (eols_here settings here).0 0 ≡ true = ap (λ (f : ℕ × Bits). eqb f.0 0) none in
+              false≢true (sym counted.0 ∙ rw (zero, short, bits_left) refl)
+        ]
+
+    by_limit : (limit_met settings (length rows) ≡ true) ⊎ (limit_met settings (length rows) ≡ false)
+        → (limit_met settings (length rows) ≡ false)
+        × ((after : Bits) × (past 0 here ≡ Some after) × (length t.rest ≤ length after))
+    by_limit (inl met) = absurd (not_next _ t (sym (sought_done settings rows here met) ∙ e))
+    by_limit (inr short) = (short, by_past short (past 0 here) refl)
+
+-- EOLs that aren't missed were counted
+not_missed : (none met ends : Bool) → met ≡ false → ends ≡ false → (((none && true) && not met) && not ends) ≡ false
+    → none ≡ false
+not_missed none met ends e f missed = grind (arith, common_steps)
+
+module _ (settings : DecodeSettings) (x y : Bits) where
+  -- a line follows the EOLs in both
+  unless_front : (rows : List Row) (has_eols : Bool) (u v more : Bits) (count : ℕ) (t : Progress) → 0 < length more
+      → unless_over settings (run_at rows has_eols u) (count, more ++ x) ≡ Turn.next t
+      → unless_over settings (run_at rows has_eols v) (count, more ++ y) ≡ Turn.next (run_at rows has_eols (more ++ y))
+  unless_front rows has_eols u v [] count t some e = absurd (omega (arith, some))
+  unless_front rows has_eols u v (b ∷ more) count t some e =
+      elim (chosen (is_over settings (length rows) (count, b ∷ more ++ x)) _ _ _ e) [
+        | inl over ↦ absurd (not_next _ t over.1)
+        | inr open_end ↦ cond-false (is_over settings (length rows) (count, b ∷ more ++ y)) _ _ open_end.0
+      ]
+
+  -- the EOLs from one on that ends among the equal bits
+  eols_from_front : (found other left more : Bits) (count : ℕ) → after_eol 0 found ≡ Some (left ++ x)
+      → after_eol 0 other ≡ Some (left ++ y) → eols_here settings found ≡ (count, more ++ x)
+      → one_in_line settings.encoding more ≡ true → eols_here settings other ≡ (count, more ++ y)
+  eols_from_front found other left more count e f counted one =
+      let eol : Bits = replicate 11 false ++ true ∷ left in
+      eols_here_same settings other (eol ++ y) (left ++ y) f refl
+      ∙ eols_by_front x y settings.encoding settings.end_of_block eol more count
+      (eols_here_same settings (eol ++ x) found (left ++ x) refl e ∙ counted) one
+
+  -- after the same rows, and EOLs that are here or not sought
+  counted_front : (rows : List Row) (has_eols : Bool) (bits more : Bits) (t : Progress) → t.rest ≡ more ++ x
+      → one_in_line settings.encoding more ≡ true
+      → unless_over settings (run_at rows has_eols (bits ++ x)) (eols_here settings (bits ++ x)) ≡ Turn.next t
+      → (eols_here settings (bits ++ y) ≡ ((eols_here settings (bits ++ x)).0, more ++ y))
+      × (unless_over settings (run_at rows has_eols (bits ++ y)) (eols_here settings (bits ++ y))
+      ≡ Turn.next (run_at rows has_eols (more ++ y)))
+  counted_front rows has_eols bits more t rest_is one e =
+      let count : ℕ = (eols_here settings (bits ++ x)).0 in
+      let same = unless_over_next settings (run_at rows has_eols (bits ++ x)) t (eols_here settings (bits ++ x)) e in
+      let left_is : (eols_here settings (bits ++ x)).1 ≡ more ++ x = ap (λ (p : Progress). p.rest) same ∙ rest_is in
+      let counted : eols_here settings (bits ++ x) ≡ (count, more ++ x) = ap (λ (b : Bits). (count, b)) left_is in
+      let other = eols_by_front x y settings.encoding settings.end_of_block bits more count counted one in (
+        other,
+        ap (unless_over settings (run_at rows has_eols (bits ++ y))) other
+            ∙ unless_front rows has_eols (bits ++ x) (bits ++ y) more count t
+            (some_bits more (one_in_bits settings.encoding more one))
+            (ap (unless_over settings (run_at rows has_eols (bits ++ x))) (sym counted) ∙ e),
+      )
+
+  -- the gap leads to the same line in both, if its bits have a one among the equal ones
+  pub gap_front : (rows : List Row) (has_eols : Bool) (bits more : Bits) (t : Progress) → t.has_eols ≡ has_eols
+      → t.rest ≡ more ++ x
+      → one_in_line settings.encoding more ≡ true → after_row settings (run_at rows has_eols (bits ++ x)) ≡ Turn.next t
+      → after_row settings (run_at rows has_eols (bits ++ y)) ≡ Turn.next (run_at rows has_eols (more ++ y))
+  gap_front rows false bits more t seeks rest_is one e =
+      cond-false (misses_eol settings (length rows) false (bits ++ y)) _ _ (unmissed settings (length rows) (bits ++ y))
+      ∙ (counted_front rows false bits more t rest_is one
+      (sym (cond-false (misses_eol settings (length rows) false (bits ++ x)) _ _ (unmissed settings (length rows) (bits ++ x)))
+      ∙ e)).1
+  gap_front rows true bits more t seeks rest_is one e = by_strict (cases_Bool settings.strict)
+    where
+      by_strict : (settings.strict ≡ true) ⊎ (settings.strict ≡ false)
+          → after_row settings (run_at rows true (bits ++ y)) ≡ Turn.next (run_at rows true (more ++ y))
+      by_strict (inl strict) = elim (chosen (misses_eol settings (length rows) true (bits ++ x)) _ _ _ e) [
+        | inl missed ↦ absurd (not_next _ t (sym (cond-true settings.strict _ _ strict) ∙ missed.1))
+        | inr counted ↦
+            let other = counted_front rows true bits more t rest_is one counted.1 in
+            let open_end =
+            unless_over_open settings (run_at rows true (bits ++ x)) t (eols_here settings (bits ++ x)) counted.1 in
+            let some : 0 < length (bits ++ x) = omega (
+              arith,
+              (eols_here_counted settings (bits ++ x)).0,
+              ap (λ (p : Progress). length p.rest) (unless_over_next settings (run_at rows true (bits ++ x)) t
+                  (eols_here settings (bits ++ x)) counted.1),
+              ap length rest_is,
+              length-append more x,
+              some_bits more (one_in_bits settings.encoding more one),
+            ) in
+            let there : eqb (eols_here settings (bits ++ x)).0 0 ≡ false =
+            not_missed (eqb (eols_here settings (bits ++ x)).0 0) (limit_met settings (length rows)) (at_end (bits ++ x))
+            open_end.0 (open_bits (bits ++ x) some) counted.0 in
+            let none : misses_eol settings (length rows) true (bits ++ y) ≡ false =
+            ap (λ (b : Bool). ((b && true) && not (limit_met settings (length rows))) && not (at_end (bits ++ y)))
+            (ap (λ (f : ℕ × Bits). eqb f.0 0) other.0 ∙ there) in
+            cond-false (misses_eol settings (length rows) true (bits ++ y)) _ _ none ∙ other.1
+      ]
+      by_strict (inr lenient) =
+          let there = past_there settings lenient rows (bits ++ x) t e seeks in
+          let left = past_front x y 0 bits there.1.0 there.1.1
+          (omega (arith, there.1.2, ap length rest_is, length-append more x)) in
+          let one_x = row_past settings lenient rows (bits ++ x) (left.0 ++ x) there.0
+          (there.1.1 ∙ ap (λ (b : Bits). Some b) left.2) in
+          let one_y = row_past settings lenient rows (bits ++ y) (left.0 ++ y) there.0 left.3 in
+          let count : ℕ = (eols_here settings one_x.0).0 in
+          let same = unless_over_next settings (sought rows (bits ++ x)) t (eols_here settings one_x.0) (sym one_x.3 ∙ e) in
+          let left_is : (eols_here settings one_x.0).1 ≡ more ++ x = ap (λ (p : Progress). p.rest) same ∙ rest_is in
+          let counted : eols_here settings one_x.0 ≡ (count, more ++ x) = ap (λ (b : Bits). (count, b)) left_is in
+          let other = eols_from_front one_x.0 one_y.0 left.0 more count one_x.2 one_y.2 counted one in
+          one_y.3 ∙ ap (unless_over settings (sought rows (bits ++ y))) other
+          ∙ unless_front rows true (bits ++ x) (bits ++ y) more count t
+          (some_bits more (one_in_bits settings.encoding more one))
+          (ap (unless_over settings (sought rows (bits ++ x))) (sym counted) ∙ sym one_x.3 ∙ e)
+
+  -- ---- The line
+
+  -- what follows a row is as much in both, where the data are whole bytes
+  module _ (bytes : length x % 8 ≡ length y % 8) (wide : 0 < settings.columns) where
+    -- the bits after a row, aligned or not
+    behind_front : (has_eols : Bool) (bits : Bits) → length x ≤ length (behind_row settings has_eols (bits ++ x))
+        → (left : Bits) × (behind_row settings has_eols (bits ++ x) ≡ left ++ x)
+        × (behind_row settings has_eols (bits ++ y) ≡ left ++ y)
+    behind_front has_eols bits le =
+        let al : Bool = settings.rows_are_byte_aligned && not has_eols in
+        let behind : Bits = behind_row settings has_eols (bits ++ x) in
+        let split = aligned_split al (bits ++ x) in
+        let long : length split.0 ≤ length bits =
+        omega (arith, le, ap length split.1, length-append split.0 behind, length-append bits x) in
+        let left = prefix_of_prefix split.0 behind bits x split.1 long in
+        let is : behind ≡ left.0 ++ x = append_cancel_left split.0 behind (left.0 ++ x)
+        (sym split.1 ∙ ap (λ (b : Bits). b ++ x) left.1 ∙ append_assoc split.0 left.0 x) in
+        let other : bits ++ y ≡ split.0 ++ (left.0 ++ y) =
+        ap (λ (b : Bits). b ++ y) left.1 ∙ append_assoc split.0 left.0 y in
+        let same : length (left.0 ++ y) % 8 ≡ length behind % 8 =
+        omega (arith, bytes, ap length is, length-append left.0 x, length-append left.0 y) in
+        (left.0, is, ap (behind_row settings has_eols) other ∙ split.2 (left.0 ++ y) same)
+
+    -- a turn over the equal bits, the row that it adds, and what is left of them after it
+    pub record TurnFound (rows : List Row) (has_eols : Bool) (bits : Bits) : Type 0 where
+      row : Row
+      left : Bits
+      one : one_in_line settings.encoding bits ≡ true
+      here : move_on settings (run_at rows has_eols (bits ++ x))
+          ≡ after_row settings (run_at (rows ++ row ∷ []) has_eols (left ++ x))
+      there : move_on settings (run_at rows has_eols (bits ++ y))
+          ≡ after_row settings (run_at (rows ++ row ∷ []) has_eols (left ++ y))
+
+    -- a turn over a whole line
+    whole_turn : (rows : List Row) (has_eols : Bool) (here rest : Bits) (row : Row)
+        → line_here settings (row_before settings.columns rows) here ≡ Line.whole row rest
+        → move_on settings (run_at rows has_eols here)
+        ≡ after_row settings (run_at (rows ++ row ∷ []) has_eols (behind_row settings has_eols rest))
+    whole_turn rows has_eols here rest row is =
+        ap (after_line settings (run_at rows has_eols here)) is ∙ after_whole-is settings (run_at rows has_eols here) row rest
+
+    -- and over a broken one that is repaired
+    repaired_turn : (rows : List Row) (here : Bits) (front : Row) (fault : DecodeError) → settings.strict ≡ false
+        → line_here settings (row_before settings.columns rows) here ≡ Line.broken front fault
+        → move_on settings (sought rows here)
+        ≡ after_row settings (sought (rows ++ repaired settings.columns front ∷ []) here)
+    repaired_turn rows here front fault lenient is =
+        move_sought settings lenient rows here
+        ∙ ap (λ (line : Line). after_row settings (sought (rows ++ row_of settings.columns line ∷ []) (rest_of line here))) is
+
+    more_in_line : (encoding : EncodingMode) (front rest : Bits) → one_in_line encoding front ≡ true
+        → one_in_line encoding (front ++ rest) ≡ true
+    more_in_line Group3_1D front rest one = one_stays front rest one
+    more_in_line Group3_2D [] rest one = absurd (false≢true one)
+    more_in_line Group3_2D (tag ∷ front) rest one = one_stays front rest one
+    more_in_line Group4 front rest one = one_stays front rest one
+
+    -- behind the zeros of an EOL is a one
+    one_behind : (encoding : EncodingMode) (bits more : Bits) → Closes bits → one_in_line encoding (bits ++ true ∷ more) ≡ true
+    one_behind Group3_1D bits more closes = one_there bits more
+    one_behind Group4 bits more closes = one_there bits more
+    one_behind Group3_2D [] more closes = absurd
+        (omega (arith, ap length closes.1, length-append closes.0 (replicate 11 false)))
+    one_behind Group3_2D (tag ∷ bits) more closes = one_there bits more
+
+    -- the zeros of the next EOL are among the equal bits
+    closes_front : (bits left : Bits) → past 0 (bits ++ x) ≡ Some (left ++ x) → (front : Bits) × Closes front
+        × (bits ≡ front ++ true ∷ left)
+    closes_front bits left e =
+        let next = found_next (bits ++ x) (left ++ x) e in
+        let before = next_eol_leaves (bits ++ x) next.0 next.1 in
+        let is = after_eol_is 0 next.0 (left ++ x) next.2 in
+        let more : ℕ = is.0 - 11 in
+        let sum : more + 11 ≡ is.0 = omega (arith, is.2) in
+        let fill : replicate is.0 false ≡ replicate more false ++ replicate 11 false = ap (λ (n : ℕ). replicate n false) (sym sum)
+        ∙ sym (replicate-append-replicate more 11 false) in
+        let front : Bits = before.0 ++ replicate is.0 false in
+        let whole : bits ++ x ≡ (front ++ true ∷ left) ++ x = before.1 ∙ ap (λ (b : Bits). before.0 ++ b) is.1
+        ∙ sym (append_assoc before.0 (replicate is.0 false) (true ∷ left ++ x))
+        ∙ sym (append_assoc front (true ∷ left) x) in (
+          front,
+          (
+            before.0 ++ replicate more false,
+            ap (λ (b : Bits). before.0 ++ b) fill ∙ sym (append_assoc before.0 (replicate more false) (replicate 11 false)),
+          ),
+          append_cancel_right bits (front ++ true ∷ left) x whole,
+        )
+
+    other_broken : (u v : Bits) (front : Row) (fault : DecodeError) (line : Line) → LineAlike u v (Line.broken front fault) line
+        → (other : DecodeError) × (line ≡ Line.broken front other)
+    other_broken u v front fault (Line.whole row rest) alike = absurd alike
+    other_broken u v front fault (Line.broken more other) alike = (other, ap (λ (r : Row). Line.broken r other) (sym alike))
+
+    -- a broken line that is repaired
+    sought_broken : settings.strict ≡ false → (rows : List Row) (bits : Bits) (t : Progress) → t.has_eols ≡ true
+        → length x ≤ length t.rest → move_on settings (sought rows (bits ++ x)) ≡ Turn.next t → (front : Row)
+        (fault : DecodeError) → line_here settings (row_before settings.columns rows) (bits ++ x) ≡ Line.broken front fault
+        → TurnFound rows true bits
+    sought_broken lenient rows bits t seeks le e front fault is =
+        let above : Row = row_before settings.columns rows in
+        let row : Row = repaired settings.columns front in
+        let moved = repaired_turn rows (bits ++ x) front fault lenient is in
+        let next = past_there settings lenient (rows ++ row ∷ []) (bits ++ x) t (sym moved ∙ e) seeks in
+        let left = past_front x y 0 bits next.1.0 next.1.1 (omega (arith, le, next.1.2)) in
+        let closes = closes_front bits left.0 (next.1.1 ∙ ap (λ (b : Bits). Some b) left.2) in
+        let line : Bool → Bits → Line = λ strict here. line_by settings.encoding strict settings.columns above here in
+        let shape : (z : Bits) → bits ++ z ≡ closes.0 ++ (true ∷ left.0 ++ z) =
+        λ z. ap (λ (b : Bits). b ++ z) closes.2 ∙ append_assoc closes.0 (true ∷ left.0) z in
+        let read : (z : Bits) → line false (closes.0 ++ (true ∷ left.0 ++ z)) ≡ line_here settings above (bits ++ z) =
+        λ z. ap (λ (strict : Bool). line strict (closes.0 ++ (true ∷ left.0 ++ z))) (sym lenient)
+        ∙ ap (line settings.strict) (sym (shape z)) in
+        let alike = subst (λ (l : Line). LineAlike (true ∷ left.0 ++ x) (true ∷ left.0 ++ y) l
+        (line false (closes.0 ++ (true ∷ left.0 ++ y)))) (read x ∙ is)
+        (line_alike settings.encoding settings.columns above (true ∷ left.0 ++ x) (true ∷ left.0 ++ y) closes.0 closes.1) in
+        let other = other_broken (true ∷ left.0 ++ x) (true ∷ left.0 ++ y) front fault
+        (line false (closes.0 ++ (true ∷ left.0 ++ y))) alike in
+        record {
+          row = row;
+          left = bits;
+          one = ap (one_in_line settings.encoding) closes.2 ∙ one_behind settings.encoding closes.0 left.0 closes.1;
+          here = moved;
+          there = repaired_turn rows (bits ++ y) front other.0 lenient (sym (read y) ∙ other.1);
+        }
+
+    broken_found : (rows : List Row) (has_eols : Bool) (bits : Bits) (t : Progress) → t.has_eols ≡ has_eols
+        → length x ≤ length t.rest → move_on settings (run_at rows has_eols (bits ++ x)) ≡ Turn.next t → (front : Row)
+        (fault : DecodeError) → line_here settings (row_before settings.columns rows) (bits ++ x) ≡ Line.broken front fault
+        → TurnFound rows has_eols bits
+    broken_found rows has_eols bits t seeks le e front fault is =
+        elim (chosen (settings.strict || not has_eols) _ _ _ (sym (after_damage-is settings (run_at rows has_eols (bits ++ x))
+        front fault) ∙ sym (ap (after_line settings (run_at rows has_eols (bits ++ x))) is) ∙ e)) [
+          | inl over ↦ absurd (not_next _ t over.1)
+          | inr added ↦
+              let parts = or_parts settings.strict (not has_eols) added.0 in
+              let on : has_eols ≡ true = not-false has_eols parts.1 in
+              subst (λ (h : Bool). TurnFound rows h bits) (sym on) (sought_broken parts.0 rows bits t (seeks ∙ on) le
+              (ap (λ (h : Bool). move_on settings (run_at rows h (bits ++ x))) (sym on) ∙ e) front fault is)
+        ]
+
+    -- the turn in both
+    pub turn_found : (rows : List Row) (has_eols : Bool) (bits : Bits) (t : Progress) → t.has_eols ≡ has_eols
+        → length x ≤ length t.rest → move_on settings (run_at rows has_eols (bits ++ x)) ≡ Turn.next t
+        → TurnFound rows has_eols bits
+    turn_found rows has_eols bits t seeks le e = by_line (line_here settings above (bits ++ x)) refl
+      where
+        above : Row
+        above = row_before settings.columns rows
+
+        by_line : (line : Line) → line_here settings above (bits ++ x) ≡ line → TurnFound rows has_eols bits
+        by_line (Line.whole row rest) is =
+            let moved = whole_turn rows has_eols (bits ++ x) rest row is in
+            let again = line_again settings.encoding settings.strict settings.columns above (bits ++ x) row rest is in
+            let behind : Bits = behind_row settings has_eols rest in
+            let more = after_row_leaves settings (run_at (rows ++ row ∷ []) has_eols behind) t (sym moved ∙ e) in
+            let shorter : length behind ≤ length rest = omega (
+              arith,
+              ap length (aligned_split (settings.rows_are_byte_aligned && not has_eols) rest).1,
+              length-append (aligned_split (settings.rows_are_byte_aligned && not has_eols) rest).0 behind,
+            ) in
+            let long : length x ≤ length behind =
+            omega (arith, le, ap length more.0.1, length-append more.0.0 t.rest) in
+            let read : length again.0 ≤ length bits =
+            omega (arith, long, shorter, ap length again.1, length-append again.0 rest, length-append bits x) in
+            let kept = prefix_of_prefix again.0 rest bits x again.1 read in
+            let rest_is : rest ≡ kept.0 ++ x = append_cancel_left again.0 rest (kept.0 ++ x)
+            (sym again.1 ∙ ap (λ (b : Bits). b ++ x) kept.1 ∙ append_assoc again.0 kept.0 x) in
+            let long_so : length x ≤ length (behind_row settings has_eols (kept.0 ++ x)) =
+            subst (λ (b : Bits). length x ≤ length (behind_row settings has_eols b)) rest_is long in
+            let left = behind_front has_eols kept.0 long_so in
+            let other : line_here settings above (bits ++ y) ≡ Line.whole row (kept.0 ++ y) =
+            ap (line_here settings above) (ap (λ (b : Bits). b ++ y) kept.1 ∙ append_assoc again.0 kept.0 y)
+            ∙ again.2 (kept.0 ++ y) in
+            record {
+              row = row;
+              left = left.0;
+              one = ap (one_in_line settings.encoding) kept.1 ∙ more_in_line settings.encoding again.0 kept.0
+                  (one_in_whole settings.encoding settings.strict settings.columns above again.0 rest row wide (again.2 rest));
+              here = moved ∙ ap (λ (b : Bits). after_row settings (run_at (rows ++ row ∷ []) has_eols b))
+                  (ap (behind_row settings has_eols) rest_is ∙ left.1);
+              there = whole_turn rows has_eols (bits ++ y) (kept.0 ++ y) row other
+                  ∙ ap (λ (b : Bits). after_row settings (run_at (rows ++ row ∷ []) has_eols b)) left.2;
+            }
+        by_line (Line.broken front fault) is = broken_found rows has_eols bits t seeks le e front fault is
+
+    -- ---- Turns one after another
+
+    module _ (late : Ending) where
+      -- how the other reading ends from a line on
+      abbrev pub rest_end : Progress → Ending
+      rest_end t = repeated (move_on settings) late (suc (left_to_read t)) t
+
+      grows : (t : Progress) → IsPrefix t.rows (rest_end t).rows
+      grows t = repeated_adds (move_on settings) late left_to_read (move_shrinks settings wide) (move_adds settings)
+          (suc (left_to_read t)) t (omega arith)
+
+      turn_is : (t : Progress) → rest_end t ≡ after_turn rest_end (move_on settings t)
+      turn_is t = repeated_turn (move_on settings) late left_to_read (move_shrinks settings wide) t
+
+      -- the rows up to a line that is reached are rows of the other reading, which reads the same line unless it is the last
+      abbrev pub RowsStay : Progress → Progress → Bits → Type 0
+      RowsStay s last bits = ((s ≡ last) ⊎ (one_in_line settings.encoding bits ≡ true))
+          × IsPrefix last.rows (rest_end (run_at s.rows s.has_eols (bits ++ y))).rows
+
+      still_sought : (first mid last : Bool) → last ≡ first → (mid ≡ first) ⊎ (mid ≡ false) → (last ≡ mid) ⊎ (last ≡ false)
+          → mid ≡ first
+      still_sought first mid last e (inl f) g = f
+      still_sought first mid last e (inr f) (inl g) = sym g ∙ e
+      still_sought first mid last e (inr f) (inr g) = f ∙ sym g ∙ e
+
+      rows_added : (run t : Progress) → after_row settings run ≡ Turn.next t → t.rows ≡ run.rows
+      rows_added run t e = subst (Keeps run.rows) e (after_row_keeps settings run)
+
+      pub rows_stay : (s last : Progress) (bits : Bits) → Reaches (move_on settings) s last → last.has_eols ≡ s.has_eols
+          → last.rest ≡ x → s.rest ≡ bits ++ x → RowsStay s last bits
+      rows_stay s last bits (Reaches.stays same) seeks at rest_is = (inl refl, grows (run_at same.rows same.has_eols (bits ++ y)))
+      rows_stay s last bits (Reaches.moves from after end e reaches) seeks at rest_is =
+          let leaves = reached_leaves settings after end reaches in
+          let first = reached_leaves settings from after (Reaches.moves from after after e (Reaches.stays after)) in
+          let has : after.has_eols ≡ from.has_eols =
+          still_sought from.has_eols after.has_eols end.has_eols seeks first.1 leaves.1 in
+          let left_is : after.rest ≡ leaves.0.0 ++ x = leaves.0.1 ∙ ap (λ (b : Bits). leaves.0.0 ++ b) at in
+          let on = rows_stay after end leaves.0.0 reaches (seeks ∙ sym has) at left_is in
+          let moved : move_on settings (run_at from.rows from.has_eols (bits ++ x)) ≡ Turn.next after =
+          ap (λ (b : Bits). move_on settings (run_at from.rows from.has_eols b)) (sym rest_is) ∙ e in
+          let found = turn_found from.rows from.has_eols bits after has
+          (omega (arith, ap length left_is, length-append leaves.0.0 x)) moved in
+          let rows : List Row = from.rows ++ found.row ∷ [] in
+          let added : after_row settings (run_at rows from.has_eols (found.left ++ x))
+          ≡ Turn.next after = sym found.here ∙ moved in
+          let rows_are : after.rows ≡ rows = rows_added (run_at rows from.has_eols (found.left ++ x)) after added in
+          let turned : rest_end (run_at from.rows from.has_eols (bits ++ y))
+          ≡ after_turn rest_end (after_row settings (run_at rows from.has_eols (found.left ++ y))) =
+          turn_is (run_at from.rows from.has_eols (bits ++ y)) ∙ ap (after_turn rest_end) found.there in (
+            inr found.one,
+            subst (λ (q : Ending). IsPrefix end.rows q.rows) (sym turned) (elim on.0 [
+              | inl same ↦ subst (λ (r : List Row). IsPrefix r (after_turn rest_end
+                  (after_row settings (run_at rows from.has_eols (found.left ++ y)))).rows)
+                  (sym rows_are ∙ ap (λ (p : Progress). p.rows) same)
+                  (turn_extends rest_end grows rows (after_row settings (run_at rows from.has_eols (found.left ++ y)))
+                  (after_row_keeps settings (run_at rows from.has_eols (found.left ++ y))))
+              | inr one ↦
+                  let goes : after_row settings (run_at rows from.has_eols (found.left ++ y))
+                  ≡ Turn.next (run_at after.rows after.has_eols (leaves.0.0 ++ y)) =
+                  gap_front rows from.has_eols found.left leaves.0.0 after has left_is one added
+                  ∙ ap {B = Move} (λ (h : Bool). Turn.next (run_at rows h (leaves.0.0 ++ y))) (sym has)
+                  ∙ ap {B = Move} (λ (r : List Row). Turn.next (run_at r after.has_eols (leaves.0.0 ++ y))) (sym rows_are) in
+                  subst (λ (m : Move). IsPrefix end.rows (after_turn rest_end m).rows) (sym goes) on.1
+            ]),
+          )
+
+-- ---- The whole
+
+-- the first line of the other data, if its bits have a one among the equal ones
+first_front : (settings : DecodeSettings) (x y front bits : Bits) (first : Progress) → first.rest ≡ bits ++ x
+    → one_in_line settings.encoding bits ≡ true
+    → first_gap settings.encoding settings (front ++ x) ≡ Turn.next first
+    → first_gap settings.encoding settings (front ++ y) ≡ Turn.next (run_at first.rows first.has_eols (bits ++ y))
+first_front settings x y front bits first rest_is one begins = by_encoding settings.encoding refl begins
+  where
+    in_bits : holds_a_one bits ≡ true
+    in_bits = one_in_bits settings.encoding bits one
+
+    group3 : first_line settings (front ++ x) ≡ first
+        → first_line settings (front ++ y) ≡ run_at first.rows first.has_eols (bits ++ y)
+    group3 is =
+        let count : ℕ = (all_eols (front ++ x)).0 in
+        let counted : all_eols (front ++ x) ≡ (count, bits ++ x) =
+        ap (λ (b : Bits). (count, b)) (ap (λ (p : Progress). p.rest) is ∙ rest_is) in
+        let other = all_front x y front bits count counted in_bits in
+        ap (λ (f : ℕ × Bits). run_at [] (ltb 0 f.0 || settings.end_of_line) f.1) other
+        ∙ ap (λ (p : Progress). run_at p.rows p.has_eols (bits ++ y)) is
+
+    by_encoding : (encoding : EncodingMode) → settings.encoding ≡ encoding
+        → first_gap encoding settings (front ++ x) ≡ Turn.next first
+        → first_gap encoding settings (front ++ y) ≡ Turn.next (run_at first.rows first.has_eols (bits ++ y))
+    by_encoding Group3_1D same e = ap {B = Move} (λ (p : Progress). Turn.next p) (group3 (next_is _ first e))
+    by_encoding Group3_2D same e = ap {B = Move} (λ (p : Progress). Turn.next p) (group3 (next_is _ first e))
+    by_encoding Group4 same e =
+        let gap : after_row settings (at_front (front ++ x)) ≡ Turn.next first =
+        sym (pass_gap-is settings (at_front (front ++ x))) ∙ e in
+        let unsought : first.has_eols ≡ false =
+        elim (after_row_leaves settings (at_front (front ++ x)) first gap).1 [ inl f ↦ f | inr f ↦ f ] in
+        let none : first.rows ≡ [] = subst (Keeps []) gap (after_row_keeps settings (at_front (front ++ x))) in
+        pass_gap-is settings (at_front (front ++ y))
+        ∙ gap_front settings x y [] false front bits first unsought rest_is one gap
+        ∙ ap {B = Move} (λ (h : Bool). Turn.next (run_at [] h (bits ++ y))) (sym unsought)
+        ∙ ap {B = Move} (λ (r : List Row). Turn.next (run_at r first.has_eols (bits ++ y))) (sym none)
+
+-- rows that are the first of some
+first_rows : (rows all : List Row) (index : ℕ) → IsPrefix rows all → length rows ≡ index
+    → (index ≤ length all) × (take index all ≡ rows)
+first_rows rows all index front is = (
+  omega (arith, is, ap length front.1, length-append rows front.0),
+  ap (λ (n : ℕ). take n all) (sym is) ∙ ap (take (length rows)) front.1 ∙ take_front rows front.0,
+)
+
+-- the law
+pub rows_before : RowsBefore
+rows_before settings one whole_one two place index whole_two same reads =
+    let these = first_rows last.rows (plain settings one).rows index (front_of one (kept_by x refl one_is)) reads.index_is in
+    let those = first_rows last.rows (plain settings two).rows index (front_of two (kept_by y bytes two_is)) reads.index_is in
+    (these.0, those.1 ∙ sym these.1)
+  where
+    first : Progress
+    first = reads.first
+
+    last : Progress
+    last = reads.last
+
+    x : Bits
+    x = drop place one
+
+    y : Bits
+    y = drop place two
+
+    front : Bits
+    front = take place one
+
+    one_is : one ≡ front ++ x
+    one_is = sym (take-append-drop place one)
+
+    two_is : two ≡ front ++ y
+    two_is = sym (take-append-drop place two) ∙ ap (λ (b : Bits). b ++ y) same
+
+    bytes : length x % 8 ≡ length y % 8
+    bytes = omega (
+      arith,
+      whole_one,
+      whole_two,
+      ap length one_is,
+      ap length two_is,
+      length-append front x,
+      length-append front y,
+    )
+
+    -- the rows of the reading of some bits
+    front_of : (bits : Bits) → IsPrefix last.rows (end_of settings bits).rows → IsPrefix last.rows (plain settings bits).rows
+    front_of bits is =
+        let reading : plain settings bits ≡ whole_reading bits (end_of settings bits) = cond-false (eqb settings.columns 0) _ _
+        (ne_eqb settings.columns 0 (λ e. absurd (omega (arith, e, reads.wide)))) in
+        subst (λ (r : Reading). IsPrefix last.rows r.rows) (sym reading) is
+
+    -- the rows up to the line are rows of whatever continues the equal bits
+    kept_by : {bits : Bits} (z : Bits) → length x % 8 ≡ length z % 8 → bits ≡ front ++ z
+        → IsPrefix last.rows (end_of settings bits).rows
+    kept_by {bits} z as_many is =
+        let leaves = reached_leaves settings first last reads.reaches in
+        let rest_is : first.rest ≡ leaves.0.0 ++ x = leaves.0.1 ∙ ap (λ (b : Bits). leaves.0.0 ++ b) reads.place_is in
+        let late : Ending = record { rows = first.rows; has_eols = first.has_eols; outcome = Err UnexpectedEof } in
+        let on = rows_stay settings x z as_many reads.wide late first last leaves.0.0 reads.reaches reads.sought
+        reads.place_is rest_is in
+        let begins : first_gap settings.encoding settings (front ++ x) ≡ Turn.next first =
+        ap (first_gap settings.encoding settings) (sym one_is) ∙ reads.begins in
+        let s : Progress = run_at first.rows first.has_eols (leaves.0.0 ++ z) in
+        elim on.0 [
+          | inl none ↦
+              let empty : last.rows ≡ [] = ap (λ (p : Progress). p.rows) (sym none)
+              ∙ subst (Keeps []) begins (first_gap_keeps settings settings.encoding (front ++ x)) in
+              ((end_of settings bits).rows, ap (λ (r : List Row). r ++ (end_of settings bits).rows) (sym empty))
+          | inr one ↦
+              let ends : end_of settings bits ≡ rest_end settings x z as_many reads.wide late s =
+              ap (end_of settings) is ∙ ap (ending_behind settings) (first_front settings x z front leaves.0.0 first rest_is one
+              begins) ∙ repeated_same (move_on settings) late left_to_read (move_shrinks settings reads.wide)
+              (suc (suc (length s.rest))) (suc (left_to_read s)) s (left_below s) (omega arith) in
+              subst (λ (e : Ending). IsPrefix last.rows e.rows) (sym ends) on.1
+        ]

@@ -1,0 +1,411 @@
+-- An EOL and the line behind it, as they are tested.
+use Rattle.fax_reading.proofs.Names.{◌≡◌, ℕ, suc, ◌+◌, ◌-◌, ◌*◌, ◌<◌, ◌≤◌, ◌⊎◌, ◌↔◌, Bool, true, false, leb, [], ◌∷◌, ◌++◌}
+use Rattle.fax_reading.proofs.Names.{length, replicate, Option, Some, None, Result, Ok, Err, refl, sym, ap, subst, ◌∙◌, arith}
+use Rattle.fax_reading.proofs.Names.{inl, inr, IsTrue, min, cond-true, cond-false, lt-leb, le-leb, leb-true, none-some}
+use Rattle.fax_reading.proofs.Names.{length-append, length-replicate, Color, DecodeError, EncodingMode, Group4}
+use Rattle.fax_reading.proofs.Names.{Group3_1D, Group3_2D, DecodeSettings, Bits, after_eol, next_eol, all_eols, one_more}
+use Rattle.fax_reading.proofs.Names.{past_tag, pass_last_tag, eols_by, eols_here, is_end_of_block, read_run, opposite, is_black}
+use Rattle.fax_reading.proofs.Names.{run_found, Turn, Row, Line, Pen, line_1d, line_by, line_here, EndsBefore, ModesEndBefore}
+use Rattle.fax_reading.proofs.Names.{ComesBefore1D, EndsByWords, TellsStep, IsInStepFrom, AreWholeBytes, MakesNoRtc, RowsFollow}
+use Rattle.fax_reading.proofs.Names.{drop, length-drop, looked, looked_ahead, tag_tests, most_for_lines}
+use Rattle.fax_reading.proofs.KeptRows.RowsBehindDamage.{rows_behind}
+use Rattle.fax_bits.proofs.BitReading.ZeroRuns.{looked_eol}
+use Rattle.fax_reading.proofs.Work.EolsPassed.{few_tag_tests, looked_ahead_most}
+use Rattle.fax_bits.proofs.BitReading.ConsecutiveEols.{after_eol_shorter, next_eol_found}
+use Rattle.fax_reading.proofs.CodeWords.WordsFound.{RunEnds, run_stands}
+use Rattle.fax_reading.proofs.DamagedLines.AnyReference.{modes_read}
+use Rattle.fax_reading.proofs.DamagedLines.EolsAlike.{last_tag_few}
+use Rattle.fax_reading.proofs.DamagedLines.RunsAlike.{IsGroup3}
+use Rattle.fax_reading.proofs.DrawingLines.Drawings.{run_then, drawn_by, step_1d, step_1d_is}
+use Rattle.fax_reading.proofs.DrawingLines.ReadLines.{drawn1}
+use Rattle.fax_reading.proofs.EncodedPictures.PicturesT4.{eols_here_two}
+use Rattle.fax_bits.proofs.BitReading.ConsecutiveEols.{all_eols-some, all_eols-none, all_tagged, all_tagged-some}
+use Rattle.fax_bits.proofs.BitReading.ConsecutiveEols.{all_tagged-none, last_tag_count}
+use Rattle.fax_bits.proofs.Repetition.Repeated.{after_turn}
+use Rattle.fax_reading.proofs.Work.WordsPay.{stands_count}
+
+-- ---- Runs that are passed
+
+abbrev pen_of_runs : Row → Color → Bits → Pen
+pen_of_runs front color rest = record { front = front; color = color; rest = rest }
+
+abbrev line_from : ℕ → Pen → Line
+line_from columns pen = drawn_by (step_1d false columns) pen
+
+-- so many pixels of the line were passed, and its next run has this colour and is here
+abbrev pub RunsPassed : ℕ → Bits → ℕ → Color → Bits → Type 0
+RunsPassed columns begun passed color here = (front : Row) × (length front ≡ passed)
+    × (line_1d false columns begun ≡ line_from columns (pen_of_runs front color here))
+
+-- the step of a line that isn't full is its next run
+run_is_next : (columns : ℕ) (front : Row) (color : Color) (here : Bits) → length front < columns
+    → line_from columns (pen_of_runs front color here)
+    ≡ after_turn (line_from columns) (run_then false columns (pen_of_runs front color here) Turn.next)
+run_is_next columns front color here few =
+    drawn1 false columns (pen_of_runs front color here)
+    ∙ ap (after_turn (line_from columns)) (step_1d_is false columns (pen_of_runs front color here)
+    ∙ cond-false (leb columns (length front)) _ _ (lt-leb columns (length front) few))
+
+-- a run more
+pub run_passed : (columns : ℕ) (begun : Bits) (passed : ℕ) (color : Color) (here rest : Bits) (n : ℕ) → passed < columns
+    → RunsPassed columns begun passed color here → read_run color here ≡ Ok (n, rest)
+    → RunsPassed columns begun (passed + min n (columns - passed)) (opposite color) rest
+run_passed columns begun passed color here rest n few (front, long, is) read =
+    let more : Row = front ++ replicate (min n (columns - length front)) (is_black color) in
+    let step : run_then false columns (pen_of_runs front color here) Turn.next
+    ≡ Turn.next (pen_of_runs more (opposite color) rest) = rw read refl in (
+      more,
+      length-append front (replicate (min n (columns - length front)) (is_black color))
+          ∙ ap (λ (m : ℕ). length front + m) (length-replicate (min n (columns - length front)) (is_black color))
+          ∙ ap (λ (m : ℕ). m + min n (columns - m)) long,
+      is ∙ run_is_next columns front color here (omega (arith, few, long)) ∙ ap (after_turn (line_from columns)) step,
+    )
+
+-- all its columns
+pub runs_whole : (columns : ℕ) (begun : Bits) (passed : ℕ) (color : Color) (here : Bits) → columns ≤ passed
+    → RunsPassed columns begun passed color here → (row : Row) × (line_1d false columns begun ≡ Line.whole row here)
+runs_whole columns begun passed color here full (front, long, is) = (
+  front,
+  is ∙ drawn1 false columns (pen_of_runs front color here)
+      ∙ ap (after_turn (line_from columns)) (step_1d_is false columns (pen_of_runs front color here)
+      ∙ cond-true (leb columns (length front)) _ _ (le-leb columns (length front) (omega (arith, full, long)))),
+)
+
+not_whole : (front row : Row) (fault : DecodeError) (rest : Bits) → Line.broken front fault ≡ Line.whole row rest → ⊥
+not_whole front row fault rest e = cc
+
+-- no run, before that
+pub runs_broken : (columns : ℕ) (begun : Bits) (passed : ℕ) (color : Color) (here : Bits) (fault : DecodeError)
+    → passed < columns → RunsPassed columns begun passed color here → read_run color here ≡ Err fault
+    → (row : Row) (rest : Bits) → line_1d false columns begun ≡ Line.whole row rest → ⊥
+runs_broken columns begun passed color here fault few (front, long, is) read row rest e =
+    let step : run_then false columns (pen_of_runs front color here) Turn.next ≡ Turn.done (Line.broken front fault)
+    = rw read refl in
+    not_whole front row fault rest (sym (is ∙ run_is_next columns front color here (omega (arith, few, long))
+    ∙ ap (after_turn (line_from columns)) step) ∙ e)
+
+-- the words of a run are no more than the bits that it takes
+run_counted : (color : Color) (here : Bits) (r : Result (ℕ × Bits) DecodeError) → read_run color here ≡ r → (n : ℕ) (rest : Bits)
+    → r ≡ Ok (n, rest) → length (run_found color (0, here)) + length rest ≤ length here
+run_counted color here r e n rest f =
+    let words = run_stands color 0 here in
+    let end : rest ≡ words.0 = subst (λ (x : Result (ℕ × Bits) DecodeError). RunEnds x words.0) (e ∙ f) words.2 in
+    omega (arith, stands_count here (run_found color (0, here)) words.0 words.1, ap length end)
+
+pub run_work : (color : Color) (here rest : Bits) (n : ℕ) → read_run color here ≡ Ok (n, rest)
+    → length (run_found color (0, here)) + length rest ≤ length here
+run_work color here rest n e = run_counted color here (read_run color here) refl n rest e
+
+pub no_run_work : (color : Color) (here : Bits) → length (run_found color (0, here)) ≤ length here
+no_run_work color here =
+    let words = run_stands color 0 here in omega (arith, stands_count here (run_found color (0, here)) words.0 words.1)
+
+-- ---- Where a line ends
+
+same_rest : (row other : Row) (rest end : Bits) → Line.whole row rest ≡ Line.whole other end → rest ≡ end
+same_rest row other rest end e = cc
+
+-- a whole line that ends here
+pub whole_before : (columns : ℕ) (after here rest : Bits) (row : Row) (before : Bool)
+    → line_1d false columns here ≡ Line.whole row rest → (IsTrue before ↔ (length after + 12 ≤ length rest))
+    → IsTrue before ↔ EndsBefore columns after here
+whole_before columns after here rest row before whole is = (
+  λ t other end e. subst (λ (b : Bits). length after + 12 ≤ length b) (same_rest row other rest end (sym whole ∙ e)) (is.0 t),
+  λ ends. is.1 (ends row rest whole),
+)
+
+-- two offsets, twelve bits apart
+pub places_before : (bits : Bits) (place end : ℕ) → place ≤ length bits → end ≤ length bits
+    → IsTrue (leb (place + 12) end) ↔ (length (drop end bits) + 12 ≤ length (drop place bits))
+places_before bits place end within there = (
+  λ t. omega (arith, leb-true (place + 12) end t, length-drop end bits, length-drop place bits, within, there),
+  λ le. le-leb (place + 12) end (omega (arith, le, length-drop end bits, length-drop place bits, within, there)),
+)
+
+-- a broken line
+pub broken_before : (columns : ℕ) (after here : Bits)
+    → ((row : Row) (rest : Bits) → line_1d false columns here ≡ Line.whole row rest → ⊥)
+    → IsTrue true ↔ EndsBefore columns after here
+broken_before columns after here broken = (λ t row rest e. absurd (broken row rest e), λ ends. refl)
+
+-- whatever row it is read against, a line ends where its runs or modes do
+pub ends_any : (encoding : EncodingMode) (columns : ℕ) (after line : Bits) → EndsByWords encoding columns after line
+    → (reference row : Row) (rest : Bits) → line_by encoding false columns reference line ≡ Line.whole row rest
+    → length after + 12 ≤ length rest
+ends_any Group3_1D columns after line ends reference row rest e = ends row rest e
+ends_any Group3_2D columns after [] ends reference row rest e = absurd cc
+ends_any Group3_2D columns after (true ∷ line) ends reference row rest e = ends row rest e
+ends_any Group3_2D columns after (false ∷ line) ends reference row rest e =
+    ends rest (modes_read false columns reference line row rest e)
+ends_any Group4 columns after line ends reference row rest e = ends rest (modes_read false columns reference line row rest e)
+
+pub words_end : (encoding : EncodingMode) (columns : ℕ) (after line : Bits) → IsGroup3 encoding
+    → ((reference row : Row) (rest : Bits) → line_by encoding false columns reference line ≡ Line.whole row rest
+    → length after + 12 ≤ length rest)
+    → (encoding ≡ Group3_2D → (modes : Bits) → line ≡ false ∷ modes → ModesEndBefore after modes)
+    → EndsByWords encoding columns after line
+words_end Group3_1D columns after line is ends modes = ends []
+words_end Group3_2D columns after [] is ends modes = tt
+words_end Group3_2D columns after (true ∷ line) is ends modes = ends []
+words_end Group3_2D columns after (false ∷ line) is ends modes = modes refl line refl
+words_end Group4 columns after line (inl is) ends modes = absurd cc
+words_end Group4 columns after line (inr is) ends modes = absurd cc
+
+-- the modes of a two-dimensional line
+pub modes_end : (encoding : EncodingMode) (columns : ℕ) (after line : Bits) → EndsByWords encoding columns after line
+    → encoding ≡ Group3_2D → (modes : Bits) → line ≡ false ∷ modes → ModesEndBefore after modes
+modes_end encoding columns after line ends two modes tag =
+    subst (λ (b : Bits). EndsByWords Group3_2D columns after b) tag
+    (subst (λ (m : EncodingMode). EndsByWords m columns after line) two ends)
+
+-- ---- An EOL alone
+
+none_counted : (n : ℕ) (here rest : Bits) (found : ℕ × Bits) → one_more found ≡ (0, rest) → ⊥
+none_counted n here rest (count, left) e =
+    let zero_is : suc count ≡ 0 = ap (λ (f : ℕ × Bits). f.0) e in omega (arith, zero_is)
+
+one_is_none : (rest : Bits) (found : ℕ × Bits) → one_more found ≡ (1, rest) → found ≡ (0, rest)
+one_is_none rest (count, left) e =
+    let same : count ≡ 0 = (let more : suc count ≡ 1 = ap (λ (f : ℕ × Bits). f.0) e in omega (arith, more)) in
+    let bits : left ≡ rest = ap (λ (f : ℕ × Bits). f.1) e in
+    rw (same, bits) refl
+
+not_one : (here rest : Bits) → ◌≡◌ {A = ℕ × Bits} (0, here) (1, rest) → ⊥
+not_one here rest e = let both : 0 ≡ 1 = ap (λ (f : ℕ × Bits). f.0) e in omega (arith, both)
+
+-- it is here, and behind it none is
+abbrev pub IsAlone : Bits → Bits → Type 0
+IsAlone here line = (after_eol 0 here ≡ Some line) × (after_eol 0 line ≡ None)
+
+none_behind : (rest line : Bits) → all_eols rest ≡ (0, line) → (rest ≡ line) × (after_eol 0 rest ≡ None)
+none_behind rest line e = by_after_eol (after_eol 0 rest) refl
+  where
+    by_after_eol : (o : Option Bits) → after_eol 0 rest ≡ o → (rest ≡ line) × (after_eol 0 rest ≡ None)
+    by_after_eol None f = (ap (λ (p : ℕ × Bits). p.1) (sym (all_eols-none rest f) ∙ e), f)
+    by_after_eol (Some more) f = absurd (none_counted 0 rest line (all_eols more) (sym (all_eols-some rest more f) ∙ e))
+
+none_tagged : (rest line : Bits) → all_tagged rest ≡ (0, line) → (rest ≡ line) × (after_eol 0 rest ≡ None)
+none_tagged rest line e = by_after_eol (after_eol 0 rest) refl
+  where
+    by_after_eol : (o : Option Bits) → after_eol 0 rest ≡ o → (rest ≡ line) × (after_eol 0 rest ≡ None)
+    by_after_eol None f = (ap (λ (p : ℕ × Bits). p.1) (sym (all_tagged-none rest f) ∙ e), f)
+    by_after_eol (Some more) f =
+        absurd (none_counted 0 rest line (all_tagged (past_tag more)) (sym (all_tagged-some rest more f) ∙ e))
+
+-- a tag of one that is passed is before an EOL
+no_tag_passed : (rest : Bits) → after_eol 0 (past_tag rest) ≡ None → past_tag rest ≡ rest
+no_tag_passed [] none = refl
+no_tag_passed (false ∷ rest) none = refl
+no_tag_passed (true ∷ rest) none = by_after_eol (after_eol 0 rest) refl
+  where
+    by_after_eol : (o : Option Bits) → after_eol 0 rest ≡ o → past_tag (true ∷ rest) ≡ true ∷ rest
+    by_after_eol None f = rw (f, past_tag) refl
+    by_after_eol (Some more) f = absurd
+        (let passed : past_tag (true ∷ rest) ≡ rest = rw (f, past_tag) refl in
+        none-some more (sym none ∙ ap (after_eol 0) passed ∙ f))
+
+one_plain : (here line : Bits) → all_eols here ≡ (1, line) → IsAlone here line
+one_plain here line e = by_after_eol (after_eol 0 here) refl
+  where
+    by_after_eol : (o : Option Bits) → after_eol 0 here ≡ o → IsAlone here line
+    by_after_eol None f = absurd (not_one here line (sym (all_eols-none here f) ∙ e))
+    by_after_eol (Some rest) f =
+        let behind = none_behind rest line (one_is_none line (all_eols rest) (sym (all_eols-some here rest f) ∙ e)) in
+        (f ∙ ap (λ (b : Bits). Some b) behind.0, subst (λ (b : Bits). after_eol 0 b ≡ None) behind.0 behind.1)
+
+one_raw : (here line : Bits) → all_tagged here ≡ (1, line) → IsAlone here line
+one_raw here line e = by_after_eol (after_eol 0 here) refl
+  where
+    by_after_eol : (o : Option Bits) → after_eol 0 here ≡ o → IsAlone here line
+    by_after_eol None f = absurd (not_one here line (sym (all_tagged-none here f) ∙ e))
+    by_after_eol (Some rest) f =
+        let behind = none_tagged (past_tag rest) line
+        (one_is_none line (all_tagged (past_tag rest)) (sym (all_tagged-some here rest f) ∙ e)) in
+        let same : rest ≡ line = sym (no_tag_passed rest behind.1) ∙ behind.0 in
+        (f ∙ ap (λ (b : Bits). Some b) same, subst (λ (b : Bits). after_eol 0 b ≡ None) behind.0 behind.1)
+
+raw_is : (line : Bits) (found : ℕ × Bits) → pass_last_tag found ≡ (1, line) → found ≡ (1, line)
+raw_is line (count, rest) e =
+    let one : count ≡ 1 = sym (last_tag_count (count, rest)) ∙ ap (λ (f : ℕ × Bits). f.0) e in
+    sym (last_tag_few count rest (omega (arith, one))) ∙ e
+
+pub one_alone : (settings : DecodeSettings) (here line : Bits) → IsGroup3 settings.encoding
+    → eols_here settings here ≡ (1, line) → IsAlone here line
+one_alone settings here line group3 e = by_encoding settings.encoding settings.end_of_block group3 e
+  where
+    by_encoding : (encoding : EncodingMode) (block : Bool) → IsGroup3 encoding → eols_by encoding block here ≡ (1, line)
+        → IsAlone here line
+    by_encoding Group3_1D block is f = one_plain here line f
+    by_encoding Group3_2D block is f = one_raw here line (raw_is line (all_tagged here) f)
+    by_encoding Group4 block (inl is) f = absurd cc
+    by_encoding Group4 block (inr is) f = absurd cc
+
+-- ---- The line behind the second EOL
+
+abbrev NeedsNoReference : DecodeSettings → ℕ → Bits → Type 0
+NeedsNoReference settings count behind = (is_end_of_block settings count ≡ true)
+    ⊎ ((reference other : Row) → line_here settings reference behind ≡ line_here settings other behind)
+
+one_dimensional : (settings : DecodeSettings) (count : ℕ) (behind : Bits) → settings.encoding ≡ Group3_1D
+    → NeedsNoReference settings count behind
+one_dimensional settings count behind is = inr (λ reference other. rw (is, line_here) refl)
+
+before_tag : (settings : DecodeSettings) (count : ℕ) (behind : Bits) → settings.encoding ≡ Group3_2D
+    → ((settings.end_of_block ≡ true) × (6 ≤ count)) ⊎ (((line : Bits) × (behind ≡ true ∷ line)) ⊎ (behind ≡ []))
+    → NeedsNoReference settings count behind
+before_tag settings count behind is (inl (block, six)) = inl (rw (block, is, le-leb 6 count six, is_end_of_block) refl)
+before_tag settings count behind is (inr (inl (line, tag))) = inr (λ reference other. rw (tag, is, line_here) refl)
+before_tag settings count behind is (inr (inr over)) = inr (λ reference other. rw (over, is, line_here) refl)
+
+pub unreferred_by : (settings : DecodeSettings) (next behind : Bits) (count : ℕ) → IsGroup3 settings.encoding
+    → eols_here settings next ≡ (count, behind) → (settings.encoding ≡ Group3_2D → ComesBefore1D settings next)
+    → NeedsNoReference settings count behind
+unreferred_by settings next behind count (inl one) counted tag = one_dimensional settings count behind one
+unreferred_by settings next behind count (inr two) counted tag =
+    before_tag settings count behind two (subst (λ (c : ℕ × Bits). ((settings.end_of_block ≡ true) × (6 ≤ c.0))
+    ⊎ (((line : Bits) × (c.1 ≡ true ∷ line)) ⊎ (c.1 ≡ []))) (sym (eols_here_two settings next two) ∙ counted) (tag two).1)
+
+-- ---- The tests together
+
+pub told_by : (settings : DecodeSettings) (here line next after behind : Bits) (count : ℕ) → IsGroup3 settings.encoding
+    → settings.strict ≡ false → eols_here settings here ≡ (1, line) → next_eol line ≡ Some next → after_eol 0 next ≡ Some after
+    → EndsByWords settings.encoding settings.columns after line → eols_here settings next ≡ (count, behind)
+    → (settings.encoding ≡ Group3_2D → ComesBefore1D settings next) → TellsStep settings here line behind
+told_by settings here line next after behind count group3 lenient alone next_is after_is ends counted tag =
+    record {
+      step = record {
+        eol = (one_alone settings here line group3 alone).0;
+        alone = alone;
+        next = next;
+        next_is = next_is;
+        after = after;
+        after_is = after_is;
+        ends = subst (λ (s : Bool). (reference row : Row) (rest : Bits)
+            → line_by settings.encoding s settings.columns reference line ≡ Line.whole row rest
+            → length after + 12 ≤ length rest) (sym lenient) (ends_any settings.encoding settings.columns after line ends);
+        count = count;
+        behind_is = counted;
+        unreferred = unreferred_by settings next behind count group3 counted tag;
+      };
+      modes = modes_end settings.encoding settings.columns after line ends;
+      tag = tag;
+    }
+
+-- a step ends its line as the words tell
+step_ends : (settings : DecodeSettings) (here line behind : Bits) → IsGroup3 settings.encoding → settings.strict ≡ false
+    → (told : TellsStep settings here line behind) → EndsByWords settings.encoding settings.columns told.step.after line
+step_ends settings here line behind group3 lenient told =
+    words_end settings.encoding settings.columns told.step.after line group3
+    (subst (λ (s : Bool). (reference row : Row) (rest : Bits)
+    → line_by settings.encoding s settings.columns reference line ≡ Line.whole row rest
+    → length told.step.after + 12 ≤ length rest) lenient told.step.ends) told.modes
+
+same_bits : (o : Option Bits) (one two : Bits) → o ≡ Some one → o ≡ Some two → one ≡ two
+same_bits o one two e f = let both : ◌≡◌ {A = Option Bits} (Some one) (Some two) = sym e ∙ f in cc
+
+-- the EOL behind the line is the next one
+pub step_next : (settings : DecodeSettings) (here line next other behind : Bits) → eols_here settings here ≡ (1, line)
+    → next_eol line ≡ Some next → (told : TellsStep settings here other behind) → told.step.next ≡ next
+step_next settings here line next other behind alone next_is told =
+    let line_is : other ≡ line = ap (λ (f : ℕ × Bits). f.1) (sym told.step.alone ∙ alone) in
+    same_bits (next_eol other) told.step.next next told.step.next_is (ap next_eol line_is ∙ next_is)
+
+-- a line that doesn't end by its words tells no step
+pub no_step_beyond : (settings : DecodeSettings) (here line next after : Bits) → IsGroup3 settings.encoding
+    → settings.strict ≡ false → eols_here settings here ≡ (1, line) → next_eol line ≡ Some next → after_eol 0 next ≡ Some after
+    → (EndsByWords settings.encoding settings.columns after line → ⊥) → (other behind : Bits)
+    → TellsStep settings here other behind → ⊥
+no_step_beyond settings here line next after group3 lenient alone next_is after_is beyond other behind told =
+    let line_is : other ≡ line = ap (λ (f : ℕ × Bits). f.1) (sym told.step.alone ∙ alone) in
+    let found : told.step.next ≡ next = step_next settings here line next other behind alone next_is told in
+    let end : told.step.after ≡ after =
+    same_bits (after_eol 0 told.step.next) told.step.after after told.step.after_is (ap (after_eol 0) found ∙ after_is) in
+    beyond (subst (λ (b : Bits). EndsByWords settings.encoding settings.columns b line) end
+    (subst (λ (b : Bits). EndsByWords settings.encoding settings.columns told.step.after b) line_is
+    (step_ends settings here other behind group3 lenient told)))
+
+-- ---- What the tests count
+
+-- EOLs
+pub eols_work : (encoding : EncodingMode) (here rest : Bits) (before now : ℕ)
+    → now + 2 * length rest ≤ before + 2 * length here + tag_tests encoding + looked_ahead encoding rest
+    → now + length rest ≤ before + 2 * length here + 3
+eols_work encoding here rest before now work = omega (arith, work, few_tag_tests encoding, looked_ahead_most encoding rest)
+
+-- an EOL, the line behind it, and the next EOL
+pub line_test_work : (settings : DecodeSettings) (here line next after : Bits) (begun at_line sought read now : ℕ)
+    → IsGroup3 settings.encoding → eols_here settings here ≡ (1, line) → next_eol line ≡ Some next
+    → after_eol 0 next ≡ Some after → at_line + length line ≤ begun + 2 * length here + 3
+    → sought + length next ≡ at_line + length line + looked next → read ≡ sought + looked next
+    → now ≤ read + length line + 1 → now + 2 * length next + 3 ≤ begun + most_for_lines (length here)
+line_test_work settings here line next after begun at_line sought read now group3 alone next_is after_is first skipped passed
+    tested =
+    omega (
+      arith,
+      first,
+      skipped,
+      passed,
+      tested,
+      looked_eol 0 next after after_is,
+      after_eol_shorter 0 here line (one_alone settings here line group3 alone).0,
+      (next_eol_found line next next_is).0,
+    )
+
+-- ---- What a call that tests the settings first returns
+
+-- what follows is the same
+step_once : (settings : DecodeSettings) (here line behind other rest : Bits) → TellsStep settings here line behind
+    → TellsStep settings here other rest → behind ≡ rest
+step_once settings here line behind other rest one two =
+    let line_is : line ≡ other = ap (λ (f : ℕ × Bits). f.1) (sym one.step.alone ∙ two.step.alone) in
+    let found : one.step.next ≡ two.step.next =
+    same_bits (next_eol line) one.step.next two.step.next one.step.next_is (ap next_eol line_is ∙ two.step.next_is) in
+    ap (λ (f : ℕ × Bits). f.1) (sym one.step.behind_is ∙ ap (eols_here settings) found ∙ two.step.behind_is)
+
+-- two positions with the same bits
+same_place : (bits : Bits) (place other : ℕ) → place ≤ length bits → other ≤ length bits → drop place bits ≡ drop other bits
+    → place ≡ other
+same_place bits place other within there e =
+    omega (arith, within, there, ap length e, length-drop place bits, length-drop other bits)
+
+pub step_found : (settings : DecodeSettings) (bits line : Bits) (to found : ℕ) → IsGroup3 settings.encoding
+    → settings.strict ≡ false → settings.rows ≡ 0 → 0 < settings.columns → to ≤ length bits → found ≤ length bits
+    → TellsStep settings (drop to bits) line (drop found bits) → (place : ℕ)
+    → (Some found ≡ Some place) ↔ IsInStepFrom settings bits to place
+step_found settings bits line to found group3 lenient unlimited wide within there told place = (
+  λ e. subst (IsInStepFrom settings bits to) (let same : found ≡ place = cc in same) (record {
+    encoding = group3;
+    lenient = lenient;
+    unlimited = unlimited;
+    wide = wide;
+    within = within;
+    place_within = there;
+    line = line;
+    told = told;
+  }),
+  λ given. ap (λ (n : ℕ). Some n) (same_place bits found place there given.place_within
+      (step_once settings (drop to bits) line (drop found bits) given.line (drop place bits) told given.told)),
+)
+
+pub no_step_found : (settings : DecodeSettings) (bits : Bits) (to : ℕ)
+    → ((place : ℕ) → IsInStepFrom settings bits to place → ⊥) → (place : ℕ)
+    → (None ≡ Some place) ↔ IsInStepFrom settings bits to place
+no_step_found settings bits to none place = (λ e. absurd cc, λ given. absurd (none place given))
+
+-- the rows behind it
+pub rows_follow : (settings : DecodeSettings) (bits : Bits) (to place : ℕ) → AreWholeBytes bits
+    → IsInStepFrom settings bits to place → RowsFollow settings bits to place
+rows_follow settings bits to place whole given two line to2 whole_two same eol sought sought_too no_rtc no_rtc_too =
+    let line_is : line ≡ given.line = same_bits (after_eol 0 (drop to bits)) line given.line eol given.told.step.eol in
+    rows_behind settings bits whole two given.line (drop place bits) to to2 whole_two (record {
+      encoding = given.encoding;
+      lenient = given.lenient;
+      unlimited = given.unlimited;
+      wide = given.wide;
+      same = same;
+      step = given.told.step;
+      sought = sought;
+      sought_too = sought_too;
+      no_rtc = subst (MakesNoRtc settings bits) line_is no_rtc;
+      no_rtc_too = subst (MakesNoRtc settings two) line_is no_rtc_too;
+    })

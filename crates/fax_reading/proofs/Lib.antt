@@ -1,0 +1,9 @@
+pub mod CodeWords
+pub mod DamagedLines
+pub mod DrawingLines
+pub mod EncodedPictures
+pub mod KeptRows
+pub mod Names
+pub mod PixelRows
+pub mod Readings
+pub mod Work

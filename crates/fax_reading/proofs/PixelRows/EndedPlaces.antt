@@ -1,0 +1,33 @@
+-- The changes of a row with its end twice behind them.
+use Rattle.fax_reading.proofs.Names.{◌≡◌, ℕ, zero, suc, ◌<◌, ◌++◌, List, [], ◌∷◌, length, get_or, refl, ap, ◌∙◌, arith}
+use Rattle.fax_reading.proofs.Names.{AreChanges, AreEnded, changes_in, inl, inr, cases_lt, get_or_past, length-append}
+use Rattle.std.proofs.lemmas.List.{take_at}
+
+ends_at : (xs : List ℕ) (end k : ℕ) → get_or (xs ++ end ∷ end ∷ []) k end ≡ get_or xs k end
+ends_at [] end zero = refl
+ends_at [] end (suc zero) = refl
+ends_at [] end (suc (suc k)) = refl
+ends_at (x ∷ xs) end zero = refl
+ends_at (x ∷ xs) end (suc k) = ends_at xs end k
+
+without_ends : (xs : List ℕ) (end : ℕ) → changes_in (xs ++ end ∷ end ∷ []) ≡ xs
+without_ends xs end = take_at xs (end ∷ end ∷ []) _ (omega (arith, length-append xs (end ∷ end ∷ [])))
+
+pub ends_taken : (xs ended : List ℕ) (end : ℕ) → ended ≡ xs ++ end ∷ end ∷ [] → changes_in ended ≡ xs
+ends_taken xs ended end put = ap changes_in put ∙ without_ends xs end
+
+pub with_ends : (columns : ℕ) (xs : List ℕ) → AreChanges columns xs → AreEnded columns (xs ++ columns ∷ columns ∷ [])
+with_ends columns xs lawful =
+    let same = without_ends xs columns in
+    record { lawful = rw same lawful; ended = rw same refl }
+
+module _ (columns : ℕ) (places : List ℕ) (ended : AreEnded columns places) where
+  -- behind the changes each place is the row's end
+  pub ended_at : (k : ℕ) → get_or places k columns ≡ get_or (changes_in places) k columns
+  ended_at k = ap (λ xs. get_or xs k columns) ended.ended ∙ ends_at (changes_in places) columns k
+
+  pub among_changes : (k : ℕ) → get_or (changes_in places) k columns < columns → k < length (changes_in places)
+  among_changes k below = elim (cases_lt k (length (changes_in places))) [
+    | inl lt ↦ lt
+    | inr past ↦ absurd (omega (arith, get_or_past (changes_in places) k columns past))
+  ]

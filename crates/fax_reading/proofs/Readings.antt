@@ -1,0 +1,12 @@
+pub mod DamageCounted
+pub mod GapsAndRows
+pub mod Limits
+pub mod PlainAnswers
+pub mod RowWidths
+pub mod RowsAndGaps
+pub mod RunsOverRows
+pub mod RunsReach
+pub mod Strictness
+pub mod TurnsAddRows
+pub mod TurnsMoveOn
+pub mod Undamaged

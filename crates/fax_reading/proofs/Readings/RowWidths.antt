@@ -1,0 +1,86 @@
+-- Each row of the plain reading has the width of its columns.
+use Rattle.fax_reading.proofs.Names.{◌≡◌, ◌≤◌, ◌-◌, ℕ, suc, Bool, true, false, cond, not, ◌||◌, eqb, List, [], ◌∷◌, ◌++◌, length}
+use Rattle.fax_reading.proofs.Names.{replicate, Err, sym, subst, arith, length-append, length-replicate, All-append, All-cons}
+use Rattle.fax_reading.proofs.Names.{All-nil, UnexpectedEof, DecodeSettings, front_of, Bits, Turn, Row, HaveWidth, repaired, Line}
+use Rattle.fax_reading.proofs.Names.{Progress, Move, plain, end_of, whole_reading, nothing_read, first_gap, ending_from}
+use Rattle.fax_reading.proofs.Names.{ending_behind, row_before, ends_with, with_row, behind_row, line_here, after_line, move_on}
+use Rattle.fax_reading.proofs.DrawingLines.LineWidths.{line_by_within}
+use Rattle.fax_bits.proofs.Repetition.Repeated.{repeated_keeps}
+use Rattle.fax_reading.proofs.DrawingLines.FullRows.{IsFull, line_by_full}
+use Rattle.fax_reading.proofs.Readings.RowsAndGaps.{row_added, after_whole-is, after_damage-is}
+use Rattle.fax_reading.proofs.Readings.TurnsAddRows.{Keeps, after_row_keeps, first_gap_keeps}
+
+-- the rows that a turn leaves have a width
+abbrev pub LeavesWidth : ℕ → Move → Type 0
+LeavesWidth columns (Turn.next so_far) = HaveWidth columns so_far.rows
+LeavesWidth columns (Turn.done end) = HaveWidth columns end.rows
+
+keeps_width : (columns : ℕ) (rows : List Row) (move : Move) → Keeps rows move → HaveWidth columns rows → LeavesWidth columns move
+keeps_width columns rows (Turn.next so_far) same have = subst (HaveWidth columns) (sym same) have
+keeps_width columns rows (Turn.done end) same have = subst (HaveWidth columns) (sym same) have
+
+one_of : (columns : ℕ) (b : Bool) (x y : Move) → LeavesWidth columns x → LeavesWidth columns y → LeavesWidth columns (cond b x y)
+one_of columns true x y p q = p
+one_of columns false x y p q = q
+
+-- one row more
+have_width_with_row : (columns : ℕ) (rows : List Row) (row : Row) → HaveWidth columns rows → length row ≡ columns
+    → HaveWidth columns (rows ++ row ∷ [])
+have_width_with_row columns rows row have width = All-append (λ r. length r ≡ columns) rows (row ∷ []) have
+    (All-cons (λ r. length r ≡ columns) row [] width (All-nil (λ r. length r ≡ columns)))
+
+repaired_width : (columns : ℕ) (front : Row) → length front ≤ columns → length (repaired columns front) ≡ columns
+repaired_width columns front within =
+    omega (arith, length-append front (replicate (columns - length front) false), length-replicate (columns - length front) false)
+
+module _ (settings : DecodeSettings) where
+  -- a row is added
+  row_added_width : (so_far : Progress) (row : Row) (rest : Bits) → HaveWidth settings.columns so_far.rows
+      → length row ≡ settings.columns → LeavesWidth settings.columns (row_added settings so_far row rest)
+  row_added_width so_far row rest have width =
+      keeps_width settings.columns (so_far.rows ++ row ∷ []) _ (after_row_keeps settings (with_row
+      so_far row (behind_row settings so_far.has_eols rest))) (have_width_with_row settings.columns so_far.rows row have width)
+
+  after_line_width : (so_far : Progress) (line : Line) → HaveWidth settings.columns so_far.rows → length (front_of line)
+      ≤ settings.columns → IsFull settings.columns line → LeavesWidth settings.columns (after_line settings so_far line)
+  after_line_width so_far (Line.whole row rest) have within full =
+      subst (LeavesWidth settings.columns) (sym (after_whole-is settings so_far row rest))
+      (row_added_width so_far row rest have (omega arith))
+  after_line_width so_far (Line.broken front fault) have within full =
+      subst (LeavesWidth settings.columns) (sym (after_damage-is settings so_far front fault))
+      (one_of settings.columns (settings.strict || not so_far.has_eols)
+      (ends_with so_far (Err fault)) (row_added settings so_far (repaired settings.columns front) so_far.rest) have
+      (row_added_width so_far (repaired settings.columns front) so_far.rest have (repaired_width settings.columns front within)))
+
+  move_width : (so_far : Progress) → HaveWidth settings.columns so_far.rows
+      → LeavesWidth settings.columns (move_on settings so_far)
+  move_width so_far have =
+      after_line_width so_far (line_here settings (row_before settings.columns so_far.rows) so_far.rest) have
+      (line_by_within settings.encoding settings.strict settings.columns (row_before settings.columns so_far.rows) so_far.rest)
+      (line_by_full settings.encoding settings.strict settings.columns (row_before settings.columns so_far.rows) so_far.rest)
+
+  -- the rows that turns yield
+  ending_width : (so_far : Progress) → HaveWidth settings.columns so_far.rows
+      → HaveWidth settings.columns (ending_from (move_on settings) so_far).rows
+  ending_width so_far have =
+      repeated_keeps (move_on settings) (record { rows = so_far.rows; has_eols = so_far.has_eols; outcome = Err UnexpectedEof })
+      (λ s. HaveWidth settings.columns s.rows) (λ end. HaveWidth settings.columns end.rows) have
+      (λ s t p e. subst (LeavesWidth settings.columns) e (move_width s p))
+      (λ s end p e. subst (LeavesWidth settings.columns) e (move_width s p)) (suc (suc (length so_far.rest))) so_far have
+
+  none : HaveWidth settings.columns []
+  none = All-nil (λ row. length row ≡ settings.columns)
+
+  behind_width : (gap : Move) → Keeps [] gap → HaveWidth settings.columns (ending_behind settings gap).rows
+  behind_width (Turn.next so_far) keeps = ending_width so_far (subst (HaveWidth settings.columns) (sym keeps) none)
+  behind_width (Turn.done end) keeps = subst (HaveWidth settings.columns) (sym keeps) none
+
+  -- each row has the width
+  pub plain_width : (input : Bits) → HaveWidth settings.columns (plain settings input).rows
+  plain_width input = either_way (eqb settings.columns 0)
+    where
+      either_way : (b : Bool)
+          → HaveWidth settings.columns (cond b nothing_read (whole_reading input (end_of settings input))).rows
+      either_way true = none
+      either_way false =
+          behind_width (first_gap settings.encoding settings input) (first_gap_keeps settings settings.encoding input)

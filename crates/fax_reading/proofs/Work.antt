@@ -1,0 +1,4 @@
+pub mod ChangesStored
+pub mod EolsPassed
+pub mod TurnsPaid
+pub mod WordsPay

@@ -1,0 +1,241 @@
+-- A row has no more changes than its line found words, and a repaired one no more than one besides.
+use Rattle.fax_bits.proofs.Repetition.Gathered.{gathered_after}
+use Rattle.fax_reading.proofs.Names.{◌≡◌, ℕ, zero, suc, ◌+◌, ◌-◌, ◌<◌, ◌≤◌, min, Bool, true, false, cond, leb, ltb, ◌&&◌, List}
+use Rattle.fax_reading.proofs.Names.{[], ◌∷◌, ◌++◌, length, replicate, Result, Ok, Err, refl, sym, ap, ◌∙◌, subst, arith}
+use Rattle.fax_reading.proofs.Names.{append-nil, inl, inr, pos, ◌+ℤ◌, beq, length-append, Color, Mode, Pass, Horizontal, Vertical}
+use Rattle.fax_reading.proofs.Names.{DecodeError, UnexpectedEof, InvalidCode, EncodingMode, Group4, Group3_1D, Group3_2D, Step}
+use Rattle.fax_reading.proofs.Names.{front_of, Bits, mode_codes, read_code, Line, Pen, Drawing, start, turn_behind, words_behind}
+use Rattle.fax_reading.proofs.Names.{unless_fault, mode_here, place_from, draw_run, draw_mode, draw_1d, draw_2d, line_1d, line_2d}
+use Rattle.fax_reading.proofs.Names.{found_1d, found_2d, line_found, ◌>>=◌, line_by, Turn, repeated, gathered, Row, changes}
+use Rattle.fax_reading.proofs.Names.{is_black, opposite, b1, b2, right_of, paint, last_pixel, repaired, white_row, run_from}
+use Rattle.fax_reading.proofs.Names.{word_found, run_found}
+use Rattle.fax_reading.proofs.{DrawingLines.CountedLines.words_run, DrawingLines.Drawings.try}
+use Rattle.fax_bits.proofs.CodeWords.RunWords.{one_word}
+use Rattle.fax_reading.proofs.PixelRows.ChangesAndPixels.{changes-recursive}
+use Rattle.fax_bits.proofs.Repetition.Repeated.{after_turn}
+use Rattle.fax_bits.proofs.CodeWords.ReadRuns.{chosen, run_shorter}
+use Rattle.fax_reading.proofs.CodeWords.WordsFound.{WordsStand, run_stands}
+use Rattle.fax_reading.proofs.PixelRows.RowChanges.{changes_from, changes_from-append, changes_from-same}
+
+-- how many changes a row has
+abbrev count : Row → ℕ
+count row = length (changes_from 0 false row)
+
+one_at_most : (same : Bool) (place : ℕ) (none : List ℕ) → none ≡ [] → length (cond same none (place ∷ none)) ≤ 1
+one_at_most true place none is = omega (arith, ap length is)
+one_at_most false place none is = omega (arith, ap length is)
+
+-- painting adds one change at most
+count_painted : (front : Row) (n : ℕ) (color : Bool) → count (front ++ replicate n color) ≤ suc (count front)
+count_painted front zero color = rw (append-nil front) (omega arith)
+count_painted front (suc n) color =
+    omega (
+      arith,
+      ap length (changes_from-append 0 false front (color ∷ replicate n color)),
+      length-append (changes_from 0 false front)
+          (changes_from (0 + length front) (last_pixel false front) (color ∷ replicate n color)),
+      one_at_most (beq (last_pixel false front) color) (0 + length front)
+          (changes_from (suc (0 + length front)) color (replicate n color)) (changes_from-same (suc (0 + length front)) n color),
+    )
+
+count_paint : (strict : Bool) (columns : ℕ) (front : Row) (color : Color) (n : ℕ) (new : Row)
+    → paint strict columns front color n ≡ Ok new → count new ≤ suc (count front)
+count_paint strict columns front color n new e = elim (chosen (strict && ltb (columns - length front) n) _ _ _ e) [
+  | inl a ↦ absurd (let f : ◌≡◌ {A = Result Row DecodeError} (Err InvalidCode) (Ok new) = a.1 in cc)
+  | inr a ↦
+      let f : ◌≡◌ {A = Result Row DecodeError} (Ok (front ++ replicate (min n (columns - length front)) (is_black color)))
+      (Ok new) = a.1 in
+      let same : front ++ replicate (min n (columns - length front)) (is_black color) ≡ new = cc in
+      subst (λ (x : Row). count x ≤ suc (count front)) same
+      (count_painted front (min n (columns - length front)) (is_black color))
+]
+
+-- ---- A step adds no more changes than it finds words.
+
+abbrev LineCount : ℕ → Line → Type 0
+LineCount n line = count (front_of line) ≤ n
+
+abbrev StepCount : ℕ → Step → Type 0
+StepCount n (Turn.next pen) = count pen.front ≤ n
+StepCount n (Turn.done line) = LineCount n line
+
+step_more : (n m : ℕ) (step : Step) → n ≤ m → StepCount n step → StepCount m step
+step_more n m (Turn.next pen) le few = omega (arith, le, few)
+step_more n m (Turn.done line) le few = omega (arith, le, few)
+
+-- a run that is found has a word
+run_has_word : (color : Color) (here : Bits) (n : ℕ) (rest : Bits) → run_from color (0, here) ≡ Ok (n, rest)
+    → 0 < length (run_found color (0, here))
+run_has_word color here n rest e = by_found (run_found color (0, here)) (run_stands color 0 here).1
+  where
+    ends : (run_stands color 0 here).0 ≡ rest
+    ends = let last = (run_stands color 0 here).2 in let same = rw e at last in sym same
+
+    by_found : (found : List Bits) → WordsStand here found (run_stands color 0 here).0 → 0 < length found
+    by_found [] p = absurd (omega (arith, run_shorter color 0 here n rest e, ap length p.place, ap length ends))
+    by_found (word ∷ found) p = omega arith
+
+-- a run
+run_count : (strict : Bool) (columns : ℕ) (pen : Pen)
+    → StepCount (count pen.front + length (draw_run strict columns pen).words) (draw_run strict columns pen).turn
+run_count strict columns pen =
+    step_more (count pen.front + length found) (count pen.front + length (draw_run strict columns pen).words)
+    (draw_run strict columns pen).turn (omega (arith, ap length (words_run strict columns pen)))
+    (by_run_from (run_from pen.color (0, pen.rest)) refl)
+  where
+    found : List Bits
+    found = run_found pen.color (0, pen.rest)
+
+    after : ℕ × Bits → Step
+    after run = try pen.front (paint strict columns pen.front pen.color run.0)
+        (λ front. Turn.next (record { front = front; color = opposite pen.color; rest = run.1 }))
+
+    painted : (run : ℕ × Bits) → 0 < length found → (r : Result Row DecodeError)
+        → paint strict columns pen.front pen.color run.0 ≡ r → StepCount (count pen.front + length found)
+        (try pen.front r (λ front. Turn.next (record { front = front; color = opposite pen.color; rest = run.1 })))
+    painted run some (Ok front) e = omega (arith, some, count_paint strict columns pen.front pen.color run.0 front e)
+    painted run some (Err fault) e = omega arith
+
+    by_run_from : (r : Result (ℕ × Bits) DecodeError) → run_from pen.color (0, pen.rest) ≡ r
+        → StepCount (count pen.front + length found) (try pen.front r after)
+    by_run_from (Ok run) e =
+        painted run (run_has_word pen.color pen.rest run.0 run.1 e) (paint strict columns pen.front pen.color run.0) refl
+    by_run_from (Err fault) e = omega arith
+
+-- what is tried adds at most what it yields
+try_count : {A : Type 0} (n : ℕ) (front : Row) (r : Result A DecodeError) (behind : A → Step) → count front ≤ n
+    → ((x : A) → r ≡ Ok x → StepCount n (behind x)) → StepCount n (try front r behind)
+try_count n front (Ok x) behind le each = each x refl
+try_count n front (Err fault) behind le each = le
+
+-- two runs
+behind_run_count : (strict : Bool) (columns n : ℕ) (words : List Bits) (turn : Step) → StepCount (n + length words) turn
+    → StepCount (n + length (words ++ words_behind turn (λ pen. (draw_run strict columns pen).words)))
+    (turn_behind turn (λ pen. (draw_run strict columns pen).turn))
+behind_run_count strict columns n words (Turn.next pen) few =
+    step_more (count pen.front + length (draw_run strict columns pen).words) _ (draw_run strict columns pen).turn
+    (omega (arith, few, length-append words (draw_run strict columns pen).words)) (run_count strict columns pen)
+behind_run_count strict columns n words (Turn.done line) few = omega (arith, few, length-append words [])
+
+-- a mode, after its word
+mode_count : (strict : Bool) (columns : ℕ) (reference : Row) (pen : Pen) (mode : Mode) → StepCount (count pen.front
+    + suc (length (draw_mode strict columns reference pen mode).words)) (draw_mode strict columns reference pen mode).turn
+mode_count strict columns reference pen Pass =
+    let n : ℕ = b2 reference (right_of pen.front) pen.color - length pen.front in
+    step_more (count pen.front + 1) _ (draw_mode strict columns reference pen Pass).turn (omega arith) (try_count (count pen.front
+    + 1) pen.front (paint strict columns pen.front pen.color n) (λ front. Turn.next (record pen { front = front })) (omega arith)
+    (λ front e. omega (arith, count_paint strict columns pen.front pen.color n front e)))
+mode_count strict columns reference pen Horizontal =
+    step_more (count pen.front + length (draw_mode strict columns reference pen Horizontal).words) _
+    (draw_mode strict columns reference pen Horizontal).turn (omega arith) (behind_run_count strict columns (count pen.front)
+    (draw_run strict columns pen).words (draw_run strict columns pen).turn (run_count strict columns pen))
+mode_count strict columns reference pen (Vertical k) =
+    let paints : ℕ → Step = λ place. try pen.front (paint strict columns pen.front pen.color (place - length pen.front))
+    (λ front. Turn.next (record { front = front; color = opposite pen.color; rest = pen.rest })) in
+    step_more (count pen.front + 1) _ (draw_mode strict columns reference pen (Vertical k)).turn (omega arith) (try_count
+    (count pen.front + 1) pen.front (place_from (length pen.front) (pos (b1 reference (right_of pen.front) pen.color) +ℤ k))
+    paints (omega arith) (λ place h. try_count (count pen.front + 1) pen.front (paint strict columns pen.front pen.color
+    (place - length pen.front)) (λ front. Turn.next (record { front = front; color = opposite pen.color; rest = pen.rest }))
+    (omega arith) (λ front e. omega (arith, count_paint strict columns pen.front pen.color (place - length pen.front) front e))))
+
+-- a mode that is read and drawn
+read_mode_count : (strict : Bool) (columns : ℕ) (reference : Row) (pen : Pen) → StepCount (count pen.front
+    + length (mode_here pen >>= (λ mode. draw_mode strict columns reference (record pen { rest = mode.1 }) mode.0)).words)
+    (mode_here pen >>= (λ mode. draw_mode strict columns reference (record pen { rest = mode.1 }) mode.0)).turn
+read_mode_count strict columns reference pen = by_read_code (read_code mode_codes pen.rest) refl
+  where
+    on : Mode × Bits → Drawing Pen
+    on mode = draw_mode strict columns reference (record pen { rest = mode.1 }) mode.0
+
+    by_read_code : (r : Result (Mode × Bits) DecodeError) → read_code mode_codes pen.rest ≡ r → StepCount (count pen.front
+        + length (word_found mode_codes pen.rest ++ words_behind (unless_fault pen.front r) (λ mode. (on mode).words)))
+        (turn_behind (unless_fault pen.front r) (λ mode. (on mode).turn))
+    by_read_code (Ok mode) e =
+        step_more (count pen.front + suc (length (on mode).words)) _ (on mode).turn
+        (omega (arith, one_word mode_codes pen.rest mode e, length-append (word_found mode_codes pen.rest) (on mode).words))
+        (mode_count strict columns reference (record pen { rest = mode.1 }) mode.0)
+    by_read_code (Err fault) e = omega arith
+
+-- a step, unless the row is full
+unless_full_count : (full : Bool) (pen : Pen) (draw : Pen → Drawing Pen)
+    → StepCount (count pen.front + length (draw pen).words) (draw pen).turn → StepCount (count pen.front
+    + length ([] ++ words_behind (cond full (Turn.done (Line.whole pen.front pen.rest)) (Turn.next pen)) (λ p. (draw p).words)))
+    (turn_behind (cond full (Turn.done (Line.whole pen.front pen.rest)) (Turn.next pen)) (λ p. (draw p).turn))
+unless_full_count true pen draw few = omega arith
+unless_full_count false pen draw few = few
+
+step_1d_count : (strict : Bool) (columns : ℕ) (pen : Pen)
+    → StepCount (count pen.front + length (draw_1d strict columns pen).words) (draw_1d strict columns pen).turn
+step_1d_count strict columns pen =
+    unless_full_count (leb columns (length pen.front)) pen (draw_run strict columns) (run_count strict columns pen)
+
+step_2d_count : (strict : Bool) (columns : ℕ) (reference : Row) (pen : Pen) → StepCount
+    (count pen.front + length (draw_2d strict columns reference pen).words) (draw_2d strict columns reference pen).turn
+step_2d_count strict columns reference pen =
+    unless_full_count (leb columns (length pen.front)) pen (λ p. mode_here p >>= (λ mode. draw_mode strict columns reference
+    (record p { rest = mode.1 }) mode.0)) (read_mode_count strict columns reference pen)
+
+-- ---- And so does a line.
+
+pen_count : (step : Pen → Step) (gives : Pen → List Bits)
+    → ((pen : Pen) → StepCount (count pen.front + length (gives pen)) (step pen)) → (n : ℕ) (pen : Pen)
+    → LineCount (count pen.front + length (gathered step gives n pen)) (repeated step (Line.broken [] UnexpectedEof) n pen)
+pen_count step gives each zero pen = omega arith
+pen_count step gives each (suc n) pen = by_turn (λ t. pen_count step gives each n t) (step pen) (each pen)
+  where
+    by_turn : ((t : Pen) → LineCount (count t.front + length (gathered step gives n t))
+        (repeated step (Line.broken [] UnexpectedEof) n t)) → (turn : Step) → StepCount (count pen.front + length (gives pen))
+        turn → LineCount (count pen.front + length (gives pen ++ gathered_after (gathered step gives n) turn))
+        (after_turn (repeated step (Line.broken [] UnexpectedEof) n) turn)
+    by_turn on (Turn.next t) few = omega (arith, on t, few, length-append (gives pen) (gathered step gives n t))
+    by_turn on (Turn.done line) few = omega (arith, few, length-append (gives pen) [])
+
+line_1d_count : (strict : Bool) (columns : ℕ) (here : Bits)
+    → LineCount (length (found_1d strict columns here)) (line_1d strict columns here)
+line_1d_count strict columns here =
+    omega (
+      arith,
+      pen_count (λ pen. (draw_1d strict columns pen).turn) (λ pen. (draw_1d strict columns pen).words)
+          (step_1d_count strict columns) (suc (length here)) (start here),
+    )
+
+line_2d_count : (strict : Bool) (columns : ℕ) (reference : Row) (here : Bits)
+    → LineCount (length (found_2d strict columns reference here)) (line_2d strict columns reference here)
+line_2d_count strict columns reference here =
+    omega (
+      arith,
+      pen_count (λ pen. (draw_2d strict columns reference pen).turn) (λ pen. (draw_2d strict columns reference pen).words)
+          (step_2d_count strict columns reference) (suc (length here)) (start here),
+    )
+
+line_count : (encoding : EncodingMode) (strict : Bool) (columns : ℕ) (reference : Row) (here : Bits)
+    → LineCount (length (line_found encoding strict columns reference here)) (line_by encoding strict columns reference here)
+line_count Group3_2D strict columns reference [] = omega arith
+line_count Group3_2D strict columns reference (true ∷ here) = line_1d_count strict columns here
+line_count Group3_2D strict columns reference (false ∷ here) = line_2d_count strict columns reference here
+line_count Group3_1D strict columns reference here = line_1d_count strict columns here
+line_count Group4 strict columns reference here = line_2d_count strict columns reference here
+
+-- the row of a line, or the front of a broken one, has no more changes than the line finds words
+pub changes_found : (encoding : EncodingMode) (strict : Bool) (columns : ℕ) (reference : Row) (here : Bits) → length (changes
+    (front_of (line_by encoding strict columns reference here))) ≤ length (line_found encoding strict columns reference here)
+changes_found encoding strict columns reference here =
+    omega (
+      arith,
+      line_count encoding strict columns reference here,
+      ap length (changes-recursive (front_of (line_by encoding strict columns reference here))),
+    )
+
+-- and a repaired row at most one more than its front
+pub changes_repaired : (columns : ℕ) (front : Row) → length (changes (repaired columns front)) ≤ suc (length (changes front))
+changes_repaired columns front =
+    omega (
+      arith,
+      count_painted front (columns - length front) false,
+      ap length (changes-recursive (repaired columns front)),
+      ap length (changes-recursive front),
+    )
+
+-- a white row has none
+pub changes_white : (columns : ℕ) → length (changes (white_row columns)) ≡ 0
+changes_white columns = ap length (changes-recursive (white_row columns) ∙ changes_from-same 0 columns false)

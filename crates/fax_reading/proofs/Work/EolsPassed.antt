@@ -1,0 +1,304 @@
+-- The EOLs that are consumed before a line, and the bits that are examined ahead of it.
+use Rattle.fax_reading.proofs.Names.{◌<◌, ◌≡◌, ℕ, ◌+◌, ◌-◌, ◌*◌, ◌≤◌, Bool, true, false, [], ◌∷◌, ◌++◌, length, replicate, drop}
+use Rattle.fax_reading.proofs.Names.{Option, Some, None, Result, Ok, Err, refl, sym, ap, ◌∙◌, subst, arith, ◌⊎◌, inl, inr}
+use Rattle.fax_reading.proofs.Names.{false≢true, length-append, length-replicate, replicate-append-replicate, DecodeError}
+use Rattle.fax_reading.proofs.Names.{InvalidCode, EncodingMode, Group4, Group3_1D, Group3_2D, DecodeSettings, Bits, after_eol}
+use Rattle.fax_reading.proofs.Names.{next_eol, eols_with_tags, eols, is_over, misses_eol, Gap, at_end, limit_met, eols_by}
+use Rattle.fax_reading.proofs.Names.{eols_here, behind_eols, from_next_eol, gap_behind_row, gap_said, looked, looked_ahead}
+use Rattle.fax_reading.proofs.Names.{tag_tests, IfOk, OnErr}
+use Rattle.fax_reading.proofs.DamagedLines.PastEol.{eols_here-none}
+use Rattle.fax_bits.proofs.BitReading.ZeroRuns.{looked_eol}
+use Rattle.fax_bits.proofs.CodeWords.ReadRuns.{chosen}
+use Rattle.fax_reading.proofs.DamagedLines.LineTails.{after_eol_is}
+use Rattle.fax_reading.proofs.{Readings.RowsAndGaps.missed_sought, Readings.TurnsMoveOn.none_met}
+use Rattle.fax_bits.proofs.BitReading.ConsecutiveEols.{length-one_more, count_shorter, count_past, counts_plain}
+use Rattle.fax_bits.proofs.BitReading.ConsecutiveEols.{counts_tagged, eols-some, last_tag_shorter}
+use Rattle.fax_reading.proofs.Readings.TurnsMoveOn.{eols_here_counted, eols_here_some}
+use Rattle.fax_bits.proofs.BitReading.ConsecutiveEols.{next_eol_found}
+
+-- ---- An EOL here or further on
+
+-- an EOL is here or further on, perhaps after fill, and ends where `after` begins
+pub record EolWithin (here after : Bits) : Type 0 where
+  pub fill : Bits
+  pub place : here ≡ fill ++ replicate 11 false ++ true ∷ after
+
+-- an EOL here
+pub eol_within : (here after : Bits) → after_eol 0 here ≡ Some after → EolWithin here after
+eol_within here after e =
+    let is = after_eol_is 0 here after e in
+    let more : ℕ = is.0 - 11 in
+    let sum : is.0 ≡ more + 11 = omega (arith, is.2) in
+    let fill : replicate is.0 false ≡ replicate more false ++ replicate 11 false =
+    ap (λ (n : ℕ). replicate n false) sum ∙ sym (replicate-append-replicate more 11 false) in
+    record { fill = replicate more false; place = is.1 ∙ ap (λ (bits : Bits). bits ++ true ∷ after) fill }
+
+within_further : (bit : Bool) (here after : Bits) → EolWithin here after → EolWithin (bit ∷ here) after
+within_further bit here after eol = record { fill = bit ∷ eol.fill; place = ap (λ (x : Bits). bit ∷ x) eol.place }
+
+-- the next EOL is here or further on
+pub next_eol_within : (here found : Bits) → next_eol here ≡ Some found → (after : Bits) × (after_eol 0 found ≡ Some after)
+    × EolWithin here after
+next_eol_within [] found e = absurd cc
+next_eol_within (bit ∷ here) found e = by_after_eol (λ f. next_eol_within here found f) (after_eol 0 (bit ∷ here)) refl
+  where
+    by_after_eol : (next_eol here ≡ Some found → (after : Bits) × (after_eol 0 found ≡ Some after) × EolWithin here after)
+        → (o : Option Bits) → after_eol 0 (bit ∷ here) ≡ o → (after : Bits) × (after_eol 0 found ≡ Some after)
+        × EolWithin (bit ∷ here) after
+    by_after_eol on None is =
+        let f : next_eol here ≡ Some found = rw (is, next_eol) at e in
+        let more = on f in
+        (more.0, more.1, within_further bit here more.0 more.2)
+    by_after_eol on (Some after) is =
+        let f : ◌≡◌ {A = Option Bits} (Some (bit ∷ here)) (Some found) = rw (is, next_eol) at e in
+        let same : bit ∷ here ≡ found = cc in
+        (after, subst (λ (x : Bits). after_eol 0 x ≡ Some after) same is, eol_within (bit ∷ here) after is)
+
+-- the bits up to the end of an EOL
+pub length-within : (here after : Bits) (eol : EolWithin here after) → length here ≡ length eol.fill + 12 + length after
+length-within here after eol =
+    omega (
+      arith,
+      ap length eol.place,
+      length-append (eol.fill ++ replicate 11 false) (true ∷ after),
+      length-append eol.fill (replicate 11 false),
+      length-replicate 11 false,
+    )
+
+-- ---- EOLs that are counted
+
+-- counting EOLs leaves at most the bits that were there
+pub eols_here_shorter : (settings : DecodeSettings) (here : Bits) → length (eols_here settings here).1 ≤ length here
+eols_here_shorter settings here = (eols_here_counted settings here).0
+
+-- if there is an EOL, counting consumes it
+pub eols_here_past : (settings : DecodeSettings) (here after : Bits) → after_eol 0 here ≡ Some after
+    → length (eols_here settings here).1 ≤ length after
+eols_here_past settings here after e = by_encoding settings.encoding settings.end_of_block
+  where
+    by_encoding : (encoding : EncodingMode) (block : Bool) → length (eols_by encoding block here).1 ≤ length after
+    by_encoding Group3_1D block = count_past counts_plain here after e
+    by_encoding Group3_2D block =
+        omega (arith, last_tag_shorter (eols_with_tags (length here) here), count_past counts_tagged here after e)
+    by_encoding Group4 true =
+        omega (
+          arith,
+          ap (λ (found : ℕ × Bits). length found.1) (eols-some 1 here after e),
+          length-one_more (eols 1 after),
+          count_shorter counts_plain 1 after,
+        )
+    by_encoding Group4 false = count_past counts_plain here after e
+
+-- if none is counted, the offset doesn't change
+pub eols_here_stay : (settings : DecodeSettings) (here rest : Bits) → eols_here settings here ≡ (0, rest) → rest ≡ here
+eols_here_stay settings here rest is = by_after_eol (after_eol 0 here) refl
+  where
+    by_after_eol : (o : Option Bits) → after_eol 0 here ≡ o → rest ≡ here
+    by_after_eol None e = sym (ap (λ (found : ℕ × Bits). found.1) (sym (eols_here-none settings here e) ∙ is))
+    by_after_eol (Some after) e =
+        absurd (omega (arith, eols_here_some settings here after e, ap (λ (found : ℕ × Bits). found.0) is))
+
+-- ---- A line after a row
+
+lines_same : (h k : Bool) (here rest : Bits) → ◌≡◌ {A = Gap} (Gap.line_at h here) (Gap.line_at k rest) → (h ≡ k) × (here ≡ rest)
+lines_same h k here rest e = (cc, cc)
+
+over_no_line : (outcome : Result Bits DecodeError) (h : Bool) (rest : Bits)
+    → ◌≡◌ {A = Gap} (Gap.over outcome) (Gap.line_at h rest) → ⊥
+over_no_line outcome h rest e = cc
+
+-- a line follows EOLs neither at the limit nor at the end
+behind_line : (settings : DecodeSettings) (taken : ℕ) (h k : Bool) (found : ℕ × Bits) (rest : Bits)
+    → behind_eols settings taken h found ≡ Gap.line_at k rest
+    → (h ≡ k) × (found.1 ≡ rest) × (limit_met settings taken ≡ false) × (at_end found.1 ≡ false)
+behind_line settings taken h k (count, here) rest e =
+    elim (chosen (is_over settings taken (count, here)) _ _ _ e) [
+      | inl a ↦ absurd (over_no_line (Ok here) k rest a.1)
+      | inr a ↦
+          let same = lines_same h k here rest a.1 in
+          let left = none_met settings taken (count, here) a.0 in
+          (same.0, same.1, left.0, left.1)
+    ]
+
+-- The line follows the EOLs here.
+record AfterEols (settings : DecodeSettings) (taken : ℕ) (h k : Bool) (here rest : Bits) : Type 0 where
+  unsought : misses_eol settings taken h here ≡ false
+  flag : h ≡ k
+  place : (eols_here settings here).1 ≡ rest
+  open_limit : limit_met settings taken ≡ false
+  open_end : at_end (eols_here settings here).1 ≡ false
+
+-- The line follows the next EOL, which was sought.
+record AfterNextEol (settings : DecodeSettings) (h k : Bool) (here rest : Bits) : Type 0 where
+  sought : h ≡ true
+  kept : k ≡ true
+  found : Bits
+  next : next_eol here ≡ Some found
+  place : (eols_here settings found).1 ≡ rest
+
+-- No EOL is left, and the line is here.
+record GivenUp (h k : Bool) (here rest : Bits) : Type 0 where
+  sought : h ≡ true
+  given_up : k ≡ false
+  place : here ≡ rest
+
+-- the ways in which a line follows a row
+line_behind : (settings : DecodeSettings) (taken : ℕ) (h k : Bool) (here rest : Bits) → gap_behind_row settings taken h here
+    ≡ Gap.line_at k rest → AfterEols settings taken h k here rest ⊎ (AfterNextEol settings h k here rest ⊎ GivenUp h k here rest)
+line_behind settings taken h k here rest e =
+    elim (chosen (misses_eol settings taken h here) _ _ _ e) [
+      | inl a ↦
+          let sought = missed_sought settings taken h here a.0 in
+          elim (chosen settings.strict _ _ _ a.1) [
+            | inl b ↦ absurd (over_no_line (Err InvalidCode) k rest b.1)
+            | inr b ↦ inr (by_next_eol sought (next_eol here) refl b.1)
+          ]
+      | inr a ↦
+          let is = behind_line settings taken h k (eols_here settings here) rest a.1 in
+          inl (record { unsought = a.0; flag = is.0; place = is.1; open_limit = is.2; open_end = is.3 })
+    ]
+  where
+    by_next_eol : h ≡ true → (o : Option Bits) → next_eol here ≡ o → from_next_eol settings taken here o ≡ Gap.line_at k rest
+        → AfterNextEol settings h k here rest ⊎ GivenUp h k here rest
+    by_next_eol sought (Some found) next f =
+        let is = behind_line settings taken true k (eols_here settings found) rest f in
+        inl (record { sought = sought; kept = sym is.0; found = found; next = next; place = is.1 })
+    by_next_eol sought None next f =
+        let same = lines_same false k here rest f in
+        inr (record { sought = sought; given_up = sym same.0; place = same.1 })
+
+-- if EOLs are still sought, one was here or further on, and the line begins after it
+pub line_past_eol : (settings : DecodeSettings) (taken : ℕ) (here rest : Bits) → gap_behind_row settings taken true here
+    ≡ Gap.line_at true rest → (after : Bits) × EolWithin here after × (length rest ≤ length after)
+line_past_eol settings taken here rest e = elim (line_behind settings taken true true here rest e) [
+  | inl is ↦ by_after_eol is (after_eol 0 here) refl
+  | inr (inl is) ↦
+      let eol = next_eol_within here is.found is.next in
+      (eol.0, eol.2, subst (λ (x : Bits). length x ≤ length eol.0) is.place (eols_here_past settings is.found eol.0 eol.1))
+  | inr (inr is) ↦ absurd (false≢true (sym is.given_up))
+]
+  where
+    by_after_eol : AfterEols settings taken true true here rest → (o : Option Bits) → after_eol 0 here ≡ o
+        → (after : Bits) × EolWithin here after × (length rest ≤ length after)
+    by_after_eol is (Some after) f = (
+      after,
+      eol_within here after f,
+      subst (λ (x : Bits). length x ≤ length after) is.place (eols_here_past settings here after f),
+    )
+    by_after_eol is None f =
+        let none = eols_here-none settings here f in
+        let open_end : at_end here ≡ false = let g = is.open_end in rw none at g in
+        let seeks : misses_eol settings taken true here ≡ true = rw (none, is.open_limit, open_end) refl in
+        absurd (false≢true (sym is.unsought ∙ seeks))
+
+-- if EOLs are no longer sought, the line is here
+pub line_given_up : (settings : DecodeSettings) (taken : ℕ) (here rest : Bits)
+    → gap_behind_row settings taken true here ≡ Gap.line_at false rest → rest ≡ here
+line_given_up settings taken here rest e = elim (line_behind settings taken true false here rest e) [
+  | inl is ↦ absurd (false≢true (sym is.flag))
+  | inr (inl is) ↦ absurd (false≢true is.kept)
+  | inr (inr is) ↦ sym is.place
+]
+
+-- a line that follows a row begins there or further on
+pub line_behind_shorter : (settings : DecodeSettings) (taken : ℕ) (h k : Bool) (here rest : Bits)
+    → gap_behind_row settings taken h here ≡ Gap.line_at k rest → length rest ≤ length here
+line_behind_shorter settings taken h k here rest e = elim (line_behind settings taken h k here rest e) [
+  | inl is ↦ omega (arith, ap length is.place, eols_here_shorter settings here)
+  | inr (inl is) ↦
+      omega (arith, ap length is.place, eols_here_shorter settings is.found, (next_eol_found here is.found is.next).0)
+  | inr (inr is) ↦ omega (arith, ap length is.place)
+]
+
+-- without EOLs none are sought
+pub line_without_eols : (settings : DecodeSettings) (taken : ℕ) (k : Bool) (here rest : Bits)
+    → gap_behind_row settings taken false here ≡ Gap.line_at k rest → (k ≡ false) × (length rest ≤ length here)
+line_without_eols settings taken k here rest e = (
+  elim (line_behind settings taken false k here rest e) [
+    | inl is ↦ sym is.flag
+    | inr (inl is) ↦ absurd (false≢true is.sought)
+    | inr (inr is) ↦ is.given_up
+  ],
+  line_behind_shorter settings taken false k here rest e,
+)
+
+-- so none are sought after a gap, whatever it says
+pub unsought_after : (settings : DecodeSettings) (taken : ℕ) (before has_eols : Bool) (here rest : Bits)
+    (answer : Result Bool DecodeError) → before ≡ false
+    → gap_behind_row settings taken before here ≡ gap_said answer has_eols rest
+    → IfOk answer (λ over. over ≡ true → has_eols ≡ before) → OnErr answer (has_eols ≡ before) → has_eols ≡ false
+unsought_after settings taken before has_eols here rest (Ok true) unsought said given_up same = given_up refl ∙ unsought
+unsought_after settings taken before has_eols here rest (Ok false) unsought said given_up same =
+    (line_without_eols settings taken has_eols here rest (ap (λ (b : Bool). gap_behind_row settings taken b here) (sym unsought)
+    ∙ said)).0
+unsought_after settings taken before has_eols here rest (Err e) unsought said given_up same = same ∙ unsought
+
+-- if there is a line, bits are left
+pub line_has_bits : (settings : DecodeSettings) (taken : ℕ) (k : Bool) (here rest : Bits)
+    → gap_behind_row settings taken false here ≡ Gap.line_at k rest → 0 < length rest
+line_has_bits settings taken k here rest e = elim (line_behind settings taken false k here rest e) [
+  | inl is ↦ by_next (eols_here settings here).1 rest is.open_end is.place
+  | inr (inl is) ↦ absurd (false≢true is.sought)
+  | inr (inr is) ↦ absurd (false≢true is.sought)
+]
+  where
+    by_next : (next rest : Bits) → at_end next ≡ false → next ≡ rest → 0 < length rest
+    by_next [] rest open_end same = absurd (false≢true (sym open_end))
+    by_next (bit ∷ next) rest open_end same = omega (arith, ap length (sym same))
+
+-- ---- What is examined ahead
+
+-- there are few tests of tags
+pub few_tag_tests : (encoding : EncodingMode) → tag_tests encoding ≤ 3
+few_tag_tests Group3_1D = omega arith
+few_tag_tests Group3_2D = omega arith
+few_tag_tests Group4 = omega arith
+
+-- no more than the bits here are examined
+pub looked_most : (here : Bits) → looked here ≤ length here
+looked_most [] = omega arith
+looked_most (false ∷ here) = omega (arith, looked_most here)
+looked_most (true ∷ here) = omega arith
+
+-- no bit after a one is examined
+looked_to_one : (before after : Bits) → looked (before ++ true ∷ after) + length after ≤ length (before ++ true ∷ after)
+looked_to_one [] after = omega arith
+looked_to_one (false ∷ before) after = omega (arith, looked_to_one before after)
+looked_to_one (true ∷ before) after = omega (arith, length-append before (true ∷ after))
+
+length-later : (here : Bits) → length (drop 1 here) ≤ length here
+length-later [] = omega arith
+length-later (bit ∷ here) = omega arith
+
+-- no more than the bits here are examined ahead
+pub looked_ahead_most : (encoding : EncodingMode) (here : Bits) → looked_ahead encoding here ≤ length here
+looked_ahead_most Group3_2D here = omega (arith, looked_most (drop 1 here), length-later here)
+looked_ahead_most Group3_1D here = looked_most here
+looked_ahead_most Group4 here = looked_most here
+
+-- if an EOL is here or further on, no bit after it is examined
+looked_to_eol : (here after : Bits) → EolWithin here after → (looked here + length after ≤ length here)
+    × (looked (drop 1 here) + length after ≤ length here)
+looked_to_eol here after eol = rw eol.place (by_fill eol.fill)
+  where
+    by_fill : (fill : Bits) → (looked (fill ++ replicate 11 false ++ true ∷ after) + length after
+        ≤ length (fill ++ replicate 11 false ++ true ∷ after)) × (looked (drop 1 (fill ++ replicate 11 false ++ true ∷ after))
+        + length after ≤ length (fill ++ replicate 11 false ++ true ∷ after))
+    by_fill [] = (looked_to_one (replicate 11 false) after, omega (arith, looked_to_one (replicate 10 false) after))
+    by_fill (bit ∷ fill) =
+        (looked_to_one (bit ∷ fill ++ replicate 11 false) after, omega (arith, looked_to_one (fill ++ replicate 11 false) after))
+
+-- If the next EOL is found and counted, no bit after it is examined: not where none was before, and not where it was
+-- found.
+pub sought_looks : (settings : DecodeSettings) (here found : Bits) → next_eol here ≡ Some found
+    → looked here + looked found + 2 * length (eols_here settings found).1 ≤ length here + length found
+sought_looks settings here found next =
+    let eol = next_eol_within here found next in
+    omega (arith, (looked_to_eol here eol.0 eol.2).0, looked_eol 0 found eol.0 eol.1, eols_here_past settings found eol.0 eol.1)
+
+-- if an EOL is here or further on, no bit after it is examined ahead
+pub looked_ahead_to_eol : (encoding : EncodingMode) (here after : Bits) → EolWithin here after
+    → looked_ahead encoding here + length after ≤ length here
+looked_ahead_to_eol Group3_2D here after eol = (looked_to_eol here after eol).1
+looked_ahead_to_eol Group3_1D here after eol = (looked_to_eol here after eol).0
+looked_ahead_to_eol Group4 here after eol = (looked_to_eol here after eol).0

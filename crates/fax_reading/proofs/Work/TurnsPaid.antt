@@ -1,0 +1,192 @@
+-- What a turn counts is paid by the bits that it consumes, or by ceasing to seek EOLs, which happens once.
+use Rattle.fax_reading.proofs.Names.{◌≡◌, ◌≢◌, ℕ, ◌+◌, ◌*◌, ◌<◌, ◌≤◌, Bool, true, false, not, ◌&&◌, ◌||◌, cond, [], ◌∷◌, length}
+use Rattle.fax_reading.proofs.Names.{Result, Ok, Err, refl, sym, ap, ◌∙◌, subst, arith, false≢true, DecodeError, DecodeSettings}
+use Rattle.fax_reading.proofs.Names.{EncodingMode, Group4, Group3_1D, Group3_2D, Bits, Line, line_found, Gap, behind_row}
+use Rattle.fax_reading.proofs.Names.{gap_behind_row, line_by, line_here, row_of_line, Row, repaired, looked_ahead, IsPaidUpTo}
+use Rattle.fax_reading.proofs.Names.{found_here}
+use Rattle.fax_reading.proofs.Readings.RowsAndGaps.{behind_with_eols}
+use Rattle.fax_reading.proofs.Work.EolsPassed.{length-within, line_past_eol, line_given_up, line_behind_shorter}
+use Rattle.fax_reading.proofs.Work.EolsPassed.{line_without_eols, looked_ahead_most, looked_ahead_to_eol}
+use Rattle.fax_reading.proofs.Work.WordsPay.{line_1d_paid, line_2d_paid, either_shorter, found_within, found_before_eol}
+
+-- ---- What a line and its row pay
+
+-- the bits of a line contain its words, the zeros ahead of these, and at least one bit
+pub record PaysLine (encoding : EncodingMode) (here rest : Bits) (found : ℕ) : Type 0 where
+  pub some : length rest < length here
+  pub words : found + length rest ≤ length here
+  pub zeros : looked_ahead encoding here + length rest ≤ length here
+
+whole_pays : (encoding : EncodingMode) (strict : Bool) (columns : ℕ) (reference : Row) (here : Bits) (row : Row) (rest : Bits)
+    → 0 < columns → line_by encoding strict columns reference here ≡ Line.whole row rest
+    → PaysLine encoding here rest (length (line_found encoding strict columns reference here))
+whole_pays Group3_2D strict columns reference [] row rest wide e = absurd cc
+whole_pays Group3_2D strict columns reference (true ∷ here) row rest wide e =
+    let paid = line_1d_paid strict columns here row rest wide e in
+    record { some = omega (arith, paid.some, paid.words); words = omega (arith, paid.words); zeros = omega (arith, paid.zeros) }
+whole_pays Group3_2D strict columns reference (false ∷ here) row rest wide e =
+    let paid = line_2d_paid strict columns reference here row rest wide e in
+    record { some = omega (arith, paid.some, paid.words); words = omega (arith, paid.words); zeros = omega (arith, paid.zeros) }
+whole_pays Group3_1D strict columns reference here row rest wide e =
+    let paid = line_1d_paid strict columns here row rest wide e in
+    record { some = omega (arith, paid.some, paid.words); words = paid.words; zeros = paid.zeros }
+whole_pays Group4 strict columns reference here row rest wide e =
+    let paid = line_2d_paid strict columns reference here row rest wide e in
+    record { some = omega (arith, paid.some, paid.words); words = paid.words; zeros = paid.zeros }
+
+-- bits further on are paid as well
+further_pays : (encoding : EncodingMode) (here rest further : Bits) (found : ℕ) → PaysLine encoding here rest found
+    → length further ≤ length rest → PaysLine encoding here further found
+further_pays encoding here rest further found pays le =
+    record { some = omega (arith, pays.some, le); words = omega (arith, pays.words, le); zeros = omega (arith, pays.zeros, le) }
+
+-- the bits after a row
+abbrev rest_of_row : Result (Row × Bits) DecodeError → Bits
+rest_of_row (Ok x) = x.1
+rest_of_row (Err fault) = []
+
+behind_shorter : (settings : DecodeSettings) (h : Bool) (rest : Bits) → length (behind_row settings h rest) ≤ length rest
+behind_shorter settings h rest = either_shorter (settings.rows_are_byte_aligned && not h) rest
+
+-- a broken line is repaired only in lenient data with EOLs, and the reader is then at its start
+broken_row : (settings : DecodeSettings) (h : Bool) (here rest : Bits) (front row : Row) (fault : DecodeError)
+    → row_of_line settings h here (Line.broken front fault) ≡ Ok (row, rest) → (h ≡ true) × (rest ≡ here)
+broken_row settings true here rest front row fault is = by_strict settings.strict is
+  where
+    by_strict : (strict : Bool) → cond {A = Result (Row × Bits) DecodeError} (strict || not true) (Err fault)
+        (Ok (repaired settings.columns front, behind_row settings true here)) ≡ Ok (row, rest) → (true ≡ true) × (rest ≡ here)
+    by_strict true e = absurd (let other : ◌≡◌ {A = Result (Row × Bits) DecodeError} (Err fault) (Ok (row, rest)) = e in cc)
+    by_strict false e = (refl, sym (ap rest_of_row e) ∙ behind_with_eols settings.rows_are_byte_aligned here)
+broken_row settings false here rest front row fault is = by_strict settings.strict is
+  where
+    by_strict : (strict : Bool) → cond {A = Result (Row × Bits) DecodeError} (strict || not false) (Err fault)
+        (Ok (repaired settings.columns front, behind_row settings false here)) ≡ Ok (row, rest) → (false ≡ true) × (rest ≡ here)
+    by_strict true e = absurd (let other : ◌≡◌ {A = Result (Row × Bits) DecodeError} (Err fault) (Ok (row, rest)) = e in cc)
+    by_strict false e = absurd (let other : ◌≡◌ {A = Result (Row × Bits) DecodeError} (Err fault) (Ok (row, rest)) = e in cc)
+
+-- a row ends no sooner than its line begins
+pub row_shorter : (settings : DecodeSettings) (h : Bool) (reference : Row) (here rest : Bits) (row : Row) → 0 < settings.columns
+    → row_of_line settings h here (line_here settings reference here) ≡ Ok (row, rest) → length rest ≤ length here
+row_shorter settings h reference here rest row wide is = by_line_here (line_here settings reference here) refl is
+  where
+    by_line_here : (line : Line) → line_here settings reference here ≡ line → row_of_line settings h here line ≡ Ok (row, rest)
+        → length rest ≤ length here
+    by_line_here (Line.whole whole behind) e given =
+        let pays = whole_pays settings.encoding settings.strict settings.columns reference here whole behind wide e in
+        let same : behind_row settings h behind ≡ rest = ap rest_of_row given in
+        omega (arith, pays.some, ap length same, behind_shorter settings h behind)
+    by_line_here (Line.broken front fault) e given =
+        omega (arith, ap length (broken_row settings h here rest front row fault given).1)
+
+-- a row after which the reading continues, seeking EOLs as before, is paid by the bits up to there
+turn_pays : (settings : DecodeSettings) (h : Bool) (taken : ℕ) (reference : Row) (here rest next : Bits) (row : Row) → 0 <
+    settings.columns → row_of_line settings h here (line_here settings reference here) ≡ Ok (row, rest) → gap_behind_row settings
+    taken h rest ≡ Gap.line_at h next → PaysLine settings.encoding here next (length (found_here settings reference here))
+turn_pays settings h taken reference here rest next row wide is gap = by_line_here (line_here settings reference here) refl is
+  where
+    found : ℕ
+    found = length (found_here settings reference here)
+
+    by_line_here : (line : Line) → line_here settings reference here ≡ line → row_of_line settings h here line ≡ Ok (row, rest)
+        → PaysLine settings.encoding here next found
+    by_line_here (Line.whole whole behind) e given =
+        let same : behind_row settings h behind ≡ rest = ap rest_of_row given in
+        further_pays settings.encoding here behind next found
+        (whole_pays settings.encoding settings.strict settings.columns reference here whole behind wide e)
+        (omega (arith, ap length same, behind_shorter settings h behind, line_behind_shorter settings taken h h rest next gap))
+    by_line_here (Line.broken front fault) e given =
+        let repaired = broken_row settings h here rest front row fault given in
+        let stands : gap_behind_row settings taken true here ≡ Gap.line_at true next
+        = subst (λ (b : Bool). gap_behind_row settings taken b here ≡ Gap.line_at b next) repaired.0
+        (subst (λ (x : Bits). gap_behind_row settings taken h x ≡ Gap.line_at h next) repaired.1 gap) in
+        let (after, eol, behind) = line_past_eol settings taken here next stands in
+        let words = found_before_eol settings.encoding settings.strict settings.columns reference here eol.fill after eol.place in
+        record {
+          some = omega (arith, length-within here after eol, behind);
+          words = omega (arith, words, behind);
+          zeros = omega (arith, looked_ahead_to_eol settings.encoding here after eol, behind);
+        }
+
+-- ---- The account
+
+module _ (settings : DecodeSettings) (wide : 0 < settings.columns) (begun bits giving_up : ℕ) (reference : Row) (h : Bool)
+    (here : Bits) (within : length here ≤ bits) (ticks changes : ℕ) (paid : IsPaidUpTo begun bits giving_up settings.encoding h
+    ticks changes here) (now : ℕ) (line : now ≤ ticks + 4 * length (found_here settings reference here) + 2 + changes) where
+  abbrev found : ℕ
+  found = length (found_here settings reference here)
+
+  found_fits : found ≤ length here
+  found_fits = found_within settings.encoding settings.strict settings.columns reference here
+
+  either_given : (b : Bool) → cond b 0 giving_up ≤ giving_up
+  either_given true = omega arith
+  either_given false = omega arith
+
+  -- a line that ends the run
+  pub line_ends : now ≤ begun + (16 * bits + 6 + giving_up)
+  line_ends = omega (arith, paid, line, within, found_fits, looked_ahead_most settings.encoding here, either_given h)
+
+  module _ (row : Row) (rest : Bits) (is : row_of_line settings h here (line_here settings reference here) ≡ Ok (row, rest)) where
+    row_fits : length rest ≤ length here
+    row_fits = row_shorter settings h reference here rest row wide is
+
+    -- an EOL that strict data miss ends it
+    pub missing_ends : (last : ℕ) → last ≤ now + length rest → last ≤ begun + (16 * bits + 6 + giving_up)
+    missing_ends last counted =
+        omega (arith, paid, line, within, found_fits, row_fits, counted, looked_ahead_most settings.encoding here, either_given h)
+
+    -- so does what ends it well
+    pub gap_ends : (last : ℕ) (left_over : Bits) → last + 4 * length left_over ≤ now + 4 * length rest + 3
+        + looked_ahead settings.encoding left_over → last ≤ begun + (16 * bits + 6 + giving_up)
+    gap_ends last left_over counted =
+        omega (
+          arith,
+          paid,
+          line,
+          within,
+          found_fits,
+          row_fits,
+          counted,
+          looked_ahead_most settings.encoding here,
+          looked_ahead_most settings.encoding left_over,
+          either_given h,
+        )
+
+    -- else the account continues
+    pub turn_goes_on : (taken : ℕ) (k : Bool) (next : Bits) (last stored : ℕ)
+        → gap_behind_row settings taken h rest ≡ Gap.line_at k next → stored ≤ found + 1 → (k ≡ h → last + 4 * length next
+        ≤ now + 4 * length rest + 3 + looked_ahead settings.encoding next) → (k ≢ h → last ≤ now + 2 * length rest)
+        → (h ≡ true → 8 * bits + 8 ≤ giving_up) → IsPaidUpTo begun bits giving_up settings.encoding k last stored next
+    turn_goes_on taken k next last stored gap few kept given_up enough = by_k h k refl refl
+      where
+        same : (b : Bool) → h ≡ b → k ≡ b → IsPaidUpTo begun bits giving_up settings.encoding b last stored next
+        same b h_is k_is =
+            let pays = turn_pays settings h taken reference here rest next row wide is
+            (gap ∙ ap (λ (x : Bool). Gap.line_at x next) (k_is ∙ sym h_is)) in
+            let before = subst (λ (x : Bool). IsPaidUpTo begun bits giving_up settings.encoding x ticks changes here) h_is paid in
+            omega (arith, before, line, row_fits, few, kept (k_is ∙ sym h_is), pays.some, pays.words, pays.zeros)
+
+        by_k : (a b : Bool) → h ≡ a → k ≡ b → IsPaidUpTo begun bits giving_up settings.encoding b last stored next
+        by_k true true h_is k_is = same true h_is k_is
+        by_k false false h_is k_is = same false h_is k_is
+        by_k true false h_is k_is =
+            let stands : gap_behind_row settings taken true rest ≡ Gap.line_at false next = ap
+            (λ (x : Bool). gap_behind_row settings taken x rest) (sym h_is) ∙ gap ∙ ap (λ (x : Bool). Gap.line_at x next) k_is in
+            let before = subst (λ (x : Bool). IsPaidUpTo begun bits giving_up settings.encoding x ticks changes here) h_is paid in
+            omega (
+              arith,
+              before,
+              line,
+              within,
+              row_fits,
+              few,
+              found_fits,
+              looked_ahead_most settings.encoding here,
+              given_up (λ e. absurd (false≢true (sym k_is ∙ e ∙ h_is))),
+              enough h_is,
+              ap length (line_given_up settings taken rest next stands),
+            )
+        by_k false true h_is k_is =
+            let stands : gap_behind_row settings taken false rest ≡ Gap.line_at true next = ap
+            (λ (x : Bool). gap_behind_row settings taken x rest) (sym h_is) ∙ gap ∙ ap (λ (x : Bool). Gap.line_at x next) k_is in
+            absurd (false≢true (sym (line_without_eols settings taken true rest next stands).0))

@@ -1,0 +1,156 @@
+-- What the words that a line finds say of the bits that it consumed: they pay for what it counts.
+use Rattle.fax_reading.proofs.Names.{◌≡◌, ℕ, suc, ◌+◌, ◌%◌, cond, ◌<◌, ◌≤◌, Bool, true, false, List, [], ◌∷◌, ◌++◌, length}
+use Rattle.fax_reading.proofs.Names.{replicate, sym, ap, ◌∙◌, subst, arith, append_assoc, inl, inr, false≢true, cases_lt}
+use Rattle.fax_reading.proofs.Names.{length-append, length-drop, EncodingMode, Group4, Group3_1D, Group3_2D, Bits, AreWords}
+use Rattle.fax_reading.proofs.Names.{joined, Line, found_1d, found_2d, line_1d, line_2d, line_found, aligned, Row, looked}
+use Rattle.fax_bits.proofs.BitReading.ZerosInWords.{holds_a_one, word_one, no_eleven_in, prefix_of_prefix}
+use Rattle.fax_reading.proofs.CodeWords.WordsFound.{WordsStand, LineEnds, line_1d_stands, line_2d_stands}
+use Rattle.fax_reading.proofs.DrawingLines.ReadLines.{TookBits, line_1d_took_bits, line_2d_took_bits}
+
+-- ---- Consecutive words have a bit each, and contain a one.
+
+some_bit : (word : Bits) → holds_a_one word ≡ true → 0 < length word
+some_bit [] e = absurd (false≢true e)
+some_bit (bit ∷ word) e = omega arith
+
+words_bits : (words : List Bits) → AreWords words → length words ≤ length (joined words)
+words_bits [] are = omega arith
+words_bits (word ∷ words) are =
+    omega (arith, words_bits words are.1, some_bit word (word_one word are.0), length-append word (joined words))
+
+-- there are no more words than bits
+pub stands_count : (here : Bits) (found : List Bits) (rest : Bits) → WordsStand here found rest
+    → length found + length rest ≤ length here
+stands_count here found rest stands =
+    omega (arith, words_bits found stands.words, ap length stands.place, length-append (joined found) rest)
+
+looked_word : (word more : Bits) → holds_a_one word ≡ true → looked (word ++ more) ≤ length word
+looked_word [] more e = absurd (false≢true e)
+looked_word (true ∷ word) more e = omega arith
+looked_word (false ∷ word) more e = omega (arith, looked_word word more e)
+
+-- a count of zeros from the start of words ends within them
+stands_looked : (here : Bits) (word : Bits) (found : List Bits) (rest : Bits) → WordsStand here (word ∷ found) rest
+    → looked here + length rest ≤ length here
+stands_looked here word found rest stands =
+    let same : here ≡ word ++ (joined found ++ rest) = stands.place ∙ append_assoc word (joined found) rest in
+    let ends : looked here ≤ length word = subst (λ (x : Bits). looked x ≤ length word) (sym same)
+    (looked_word word (joined found ++ rest) (word_one word stands.words.0)) in
+    omega (arith, ends, ap length same, length-append word (joined found ++ rest), length-append (joined found) rest)
+
+-- an EOL at or after a line's start, its tag included, ends past each word
+pub stands_before_eol : (tag : Bool) (here : Bits) (found : List Bits) (rest fill after : Bits) → WordsStand here found rest
+    → tag ∷ here ≡ fill ++ replicate 11 false ++ true ∷ after → length after < length rest
+stands_before_eol tag here found rest fill after stands e =
+    let cut : (tag ∷ joined found) ++ rest ≡ (fill ++ replicate 11 false) ++ (true ∷ after) =
+    ap (λ (x : Bits). tag ∷ x) (sym stands.place) ∙ e in
+    elim (cases_lt (length after) (length rest)) [
+      | inl lt ↦ lt
+      | inr ge ↦
+          let sizes : suc (length (joined found)) + length rest ≡ length (fill ++ replicate 11 false) + suc (length after) =
+          omega (
+            arith,
+            ap length cut,
+            length-append (joined found) rest,
+            length-append (fill ++ replicate 11 false) (true ∷ after),
+          ) in
+          let long : length (fill ++ replicate 11 false) ≤ length (tag ∷ joined found) = omega (arith, sizes) in
+          let front = prefix_of_prefix (fill ++ replicate 11 false) (true ∷ after) (tag ∷ joined found) rest cut long in
+          absurd (no_eleven_in tag found stands.words (fill, front.0, front.1))
+    ]
+
+-- ---- What a line pays.
+
+-- a whole line: some words, within the bits that it consumed, and zeros ahead within them
+pub record LineIsPaid (here rest : Bits) (found : List Bits) : Type 0 where
+  pub some : 0 < length found
+  pub words : length found + length rest ≤ length here
+  pub zeros : looked here + length rest ≤ length here
+
+-- a whole byte is further on
+pub either_shorter : (aligns : Bool) (rest : Bits) → length (cond aligns (aligned rest) rest) ≤ length rest
+either_shorter true rest = omega (arith, length-drop (length rest % 8) rest)
+either_shorter false rest = omega arith
+
+paid_by : (here rest : Bits) (found : List Bits) → WordsStand here found rest → length rest < length here
+    → LineIsPaid here rest found
+paid_by here rest [] stands lt = absurd (omega (arith, lt, ap length stands.place))
+paid_by here rest (word ∷ found) stands lt =
+    record {
+      some = omega arith;
+      words = stands_count here (word ∷ found) rest stands;
+      zeros = stands_looked here word found rest stands;
+    }
+
+whole_paid : (here : Bits) (line : Line) (found : List Bits) (end : Bits) (row : Row) (rest : Bits) → WordsStand here found end
+    → LineEnds line end → TookBits (length here) line → line ≡ Line.whole row rest → LineIsPaid here rest found
+whole_paid here line found end row rest stands ends took e =
+    let same : rest ≡ end = subst (λ (l : Line). LineEnds l end) e ends in
+    let lt : length rest < length here = subst (λ (l : Line). TookBits (length here) l) e took in
+    paid_by here rest found (subst (λ (x : Bits). WordsStand here found x) (sym same) stands) lt
+
+pub line_1d_paid : (strict : Bool) (columns : ℕ) (here : Bits) (row : Row) (rest : Bits) → 0 < columns
+    → line_1d strict columns here ≡ Line.whole row rest → LineIsPaid here rest (found_1d strict columns here)
+line_1d_paid strict columns here row rest wide e =
+    let stands = line_1d_stands strict columns here in
+    whole_paid here (line_1d strict columns here) (found_1d strict columns here) stands.0 row rest stands.1 stands.2
+    (line_1d_took_bits strict columns here wide) e
+
+pub line_2d_paid : (strict : Bool) (columns : ℕ) (reference : Row) (here : Bits) (row : Row) (rest : Bits) → 0 < columns
+    → line_2d strict columns reference here ≡ Line.whole row rest → LineIsPaid here rest (found_2d strict columns reference here)
+line_2d_paid strict columns reference here row rest wide e =
+    let stands = line_2d_stands strict columns reference here in
+    whole_paid here (line_2d strict columns reference here) (found_2d strict columns reference here) stands.0 row rest stands.1
+    stands.2 (line_2d_took_bits strict columns reference here wide) e
+
+-- a line finds no more words than there are bits
+pub found_within : (encoding : EncodingMode) (strict : Bool) (columns : ℕ) (reference : Row) (here : Bits)
+    → length (line_found encoding strict columns reference here) ≤ length here
+found_within Group3_2D strict columns reference [] = omega arith
+found_within Group3_2D strict columns reference (true ∷ here) =
+    let stands = line_1d_stands strict columns here in
+    omega (arith, stands_count here (found_1d strict columns here) stands.0 stands.1)
+found_within Group3_2D strict columns reference (false ∷ here) =
+    let stands = line_2d_stands strict columns reference here in
+    omega (arith, stands_count here (found_2d strict columns reference here) stands.0 stands.1)
+found_within Group3_1D strict columns reference here =
+    let stands = line_1d_stands strict columns here in
+    omega (arith, stands_count here (found_1d strict columns here) stands.0 stands.1)
+found_within Group4 strict columns reference here =
+    let stands = line_2d_stands strict columns reference here in
+    omega (arith, stands_count here (found_2d strict columns reference here) stands.0 stands.1)
+
+-- there is no EOL at the end of the data
+no_eol_at_the_end : (fill after : Bits) → ◌≡◌ {A = Bits} [] (fill ++ replicate 11 false ++ true ∷ after) → ⊥
+no_eol_at_the_end [] after e = cc
+no_eol_at_the_end (bit ∷ fill) after e = cc
+
+-- and if there is an EOL at or after its start, no more than there are bits before the EOL's end
+pub found_before_eol : (encoding : EncodingMode) (strict : Bool) (columns : ℕ) (reference : Row) (here fill after : Bits)
+    → here ≡ fill ++ replicate 11 false ++ true ∷ after
+    → length (line_found encoding strict columns reference here) + length after ≤ length here
+found_before_eol Group3_2D strict columns reference [] fill after e = absurd (no_eol_at_the_end fill after e)
+found_before_eol Group3_2D strict columns reference (true ∷ here) fill after e =
+    let stands = line_1d_stands strict columns here in
+    omega (
+      arith,
+      stands_count here (found_1d strict columns here) stands.0 stands.1,
+      stands_before_eol true here (found_1d strict columns here) stands.0 fill after stands.1 e,
+    )
+found_before_eol Group3_2D strict columns reference (false ∷ here) fill after e =
+    let stands = line_2d_stands strict columns reference here in
+    omega (
+      arith,
+      stands_count here (found_2d strict columns reference here) stands.0 stands.1,
+      stands_before_eol false here (found_2d strict columns reference here) stands.0 fill after stands.1 e,
+    )
+found_before_eol Group3_1D strict columns reference here fill after e =
+    let stands = line_1d_stands strict columns here in
+    let before = stands_before_eol true here (found_1d strict columns here) stands.0 (true ∷ fill) after stands.1
+    (ap (λ (x : Bits). true ∷ x) e) in
+    omega (arith, stands_count here (found_1d strict columns here) stands.0 stands.1, before)
+found_before_eol Group4 strict columns reference here fill after e =
+    let stands = line_2d_stands strict columns reference here in
+    let before = stands_before_eol true here (found_2d strict columns reference here) stands.0 (true ∷ fill) after stands.1
+    (ap (λ (x : Bits). true ∷ x) e) in
+    omega (arith, stands_count here (found_2d strict columns reference here) stands.0 stands.1, before)

@@ -1,8 +1,0 @@
-pub mod B1ByParity
-pub mod EndedPlaces
-pub mod ChangePlaces
-pub mod ChangesAndPixels
-pub mod Painting
-pub mod ReferencePlaces
-pub mod RowChanges
-pub mod StepsOnRows

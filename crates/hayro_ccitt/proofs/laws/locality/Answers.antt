@@ -1,9 +1,0 @@
-use Rattle.hayro_ccitt.proofs.DamagedLines.LocalByTests.{local_by_tests}
-use Rattle.hayro_ccitt.proofs.DamagedLines.Damage.{locality as the_lemma}
-use Rattle.hayro_ccitt.proofs.laws.locality.Goals as goal
-
-pub returns-clause-tests : goal.returns-clause-tests
-returns-clause-tests c = local_by_tests
-
-pub returns-clause-one_row : goal.returns-clause-one_row
-returns-clause-one_row c = the_lemma

@@ -1,9 +1,0 @@
-use Rattle.hayro_ccitt.proofs.DamagedLines.EncodedBodies.{encoded_lines_are_bodies}
-use Rattle.hayro_ccitt.proofs.DamagedLines.DamageByK.{locality_by_k as the_lemma}
-use Rattle.hayro_ccitt.proofs.laws.locality_by_k.Goals as goal
-
-pub returns-clause-rows : goal.returns-clause-rows
-returns-clause-rows c = the_lemma
-
-pub returns-clause-bodies : goal.returns-clause-bodies
-returns-clause-bodies c = encoded_lines_are_bodies

@@ -1,8 +1,0 @@
-use Rattle.hayro_ccitt.proofs.{EncodedPictures.PicturesT4.one_picture_t4, EncodedPictures.PicturesT6.one_picture_t6}
-use Rattle.hayro_ccitt.proofs.laws.one_picture.Goals as goal
-
-pub returns-clause-t6 : goal.returns-clause-t6
-returns-clause-t6 c = one_picture_t6
-
-pub returns-clause-t4 : goal.returns-clause-t4
-returns-clause-t4 c = one_picture_t4

@@ -1,5 +1,0 @@
-use Rattle.hayro_ccitt.proofs.Readings.Strictness.{strict_then_lenient as the_lemma}
-use Rattle.hayro_ccitt.proofs.laws.strict_then_lenient.Goals as goal
-
-pub returns : goal.returns
-returns c = the_lemma

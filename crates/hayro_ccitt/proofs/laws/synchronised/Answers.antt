@@ -1,5 +1,0 @@
-use Rattle.hayro_ccitt.proofs.CodeWords.WordsFound.{words_synchronised}
-use Rattle.hayro_ccitt.proofs.laws.synchronised.Goals as goal
-
-pub returns-clause-law : goal.returns-clause-law
-returns-clause-law c = words_synchronised
