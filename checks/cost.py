@@ -336,9 +336,10 @@ def runs_of_the_program():
     assert not worse, worse
 
 
-# A page of a scanner in each kind of picture, the ways that measured_pages.c measures, in its order, and those of the programs.
+# A page of a scanner in each kind of picture, and pages of what is rare there, each with its rows; the ways that measured_pages.c
+# measures, in its order, and those of the programs.
 PAGE, COLUMNS, ROWS = "corpus/pictures/page", 1240, 1754
-PAGES = ["text", "scan", "halftone", "dither"]
+PAGES = {"text": ROWS, "scan": ROWS, "halftone": ROWS, "dither": ROWS, "blank": ROWS, "borders": 200, "inverted": 100}
 WAYS = ["encode", "measure", "packed", "changes", "next_packed", "next_changes", "row_packed", "row_changes"]
 PROGRAM_WAYS = {"faxrows": [""], "faxrows -o": ["-o"], "faxrows -i": ["-i"], "faxrows -d": ["-d"]}
 PICTURES = [("g4", "b"), ("1d", "lb"), ("2d", "lb")]
@@ -352,28 +353,28 @@ def costs_of_pages():
     programs read the page of text to its end."""
     with tempfile.TemporaryDirectory() as folder:
         driver = c_library.compiled(f"{folder}/driver", "checks/measured_pages.c", c_library.LIBRARY)
-        for page in PAGES:
+        for page, rows in PAGES.items():
             for encoding, (mode, _) in enumerate(PICTURES):
-                words = [driver, page, str(encoding), str(COLUMNS), str(ROWS), *([PAGE] if page in ("text", "scan") else [])]
+                words = [driver, page, str(encoding), str(COLUMNS), str(rows), *([PAGE] if page in ("text", "scan") else [])]
                 counts, printed = instructions_of_each(folder, words)
                 assert len(counts) == len(WAYS), (page, mode, counts)
                 for way, count in zip(WAYS, counts):
                     yield page, mode, way, count / int(printed)
-                changes = int(printed) if page == PAGES[0] else changes
+                changes = int(printed) if page == "text" else changes
         with open(PAGE, "rb") as file:
             bitmap = file.read()
         for mode, flags in PICTURES:
             words = ["-o", mode, str(COLUMNS), str(ROWS), flags]
             with open(PAGE, "rb") as stdin:
                 cost, strip = instructions(folder, [packing.PROGRAM, *words], whole=True, stdin=stdin)
-            yield PAGES[0], mode, "faxpack", cost / changes
+            yield "text", mode, "faxpack", cost / changes
             with open(f"{folder}/strip", "wb") as file:
                 file.write(strip)
             for way, first in PROGRAM_WAYS.items():
                 with open(f"{folder}/strip", "rb") as stdin:
                     cost, written = instructions(folder, [program.PROGRAM, *filter(None, first), mode, str(COLUMNS), "0", flags], whole=True, stdin=stdin)
                 assert first != ["-o"] or written == bitmap, (mode, way)
-                yield PAGES[0], mode, way, cost / changes
+                yield "text", mode, way, cost / changes
 
 
 def instructions_of_each(folder, command):
