@@ -10,7 +10,7 @@ use Rattle.fax_encode.proofs.RunsWritten.{rest_few, rest_more, short_run, two_ru
 pub word_length : (word : Bits) (coded : Word) → IsWord word coded → length word ≡ coded.count
 word_length word coded is = sym (ap length is.spells) ∙ length-low_bits coded.count coded.bits
 
-long_word : (color : Color) → length (word_of_length color 2560) ≡ 12
+pub long_word : (color : Color) → length (word_of_length color 2560) ≡ 12
 long_word White = refl
 long_word Black = refl
 

@@ -49,17 +49,22 @@ first_long Black times =
     (omega arith, omega arith) (omega arith, omega arith)))
 
 -- the word that comes first in all longer runs
-top : Color → ℕ
+unfoldable pub top : Color → ℕ
 top White = 26
 top Black = 40
 
-first_late : (color : Color) (times : ℕ) → 124 ≤ times → first_makeup color times ≡ top color
+-- and from which length on, in times of 64 pixels
+abbrev pub late : Color → ℕ
+late White = 68
+late Black = 124
+
+pub first_late : (color : Color) (times : ℕ) → late color ≤ times → first_makeup color times ≡ top color
 unfolding top
-first_late White times late =
+first_late White times many =
     let a : leb times 67 ≡ false = lt-leb times 67 (omega arith) in
     let b : leb 66 times ≡ true = le-leb 66 times (omega arith) in
     rw (a, b) refl
-first_late Black times late =
+first_late Black times many =
     let a : eqb times 56 ≡ false = ne_eqb times 56 (omega arith) in
     let b : eqb times 84 ≡ false = ne_eqb times 84 (omega arith) in
     let c : eqb times 57 ≡ false = ne_eqb times 57 (omega arith) in
@@ -129,16 +134,16 @@ adds_first color times more early few =
     leb-true (total color (times + more)) (total color times + one color more)
     (agree_below_at (adds_at color times) (λ m. true) 41 more (adds_early color times early) (omega arith))
 
-top_long : (color : Color) → (26 ≤ top color) × (top color ≤ 40)
+top_long : (color : Color) → (26 ≤ top color) × (top color ≤ 40) × (late color ≤ 124)
 unfolding top
-top_long White = (omega arith, omega arith)
-top_long Black = (omega arith, omega arith)
+top_long White = (omega arith, omega arith, omega arith)
+top_long Black = (omega arith, omega arith, omega arith)
 
 late_word : (color : Color) (times : ℕ) → 124 ≤ times
     → total color times ≡ one color (top color) + total color (times - top color)
-late_word color times late =
-    total_many color times (omega arith)
-    ∙ ap (λ (m : ℕ). one color m + total color (times - m)) (first_late color times late)
+late_word color times many =
+    total_many color times (omega (arith, many))
+    ∙ ap (λ (m : ℕ). one color m + total color (times - m)) (first_late color times (omega (arith, many, (top_long color).2)))
 
 one_some : (color : Color) (times : ℕ) → 0 < times → one color times ≡ length (word_of_length color (64 * times))
 unfolding one
@@ -341,14 +346,12 @@ longest White = refl
 longest Black = refl
 
 white_dearer : (bound times : ℕ) → times ≤ bound → 68 ≤ times → total White times < usual White times
+unfolding top
 white_dearer zero times le many = absurd (omega arith)
 white_dearer (suc bound) times le many = elim (cases_lt times 124) [
   | inl early ↦
-      let a : leb times 67 ≡ false = lt-leb times 67 (omega arith) in
-      let b : leb 66 times ≡ true = le-leb 66 times (omega arith) in
-      let short : first_makeup White times ≡ 26 = rw (a, b) refl in
       elim (dearer_first White times early (omega arith)) [
-        | inl same ↦ absurd (omega (arith, same, short))
+        | inl same ↦ absurd (omega (arith, same, first_late White times many))
         | inr dear ↦ dear
       ]
   | inr late ↦

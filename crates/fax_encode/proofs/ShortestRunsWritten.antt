@@ -6,9 +6,9 @@ use Rattle.fax_encode.proofs.Names.{word_of_length, chosen_rest, first_makeup}
 use Rattle.fax_encode.proofs.Names.{Bool, leb, ◌&&◌, List, [], ◌∷◌, Code, word_of, cond, eqb, White, Black, codes_of, leb-true}
 use Rattle.fax_encode.proofs.Names.{and_parts, opposite}
 use Rattle.fax_encode.specs.Shortest.{shortest_words, shortest_run}
-use Rattle.fax_encode.proofs.ShortestRuns.{first_long}
+use Rattle.fax_encode.proofs.ShortestRuns.{first_long, first_late, top}
 use Rattle.fax_encode.proofs.RunsWritten.{rest_few, rest_more}
-use Rattle.fax_encode.proofs.RunLengths.{word_length, least_run, rest_least}
+use Rattle.fax_encode.proofs.RunLengths.{word_length, long_word, least_run, rest_least}
 
 words_enough : (color : Color) (some more n : ℕ) → n < 1664 * suc some → n < 1664 * suc more
     → shortest_words color some n ≡ shortest_words color more n
@@ -67,6 +67,40 @@ bits_more color n times bits word many is coded =
       ap length (shortest_more color n times many is),
       length-append (word_of_length color (64 * times)) (shortest_run color (n - 64 * times)),
       word_length (word_of_length color (64 * times)) word coded,
+    )
+
+-- words of one length at the front
+pub white_front : (words n : ℕ) → 1664 * words ≤ n - 2688
+    → 6 * words + length (shortest_run White (n - 1664 * words)) ≡ length (shortest_run White n)
+unfolding top
+white_front zero n le = let same : n - 1664 * zero ≡ n = omega arith in
+    omega (arith, ap (λ (m : ℕ). length (shortest_run White m)) same)
+white_front (suc words) n le =
+    let rest : n - 1664 - 1664 * words ≡ n - 1664 * suc words = omega arith in
+    let six : length (word_of_length White 1664) ≡ 6 = refl in
+    omega (
+      arith,
+      white_front words (n - 1664) (omega (arith, le)),
+      ap (λ (m : ℕ). length (shortest_run White m)) rest,
+      ap length (shortest_more White n 26 (omega (arith, le)) (sym (first_late White (n / 64) (omega (arith, le))))),
+      length-append (word_of_length White 1664) (shortest_run White (n - 1664)),
+      six,
+    )
+
+pub black_front : (words n : ℕ) → 2560 * words ≤ n - 5376
+    → 12 * words + length (shortest_run Black (n - 2560 * words)) ≡ length (shortest_run Black n)
+unfolding top
+black_front zero n le = let same : n - 2560 * zero ≡ n = omega arith in
+    omega (arith, ap (λ (m : ℕ). length (shortest_run Black m)) same)
+black_front (suc words) n le =
+    let rest : n - 2560 - 2560 * words ≡ n - 2560 * suc words = omega arith in
+    omega (
+      arith,
+      black_front words (n - 2560) (omega (arith, le)),
+      ap (λ (m : ℕ). length (shortest_run Black m)) rest,
+      ap length (shortest_more Black n 40 (omega (arith, le)) (sym (first_late Black (n / 64) (omega (arith, le))))),
+      length-append (word_of_length Black 2560) (shortest_run Black (n - 2560)),
+      long_word Black,
     )
 
 pub rest_one : (color : Color) (n : ℕ) (last : Word) → n < 64 → IsWord (word_of_length color (n % 64)) last
