@@ -281,3 +281,12 @@ module _ (reference row : Row) (same : length reference ≡ length row) where
     unfolding going_on
     goes_no_further k best inside le is =
         is ∙ ap (λ (b : Bits). shorter (words_of_passes k ++ b) best) (rest_ends (passed_by reference at k) inside le)
+
+    -- more passes take more bits than the best of the others
+    pub stays : (k : ℕ) (best : Bits)
+        → length best < length (words_of_passes k) + length (shortest_rest reference row (passed_by reference at k))
+        → going_on reference row at k best ≡ best
+    unfolding going_on
+    stays k best lt =
+        let rest : Bits = shortest_rest reference row (passed_by reference at k) in
+        taken_second (words_of_passes k ++ rest) best (omega (arith, lt, length-append (words_of_passes k) rest))
