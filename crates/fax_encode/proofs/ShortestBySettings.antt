@@ -1,7 +1,7 @@
 -- What is chosen by settings with the effort `Shortest` has the fewest bits.
-use Rattle.fax_encode.proofs.Names.{◌≡◌, ℕ, zero, suc, ◌+◌, ◌%◌, ◌<◌, ◌≤◌, Bool, false, true, cond, leb, List, [], ◌∷◌, ◌++◌, length}
-use Rattle.fax_encode.proofs.Names.{refl, sym, ap, subst, ◌∙◌, arith, length-append, length-replicate, cases_lt, inl, inr}
-use Rattle.fax_encode.proofs.Names.{false≢true, le-leb, All, All-head, All-tail, EncodingMode, Group4, Group3_1D, Group3_2D}
+use Rattle.fax_encode.proofs.Names.{◌≡◌, ℕ, zero, suc, ◌+◌, ◌%◌, ◌<◌, ◌≤◌, Bool, false, true, cond, List, [], ◌∷◌, ◌++◌, length}
+use Rattle.fax_encode.proofs.Names.{refl, sym, ap, subst, ◌∙◌, arith, length-append, length-replicate}
+use Rattle.fax_encode.proofs.Names.{false≢true, All, All-head, All-tail, EncodingMode, Group4, Group3_1D, Group3_2D}
 use Rattle.fax_encode.proofs.Names.{Bits, Row, white_row, EncodesRowsWithEols, IsPicture, eol, tag_of, Effort, Shortest}
 use Rattle.fax_encode.proofs.Names.{NoLineIsShorter, NoRunsAreShorter, NoneIsShorter, EncodesAlike, EncodesInKinds}
 use Rattle.fax_encode.proofs.Names.{EncodesInKindsWithEols, chosen_end, chosen_eols, chosen_line, chosen_lines}
@@ -9,27 +9,16 @@ use Rattle.fax_encode.proofs.Names.{chosen_lines_with_eols, chosen_picture, chos
 use Rattle.fax_encode.proofs.Names.{shortest_line_2d}
 use Rattle.fax_encode.specs.Shortest.{shortest_line_1d}
 use Rattle.fax_encode.proofs.FilledEols.{length-eol}
+use Rattle.fax_encode.proofs.ChosenBySettings.{shorter_line}
 use Rattle.fax_encode.proofs.{ShortestLines.shortest_lines, ShortestRows.shortest_1d_least}
 use Rattle.fax_encode.proofs.ShortestPictures.{line_least, lines_least, any_kind, end_least}
 
 -- ---- A line.
--- the line that is taken is no longer than the first
-first_no_longer : (two one : Bits) → length (cond (leb (length two) (length one)) (false ∷ two) (true ∷ one)) ≤ suc (length two)
-first_no_longer two one = by_leb (leb (length two) (length one)) refl
-  where
-    by_leb : (short : Bool) → leb (length two) (length one) ≡ short → length (cond short (false ∷ two) (true ∷ one)) ≤ suc
-        (length two)
-    by_leb true e = omega arith
-    by_leb false e = elim (cases_lt (length one) (length two)) [
-      | inl lt ↦ omega (arith, lt)
-      | inr ge ↦ absurd (false≢true (sym e ∙ le-leb (length two) (length one) ge))
-    ]
-
 -- the law
 pub no_line_is_shorter : NoLineIsShorter
 no_line_is_shorter left reference row bits same encodes =
     let least = (shortest_lines reference row same).1 bits encodes in
-    omega (arith, least, first_no_longer (shortest_line_2d reference row) (shortest_line_1d row))
+    omega (arith, least, (shorter_line (shortest_line_2d reference row) (shortest_line_1d row)).0)
 
 -- the law
 pub no_runs_are_shorter : NoRunsAreShorter

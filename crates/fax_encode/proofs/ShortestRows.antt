@@ -1,13 +1,13 @@
 -- One-dimensional lines by the shortest words encode their rows, and no other words do in fewer bits.
 use Rattle.fax_encode.proofs.Names.{◌≡◌, ◌≢◌, ℕ, zero, suc, ◌+◌, ◌-◌, ◌*◌, ◌<◌, ◌≤◌, Bool, not, List, [], ◌∷◌, ◌++◌, length}
 use Rattle.fax_encode.proofs.Names.{get_or, drop, replicate, refl, sym, ap, subst, ◌∙◌, arith, length-append, length-replicate}
-use Rattle.fax_encode.proofs.Names.{append-nil, Color, White, Black, Bits, Row, is_black, opposite, changes, pixels, pixels_from}
+use Rattle.fax_encode.proofs.Names.{append-nil, Color, White, Bits, Row, is_black, opposite, changes, pixels, pixels_from}
 use Rattle.fax_encode.proofs.Names.{AreChanges, AscendFrom, AscendFrom-wider, AreChanges-changes, EncodesLine1D}
 use Rattle.fax_encode.proofs.Names.{pixels_from-first}
 use Rattle.fax_encode.proofs.Names.{pixels-changes, changes-pixels, length-pixels, shortest_run}
 use Rattle.fax_encode.specs.Shortest.{shortest_runs_1d, shortest_line_1d}
 use Rattle.fax_encode.proofs.ChosenLines.{not_black, begins_other}
-use Rattle.fax_encode.proofs.RunLengths.{least_run, least_rest}
+use Rattle.fax_encode.proofs.RunLengths.{runs_least}
 use Rattle.fax_encode.proofs.RunsWritten.{next_is}
 use Rattle.fax_encode.proofs.ShortestRuns.{shortest_runs}
 use Rattle.fax_encode.proofs.ShortestRunsWritten.{least_of_run}
@@ -107,24 +107,7 @@ next_shortest columns place i color changes lt ascend =
     ap (shortest_runs_1d columns color place) (next_is columns place i color changes lt ascend)
 
 -- they have three bits for each change, and a few
-least_bits : (color : Color) (place width : ℕ) (list : List ℕ)
-    → length list * 3 + least_rest color ≤ length (shortest_runs_1d width color place list)
-unfolding least_run
-least_bits White place width [] = omega (arith, least_of_run White (width - place))
-least_bits Black place width [] = omega (arith, least_of_run Black (width - place))
-least_bits White place width (change ∷ list) = omega (
-  arith,
-  length-append (shortest_run White (change - place)) (shortest_runs_1d width Black change list),
-  least_of_run White (change - place),
-  least_bits Black change width list,
-)
-least_bits Black place width (change ∷ list) = omega (
-  arith,
-  length-append (shortest_run Black (change - place)) (shortest_runs_1d width White change list),
-  least_of_run Black (change - place),
-  least_bits White change width list,
-)
-
 pub shortest_row_least : (columns : ℕ) (changes : List ℕ)
     → length changes * 3 + 3 ≤ length (shortest_runs_1d columns White 0 changes)
-shortest_row_least columns changes = least_bits White 0 columns changes
+shortest_row_least columns changes = runs_least shortest_run shortest_runs_1d least_of_run (λ width place color. refl)
+    (λ width place change color list. refl) White 0 columns changes

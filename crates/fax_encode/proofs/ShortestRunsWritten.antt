@@ -159,45 +159,28 @@ rest_few_bits color n = elim (cases_lt n 64) [
       )
 ]
 
--- a run has no more bits than its pixels and 26
-pub run_few : (color : Color) (bound n : ℕ) → n ≤ bound → length (shortest_run color n) ≤ n + 26
-run_few color zero n le = omega (arith, le, ap length (shortest_few color n (omega (arith, le))), rest_few_bits color n)
-run_few color (suc bound) n le = elim (cases_lt n 2624) [
-  | inl few ↦ omega (arith, ap length (shortest_few color n few), rest_few_bits color n)
-  | inr many ↦
-      let first : ℕ = first_makeup color (n / 64) in
-      let long = first_long color (n / 64) in
-      omega (
-        arith,
-        run_few color bound (n - 64 * first) (omega (arith, le, long.0)),
-        long.0,
-        long.1,
-        many,
-        ap length (shortest_more color n first many refl),
-        length-append (word_of_length color (64 * first)) (shortest_run color (n - 64 * first)),
-        length_few color (64 * first),
-      )
-]
+-- what a run has at least, and that it has no more bits than its pixels and 26
+few_bounds : (color : Color) (n : ℕ) → n < 2624
+    → (least_run color ≤ length (shortest_run color n)) × (length (shortest_run color n) ≤ n + 26)
+few_bounds color n few =
+    let is = ap length (shortest_few color n few) in (omega (arith, is, rest_least color n), omega (arith, is, rest_few_bits color n))
 
--- what a run has at least
-shortest_least : (color : Color) (bound n : ℕ) → n ≤ bound → least_run color ≤ length (shortest_run color n)
-shortest_least color zero n le =
-    omega (arith, ap length (shortest_few color n (omega (arith, le))), rest_least color n)
-shortest_least color (suc bound) n le = elim (cases_lt n 2624) [
-  | inl few ↦ omega (arith, ap length (shortest_few color n few), rest_least color n)
+pub run_bounds : (color : Color) (bound n : ℕ) → n ≤ bound
+    → (least_run color ≤ length (shortest_run color n)) × (length (shortest_run color n) ≤ n + 26)
+run_bounds color zero n le = few_bounds color n (omega (arith, le))
+run_bounds color (suc bound) n le = elim (cases_lt n 2624) [
+  | inl few ↦ few_bounds color n few
   | inr many ↦
       let first : ℕ = first_makeup color (n / 64) in
       let long = first_long color (n / 64) in
-      omega (
-        arith,
-        shortest_least color bound (n - 64 * first) (omega (arith, le, long.0)),
-        ap length (shortest_more color n first many refl),
-        length-append (word_of_length color (64 * first)) (shortest_run color (n - 64 * first)),
-      )
+      let rest = run_bounds color bound (n - 64 * first) (omega (arith, le, long.0)) in
+      let is = ap length (shortest_more color n first many refl) in
+      let sum = length-append (word_of_length color (64 * first)) (shortest_run color (n - 64 * first)) in
+      (omega (arith, rest.0, is, sum), omega (arith, rest.1, long, many, is, sum, length_few color (64 * first)))
 ]
 
 pub least_of_run : (color : Color) (n : ℕ) → least_run color ≤ length (shortest_run color n)
-least_of_run color n = shortest_least color n n (omega arith)
+least_of_run color n = (run_bounds color n n (omega arith)).0
 
 -- and two runs, one of each colour
 pub two_runs_least : (color : Color) (m n : ℕ) → 6 ≤ length (shortest_run color m) + length (shortest_run (opposite color) n)

@@ -10,7 +10,7 @@ use Rattle.fax_encode.specs.Ways.{shortest_rest, begun_in, without_pass, passed,
 use Rattle.fax_encode.specs.Ways.{MayPass}
 use Rattle.fax_encode.proofs.ShortestLines.{others, begins_with, from_is, over_is, pass_right, at_most}
 use Rattle.fax_encode.proofs.Names.{◌⊎◌}
-use Rattle.fax_encode.proofs.ShortestRunsWritten.{run_few}
+use Rattle.fax_encode.proofs.ShortestRunsWritten.{run_bounds}
 use Rattle.std.proofs.lemmas.Bool.{lt-leb}
 
 -- ---- The shorter of two.
@@ -171,8 +171,8 @@ module _ (reference row : Row) (same : length reference ≡ length row) where
           length-append (word_of_mode Horizontal ++ (run1 ++ run2)) rest,
           length-append (word_of_mode Horizontal) (run1 ++ run2),
           length-append run1 run2,
-          run_few at.color (to - (at.from - 1)) (to - (at.from - 1)) (omega arith),
-          run_few (opposite at.color) (second - to) (second - to) (omega arith),
+          (run_bounds at.color (to - (at.from - 1)) (to - (at.from - 1)) (omega arith)).1,
+          (run_bounds (opposite at.color) (second - to) (second - to) (omega arith)).1,
         )
   ]
 
