@@ -294,7 +294,7 @@ DENSE_ROWS = [
         "mw",
         4,
         lambda columns: 2 * (12 * (columns - 2) // 2 + 4 + 3 + 6 * ((columns // 64 - 15) // 26) + 9 + 8 + 10) + 24,
-        810,
+        807,
     ),
 ]
 WIDTHS = (1 << 15, 1 << 17)
