@@ -121,7 +121,8 @@ module _ (columns k : ℕ) (rows : List Row) (lines : Bits) (is : IsPicture colu
       least : length mine ≤ length lines
       least = omega (
         arith,
-        eols_least encoding columns k 0 0 0 fills white rows is.0 (omega arith) (length-replicate columns false) is.1 lines encodes,
+        eols_least encoding columns k 0 0 0 fills white rows is.0 (omega arith) (length-replicate columns false) is.1 lines
+            encodes,
       )
 
       by_end : (ends : Bool) → length (mine ++ cond ends (chosen_eols encoding fills (length mine) 6) [])

@@ -1,7 +1,8 @@
 -- Lines with the effort `Shortest` have no more bits than others of the same kinds, and so has the shortest T.6 picture.
-use Rattle.fax_encode.proofs.Names.{◌≡◌, ℕ, ◌-◌, ◌%◌, ◌<◌, ◌≤◌, Bool, true, false, cond, List, [], ◌∷◌, ◌++◌, length, take, get_or}
-use Rattle.fax_encode.proofs.Names.{refl, sym, ap, subst, ◌∙◌, arith, All, All-head, All-tail, length-append, length-replicate}
-use Rattle.fax_encode.proofs.Names.{false≢true, inl, inr, EncodingMode, Group4, Group3_1D, Group3_2D, White, Bits, Row, white_row}
+use Rattle.fax_encode.proofs.Names.{◌≡◌, ℕ, ◌-◌, ◌%◌, ◌<◌, ◌≤◌, Bool, true, false, cond, List, [], ◌∷◌, ◌++◌, length, take}
+use Rattle.fax_encode.proofs.Names.{get_or, refl, sym, ap, subst, ◌∙◌, arith, All, All-head, All-tail, length-append}
+use Rattle.fax_encode.proofs.Names.{length-replicate, false≢true, inl, inr}
+use Rattle.fax_encode.proofs.Names.{EncodingMode, Group4, Group3_1D, Group3_2D, White, Bits, Row, white_row}
 use Rattle.fax_encode.proofs.Names.{EncodesLine, EncodesLine1D, EncodesLine2D, EncodesRows, EncodesInKinds, eol, padding, tag_of}
 use Rattle.fax_encode.proofs.Names.{Shortest, chosen_line, chosen_lines, is_two_dimensional, left_after, shortest_line_2d}
 use Rattle.fax_encode.proofs.Names.{shortest_lines_2d, ShortestPicturesT6}
@@ -124,8 +125,9 @@ shortest_pictures_t6 columns aligned rows is =
       ),
       λ bits encodes.
           (let body : Bits = encodes.0 in
+          let end : Bits = eol 0 in
           let least = lines_least Group4 columns 1 0 aligned white rows is.0 (length-replicate columns false) is.1 body
           (any_kind Group4 1 0 aligned white rows body refl encodes.2) in
           subst (λ (b : Bits). length (mine ++ eol 0 ++ eol 0) ≤ length b) (sym encodes.3)
-          (end_least (mine ++ eol 0) (body ++ eol 0) (eol 0) (end_least mine body (eol 0) (omega (arith, least, ap length chosen))))),
+          (end_least (mine ++ end) (body ++ end) end (end_least mine body end (omega (arith, least, ap length chosen))))),
     )

@@ -163,7 +163,8 @@ rest_few_bits color n = elim (cases_lt n 64) [
 few_bounds : (color : Color) (n : ℕ) → n < 2624
     → (least_run color ≤ length (shortest_run color n)) × (length (shortest_run color n) ≤ n + 26)
 few_bounds color n few =
-    let is = ap length (shortest_few color n few) in (omega (arith, is, rest_least color n), omega (arith, is, rest_few_bits color n))
+    let is = ap length (shortest_few color n few) in
+    (omega (arith, is, rest_least color n), omega (arith, is, rest_few_bits color n))
 
 pub run_bounds : (color : Color) (bound n : ℕ) → n ≤ bound
     → (least_run color ≤ length (shortest_run color n)) × (length (shortest_run color n) ≤ n + 26)

@@ -585,7 +585,8 @@ module _ (reference row : Row) (same : length reference ≡ length row) (at : Pl
 
   -- or where more passes take more bits
   pub searched_enough : (k : ℕ) (way : Way) → IsSearched reference row at k way → MayPass reference row (passed_by reference at k)
-      → way.bits < suc k * 4 + length (shortest_rest reference row (passed_by reference at (suc k))) → IsShortest reference row at way
+      → way.bits < suc k * 4 + length (shortest_rest reference row (passed_by reference at (suc k)))
+      → IsShortest reference row at way
   searched_enough k way is may few = record {
     lawful = is.lawful;
     bits = is.bits;
@@ -641,17 +642,17 @@ module _ (columns : ℕ) (reference changes : List ℕ) (lawful : AreChanges col
       by_near false = in_horizontal
 
   -- from each position from which this number of changes is left
-  pub rest_least : (bound : ℕ) (at : Place) → Stands columns changes n at → columns < at.from + bound
+  pub least_of_rest : (bound : ℕ) (at : Place) → Stands columns changes n at → columns < at.from + bound
       → least ≤ length (shortest_rest above row at)
-  rest_least zero at stands few = absurd (omega (arith, few, stands.inside))
-  rest_least (suc bound) at stands few =
+  least_of_rest zero at stands few = absurd (omega (arith, few, stands.inside))
+  least_of_rest (suc bound) at stands few =
       let same = one_width columns reference changes lawful are in
       let inside = in_row columns changes are n at stands in
       let without = without_least at stands in
       elim (cases_lt (b2 above at.from at.color) (a1 row at.from)) [
         | inl lt ↦
             let next : Bits = shortest_rest above row (passed above at) in
-            let rest = rest_least bound (passed above at) (stands_passed columns changes are n at stands above same lt)
+            let rest = least_of_rest bound (passed above at) (stands_passed columns changes are n at stands above same lt)
             (omega (arith, few, pass_right above row same at.from at.color lt)) in
             let passes = shorter_least least (word_of_mode Pass ++ next) (without_pass above row at)
             (omega (arith, rest, length-append (word_of_mode Pass) next)) without in

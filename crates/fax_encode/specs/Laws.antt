@@ -1,6 +1,6 @@
 -- The laws of the chosen encoding.
-use Rattle.std.specs.Prelude.{◌≡◌, ℕ, suc, ◌%◌, ◌^◌, ◌<◌, ◌≤◌, Bool, true, false, List, [], ◌∷◌, ◌++◌, length, take, drop, ◌+◌, Ok}
-use Rattle.std.specs.Prelude.{All, if◌then◌else◌}
+use Rattle.std.specs.Prelude.{◌≡◌, ℕ, suc, ◌%◌, ◌^◌, ◌<◌, ◌≤◌, Bool, true, false, List, [], ◌∷◌, ◌++◌, length, take, drop, ◌+◌}
+use Rattle.std.specs.Prelude.{Ok, All, if◌then◌else◌}
 use Rattle.hayro_ccitt.specs.EncodingMode.{EncodingMode}
 use Rattle.hayro_ccitt.specs.EncodingMode.TheVariants.{Group4, Group3_1D, Group3_2D}
 use Rattle.hayro_ccitt.specs.DecodeSettings.{DecodeSettings}
@@ -160,8 +160,8 @@ abbrev pub NoRunsAreShorter : Type 0
 NoRunsAreShorter = (left : ℕ) (reference row : Row) (bits : Bits) → 0 < length row → EncodesLine1D White row bits
     → length (chosen_line Shortest Group3_1D left reference row) ≤ length bits
 
--- Lines that encode these rows, each filled up to a whole byte if they are aligned, in two-dimensional Group 3 each with the tag of
--- the line that is chosen with the effort `Shortest` (T.4, 4.1.1, 4.2.1 and 4.2.2; T.6, 2.2).
+-- Lines that encode these rows, each filled up to a whole byte if they are aligned, in two-dimensional Group 3 each with the tag
+-- of the line that is chosen with the effort `Shortest` (T.4, 4.1.1, 4.2.1 and 4.2.2; T.6, 2.2).
 abbrev pub EncodesInKinds : EncodingMode → ℕ → Bool → ℕ → Row → List Row → Bits → Type 0
 EncodesInKinds encoding k aligned left reference [] bits = bits ≡ []
 EncodesInKinds encoding k aligned left reference (row ∷ rows) bits = (line next : Bits) × EncodesLine encoding reference row line
@@ -180,8 +180,9 @@ EncodesInKindsWithEols encoding k fills at left reference (row ∷ rows) bits = 
     (left_after Shortest encoding k left reference row) row rows next
     × (bits ≡ eol fill ++ line ++ next)
 
--- Lines that encode these rows by settings: of an encoding, with an EOL before each or without EOLs, with fill or with any; any
--- lines, but in two-dimensional Group 3 of the kinds of those that are chosen with the effort `Shortest` (T.4, 4.1 and 4.2; T.6, 2).
+-- Any lines that encode these rows by settings: with an EOL before each or without EOLs, with EOLs that end at whole bytes or
+-- with any fill, aligned or not. In two-dimensional Group 3 each is of the kind of the line that is chosen with the effort
+-- `Shortest` (T.4, 4.1 and 4.2; T.6, 2).
 abbrev pub EncodesAlike : EncodingMode → Bool → ℕ → Bool → Bool → Row → List Row → Bits → Type 0
 EncodesAlike Group4 eols k fills aligned white rows lines = EncodesRows Group4 aligned white rows lines
 EncodesAlike Group3_1D false k fills aligned white rows lines = EncodesRows Group3_1D aligned white rows lines
@@ -190,8 +191,8 @@ EncodesAlike Group3_1D true k true aligned white rows lines = EncodesInKindsWith
 EncodesAlike Group3_2D false k fills aligned white rows lines = EncodesInKinds Group3_2D k aligned 0 white rows lines
 EncodesAlike Group3_2D true k fills aligned white rows lines = EncodesInKindsWithEols Group3_2D k fills 0 0 white rows lines
 
--- What is chosen for a picture with the effort `Shortest`, by any settings, has no more bits than any lines that encode its rows by
--- the same settings, with the same end (T.4, 4; T.6, 2).
+-- What is chosen for a picture with the effort `Shortest`, by any settings, has no more bits than any lines that encode its rows
+-- by the same settings, with the same end (T.4, 4; T.6, 2).
 abbrev pub NoneIsShorter : Type 0
 NoneIsShorter = (settings : EncodeSettings) (columns : ℕ) (rows : List Row) (lines : Bits) → IsPicture columns rows
     → settings.effort ≡ Shortest

@@ -4,7 +4,8 @@ use Rattle.fax_encode.proofs.runs.count_front.Goals as goal
 
 pub returns-in-White-clause-counted : goal.returns-in-White-clause-counted
 returns-in-White-clause-counted c =
-    rw c.in-White.is (white_front (c.saturating_sub-words.result / 1664) c.args.pixels (omega (arith, c.saturating_sub-words.ensures)))
+    rw c.in-White.is (white_front (c.saturating_sub-words.result / 1664) c.args.pixels
+    (omega (arith, c.saturating_sub-words.ensures)))
 
 pub returns-in-Black-clause-counted : goal.returns-in-Black-clause-counted
 returns-in-Black-clause-counted c =

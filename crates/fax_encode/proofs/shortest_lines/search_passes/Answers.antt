@@ -8,7 +8,7 @@ use Rattle.fax_encode.proofs.ModesWritten.{one_width}
 use Rattle.fax_encode.proofs.StepsToB1.{near_pass}
 use Rattle.fax_encode.proofs.ShortestSteps.{Stands, stands_at, stands_by, may_pass, may_not_pass, passed_next, found_ahead}
 use Rattle.fax_encode.proofs.ShortestSteps.{IsSearched, first_searched, next_searched, searched_to_end, in_row, no_more_changes}
-use Rattle.fax_encode.proofs.ShortestSteps.{change_within, all_before, rest_least, searched_enough}
+use Rattle.fax_encode.proofs.ShortestSteps.{change_within, all_before, least_of_rest, searched_enough}
 use Rattle.fax_encode.proofs.shortest_lines.search_passes.Goals as goal
 
 pub find_above-above-requires-clause-inside : goal.find_above-above-requires-clause-inside
@@ -162,7 +162,7 @@ returns-then-best-passes c =
     let may : MayPass R C (passed_by R at k) = may_pass columns changes c.requires.changes R same n at stands k (passed_by R at k)
     refl (omega (arith, c.passes-test.true, c.passes.invariant.b2_is, c.requires.ahead.a1)) before in
     let standing = stands_by columns changes c.requires.changes R same n at stands (suc k) (all_before R C at k before may) in
-    let least = rest_least columns above changes c.requires.reference c.requires.changes n c.least_ahead-least.result
+    let least = least_of_rest columns above changes c.requires.reference c.requires.changes n c.least_ahead-least.result
     (omega (arith, c.least_ahead-least.ensures.vertical, c.requires.ahead.after_a1))
     (omega (arith, c.least_ahead-least.ensures.horizontal, c.requires.ahead.after_a2)) (suc columns) (passed_by R at (suc k))
     standing (omega arith) in
