@@ -287,14 +287,14 @@ DENSE_ROWS = [
     ("Group 4", GROUP_4, "-", 1, lambda columns: 12 * (columns - 4) // 2 + 17 + 24, 575),
     ("Group 4", GROUP_4, "-", 3, lambda columns: 12 * (columns - 4) // 2 + 17 + 2 * columns + 24, 435),
     ("Group 3", ONE_DIMENSIONAL, "-", 1, lambda columns: 12 + 9 * columns // 2 + 72, 300),
-    ("the shortest Group 4", GROUP_4, "m", 3, lambda columns: 12 * (columns - 2) // 2 + 4 + 2 * columns + 24, 1227),
+    ("the shortest Group 4", GROUP_4, "m", 3, lambda columns: 12 * (columns - 2) // 2 + 4 + 2 * columns + 24, 1125),
     (
         "the shortest Group 4, each second row white",
         GROUP_4,
         "mw",
         4,
         lambda columns: 2 * (12 * (columns - 2) // 2 + 4 + 3 + 6 * ((columns // 64 - 15) // 26) + 9 + 8 + 10) + 24,
-        807,
+        741,
     ),
 ]
 WIDTHS = (1 << 15, 1 << 17)

@@ -337,6 +337,7 @@ fn find_ways(
     ways.reserve_exact(changes.len() + 1)?;
     let mut next = changes.len() + 1;
     let mut index = reference.len() + (reference.len() + next) % 2;
+    let mut second = columns;
     let mut after_a1 = 0;
     let mut after_a2 = 0;
     'changes: while next > 0 {
@@ -351,12 +352,13 @@ fn find_ways(
         };
         let ahead = Ahead {
             a1: change_or_end(changes, next, columns),
-            a2: change_or_end(changes, next + 1, columns),
+            a2: second,
             after_a1,
             after_a2,
         };
         let way = find_way(columns, reference, changes, at, above, ahead);
         ways.push_reserved(way);
+        second = ahead.a1;
         after_a2 = after_a1;
         after_a1 = way.bits;
     }
