@@ -94,14 +94,6 @@ pair_taken columns place i changes bits first second whole lt more ascend one tw
     )
 
 -- ---- at least
-white_least : (n : ℕ) → n < 64 → 4 ≤ length (word_of_length White n)
-white_least n lt = leb-true 4 (length (word_of_length White n))
-    (agree_below_at (λ m. leb 4 (length (word_of_length White m))) (λ m. true) 64 n refl lt)
-
-black_least : (n : ℕ) → n < 64 → 2 ≤ length (word_of_length Black n)
-black_least n lt = leb-true 2 (length (word_of_length Black n))
-    (agree_below_at (λ m. leb 2 (length (word_of_length Black m))) (λ m. true) 64 n refl lt)
-
 -- what a run has at least
 unfoldable pub least_run : Color → ℕ
 least_run White = 4
@@ -109,8 +101,10 @@ least_run Black = 2
 
 word_least : (color : Color) (n : ℕ) → n < 64 → least_run color ≤ length (word_of_length color n)
 unfolding least_run
-word_least White n lt = white_least n lt
-word_least Black n lt = black_least n lt
+word_least White n lt = leb-true 4 (length (word_of_length White n))
+    (agree_below_at (λ m. leb 4 (length (word_of_length White m))) (λ m. true) 64 n refl lt)
+word_least Black n lt = leb-true 2 (length (word_of_length Black n))
+    (agree_below_at (λ m. leb 2 (length (word_of_length Black m))) (λ m. true) 64 n refl lt)
 
 pub rest_least : (color : Color) (n : ℕ) → least_run color ≤ length (chosen_rest color n)
 rest_least color n = omega (

@@ -171,23 +171,17 @@ module _ (columns : ℕ) (changes : List ℕ) (are : AreChanges columns changes)
       (may k (omega arith))
 
   -- a pass may be made where b2 is left of the change
-  pub may_pass : (k : ℕ) (now : Place) → now ≡ passed_by above at k → b2 above now.from now.color < get_or changes n columns
+  pub may_pass : (k : ℕ) → b2 above (passed_by above at k).from (passed_by above at k).color < get_or changes n columns
       → ((i : ℕ) → i < k → MayPass above (pixels columns changes) (passed_by above at i))
       → MayPass above (pixels columns changes) (passed_by above at k)
-  may_pass k now is lt may =
-      let here = a1_here columns changes are n (passed_by above at k) (stands_by k may) in
-      let b = ap (λ (p : Place). b2 above p.from p.color) is in
-      omega (arith, lt, here, b)
+  may_pass k lt may = omega (arith, lt, a1_here columns changes are n (passed_by above at k) (stands_by k may))
 
   -- and else it may not
-  pub may_not_pass : (k : ℕ) (now : Place) → now ≡ passed_by above at k → get_or changes n columns ≤ b2 above now.from now.color
+  pub may_not_pass : (k : ℕ) → get_or changes n columns ≤ b2 above (passed_by above at k).from (passed_by above at k).color
       → ((i : ℕ) → i < k → MayPass above (pixels columns changes) (passed_by above at i))
       → a1 (pixels columns changes) (passed_by above at k).from ≤ b2 above (passed_by above at k).from
       (passed_by above at k).color
-  may_not_pass k now is le may =
-      let here = a1_here columns changes are n (passed_by above at k) (stands_by k may) in
-      let b = ap (λ (p : Place). b2 above p.from p.color) is in
-      omega (arith, le, here, b)
+  may_not_pass k le may = omega (arith, le, a1_here columns changes are n (passed_by above at k) (stands_by k may))
 
 -- ---- The mode without another pass.
 module _ (reference row : Row) (at : Place) where
@@ -441,17 +435,21 @@ found_ahead columns reference changes are n k at now way ahead start color stand
       first = counts.first;
     })
 
--- of a1 below b1, where what follows has few bits
+-- of a1 below b1
+abbrev pub below_way : Word → Ahead → Way
+below_way word ahead = record {
+  bits = 0 * 4 + (word.count + ahead.after_a1);
+  passes = 0;
+  first = 0;
+  word = word.bits;
+  count = word.count;
+  is_vertical = true;
+}
+
+-- where what follows has few bits
 pub below_counts : (color : Color) (from start : ℕ) (ahead : Ahead) (word : Word) → start ≡ ahead.a1
     → ahead.after_a1 ≤ ahead.after_a2 + 8 → IsWord (word_of_mode (Vertical (pos 0))) word
-    → Counts color from start 0 ahead (record {
-      bits = 0 * 4 + (word.count + ahead.after_a1);
-      passes = 0;
-      first = 0;
-      word = word.bits;
-      count = word.count;
-      is_vertical = true;
-    })
+    → Counts color from start 0 ahead (below_way word ahead)
 below_counts color from start ahead word e few is =
     let below = below_is start ahead.a1 e in
     let coded : IsWord (word_of_mode (vertical_mode start ahead.a1)) word

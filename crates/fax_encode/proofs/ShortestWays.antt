@@ -97,10 +97,6 @@ vertical_place_after reference row at start to = by_leb (leb start to) refl
     by_leb true e = rw e refl
     by_leb false e = rw e refl
 
--- a2 is right of a1, except at the row's end
-a2_next_right : (row : Row) (from : ℕ) → a1 row from < length row → a1 row from < a2 row from
-a2_next_right row from lt = (a2_next row from).above (omega (arith, lt))
-
 module _ (reference row : Row) (same : length reference ≡ length row) where
   -- a mode and enough modes after it
   enough : (some more : ℕ) (at : Place) → at.from ≤ suc (length row) → suc (length row) ≤ at.from + some
@@ -151,7 +147,7 @@ module _ (reference row : Row) (same : length reference ≡ length row) where
         let further = a2_least row at.from in
         let after = (a2_next row at.from).within in
         let apart : (second ≡ length row) ⊎ (to < second) = elim (cases_lt to (length row)) [
-          | inl lt ↦ inr (a2_next_right row at.from lt)
+          | inl lt ↦ inr ((a2_next row at.from).above (omega (arith, lt)))
           | inr ge ↦ inl (omega (arith, ge, further, after))
         ] in
         let run1 : Bits = shortest_run at.color (to - (at.from - 1)) in

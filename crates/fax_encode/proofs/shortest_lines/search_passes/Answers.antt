@@ -109,7 +109,7 @@ passes-preserved c =
     let stands = stands_at columns changes c.requires.changes n at c.requires.inside c.requires.right in
     let before = c.passes.invariant.searched.passes in
     let standing = stands_by columns changes c.requires.changes R same n at stands k before in
-    let may : MayPass R C here = may_pass columns changes c.requires.changes R same n at stands k here refl
+    let may : MayPass R C here = may_pass columns changes c.requires.changes R same n at stands k
     (omega (arith, c.passes-test.true, c.passes.invariant.b2_is, c.requires.ahead.a1)) before in
     let all : (i : ℕ) → i < suc k → MayPass R C (passed_by R at i) = all_before R C at k before may in
     let now : Place = record { from = c.from.result + 1; color = color_after n } in
@@ -159,8 +159,8 @@ returns-then-best-passes c =
     let same = one_width columns above changes c.requires.reference c.requires.changes in
     let stands = stands_at columns changes c.requires.changes n at c.requires.inside c.requires.right in
     let before = c.passes.invariant.searched.passes in
-    let may : MayPass R C (passed_by R at k) = may_pass columns changes c.requires.changes R same n at stands k (passed_by R at k)
-    refl (omega (arith, c.passes-test.true, c.passes.invariant.b2_is, c.requires.ahead.a1)) before in
+    let may : MayPass R C (passed_by R at k) = may_pass columns changes c.requires.changes R same n at stands k
+    (omega (arith, c.passes-test.true, c.passes.invariant.b2_is, c.requires.ahead.a1)) before in
     let standing = stands_by columns changes c.requires.changes R same n at stands (suc k) (all_before R C at k before may) in
     let least = least_of_rest columns above changes c.requires.reference c.requires.changes n c.least_ahead-least.result
     (omega (arith, c.least_ahead-least.ensures.vertical, c.requires.ahead.after_a1))
@@ -178,5 +178,4 @@ returns c =
     let stands = stands_at columns c.args._changes.now c.requires.changes c.args.at.next at c.requires.inside c.requires.right in
     searched_to_end R C same at c.passes.passes c.passes.best c.passes.invariant.searched
     (may_not_pass columns c.args._changes.now c.requires.changes R same c.args.at.next at stands c.passes.passes
-    (passed_by R at c.passes.passes) refl
     (omega (arith, c.passes-test.false, c.passes.invariant.b2_is, c.requires.ahead.a1)) c.passes.invariant.searched.passes)
