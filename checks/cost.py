@@ -279,13 +279,23 @@ def slow_shapes():
     print(f"  {len(SHAPES)} shapes")
 
 
-# An encoding, a number of equal rows, how many bits rows of a number of alternate pixels have with what is around them, and the
+# An encoding, the letters and the rows that measured_encoding.c takes, how many bits these rows have with what is around them, and the
 # measured instructions a byte. In Group 4 the last four pixels of the first row are vertical modes, since b1 is the row's end: 7, 6,
-# 3 and 1 bits; a row below it has one bit for each change and for its end.
+# 3 and 1 bits; a row below it has one bit for each change and for its end. The shortest line takes only two such modes, and a white
+# row is in horizontal mode, by words of 1664 pixels, two more and a black run of none.
 DENSE_ROWS = [
-    ("Group 4", GROUP_4, 1, lambda columns: 12 * (columns - 4) // 2 + 17 + 24, 575),
-    ("Group 4", GROUP_4, 3, lambda columns: 12 * (columns - 4) // 2 + 17 + 2 * columns + 24, 435),
-    ("Group 3", ONE_DIMENSIONAL, 1, lambda columns: 12 + 9 * columns // 2 + 72, 300),
+    ("Group 4", GROUP_4, "-", 1, lambda columns: 12 * (columns - 4) // 2 + 17 + 24, 575),
+    ("Group 4", GROUP_4, "-", 3, lambda columns: 12 * (columns - 4) // 2 + 17 + 2 * columns + 24, 435),
+    ("Group 3", ONE_DIMENSIONAL, "-", 1, lambda columns: 12 + 9 * columns // 2 + 72, 300),
+    ("the shortest Group 4", GROUP_4, "m", 3, lambda columns: 12 * (columns - 2) // 2 + 4 + 2 * columns + 24, 1125),
+    (
+        "the shortest Group 4, each second row white",
+        GROUP_4,
+        "mw",
+        4,
+        lambda columns: 2 * (12 * (columns - 2) // 2 + 4 + 3 + 6 * ((columns // 64 - 15) // 26) + 9 + 8 + 10) + 24,
+        741,
+    ),
 ]
 WIDTHS = (1 << 15, 1 << 17)
 
@@ -299,10 +309,10 @@ def encoding_dense_rows():
     worse = []
     with tempfile.TemporaryDirectory() as folder:
         driver = c_library.compiled(f"{folder}/driver", "checks/measured_encoding.c", c_library.LIBRARY)
-        for shape, encoding, rows, bits, measured in DENSE_ROWS:
+        for shape, encoding, letters, rows, bits, measured in DENSE_ROWS:
             costs = []
             for columns in WIDTHS:
-                cost, printed = instructions(folder, [driver, str(encoding), str(columns), str(rows)])
+                cost, printed = instructions(folder, [driver, str(encoding), str(columns), str(rows), letters])
                 assert printed == f"0 {rows} {(bits(columns) + 7) // 8}\n".encode(), (shape, columns, printed)
                 costs.append(cost)
             too_slow(f"{rows} dense rows by {shape}", costs, [rows * columns // 8 for columns in WIDTHS], measured, worse)
