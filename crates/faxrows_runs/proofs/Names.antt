@@ -5,6 +5,7 @@ pub use Rattle.fax_program.specs.Devices.{AppendsFront}
 pub use Rattle.faxrows_runs.specs.Arguments.{arguments_of_words}
 pub use Rattle.fax_program.specs.declared.fault.RunFault.{RunFault}
 pub use Rattle.fax_conforms.specs.Conforming.{Conforms}
+pub use Rattle.fax_conforms.specs.Stops.{IsViolationOf}
 pub use Rattle.fax_conforms.specs.declared.stops.Violation.{Violation}
 pub use Rattle.faxrows_runs.specs.CheckText.{IsCheck, done_of_check, end_with_rule, line_of_check, line_of_violation}
 pub use Rattle.faxrows_runs.specs.DamageText.{IsDamageText, IsDamageWithoutMemory, damage_after, damage_lines, damage_of_row}

@@ -3,6 +3,7 @@ use Rattle.std.specs.Prelude.{◌≡◌, ℕ, List, [], ◌∷◌, ◌++◌, cod
 use Rattle.hayro_ccitt.specs.Bits.{Bits}
 use Rattle.hayro_ccitt.specs.DecodeSettings.{DecodeSettings}
 use Rattle.fax_conforms.specs.Conforming.{Conforms}
+use Rattle.fax_conforms.specs.Stops.{IsViolationOf}
 use Rattle.fax_conforms.specs.declared.stops.Rule.{Rule}
 use Rattle.fax_conforms.specs.declared.stops.Rule.TheVariants.{Mode, Run, RowEnd, NoPixels, Columns, Eol, Tag, Padding, PassToEnd}
 use Rattle.fax_conforms.specs.declared.stops.Violation.{Violation}
@@ -44,5 +45,6 @@ done_of_check (Some found) = Faulty
 -- the settings ask, and otherwise with the line of a violation.
 abbrev pub IsCheck : DecodeSettings → Bits → Done → List ℕ → Type 0
 IsCheck settings bits Good text = Conforms settings bits × (text ≡ codes "ok\n")
-IsCheck settings bits Faulty text = (Conforms settings bits → ⊥) × (found : Violation) × (text ≡ line_of_violation found)
+IsCheck settings bits Faulty text = (Conforms settings bits → ⊥) × (found : Violation) × IsViolationOf bits found
+    × (text ≡ line_of_violation found)
 IsCheck settings bits Memory text = ⊥

@@ -28,7 +28,7 @@ module _ (g : Over) (c : goal.After-drop-input-2 g) where
 
   -- the line is that of the check
   checks : IsCheck settings bits (done_of_check found) (line_of_check found)
-  checks = is_check settings bits found c.in-Ok.ensures.none
+  checks = is_check settings bits found c.in-Ok.ensures.none c.in-Ok.ensures.place
 
   -- there are at most as many bits as offsets
   fits : IfSome (g.R.Read.remaining c.args.reader.now.0) BitsFit
