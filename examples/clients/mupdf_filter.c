@@ -51,7 +51,7 @@ fz_stream *fz_open_faxd(fz_context *ctx, fz_stream *chain, int k, int end_of_lin
     if (columns <= 0 || rows < 0)
         fz_throw(ctx, FZ_ERROR_GENERIC, "fax image of %d columns and %d rows", columns, rows);
     size_t width = ((size_t)columns + 7) / 8;
-    hayro_ccitt_settings settings = {(uint32_t)columns, (uint32_t)rows, HAYRO_CCITT_GROUP_4, 0};
+    hayro_ccitt_settings settings = {(uint32_t)columns, (uint32_t)rows, HAYRO_CCITT_GROUP_4, 0, 0};
     if (k >= 0)
         settings.encoding = k ? HAYRO_CCITT_GROUP_3_2D : HAYRO_CCITT_GROUP_3_1D;
     settings.flags = (end_of_block ? HAYRO_CCITT_END_OF_BLOCK : 0) | (end_of_line ? HAYRO_CCITT_END_OF_LINE : 0) |
