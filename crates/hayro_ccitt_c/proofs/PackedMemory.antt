@@ -1,6 +1,7 @@
 -- Packed rows in the caller's memory, from what the sink leaves.
 use Rattle.std.proofs.Common.{◌≡◌, ℕ, zero, suc, ◌+◌, ◌-◌, ◌*◌, ◌≤◌, ◌<◌, Bool, true, false, not, List, [], ◌∷◌, ◌++◌}
-use Rattle.std.proofs.Common.{◌%◌, All, Fits, w8, get_or, length, map, min, take, drop, refl, sym, ap, subst, ◌∙◌, arith, inl, inr, append_assoc}
+use Rattle.std.proofs.Common.{◌%◌, All, Fits, w8, get_or, length, map, min, take, drop, refl, sym, ap, subst, ◌∙◌, arith, inl}
+use Rattle.std.proofs.Common.{append_assoc, inr}
 use Rattle.std.proofs.lemmas.Bool.{cases_lt}
 use Rattle.std.proofs.lemmas.Grind.{flat_map-append}
 use Rattle.std.proofs.lemmas.List.{append-nil, length-append, length-map, length-take, length-drop, drop-drop, drop_all, drop_at}
@@ -96,7 +97,8 @@ module _ (layout : Layout) (columns start bytes : ℕ) (list bitmap row : List �
       )
 
 -- the same in each part is the same
-pub same_packing : (layout : Layout) (start start' : ℕ) (bits bits' : Bits) (rest rest' : List ℕ) (size size' count count' name : ℕ)
+pub same_packing : (layout : Layout) (start start' : ℕ) (bits bits' : Bits) (rest rest' : List ℕ)
+    (size size' count count' name : ℕ)
     → start ≡ start' → bits ≡ bits' → rest ≡ rest' → size ≡ size' → count ≡ count' → ◌≡◌ {A = Packing}
     (record { layout = layout; start = start; bits = bits; rest = rest; size = size; changes = count; name = name })
     (record { layout = layout; start = start'; bits = bits'; rest = rest'; size = size'; changes = count'; name = name })

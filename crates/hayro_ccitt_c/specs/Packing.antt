@@ -1,6 +1,6 @@
 -- Packed rows in the caller's memory.
-use Rattle.std.specs.Prelude.{ℕ, zero, suc, ◌+◌, ◌-◌, ◌*◌, ◌/◌, Bool, true, false, not, List, [], ◌∷◌, ◌++◌, length, map, take, drop}
-use Rattle.std.specs.Prelude.{min}
+use Rattle.std.specs.Prelude.{ℕ, zero, suc, ◌+◌, ◌-◌, ◌*◌, ◌/◌, Bool, true, false, not, List, [], ◌∷◌, ◌++◌, length, map, take}
+use Rattle.std.specs.Prelude.{drop, min}
 use Rattle.hayro_ccitt.specs.Bits.{Bits, bits_of}
 use Rattle.hayro_ccitt.specs.Rows.{Row, pixels}
 use Rattle.fax_encode.specs.Chosen.{filled_up}
@@ -34,7 +34,8 @@ rows_at stride columns (suc n) memory =
 abbrev pub outside_rows : ℕ → ℕ → ℕ → List ℕ → List ℕ
 outside_rows stride columns zero memory = memory
 outside_rows stride columns (suc n) memory =
-    take (stride - bytes_of_row columns) (drop (bytes_of_row columns) memory) ++ outside_rows stride columns n (drop stride memory)
+    take (stride - bytes_of_row columns) (drop (bytes_of_row columns) memory)
+    ++ outside_rows stride columns n (drop stride memory)
 
 -- a sum, saturated at the greatest value of 64 bits
 abbrev pub counted : ℕ → ℕ → ℕ

@@ -95,7 +95,8 @@ abbrev pub OnSettings : Settings → List ℕ → (DecodeSettings → Bits → T
 OnSettings settings input P = BitsFit input → IfSome (settings_of settings) (λ s. P s (bits_in (order_of settings) input))
 
 -- The first packed rows, this many, are in the caller's memory, by this layout, and what is outside them is unchanged.
-pub record ArePacked (layout : Layout) (settings : DecodeSettings) (bits : Bits) (taken : ℕ) (before after : List ℕ) : Type 0 where
+pub record ArePacked (layout : Layout) (settings : DecodeSettings) (bits : Bits) (taken : ℕ) (before after : List ℕ)
+    : Type 0 where
   pub rows : rows_at layout.stride settings.columns taken after
       ≡ map (packed_row layout.black_is_0) (take taken (plain settings bits).rows)
   pub others : outside_rows layout.stride settings.columns taken after ≡ outside_rows layout.stride settings.columns taken before
