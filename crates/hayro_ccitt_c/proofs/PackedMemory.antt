@@ -105,7 +105,7 @@ pub same_packing : (layout : Layout) (start start' : ℕ) (bits bits' : Bits) (r
 same_packing layout start start' bits bits' rest rest' size size' count count' name e f g h i = cc
 
 -- ---- all rows
-one_row_more : (n width : ℕ) → suc n * width ≡ width + n * width
+pub one_row_more : (n width : ℕ) → suc n * width ≡ width + n * width
 one_row_more n width = grind arith
 
 -- the bits of memory with rows packed into it

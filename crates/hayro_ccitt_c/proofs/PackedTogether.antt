@@ -9,11 +9,9 @@ use Rattle.hayro_ccitt.specs.PlainReading.{plain}
 use Rattle.hayro_ccitt.specs.Rows.{Row}
 use Rattle.fax_encode.specs.Packed.{packed}
 use Rattle.fax_encode.proofs.ScannedRows.{bits_of-parts}
-use Rattle.hayro_ccitt_c.specs.Packing.{bytes_of_row, bytes_of_rows, outside_rows, packed_row, rows_at}
-use Rattle.hayro_ccitt_c.specs.Reports.{ArePacked}
-
-one_row_more : (n width : ℕ) → suc n * width ≡ width + n * width
-one_row_more n width = grind arith
+use Rattle.hayro_ccitt_c.proofs.PackedMemory.{one_row_more}
+use Rattle.hayro_ccitt_c.specs.Packing.{bytes_of_row, bytes_of_rows, outside_rows, packed_row, rows_at, together}
+use Rattle.hayro_ccitt_c.specs.Reports.{ArePacked, AreTogether}
 
 all_bits : (columns n : ℕ) (memory : List ℕ)
     → bits_of (take (n * bytes_of_row columns) memory) ≡ flat_map (λ bits. bits) (rows_at (bytes_of_row columns) columns n memory)
@@ -43,26 +41,20 @@ nothing_between columns (suc n) memory =
     ∙ nothing_between columns n (drop width memory) ∙ drop-drop (n * width) width memory
     ∙ sym (ap (λ (m : ℕ). drop m memory) (one_row_more n width))
 
-rows_packed : (rows : List Row) → flat_map (λ bits. bits) (map (packed_row false) rows) ≡ packed rows
-rows_packed [] = refl
-rows_packed (row ∷ rows) = ap (λ (b : Bits). packed_row false row ++ b) (rows_packed rows)
-
--- what is left of a bitmap whose rows follow one another
-pub record AreTogether (settings : DecodeSettings) (bits : Bits) (taken : ℕ) (before after : List ℕ) : Type 0 where
-  pub rows : bits_of (take (taken * bytes_of_row settings.columns) after) ≡ packed (take taken (plain settings bits).rows)
-  pub rest : drop (taken * bytes_of_row settings.columns) after ≡ drop (taken * bytes_of_row settings.columns) before
-  pub room : taken * bytes_of_row settings.columns ≤ length after
+rows_follow : (rows : List Row) → flat_map (λ bits. bits) (map (packed_row false) rows) ≡ packed rows
+rows_follow [] = refl
+rows_follow (row ∷ rows) = ap (λ (b : Bits). packed_row false row ++ b) (rows_follow rows)
 
 room_together : (columns n size : ℕ) → bytes_of_rows (bytes_of_row columns) columns n ≤ size → n * bytes_of_row columns ≤ size
 room_together columns zero size le = omega arith
 room_together columns (suc n) size le = omega (arith, le, one_row_more n (bytes_of_row columns))
 
 pub are_together : (settings : DecodeSettings) (bits : Bits) (taken : ℕ) (before after : List ℕ)
-    → ArePacked (record { stride = bytes_of_row settings.columns; black_is_0 = false }) settings bits taken before after
+    → ArePacked (together settings.columns) settings bits taken before after
     → AreTogether settings bits taken before after
 are_together settings bits taken before after are = record {
   rows = all_bits settings.columns taken after ∙ ap (λ (l : List Bits). flat_map (λ bits. bits) l) are.rows
-      ∙ rows_packed (take taken (plain settings bits).rows);
+      ∙ rows_follow (take taken (plain settings bits).rows);
   rest = sym (nothing_between settings.columns taken after) ∙ are.others ∙ nothing_between settings.columns taken before;
   room = room_together settings.columns taken (length after) are.room;
 }

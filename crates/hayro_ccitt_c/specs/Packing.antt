@@ -15,6 +15,10 @@ abbrev pub bytes_of_rows : ℕ → ℕ → ℕ → ℕ
 bytes_of_rows stride columns zero = 0
 bytes_of_rows stride columns (suc n) = n * stride + bytes_of_row columns
 
+-- the layout of rows of this width that follow one another, with 1 for black
+abbrev pub together : ℕ → Layout
+together columns = record { stride = bytes_of_row columns; black_is_0 = false }
+
 -- bits in which 0 stands for black, if it does: those in which 1 does, inverted
 abbrev pub in_black : Bool → Bits → Bits
 in_black true bits = map not bits

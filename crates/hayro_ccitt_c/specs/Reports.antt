@@ -1,15 +1,16 @@
 -- What C gets of a decoding.
-use Rattle.std.specs.Prelude.{sum_by, ◌≡◌, ◌≤◌, ◌<◌, ◌⊎◌, ℕ, List, length, map, take, drop, sum, min, IfSome, Result, Ok}
-use Rattle.std.specs.Prelude.{Err}
+use Rattle.std.specs.Prelude.{sum_by, ◌≡◌, ◌≤◌, ◌<◌, ◌⊎◌, ◌*◌, ℕ, List, length, map, take, drop, sum, min, IfSome, Result}
+use Rattle.std.specs.Prelude.{Err, Ok}
 use Rattle.hayro_ccitt.specs.DecodeError.{DecodeError}
 use Rattle.hayro_ccitt.specs.DecodeError.TheVariants.{UnexpectedEof, InvalidCode, Overflow, OutOfMemory, Refused}
 use Rattle.hayro_ccitt.specs.DecodeSettings.{DecodeSettings}
 use Rattle.hayro_ccitt.specs.Answers.{PaintsBlack}
-use Rattle.hayro_ccitt.specs.Bits.{Bits, BitsFit, bits_in}
+use Rattle.hayro_ccitt.specs.Bits.{Bits, BitsFit, bits_of, bits_in}
 use Rattle.hayro_ccitt.specs.Damage.{repairs_by_line, cuts_by_line, misses_by_line}
 use Rattle.hayro_ccitt.specs.PlainReading.{plain, lines_of, failed_at}
 use Rattle.hayro_ccitt.specs.Rows.{changes}
-use Rattle.hayro_ccitt_c.specs.Packing.{bytes_of_rows, packed_row, rows_at, outside_rows}
+use Rattle.fax_encode.specs.Packed.{packed}
+use Rattle.hayro_ccitt_c.specs.Packing.{bytes_of_row, bytes_of_rows, packed_row, rows_at, outside_rows}
 use Rattle.hayro_ccitt_c.specs.Listing.{listed}
 use Rattle.hayro_ccitt_c.specs.Settings.{settings_of, order_of}
 use Rattle.hayro_ccitt_c.specs.declared.packed_rows.Layout.{Layout}
@@ -101,6 +102,12 @@ pub record ArePacked (layout : Layout) (settings : DecodeSettings) (bits : Bits)
       ≡ map (packed_row layout.black_is_0) (take taken (plain settings bits).rows)
   pub others : outside_rows layout.stride settings.columns taken after ≡ outside_rows layout.stride settings.columns taken before
   pub room : bytes_of_rows layout.stride settings.columns taken ≤ length after
+
+-- The same of rows that follow one another, with 1 for black: memory begins with their bits, and what follows them is unchanged.
+pub record AreTogether (settings : DecodeSettings) (bits : Bits) (taken : ℕ) (before after : List ℕ) : Type 0 where
+  pub rows : bits_of (take (taken * bytes_of_row settings.columns) after) ≡ packed (take taken (plain settings bits).rows)
+  pub rest : drop (taken * bytes_of_row settings.columns) after ≡ drop (taken * bytes_of_row settings.columns) before
+  pub room : taken * bytes_of_row settings.columns ≤ length after
 
 -- the number of numbers that the lists of the first `taken` rows occupy
 abbrev pub numbers_taken : DecodeSettings → Bits → ℕ → ℕ

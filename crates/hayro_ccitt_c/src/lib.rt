@@ -13,10 +13,10 @@ ghost use Rattle.fax_encode.specs.Packed.{shown};
 ghost use Rattle.fax_encode.specs.RowByRow.{no_rows};
 ghost use Rattle.hayro_ccitt_c.specs.Encoding.{asked, bits_asked, of_rows, AreEncoded, HaveNoRoom};
 ghost use Rattle.hayro_ccitt_c.specs.Owned.{OnReading, OnReadings, OnStrip, OnStrips};
-ghost use Rattle.hayro_ccitt_c.specs.Packing.{bytes_of_row};
+ghost use Rattle.hayro_ccitt_c.specs.Packing.{bytes_of_row, together};
 ghost use Rattle.hayro_ccitt_c.specs.Reports.{OnSettings, IsReport, changes_taken, cut_taken, damaged_taken, missed_taken};
 ghost use Rattle.hayro_ccitt_c.specs.Reports.{outcome_of};
-ghost use Rattle.hayro_ccitt_c.specs.Reports.{ArePacked, AreListed, numbers_taken};
+ghost use Rattle.hayro_ccitt_c.specs.Reports.{ArePacked, AreListed, AreTogether, numbers_taken};
 ghost use Rattle.hayro_ccitt_c.specs.RowsGiven.{GivesRow, IsListed, IsOpened, IsPacked, TellsOf, told_nothing};
 ghost use Rattle.hayro_ccitt_c.specs.RowsTaken.{Finishes, IfFinished, IsGiven, TakesRow, strip_told};
 ghost use Rattle.hayro_ccitt_c.specs.Settings.{layout_of, order_of, settings_of};
@@ -113,6 +113,8 @@ pub extern "C" fn hayro_ccitt_decode_packed(
         outcome.new.cut_rows ≡ cut_taken s bits outcome.new.rows) }
     ensures packed { OnSettings settings.now «data».now (λ s bits.
         ArePacked (layout_of settings.now) s bits outcome.new.rows bitmap.old bitmap.new) }
+    ensures together { OnSettings settings.now «data».now (λ s bits. layout_of settings.now ≡ together s.columns
+        → AreTogether s bits outcome.new.rows bitmap.old bitmap.new) }
     ensures refused { result ≡ 5 → OnSettings settings.now «data».now (λ s bits.
         length bitmap.new < outcome.new.rows * (layout_of settings.now).stride + bytes_of_row s.columns) }
     ensures untaken { (settings_of settings.now ≡ None) ⊎ (¬ (BitsFit «data».now))

@@ -3,12 +3,13 @@ use Rattle.std.proofs.Common.{Fits, w8, List, get_or, take}
 use Rattle.hayro_ccitt.specs.Bits.{Bits, BitsFit, bits_in}
 use Rattle.hayro_ccitt.specs.PlainReading.{plain}
 use Rattle.hayro_ccitt.specs.Answers.{meaning_after}
-use Rattle.hayro_ccitt_c.specs.Packing.{Packing, bytes_of_row, with_packed}
-use Rattle.hayro_ccitt_c.specs.Reports.{changes_taken, ArePacked}
+use Rattle.hayro_ccitt_c.specs.Packing.{Packing, bytes_of_row, together, with_packed}
+use Rattle.hayro_ccitt_c.specs.Reports.{changes_taken, ArePacked, AreTogether}
 use Rattle.hayro_ccitt.specs.DecodeSettings.{DecodeSettings}
 use Rattle.hayro_ccitt_c.specs.Settings.{layout_of, order_of, settings_of}
 use Rattle.hayro_ccitt_c.specs.declared.packed_rows.Layout.{Layout}
 use Rattle.hayro_ccitt_c.proofs.PackedMemory.{all_fit, are_packed, changes_are, packing_of, same_meaning, same_name, start_is}
+use Rattle.hayro_ccitt_c.proofs.PackedTogether.{are_together}
 use Rattle.hayro_ccitt_c.proofs.Reporting.{on_settings, taken_within}
 use Rattle.hayro_ccitt_c.proofs.hayro_ccitt_decode_packed.Goals.{After-told}
 use Rattle.hayro_ccitt_c.proofs.hayro_ccitt_decode_packed.Goals as goal
@@ -113,6 +114,19 @@ returns-clause-packed c =
     rw c.told.ensures.outcome
     (λ fit. on_bytes c (λ s bits memory. ArePacked (layout_of c.args.settings.now) s bits c.decoded-report.result.rows
     c.args.bitmap.now memory) _ (search rules) c.type_inv.bitmap fit)
+
+pub returns-clause-together : goal.returns-clause-together
+returns-clause-together c =
+    let are = λ (fits : All (λ byte. byte < 256) c.decoded-report.new.sink.bitmap.now)
+    (is : layout_of c.args.settings.now ≡ together c.in-Some.meant.columns). are_together c.in-Some.meant
+    (bits_in c.order_of.result c.args.«data».now) c.decoded-report.result.rows c.args.bitmap.now
+    c.decoded-report.new.sink.bitmap.now (subst (λ (l : Layout). ArePacked l c.in-Some.meant
+    (bits_in c.order_of.result c.args.«data».now) c.decoded-report.result.rows c.args.bitmap.now
+    c.decoded-report.new.sink.bitmap.now) is (packed c fits)) in
+    let name = sym c.new-rows.ensures.same_reference ∙ same c in
+    rw c.told.ensures.outcome
+    (λ fit. on_bytes c (λ s bits memory. layout_of c.args.settings.now ≡ together s.columns
+    → AreTogether s bits c.decoded-report.result.rows c.args.bitmap.now memory) _ (search rules) c.type_inv.bitmap fit)
 
 pub returns-clause-refused : goal.returns-clause-refused
 returns-clause-refused c = λ full.
