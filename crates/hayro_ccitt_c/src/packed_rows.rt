@@ -39,6 +39,17 @@ fn invert(bytes: &mut [u8])
     }
 }
 
+/// Packs a row with 0 for black.
+#[inline(never)]
+fn pack_inverted(row: &mut [u8], columns: u32, changes: &[u32])
+    requires changes { AreChanges columns changes.now }
+    requires room { length row.old ≡ (columns + 7) / 8 }
+    ensures packed { bits_of row.new ≡ packed_row true (pixels columns changes.now) }
+{
+    paint_row(row, columns, changes);
+    invert(row);
+}
+
 /// Packs a row: its pixels from the left, in each byte from the highest bit on, and white ones up to the end of the last byte.
 #[inline(always)]
 pub(crate) fn pack_row(row: &mut [u8], columns: u32, changes: &[u32], black_is_0: bool)
@@ -46,9 +57,10 @@ pub(crate) fn pack_row(row: &mut [u8], columns: u32, changes: &[u32], black_is_0
     requires room { length row.old ≡ (columns + 7) / 8 }
     ensures packed { bits_of row.new ≡ packed_row black_is_0 (pixels columns changes.now) }
 {
-    paint_row(row, columns, changes);
     if black_is_0 {
-        invert(row);
+        pack_inverted(row, columns, changes);
+    } else {
+        paint_row(row, columns, changes);
     }
 }
 
