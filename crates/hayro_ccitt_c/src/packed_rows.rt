@@ -136,6 +136,7 @@ impl Decoder for PackedRows<'_> {
 
     ghost has_refused = { λ sink. sink.has_refused };
 
+    #[inline(always)]
     fn push_row(&mut self, changes: &[u32]) -> hayro_ccitt::Result<()> {
         let bytes = (self.columns as usize).div_ceil(8);
         if self.bitmap.len() < self.start || self.bitmap.len() - self.start < bytes {
