@@ -125,7 +125,12 @@ fn compare_packed(bytes: &[u8], settings: DecodeSettings, low_first: bool) {
         };
         let width = settings.columns.div_ceil(8) as usize;
         assert_eq!((packed.result, &packed.bytes), (result, &bitmap.bytes));
-        compare_spread(bytes, settings, low_first, &packed);
+        compare_spread(
+            bytes,
+            DecodeSettings { rows, ..settings },
+            low_first,
+            &packed,
+        );
         assert_eq!(packed.rows * width, packed.bytes.len());
         assert_eq!(packed.bytes.capacity(), packed.bytes.len());
     }
