@@ -11,6 +11,7 @@ from built import is_newest
 NAMED = {
     "encoder_tests": {
         "callers_tests::refused_memory": (13, 9),
+        "conforms_tests::refused_memory": (6, 4),
         "settings_tests::refused_memory": (10, 8),
         "settings_tests::refused_memory_row_by_row": (11, 9),
         "settings_tests::wanting_memory_stays": (1, 1),
