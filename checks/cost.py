@@ -279,13 +279,23 @@ def slow_shapes():
     print(f"  {len(SHAPES)} shapes")
 
 
-# An encoding, a number of equal rows, how many bits rows of a number of alternate pixels have with what is around them, and the
+# An encoding, the letters and the rows that measured_encoding.c takes, how many bits these rows have with what is around them, and the
 # measured instructions a byte. In Group 4 the last four pixels of the first row are vertical modes, since b1 is the row's end: 7, 6,
-# 3 and 1 bits; a row below it has one bit for each change and for its end.
+# 3 and 1 bits; a row below it has one bit for each change and for its end. The shortest line takes only two such modes, and a white
+# row is in horizontal mode, by words of 1664 pixels, two more and a black run of none.
 DENSE_ROWS = [
-    ("Group 4", GROUP_4, 1, lambda columns: 12 * (columns - 4) // 2 + 17 + 24, 575),
-    ("Group 4", GROUP_4, 3, lambda columns: 12 * (columns - 4) // 2 + 17 + 2 * columns + 24, 435),
-    ("Group 3", ONE_DIMENSIONAL, 1, lambda columns: 12 + 9 * columns // 2 + 72, 300),
+    ("Group 4", GROUP_4, "-", 1, lambda columns: 12 * (columns - 4) // 2 + 17 + 24, 575),
+    ("Group 4", GROUP_4, "-", 3, lambda columns: 12 * (columns - 4) // 2 + 17 + 2 * columns + 24, 435),
+    ("Group 3", ONE_DIMENSIONAL, "-", 1, lambda columns: 12 + 9 * columns // 2 + 72, 300),
+    ("the shortest Group 4", GROUP_4, "m", 3, lambda columns: 12 * (columns - 2) // 2 + 4 + 2 * columns + 24, 1125),
+    (
+        "the shortest Group 4, each second row white",
+        GROUP_4,
+        "mw",
+        4,
+        lambda columns: 2 * (12 * (columns - 2) // 2 + 4 + 3 + 6 * ((columns // 64 - 15) // 26) + 9 + 8 + 10) + 24,
+        741,
+    ),
 ]
 WIDTHS = (1 << 15, 1 << 17)
 
@@ -299,10 +309,10 @@ def encoding_dense_rows():
     worse = []
     with tempfile.TemporaryDirectory() as folder:
         driver = c_library.compiled(f"{folder}/driver", "checks/measured_encoding.c", c_library.LIBRARY)
-        for shape, encoding, rows, bits, measured in DENSE_ROWS:
+        for shape, encoding, letters, rows, bits, measured in DENSE_ROWS:
             costs = []
             for columns in WIDTHS:
-                cost, printed = instructions(folder, [driver, str(encoding), str(columns), str(rows)])
+                cost, printed = instructions(folder, [driver, str(encoding), str(columns), str(rows), letters])
                 assert printed == f"0 {rows} {(bits(columns) + 7) // 8}\n".encode(), (shape, columns, printed)
                 costs.append(cost)
             too_slow(f"{rows} dense rows by {shape}", costs, [rows * columns // 8 for columns in WIDTHS], measured, worse)
@@ -336,9 +346,10 @@ def runs_of_the_program():
     assert not worse, worse
 
 
-# A page of a scanner in each kind of picture, the ways that measured_pages.c measures, in its order, and those of the programs.
+# A page of a scanner in each kind of picture, and pages of what is rare there, each with its rows; the ways that measured_pages.c
+# measures, in its order, and those of the programs.
 PAGE, COLUMNS, ROWS = "corpus/pictures/page", 1240, 1754
-PAGES = ["text", "scan", "halftone", "dither"]
+PAGES = {"text": ROWS, "scan": ROWS, "halftone": ROWS, "dither": ROWS, "blank": ROWS, "borders": 200, "inverted": 100}
 WAYS = ["encode", "measure", "packed", "changes", "next_packed", "next_changes", "row_packed", "row_changes"]
 PROGRAM_WAYS = {"faxrows": [""], "faxrows -o": ["-o"], "faxrows -i": ["-i"], "faxrows -d": ["-d"]}
 PICTURES = [("g4", "b"), ("1d", "lb"), ("2d", "lb")]
@@ -352,28 +363,28 @@ def costs_of_pages():
     programs read the page of text to its end."""
     with tempfile.TemporaryDirectory() as folder:
         driver = c_library.compiled(f"{folder}/driver", "checks/measured_pages.c", c_library.LIBRARY)
-        for page in PAGES:
+        for page, rows in PAGES.items():
             for encoding, (mode, _) in enumerate(PICTURES):
-                words = [driver, page, str(encoding), str(COLUMNS), str(ROWS), *([PAGE] if page in ("text", "scan") else [])]
+                words = [driver, page, str(encoding), str(COLUMNS), str(rows), *([PAGE] if page in ("text", "scan") else [])]
                 counts, printed = instructions_of_each(folder, words)
                 assert len(counts) == len(WAYS), (page, mode, counts)
                 for way, count in zip(WAYS, counts):
                     yield page, mode, way, count / int(printed)
-                changes = int(printed) if page == PAGES[0] else changes
+                changes = int(printed) if page == "text" else changes
         with open(PAGE, "rb") as file:
             bitmap = file.read()
         for mode, flags in PICTURES:
             words = ["-o", mode, str(COLUMNS), str(ROWS), flags]
             with open(PAGE, "rb") as stdin:
                 cost, strip = instructions(folder, [packing.PROGRAM, *words], whole=True, stdin=stdin)
-            yield PAGES[0], mode, "faxpack", cost / changes
+            yield "text", mode, "faxpack", cost / changes
             with open(f"{folder}/strip", "wb") as file:
                 file.write(strip)
             for way, first in PROGRAM_WAYS.items():
                 with open(f"{folder}/strip", "rb") as stdin:
                     cost, written = instructions(folder, [program.PROGRAM, *filter(None, first), mode, str(COLUMNS), "0", flags], whole=True, stdin=stdin)
                 assert first != ["-o"] or written == bitmap, (mode, way)
-                yield PAGES[0], mode, way, cost / changes
+                yield "text", mode, way, cost / changes
 
 
 def instructions_of_each(folder, command):

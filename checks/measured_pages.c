@@ -2,10 +2,11 @@
  *
  *   measured_pages PAGE ENCODING COLUMNS ROWS [FILE]
  *
- * PAGE is `text`, a bitmap in FILE; `scan`, that page with specks; `halftone`, dots of eight sizes; or `dither`, a gradient whose
- * error is spread. ENCODING is numbered as in hayro_ccitt.h. A strip is encoded and decoded as one of a TIFF: with a row limit, with
- * EOLs in Group 3, with EOFB in Group 4. It prints the number of changes. Callgrind is given --toggle-collect=measured and
- * --dump-after=measured, and then writes a file for each way, in the order of `ways`. */
+ * PAGE is `text`, a bitmap in FILE; `scan`, that page with specks; `halftone`, dots of eight sizes; `dither`, a gradient whose
+ * error is spread; `blank`, nearly all white; `borders`, black at both edges; or `inverted`, whose modes are horizontal. ENCODING is
+ * numbered as in hayro_ccitt.h. A strip is encoded and decoded as one of a TIFF: with a row limit, with EOLs in Group 3, with EOFB in
+ * Group 4. It prints the number of changes. Callgrind is given --toggle-collect=measured and --dump-after=measured, and then writes a
+ * file for each way, in the order of `ways`. */
 #include <fax_encode.h>
 #include <hayro_ccitt.h>
 #include <stdio.h>
@@ -128,6 +129,34 @@ static void dot(void)
         }
 }
 
+/* Borders of a scan, jagged on both sides: black up to the left edge in one row, up to the right one in the next. */
+static void frame(void)
+{
+    uint32_t row, column;
+    for (row = 0; row < settings.rows; row++)
+        for (column = 0; column < 8; column++) {
+            set(row, column, column >= row % 2 * 2);
+            set(row, settings.columns - 8 + column, column < 6 + row % 2 * 2);
+        }
+}
+
+/* Each row has the other colours of the one above, in runs of five, so that modes are horizontal but at the row's end. */
+static void invert(void)
+{
+    uint32_t row, column;
+    for (row = 0; row < settings.rows; row++)
+        for (column = 0; column < settings.columns; column++)
+            set(row, column, (column / 5 + row) % 2);
+}
+
+/* White but for a dot in each sixty-fourth row. */
+static void blank(void)
+{
+    uint32_t row;
+    for (row = 0; row < settings.rows; row += 64)
+        set(row, 600, 1);
+}
+
 /* A gradient from white to black, its error spread to the right and below. */
 static void spread(void)
 {
@@ -174,6 +203,12 @@ int main(int count, char **words)
         speckle();
     else if (!strcmp(words[1], "halftone"))
         dot();
+    else if (!strcmp(words[1], "borders"))
+        frame();
+    else if (!strcmp(words[1], "inverted"))
+        invert();
+    else if (!strcmp(words[1], "blank"))
+        blank();
     else if (!strcmp(words[1], "dither"))
         spread();
     for (way = 0; way < 8; way++) {

@@ -74,14 +74,21 @@ def names_of(file):
 def run_one(name):
     """Runs a check here. Returns whether it passed."""
     file, _, check = name.partition(".")
+    began = seconds_used()
     try:
         next(it for of in FILES if of.__name__ == file for it in of.CHECKS if it.__name__ == check)()
     except Exception:
         print(f"{check}: FAILED")
         traceback.print_exc(file=sys.stdout)
         return False
-    print(f"{check}: ok")
+    print(f"{check}: ok, {seconds_used() - began:.0f} s of processor")
     return True
+
+
+def seconds_used():
+    """The seconds of processor of this process and of those that it has waited for."""
+    times = os.times()
+    return times.user + times.system + times.children_user + times.children_system
 
 
 def run_beside(name, library):

@@ -1,6 +1,6 @@
 -- What is chosen by settings is an encoding, and is read again.
 use Rattle.fax_encode.proofs.Names.{◌≡◌, ◌≢◌, ℕ, zero, suc, ◌+◌, ◌/◌, ◌^◌, ◌<◌, ◌≤◌, Bool, true, false, cond, leb, List, [], ◌∷◌}
-use Rattle.fax_encode.proofs.Names.{◌++◌, length, refl, sym, ap, subst, ◌∙◌, arith, inl, inr, append_assoc, Ok, leb-true}
+use Rattle.fax_encode.proofs.Names.{◌++◌, length, refl, sym, ap, subst, ◌∙◌, arith, inl, inr, append_assoc, Ok}
 use Rattle.fax_encode.proofs.Names.{append-nil, length-replicate, All-head, All-tail, DecodeSettings, EncodingMode, Group4}
 use Rattle.fax_encode.proofs.Names.{Group3_1D, Group3_2D, BitOrder, Bits, AreWholeBytes, bits_in, Row, HaveWidth, white_row}
 use Rattle.fax_encode.proofs.Names.{IsPicture, EncodesLine, EncodesRows, EncodesRowsWithEols, ClosesWithEols, PictureT6, padding}
@@ -11,6 +11,8 @@ use Rattle.fax_encode.proofs.Names.{needs_row, is_closed, decode_settings_for, i
 use Rattle.fax_encode.proofs.Names.{chosen_lines, fill_of, chosen_lines_with_eols, chosen_eols, chosen_picture, chosen_with_eols}
 use Rattle.fax_encode.proofs.Names.{chosen_group4, eols_here}
 use Rattle.fax_encode.proofs.Names.{Effort, Procedure, Shortest, line_1d, line_2d, EncodesLine1D, EncodesLine2D, White}
+use Rattle.fax_encode.proofs.Names.{cases_lt, le-leb}
+use Rattle.std.proofs.lemmas.Bool.{lt-leb}
 use Rattle.fax_encode.proofs.ShortestRows.{shortest_1d_encodes}
 use Rattle.fax_encode.proofs.{BytesOfBits.same_bytes, ChosenLines.line_1d_encodes, ChosenLines.line_2d_encodes}
 use Rattle.fax_encode.proofs.ShortestLines.{shortest_lines}
@@ -92,14 +94,14 @@ chosen_lines_encode effort encoding columns k rows is = (
   λ fills at. eols_close encoding fills at 6,
 )
 
--- the shorter of two lines, after its tag, is no longer than the second
-shorter_one : (one two : Bits) → length (cond (leb (length one) (length two)) (false ∷ one) (true ∷ two)) ≤ suc (length two)
-shorter_one one two = by_leb (leb (length one) (length two)) refl
-  where
-    by_leb : (short : Bool) → leb (length one) (length two) ≡ short
-        → length (cond short (false ∷ one) (true ∷ two)) ≤ suc (length two)
-    by_leb true e = omega (arith, leb-true (length one) (length two) e)
-    by_leb false e = omega arith
+-- the shorter of two lines, after its tag, is no longer than either
+pub shorter_line : (one two : Bits)
+    → (length (cond (leb (length one) (length two)) (false ∷ one) (true ∷ two)) ≤ suc (length one))
+    × (length (cond (leb (length one) (length two)) (false ∷ one) (true ∷ two)) ≤ suc (length two))
+shorter_line one two = elim (cases_lt (length two) (length one)) [
+  | inl lt ↦ let e = lt-leb (length one) (length two) lt in rw e (omega (arith, lt), omega arith)
+  | inr ge ↦ let e = le-leb (length one) (length two) ge in rw e (omega arith, omega (arith, ge))
+]
 
 tag_alone : (two : Bits) → length (true ∷ two) ≤ suc (length two)
 tag_alone two = omega arith
@@ -107,7 +109,7 @@ tag_alone two = omega arith
 -- the law
 pub never_longer : NeverLonger
 never_longer effort zero reference row = tag_alone (line_1d effort row)
-never_longer effort (suc left) reference row = shorter_one (line_2d effort reference row) (line_1d effort row)
+never_longer effort (suc left) reference row = (shorter_line (line_2d effort reference row) (line_1d effort row)).1
 
 -- ---- what is chosen is read again
 -- settings of a decoder that match

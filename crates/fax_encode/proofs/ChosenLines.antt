@@ -10,7 +10,7 @@ use Rattle.fax_encode.proofs.Names.{AscendFrom-wider, pixels_from-first, pixels-
 use Rattle.fax_encode.proofs.Names.{a2_least, b2_above, Shrinks, gathered_turn, chosen_run, chosen_runs, chosen_line_1d, Place}
 use Rattle.fax_encode.proofs.Names.{vertical_mode, is_near, chosen_mode, runs_of_mode, place_after, is_coded, next_place, bits_at}
 use Rattle.fax_encode.proofs.Names.{chosen_from, chosen_line_2d, chosen_lines_2d, chosen_lines_1d, return_to_control}
-use Rattle.fax_encode.proofs.Names.{word_of_mode, ChosenIsAnEncoding}
+use Rattle.fax_encode.proofs.Names.{word_of_mode, ChosenIsAnEncoding, Spells}
 use Rattle.fax_encode.proofs.ChosenWords.{run_spelled}
 
 -- ---- One-dimensional lines.
@@ -28,28 +28,42 @@ begins_other color change width places lt ascend rest e =
     let first = pixels_from-first change (not (is_black color)) width places lt ascend in
     colors_differ color (let heads : not (is_black color) ≡ is_black color = cc in heads)
 
-runs_encode : (color : Color) (place width : ℕ) (places : List ℕ) → place < width → AscendFrom place width places
-    → EncodesLine1D color (pixels_from place (is_black color) width places) (chosen_runs width color place places)
-runs_encode color place width [] lt ascend =
-    let n : ℕ = width - place in
-    subst (λ (row : Row). EncodesLine1D color row (chosen_run color n)) (append-nil (replicate n (is_black color)))
-    (subst (λ (b : Bits). EncodesLine1D color (replicate n (is_black color) ++ []) b) (append-nil (chosen_run color n))
-    (EncodesLine1D.run n (chosen_run color n) (run_spelled color n) (omega arith) (λ rest e. absurd cc) EncodesLine1D.over))
-runs_encode color place width (change ∷ places) lt ascend =
-    let from : place ≤ change = ascend.0 in
-    let within : change < width = ascend.1 in
-    let on = runs_encode (opposite color) change width places within
-    (AscendFrom-wider change (suc change) width width places (omega arith) (omega arith) ascend.2) in
-    let rest = subst (λ (c : Bool). EncodesLine1D (opposite color) (pixels_from change c width places)
-    (chosen_runs width (opposite color) change places)) (sym (not_black color)) on in
-    let first = pixels_from-first change (not (is_black color)) width places within ascend.2 in
-    EncodesLine1D.run (change - place) (chosen_run color (change - place)) (run_spelled color (change - place))
-    (omega (arith, ap length first)) (begins_other color change width places within ascend.2) rest
+-- by any words that spell runs
+module _ (run : Color → ℕ → Bits) (runs : ℕ → Color → ℕ → List ℕ → Bits)
+    (spelled : (color : Color) (n : ℕ) → Spells color n (run color n))
+    (last : (width place : ℕ) (color : Color) → runs width color place [] ≡ run color (width - place))
+    (more : (width place change : ℕ) (color : Color) (list : List ℕ)
+    → runs width color place (change ∷ list) ≡ run color (change - place) ++ runs width (opposite color) change list) where
+  runs_encode : (color : Color) (place width : ℕ) (places : List ℕ) → place < width → AscendFrom place width places
+      → EncodesLine1D color (pixels_from place (is_black color) width places) (runs width color place places)
+  runs_encode color place width [] lt ascend =
+      let n : ℕ = width - place in
+      subst (λ (row : Row). EncodesLine1D color row (runs width color place [])) (append-nil (replicate n (is_black color)))
+      (subst (λ (b : Bits). EncodesLine1D color (replicate n (is_black color) ++ []) b)
+      (append-nil (run color n) ∙ sym (last width place color))
+      (EncodesLine1D.run n (run color n) (spelled color n) (omega arith) (λ rest e. absurd cc) EncodesLine1D.over))
+  runs_encode color place width (change ∷ places) lt ascend =
+      let from : place ≤ change = ascend.0 in
+      let within : change < width = ascend.1 in
+      let on = runs_encode (opposite color) change width places within
+      (AscendFrom-wider change (suc change) width width places (omega arith) (omega arith) ascend.2) in
+      let rest = subst (λ (c : Bool). EncodesLine1D (opposite color) (pixels_from change c width places)
+      (runs width (opposite color) change places)) (sym (not_black color)) on in
+      let first = pixels_from-first change (not (is_black color)) width places within ascend.2 in
+      subst (λ (b : Bits). EncodesLine1D color (pixels_from place (is_black color) width (change ∷ places)) b)
+      (sym (more width place change color places))
+      (EncodesLine1D.run (change - place) (run color (change - place)) (spelled color (change - place))
+      (omega (arith, ap length first)) (begins_other color change width places within ascend.2) rest)
+
+  pub row_encodes : (row : Row) → 0 < length row → EncodesLine1D White row (runs (length row) White 0 (changes row))
+  row_encodes row some =
+      subst (λ (r : Row). EncodesLine1D White r (runs (length row) White 0 (changes row))) (pixels-changes row)
+      (runs_encode White 0 (length row) (changes row) some (AreChanges-changes row))
 
 -- what is chosen for a one-dimensional line encodes it
 pub line_1d_encodes : (row : Row) → 0 < length row → EncodesLine1D White row (chosen_line_1d row)
-line_1d_encodes row some = subst (λ (r : Row). EncodesLine1D White r (chosen_line_1d row)) (pixels-changes row)
-    (runs_encode White 0 (length row) (changes row) some (AreChanges-changes row))
+line_1d_encodes row some = row_encodes chosen_run chosen_runs run_spelled (λ width place color. refl)
+    (λ width place change color list. refl) row some
 
 -- ---- Two-dimensional lines.
 -- a vertical mode of at most three positions has a word, and names a1

@@ -24,7 +24,6 @@ pub mod RunsWritten
 pub mod ScannedRows
 pub mod ScannedWords
 pub mod ShortestBySettings
-pub mod ShortestKinds
 pub mod ShortestLines
 pub mod ShortestPictures
 pub mod ShortestRows

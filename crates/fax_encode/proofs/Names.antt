@@ -7,8 +7,7 @@ pub use Rattle.fax_encode.specs.Coding.{AreAllLeft, AreLeft, IsNear, color_after
 pub use Rattle.fax_encode.specs.Laws.{BitmapRoundTripT4, BitmapRoundTripT6, ChangesAtMost, ChosenBySettings, ChosenComesBack}
 pub use Rattle.fax_encode.specs.Laws.{ChosenIsAnEncoding, ChosenIsRead, ChosenLinesEncode, DamageReachesKRows, DamagedLine}
 pub use Rattle.fax_encode.specs.Laws.{GivesAll, NeverLonger, NoLineIsShorter, NoRunsAreShorter, NoneIsShorter, PackedIsShown}
-pub use Rattle.fax_encode.specs.Laws.{EncodesInKinds, EncodesInKindsWithEols, EncodesRows1D, EncodesRows2D, NoneIsShorter1D}
-pub use Rattle.fax_encode.specs.Laws.{NoneIsShorter2D, ReadToTheEnd}
+pub use Rattle.fax_encode.specs.Laws.{EncodesInKinds, EncodesInKindsWithEols, EncodesAlike, ReadToTheEnd}
 pub use Rattle.fax_encode.specs.Laws.{RoundTripT4, RoundTripT6, RowsAreChosen}
 pub use Rattle.fax_encode.specs.Laws.{RowsArePacked, lenient_settings_for, line_end, tag_after}
 pub use Rattle.fax_encode.specs.Packed.{Bitmap, bytes_of_row, packed, rows_shown, shown, with_packed_row}

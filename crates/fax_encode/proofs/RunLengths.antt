@@ -3,14 +3,14 @@ use Rattle.fax_encode.proofs.Names.{◌≡◌, ℕ, zero, suc, ◌+◌, ◌-◌,
 use Rattle.fax_encode.proofs.Names.{◌∷◌, ◌++◌, length, drop, get_or, replicate, agree_below_at, leb-true}
 use Rattle.fax_encode.proofs.Names.{refl, sym, ap, ◌∙◌, arith, flat_map, length-append, Color, White, Black, Bits}
 use Rattle.fax_encode.proofs.Names.{AscendFrom, length-low_bits, Word, word_of_length, chosen_rest, chosen_run, chosen_runs}
-use Rattle.fax_encode.proofs.Names.{IsWord}
+use Rattle.fax_encode.proofs.Names.{IsWord, opposite}
 use Rattle.fax_encode.proofs.RunsWritten.{rest_few, rest_more, short_run, two_runs}
 
 -- a word is as long as its number of bits says
 pub word_length : (word : Bits) (coded : Word) → IsWord word coded → length word ≡ coded.count
 word_length word coded is = sym (ap length is.spells) ∙ length-low_bits coded.count coded.bits
 
-long_word : (color : Color) → length (word_of_length color 2560) ≡ 12
+pub long_word : (color : Color) → length (word_of_length color 2560) ≡ 12
 long_word White = refl
 long_word Black = refl
 
@@ -94,14 +94,6 @@ pair_taken columns place i changes bits first second whole lt more ascend one tw
     )
 
 -- ---- at least
-white_least : (n : ℕ) → n < 64 → 4 ≤ length (word_of_length White n)
-white_least n lt = leb-true 4 (length (word_of_length White n))
-    (agree_below_at (λ m. leb 4 (length (word_of_length White m))) (λ m. true) 64 n refl lt)
-
-black_least : (n : ℕ) → n < 64 → 2 ≤ length (word_of_length Black n)
-black_least n lt = leb-true 2 (length (word_of_length Black n))
-    (agree_below_at (λ m. leb 2 (length (word_of_length Black m))) (λ m. true) 64 n refl lt)
-
 -- what a run has at least
 unfoldable pub least_run : Color → ℕ
 least_run White = 4
@@ -109,8 +101,10 @@ least_run Black = 2
 
 word_least : (color : Color) (n : ℕ) → n < 64 → least_run color ≤ length (word_of_length color n)
 unfolding least_run
-word_least White n lt = white_least n lt
-word_least Black n lt = black_least n lt
+word_least White n lt = leb-true 4 (length (word_of_length White n))
+    (agree_below_at (λ m. leb 4 (length (word_of_length White m))) (λ m. true) 64 n refl lt)
+word_least Black n lt = leb-true 2 (length (word_of_length Black n))
+    (agree_below_at (λ m. leb 2 (length (word_of_length Black m))) (λ m. true) 64 n refl lt)
 
 pub rest_least : (color : Color) (n : ℕ) → least_run color ≤ length (chosen_rest color n)
 rest_least color n = omega (
@@ -127,23 +121,31 @@ abbrev pub least_rest : Color → ℕ
 least_rest White = 3
 least_rest Black = 2
 
-pub runs_least : (color : Color) (place width : ℕ) (list : List ℕ)
-    → length list * 3 + least_rest color ≤ length (chosen_runs width color place list)
+least_parts : (color : Color) → (least_rest color ≤ least_run color)
+    × (least_rest color + 3 ≤ least_run color + least_rest (opposite color))
 unfolding least_run
-runs_least White place width [] = omega (arith, run_least White (width - place))
-runs_least Black place width [] = omega (arith, run_least Black (width - place))
-runs_least White place width (change ∷ list) = omega (
-  arith,
-  length-append (chosen_run White (change - place)) (chosen_runs width Black change list),
-  run_least White (change - place),
-  runs_least Black change width list,
-)
-runs_least Black place width (change ∷ list) = omega (
-  arith,
-  length-append (chosen_run Black (change - place)) (chosen_runs width White change list),
-  run_least Black (change - place),
-  runs_least White change width list,
-)
+least_parts White = (omega arith, omega arith)
+least_parts Black = (omega arith, omega arith)
+
+-- by either words
+module _ (run : Color → ℕ → Bits) (runs : ℕ → Color → ℕ → List ℕ → Bits)
+    (each : (color : Color) (n : ℕ) → least_run color ≤ length (run color n))
+    (last : (width place : ℕ) (color : Color) → runs width color place [] ≡ run color (width - place))
+    (more : (width place change : ℕ) (color : Color) (list : List ℕ)
+    → runs width color place (change ∷ list) ≡ run color (change - place) ++ runs width (opposite color) change list) where
+  pub runs_least : (color : Color) (place width : ℕ) (list : List ℕ)
+      → length list * 3 + least_rest color ≤ length (runs width color place list)
+  runs_least color place width [] =
+      omega (arith, ap length (last width place color), each color (width - place), (least_parts color).0)
+  runs_least color place width (change ∷ list) = omega (
+    arith,
+    ap length (more width place change color list),
+    length-append (run color (change - place)) (runs width (opposite color) change list),
+    each color (change - place),
+    (least_parts color).1,
+    runs_least (opposite color) change width list,
+  )
 
 pub row_least : (columns : ℕ) (changes : List ℕ) → length changes * 3 + 3 ≤ length (chosen_runs columns White 0 changes)
-row_least columns changes = runs_least White 0 columns changes
+row_least columns changes = runs_least chosen_run chosen_runs run_least (λ width place color. refl)
+    (λ width place change color list. refl) White 0 columns changes

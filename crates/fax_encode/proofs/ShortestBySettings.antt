@@ -1,193 +1,163 @@
 -- What is chosen by settings with the effort `Shortest` has the fewest bits.
-use Rattle.fax_encode.proofs.Names.{◌≡◌, ℕ, suc, ◌≤◌, Bool, false, true, cond, leb, List, [], ◌∷◌, ◌++◌, length, refl, sym, ap}
-use Rattle.fax_encode.proofs.Names.{subst, ◌∙◌}
-use Rattle.fax_encode.proofs.Names.{arith, length-append, length-replicate, cases_lt, inl, inr, false≢true, le-leb}
-use Rattle.fax_encode.proofs.Names.{EncodingMode, Group4, BitOrder}
-use Rattle.fax_encode.proofs.Names.{Bits, Row, white_row, EncodesRows, IsPicture, padding, eol, Effort, Shortest}
-use Rattle.fax_encode.proofs.Names.{EncodeSettings, NoLineIsShorter, NoneIsShorter, chosen, chosen_lines, left_after}
-use Rattle.fax_encode.proofs.Names.{with_end, shortest_line_2d, shortest_lines_2d, NoRunsAreShorter}
+use Rattle.fax_encode.proofs.Names.{◌≡◌, ℕ, zero, suc, ◌+◌, ◌%◌, ◌<◌, ◌≤◌, Bool, false, true, cond, List, [], ◌∷◌, ◌++◌, length}
+use Rattle.fax_encode.proofs.Names.{refl, sym, ap, subst, ◌∙◌, arith, length-append, length-replicate}
+use Rattle.fax_encode.proofs.Names.{false≢true, All, All-head, All-tail, EncodingMode, Group4, Group3_1D, Group3_2D}
+use Rattle.fax_encode.proofs.Names.{Bits, Row, white_row, EncodesRowsWithEols, IsPicture, eol, tag_of, Effort, Shortest}
+use Rattle.fax_encode.proofs.Names.{NoLineIsShorter, NoRunsAreShorter, NoneIsShorter, EncodesAlike, EncodesInKinds}
+use Rattle.fax_encode.proofs.Names.{EncodesInKindsWithEols, chosen_end, chosen_eols, chosen_line, chosen_lines}
+use Rattle.fax_encode.proofs.Names.{chosen_lines_with_eols, chosen_picture, chosen_with_eols, fill_of, left_after, with_end}
+use Rattle.fax_encode.proofs.Names.{shortest_line_2d}
 use Rattle.fax_encode.specs.Shortest.{shortest_line_1d}
-use Rattle.fax_encode.proofs.ShortestRows.{shortest_1d_least}
-use Rattle.fax_encode.proofs.{ShortestLines.shortest_lines, ShortestPictures.lines_least, ShortestPictures.up_to_byte_least}
-use Rattle.fax_encode.proofs.ShortestPictures.{up_to_byte}
 use Rattle.fax_encode.proofs.FilledEols.{length-eol}
-use Rattle.fax_encode.proofs.Names.{◌+◌, ◌<◌, All, All-head, All-tail, Group3_1D, EncodesRowsWithEols, return_to_control}
-use Rattle.fax_encode.proofs.Names.{chosen_lines_with_eols, EncodesRows1D, NoneIsShorter1D}
+use Rattle.fax_encode.proofs.ChosenBySettings.{shorter_line}
+use Rattle.fax_encode.proofs.{ShortestLines.shortest_lines, ShortestRows.shortest_1d_least}
+use Rattle.fax_encode.proofs.ShortestPictures.{line_least, lines_least, any_kind, end_least}
 
--- the chosen lines are the shortest
-shortest_chosen : (k left : ℕ) (aligned : Bool) (reference : Row) (rows : List Row)
-    → chosen_lines Shortest Group4 k aligned left reference rows ≡ shortest_lines_2d aligned reference rows
-shortest_chosen k left aligned reference [] = refl
-shortest_chosen k left aligned reference (row ∷ rows) =
-    ap (λ (b : Bits). (shortest_line_2d reference row ++ cond aligned (padding (length
-    (shortest_line_2d reference row))) []) ++ b)
-    (shortest_chosen k (left_after Shortest Group4 k left reference row) aligned row rows)
-
-pub end_least : (mine other end : Bits) → length mine ≤ length other → length (mine ++ end) ≤ length (other ++ end)
-end_least mine other end le = omega (arith, le, length-append mine end, length-append other end)
-
-module _ (columns k : ℕ) (eols fills aligned closed : Bool) (order : BitOrder) (rows : List Row) (lines : Bits)
-    (is : IsPicture columns rows) where
-  abbrev by : EncodeSettings
-  by = record {
-    encoding = Group4;
-    k = k;
-    end_of_line = eols;
-    eols_end_at_bytes = fills;
-    rows_are_byte_aligned = aligned;
-    end_of_block = closed;
-    order = order;
-    effort = Shortest;
-  }
-
-  no_shorter : EncodesRows Group4 aligned (white_row columns) rows lines
-      → length (chosen by columns rows) ≤ length (with_end by lines)
-  no_shorter encodes =
-      let least = lines_least columns aligned (white_row columns) rows (length-replicate columns false) is.1 lines encodes in
-      let same = ap length (shortest_chosen k 0 aligned (white_row columns) rows) in
-      end_least (chosen_lines Shortest Group4 k aligned 0 (white_row columns) rows) lines (cond closed (eol 0 ++ eol 0) [])
-      (omega (arith, least, same))
-
--- the law
-pub none_is_shorter : NoneIsShorter
-none_is_shorter settings columns rows lines is encoding effort encodes =
-    subst Holds (sym same) (no_shorter columns settings.k settings.end_of_line settings.eols_end_at_bytes
-    settings.rows_are_byte_aligned settings.end_of_block settings.order rows lines is) encodes
-  where
-    Holds : EncodeSettings → Type 0
-    Holds s = EncodesRows Group4 s.rows_are_byte_aligned (white_row columns) rows lines
-        → length (chosen s columns rows) ≤ length (with_end s lines)
-
-    same : settings ≡ record {
-      encoding = Group4;
-      k = settings.k;
-      end_of_line = settings.end_of_line;
-      eols_end_at_bytes = settings.eols_end_at_bytes;
-      rows_are_byte_aligned = settings.rows_are_byte_aligned;
-      end_of_block = settings.end_of_block;
-      order = settings.order;
-      effort = Shortest;
-    }
-    same = ap (λ (e : EncodingMode). record settings { encoding = e }) encoding
-        ∙ ap (λ (e : Effort). record settings { encoding = Group4; effort = e }) effort
-
--- the line that is taken is no longer than the first
-first_no_longer : (two one : Bits) → length (cond (leb (length two) (length one)) (false ∷ two) (true ∷ one)) ≤ suc (length two)
-first_no_longer two one = by_leb (leb (length two) (length one)) refl
-  where
-    by_leb : (short : Bool) → leb (length two) (length one) ≡ short → length (cond short (false ∷ two) (true ∷ one)) ≤ suc
-        (length two)
-    by_leb true e = omega arith
-    by_leb false e = elim (cases_lt (length one) (length two)) [
-      | inl lt ↦ omega (arith, lt)
-      | inr ge ↦ absurd (false≢true (sym e ∙ le-leb (length two) (length one) ge))
-    ]
-
+-- ---- A line.
 -- the law
 pub no_line_is_shorter : NoLineIsShorter
 no_line_is_shorter left reference row bits same encodes =
     let least = (shortest_lines reference row same).1 bits encodes in
-    omega (arith, least, first_no_longer (shortest_line_2d reference row) (shortest_line_1d row))
+    omega (arith, least, (shorter_line (shortest_line_2d reference row) (shortest_line_1d row)).0)
 
 -- the law
 pub no_runs_are_shorter : NoRunsAreShorter
 no_runs_are_shorter left reference row bits some encodes = shortest_1d_least row bits some encodes
 
--- ---- Pictures of one-dimensional lines.
-lines_1d_least : (columns k left : ℕ) (aligned : Bool) (reference : Row) (rows : List Row) → 0 < columns
-    → All (λ row. length row ≡ columns) rows → (bits : Bits) → EncodesRows Group3_1D aligned reference rows bits
-    → length (chosen_lines Shortest Group3_1D k aligned left reference rows) ≤ length bits
-unfolding up_to_byte
-lines_1d_least columns k left aligned reference [] wide widths bits is = omega arith
-lines_1d_least columns k left aligned reference (row ∷ rows) wide widths bits is =
-    let width : length row ≡ columns = All-head (λ row. length row ≡ columns) row rows widths in
-    let line = shortest_1d_least row is.0 (omega (arith, wide, width)) is.2 in
-    let filled = up_to_byte_least aligned (shortest_line_1d row) is.0 line in
-    let rest = lines_1d_least columns k 0 aligned row rows wide (All-tail (λ row. length row ≡ columns) row rows widths) is.1
-    is.3 in
-    let mine = length-append (up_to_byte aligned (shortest_line_1d row))
-    (chosen_lines Shortest Group3_1D k aligned 0 row rows) in
-    let other = length-append (up_to_byte aligned is.0) is.1 in
-    let whole = ap length is.4 in
-    omega (arith, filled, rest, mine, other, whole)
+-- ---- Lines with EOLs.
+-- an EOL that begins earlier ends no later
+fill_least : (fills : Bool) (at other fill : ℕ) → at ≤ other → (fills ≡ true → (other + 12 + fill) % 8 ≡ 0)
+    → at + fill_of fills at ≤ other + fill
+fill_least true at other fill le ends = omega (arith, le, ends refl)
+fill_least false at other fill le ends = omega (arith, le)
 
-eols_1d_least : (columns k at left : ℕ) (reference : Row) (rows : List Row) → 0 < columns
-    → All (λ row. length row ≡ columns) rows → (bits : Bits) → EncodesRowsWithEols Group3_1D reference rows bits
-    → length (chosen_lines_with_eols Shortest Group3_1D k false at left reference rows) ≤ length bits
-eols_1d_least columns k at left reference [] wide widths bits is = omega arith
-eols_1d_least columns k at left reference (row ∷ rows) wide widths bits is =
+fill_grows : (fills : Bool) (at other : ℕ) → at ≤ other → at + fill_of fills at ≤ other + fill_of fills other
+fill_grows true at other le = omega (arith, le)
+fill_grows false at other le = omega (arith, le)
+
+eols_least : (encoding : EncodingMode) (columns k at other left : ℕ) (fills : Bool) (reference : Row) (rows : List Row)
+    → 0 < columns → at ≤ other → length reference ≡ columns → All (λ row. length row ≡ columns) rows
+    → (bits : Bits) → EncodesInKindsWithEols encoding k fills other left reference rows bits
+    → at + length (chosen_lines_with_eols Shortest encoding k fills at left reference rows) ≤ other + length bits
+eols_least encoding columns k at other left fills reference [] wide le same widths bits is = omega (arith, le, ap length is)
+eols_least encoding columns k at other left fills reference (row ∷ rows) wide le same widths bits is =
     let width : length row ≡ columns = All-head (λ row. length row ≡ columns) row rows widths in
-    let line = shortest_1d_least row is.1 (omega (arith, wide, width)) is.3 in
-    let next : ℕ = at + 12 + 0 + length (shortest_line_1d row) in
-    let rest = eols_1d_least columns k next 0 row rows wide (All-tail (λ row. length row ≡ columns) row rows widths) is.2 is.4 in
-    let others : Bits = chosen_lines_with_eols Shortest Group3_1D k false next 0 row rows in
+    let mine : Bits = chosen_line Shortest encoding left reference row in
+    let next : ℕ = left_after Shortest encoding k left reference row in
+    let fill : ℕ = fill_of fills at in
+    let filled = fill_least fills at other is.0 le is.3 in
+    let line = line_least encoding left reference row is.1 (same ∙ sym width) (omega (arith, wide, width)) is.4 is.5 in
+    let rest = eols_least encoding columns k (at + 12 + fill + length mine) (other + 12 + is.0 + length is.1) next fills row rows
+    wide (omega (arith, filled, line)) width (All-tail (λ row. length row ≡ columns) row rows widths) is.2 is.6 in
+    let others : Bits = chosen_lines_with_eols Shortest encoding k fills (at + 12 + fill + length mine) next row rows in
     omega (
       arith,
-      line,
       rest,
-      length-append (eol 0 ++ shortest_line_1d row) others,
-      length-append (eol 0) (shortest_line_1d row),
+      length-append (eol fill ++ mine) others,
+      length-append (eol fill) mine,
       length-append (eol is.0 ++ is.1) is.2,
       length-append (eol is.0) is.1,
-      length-eol 0,
+      length-eol fill,
       length-eol is.0,
-      ap length is.5,
+      ap length is.7,
     )
 
-module _ (columns k : ℕ) (order : BitOrder) (rows : List Row) (lines : Bits) (is : IsPicture columns rows) where
-  by_eols : (eols aligned closed : Bool) → EncodesRows1D eols aligned (white_row columns) rows lines
-      → length (chosen (record {
-        encoding = Group3_1D;
-        k = k;
-        end_of_line = eols;
-        eols_end_at_bytes = false;
-        rows_are_byte_aligned = aligned;
-        end_of_block = closed;
-        order = order;
-        effort = Shortest;
-      }) columns rows) ≤ length (with_end (record {
-        encoding = Group3_1D;
-        k = k;
-        end_of_line = eols;
-        eols_end_at_bytes = false;
-        rows_are_byte_aligned = aligned;
-        end_of_block = closed;
-        order = order;
-        effort = Shortest;
-      }) lines)
-  by_eols true aligned true encodes =
-      end_least (chosen_lines_with_eols Shortest Group3_1D k false 0 0 (white_row columns) rows) lines return_to_control
-      (eols_1d_least columns k 0 0 (white_row columns) rows is.0 is.1 lines encodes)
-  by_eols true aligned false encodes =
-      end_least (chosen_lines_with_eols Shortest Group3_1D k false 0 0 (white_row columns) rows) lines []
-      (eols_1d_least columns k 0 0 (white_row columns) rows is.0 is.1 lines encodes)
-  by_eols false aligned closed encodes =
-      omega (
+-- EOLs that begin earlier end no later
+ends_least : (encoding : EncodingMode) (fills : Bool) (n at other : ℕ) → at ≤ other
+    → at + length (chosen_eols encoding fills at n) ≤ other + length (chosen_eols encoding fills other n)
+ends_least encoding fills zero at other le = omega (arith, le)
+ends_least encoding fills (suc n) at other le =
+    let fill : ℕ = fill_of fills at in
+    let more : ℕ = fill_of fills other in
+    let tag : Bits = tag_of encoding in
+    let grown = fill_grows fills at other le in
+    let mine : Bits = chosen_eols encoding fills (at + 12 + fill + length tag) n in
+    let others : Bits = chosen_eols encoding fills (other + 12 + more + length tag) n in
+    omega (
+      arith,
+      ends_least encoding fills n (at + 12 + fill + length tag) (other + 12 + more + length tag) (omega (arith, grown)),
+      length-append (eol fill ++ tag) mine,
+      length-append (eol fill) tag,
+      length-append (eol more ++ tag) others,
+      length-append (eol more) tag,
+      length-eol fill,
+      length-eol more,
+    )
+
+-- any lines are, where lines have no tags and fill is any
+any_eols : (encoding : EncodingMode) (k at left : ℕ) (reference : Row) (rows : List Row) (bits : Bits)
+    → tag_of encoding ≡ [] → EncodesRowsWithEols encoding reference rows bits
+    → EncodesInKindsWithEols encoding k false at left reference rows bits
+any_eols encoding k at left reference [] bits none is = is
+any_eols encoding k at left reference (row ∷ rows) bits none is = (
+  is.0,
+  is.1,
+  is.2,
+  λ e. absurd (false≢true e),
+  is.3,
+  rw none refl,
+  any_eols encoding k (at + 12 + is.0 + length is.1) (left_after Shortest encoding k left reference row) row rows is.2 none is.4,
+  is.5,
+)
+
+-- ---- Pictures.
+module _ (columns k : ℕ) (rows : List Row) (lines : Bits) (is : IsPicture columns rows) where
+  abbrev white : Row
+  white = white_row columns
+
+  without_eols : (encoding : EncodingMode) (aligned : Bool) → EncodesInKinds encoding k aligned 0 white rows lines
+      → length (chosen_lines Shortest encoding k aligned 0 white rows) ≤ length lines
+  without_eols encoding aligned encodes =
+      lines_least encoding columns k 0 aligned white rows is.0 (length-replicate columns false) is.1 lines encodes
+
+  with_eols : (encoding : EncodingMode) (fills closed : Bool) → EncodesInKindsWithEols encoding k fills 0 0 white rows lines
+      → length (chosen_with_eols Shortest encoding k fills closed white rows)
+      ≤ length (lines ++ cond closed (chosen_eols encoding fills (length lines) 6) [])
+  with_eols encoding fills closed encodes = by_end closed
+    where
+      mine : Bits
+      mine = chosen_lines_with_eols Shortest encoding k fills 0 0 white rows
+
+      least : length mine ≤ length lines
+      least = omega (
         arith,
-        lines_1d_least columns k 0 aligned (white_row columns) rows is.0 is.1 lines encodes,
-        length-append lines [],
+        eols_least encoding columns k 0 0 0 fills white rows is.0 (omega arith) (length-replicate columns false) is.1 lines
+            encodes,
       )
 
--- the law
-pub none_is_shorter_1d : NoneIsShorter1D
-none_is_shorter_1d settings columns rows lines is encoding effort fill encodes =
-    subst Holds (sym same) (by_eols columns settings.k settings.order rows lines is settings.end_of_line
-    settings.rows_are_byte_aligned settings.end_of_block) encodes
-  where
-    Holds : EncodeSettings → Type 0
-    Holds s = EncodesRows1D s.end_of_line s.rows_are_byte_aligned (white_row columns) rows lines
-        → length (chosen s columns rows) ≤ length (with_end s lines)
+      by_end : (ends : Bool) → length (mine ++ cond ends (chosen_eols encoding fills (length mine) 6) [])
+          ≤ length (lines ++ cond ends (chosen_eols encoding fills (length lines) 6) [])
+      by_end true = omega (
+        arith,
+        ends_least encoding fills 6 (length mine) (length lines) least,
+        length-append mine (chosen_eols encoding fills (length mine) 6),
+        length-append lines (chosen_eols encoding fills (length lines) 6),
+      )
+      by_end false = end_least mine lines [] least
 
-    same : settings ≡ record {
-      encoding = Group3_1D;
-      k = settings.k;
-      end_of_line = settings.end_of_line;
-      eols_end_at_bytes = false;
-      rows_are_byte_aligned = settings.rows_are_byte_aligned;
-      end_of_block = settings.end_of_block;
-      order = settings.order;
-      effort = Shortest;
-    }
-    same = ap (λ (e : EncodingMode). record settings { encoding = e }) encoding
-        ∙ ap (λ (e : Effort). record settings { encoding = Group3_1D; effort = e }) effort
-        ∙ ap (λ (f : Bool). record settings { encoding = Group3_1D; effort = Shortest; eols_end_at_bytes = f }) fill
+  by : (encoding : EncodingMode) (eols fills aligned closed : Bool) → EncodesAlike encoding eols k fills aligned white rows lines
+      → length (chosen_picture Shortest encoding eols k fills aligned closed white rows)
+      ≤ length (lines ++ chosen_end encoding eols fills closed (length lines))
+  by Group4 eols fills aligned closed encodes =
+      end_least (chosen_lines Shortest Group4 k aligned 0 white rows) lines (cond closed (eol 0 ++ eol 0) [])
+      (without_eols Group4 aligned (any_kind Group4 k 0 aligned white rows lines refl encodes))
+  by Group3_1D true true aligned closed encodes = with_eols Group3_1D true closed encodes
+  by Group3_1D true false aligned closed encodes =
+      with_eols Group3_1D false closed (any_eols Group3_1D k 0 0 white rows lines refl encodes)
+  by Group3_1D false fills aligned closed encodes =
+      omega (
+        arith,
+        without_eols Group3_1D aligned (any_kind Group3_1D k 0 aligned white rows lines refl encodes),
+        length-append lines [],
+      )
+  by Group3_2D true fills aligned closed encodes = with_eols Group3_2D fills closed encodes
+  by Group3_2D false fills aligned closed encodes = omega (arith, without_eols Group3_2D aligned encodes, length-append lines [])
+
+-- the law
+pub none_is_shorter : NoneIsShorter
+none_is_shorter settings columns rows lines is effort encodes =
+    subst (λ (e : Effort). length (chosen_picture e settings.encoding settings.end_of_line settings.k settings.eols_end_at_bytes
+    settings.rows_are_byte_aligned settings.end_of_block (white_row columns) rows)
+    ≤ length (with_end settings lines)) (sym effort)
+    (by columns settings.k rows lines is settings.encoding settings.end_of_line settings.eols_end_at_bytes
+    settings.rows_are_byte_aligned settings.end_of_block encodes)

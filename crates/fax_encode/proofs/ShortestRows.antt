@@ -1,39 +1,21 @@
 -- One-dimensional lines by the shortest words encode their rows, and no other words do in fewer bits.
 use Rattle.fax_encode.proofs.Names.{◌≡◌, ◌≢◌, ℕ, zero, suc, ◌+◌, ◌-◌, ◌*◌, ◌<◌, ◌≤◌, Bool, not, List, [], ◌∷◌, ◌++◌, length}
-use Rattle.fax_encode.proofs.Names.{get_or, drop, replicate, refl, sym, ap, subst, ◌∙◌, arith, length-append, length-replicate}
-use Rattle.fax_encode.proofs.Names.{append-nil, Color, White, Black, Bits, Row, is_black, opposite, changes, pixels, pixels_from}
+use Rattle.fax_encode.proofs.Names.{get_or, drop, replicate, refl, sym, ap, ◌∙◌, arith, length-append, length-replicate}
+use Rattle.fax_encode.proofs.Names.{append-nil, Color, White, Bits, Row, is_black, opposite, changes, pixels, pixels_from}
 use Rattle.fax_encode.proofs.Names.{AreChanges, AscendFrom, AscendFrom-wider, AreChanges-changes, EncodesLine1D}
 use Rattle.fax_encode.proofs.Names.{pixels_from-first}
 use Rattle.fax_encode.proofs.Names.{pixels-changes, changes-pixels, length-pixels, shortest_run}
 use Rattle.fax_encode.specs.Shortest.{shortest_runs_1d, shortest_line_1d}
-use Rattle.fax_encode.proofs.ChosenLines.{not_black, begins_other}
-use Rattle.fax_encode.proofs.RunLengths.{least_run, least_rest}
+use Rattle.fax_encode.proofs.ChosenLines.{not_black, begins_other, row_encodes}
+use Rattle.fax_encode.proofs.RunLengths.{runs_least}
 use Rattle.fax_encode.proofs.RunsWritten.{next_is}
 use Rattle.fax_encode.proofs.ShortestRuns.{shortest_runs}
 use Rattle.fax_encode.proofs.ShortestRunsWritten.{least_of_run}
 
 -- ---- An encoding.
-shortest_encode : (color : Color) (place width : ℕ) (places : List ℕ) → place < width → AscendFrom place width places
-    → EncodesLine1D color (pixels_from place (is_black color) width places) (shortest_runs_1d width color place places)
-shortest_encode color place width [] lt ascend =
-    let n : ℕ = width - place in
-    subst (λ (row : Row). EncodesLine1D color row (shortest_run color n)) (append-nil (replicate n (is_black color)))
-    (subst (λ (b : Bits). EncodesLine1D color (replicate n (is_black color) ++ []) b) (append-nil (shortest_run color n))
-    (EncodesLine1D.run n (shortest_run color n) (shortest_runs color n).0 (omega arith) (λ rest e. absurd cc) EncodesLine1D.over))
-shortest_encode color place width (change ∷ places) lt ascend =
-    let from : place ≤ change = ascend.0 in
-    let within : change < width = ascend.1 in
-    let on = shortest_encode (opposite color) change width places within
-    (AscendFrom-wider change (suc change) width width places (omega arith) (omega arith) ascend.2) in
-    let rest = subst (λ (c : Bool). EncodesLine1D (opposite color) (pixels_from change c width places)
-    (shortest_runs_1d width (opposite color) change places)) (sym (not_black color)) on in
-    let first = pixels_from-first change (not (is_black color)) width places within ascend.2 in
-    EncodesLine1D.run (change - place) (shortest_run color (change - place)) (shortest_runs color (change - place)).0
-    (omega (arith, ap length first)) (begins_other color change width places within ascend.2) rest
-
 pub shortest_1d_encodes : (row : Row) → 0 < length row → EncodesLine1D White row (shortest_line_1d row)
-shortest_1d_encodes row some = subst (λ (r : Row). EncodesLine1D White r (shortest_line_1d row)) (pixels-changes row)
-    (shortest_encode White 0 (length row) (changes row) some (AreChanges-changes row))
+shortest_1d_encodes row some = row_encodes shortest_run shortest_runs_1d (λ color n. (shortest_runs color n).0)
+    (λ width place color. refl) (λ width place change color list. refl) row some
 
 -- ---- No other has fewer bits.
 -- a run and what follows it, of another colour, are determined
@@ -107,24 +89,7 @@ next_shortest columns place i color changes lt ascend =
     ap (shortest_runs_1d columns color place) (next_is columns place i color changes lt ascend)
 
 -- they have three bits for each change, and a few
-least_bits : (color : Color) (place width : ℕ) (list : List ℕ)
-    → length list * 3 + least_rest color ≤ length (shortest_runs_1d width color place list)
-unfolding least_run
-least_bits White place width [] = omega (arith, least_of_run White (width - place))
-least_bits Black place width [] = omega (arith, least_of_run Black (width - place))
-least_bits White place width (change ∷ list) = omega (
-  arith,
-  length-append (shortest_run White (change - place)) (shortest_runs_1d width Black change list),
-  least_of_run White (change - place),
-  least_bits Black change width list,
-)
-least_bits Black place width (change ∷ list) = omega (
-  arith,
-  length-append (shortest_run Black (change - place)) (shortest_runs_1d width White change list),
-  least_of_run Black (change - place),
-  least_bits White change width list,
-)
-
 pub shortest_row_least : (columns : ℕ) (changes : List ℕ)
     → length changes * 3 + 3 ≤ length (shortest_runs_1d columns White 0 changes)
-shortest_row_least columns changes = least_bits White 0 columns changes
+shortest_row_least columns changes = runs_least shortest_run shortest_runs_1d least_of_run (λ width place color. refl)
+    (λ width place change color list. refl) White 0 columns changes

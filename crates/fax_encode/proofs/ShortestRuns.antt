@@ -49,17 +49,22 @@ first_long Black times =
     (omega arith, omega arith) (omega arith, omega arith)))
 
 -- the word that comes first in all longer runs
-top : Color → ℕ
+unfoldable pub top : Color → ℕ
 top White = 26
 top Black = 40
 
-first_late : (color : Color) (times : ℕ) → 124 ≤ times → first_makeup color times ≡ top color
+-- and from which length on, in times of 64 pixels
+abbrev pub late : Color → ℕ
+late White = 68
+late Black = 124
+
+pub first_late : (color : Color) (times : ℕ) → late color ≤ times → first_makeup color times ≡ top color
 unfolding top
-first_late White times late =
+first_late White times many =
     let a : leb times 67 ≡ false = lt-leb times 67 (omega arith) in
     let b : leb 66 times ≡ true = le-leb 66 times (omega arith) in
     rw (a, b) refl
-first_late Black times late =
+first_late Black times many =
     let a : eqb times 56 ≡ false = ne_eqb times 56 (omega arith) in
     let b : eqb times 84 ≡ false = ne_eqb times 84 (omega arith) in
     let c : eqb times 57 ≡ false = ne_eqb times 57 (omega arith) in
@@ -129,16 +134,16 @@ adds_first color times more early few =
     leb-true (total color (times + more)) (total color times + one color more)
     (agree_below_at (adds_at color times) (λ m. true) 41 more (adds_early color times early) (omega arith))
 
-top_long : (color : Color) → (26 ≤ top color) × (top color ≤ 40)
+top_long : (color : Color) → (26 ≤ top color) × (top color ≤ 40) × (late color ≤ 124)
 unfolding top
-top_long White = (omega arith, omega arith)
-top_long Black = (omega arith, omega arith)
+top_long White = (omega arith, omega arith, omega arith)
+top_long Black = (omega arith, omega arith, omega arith)
 
 late_word : (color : Color) (times : ℕ) → 124 ≤ times
     → total color times ≡ one color (top color) + total color (times - top color)
-late_word color times late =
-    total_many color times (omega arith)
-    ∙ ap (λ (m : ℕ). one color m + total color (times - m)) (first_late color times late)
+late_word color times many =
+    total_many color times (omega (arith, many))
+    ∙ ap (λ (m : ℕ). one color m + total color (times - m)) (first_late color times (omega (arith, many, (top_long color).2)))
 
 one_some : (color : Color) (times : ℕ) → 0 < times → one color times ≡ length (word_of_length color (64 * times))
 unfolding one
@@ -179,47 +184,37 @@ rest_bits color n lt = elim (cases_lt n 64) [
       ∙ ap (λ (m : ℕ). m + ends color (n % 64)) (sym (sum ∙ word)))
 ]
 
-words_bits : (color : Color) (words n : ℕ) → n < 1664 * suc words
-    → length (shortest_words color words n) ≡ total color (n / 64) + ends color (n % 64)
+-- words spell their run, with that sum of bits
+words_are : (color : Color) (words n : ℕ) → n < 1664 * suc words → Spells color n (shortest_words color words n)
+    × (length (shortest_words color words n) ≡ total color (n / 64) + ends color (n % 64))
 unfolding shortest_words
-words_bits color zero n lt = rest_bits color n (omega arith)
-words_bits color (suc words) n lt = elim (cases_lt n 2624) [
-  | inl few ↦ let e : ltb n 2624 ≡ true = lt-ltb n 2624 few in rw e (rest_bits color n few)
+words_are color zero n lt = (rest_spelled color n (omega arith), rest_bits color n (omega arith))
+words_are color (suc words) n lt = elim (cases_lt n 2624) [
+  | inl few ↦ let e : ltb n 2624 ≡ true = lt-ltb n 2624 few in rw e (rest_spelled color n few, rest_bits color n few)
   | inr many ↦
       let e : ltb n 2624 ≡ false = le-ltb n 2624 many in
       let first : ℕ = first_makeup color (n / 64) in
       let long = first_long color (n / 64) in
       let left : ℕ = n - 64 * first in
-      let on = words_bits color words left (omega (arith, long.0, lt)) in
+      let front : Bits = word_of_length color (64 * first) in
+      let on = words_are color words left (omega (arith, long.0, lt)) in
       let times : left / 64 ≡ n / 64 - first = omega (arith, long.1) in
       let same : left % 64 ≡ n % 64 = omega (arith, long.1) in
-      let sum = total_many color (n / 64) (omega arith) in
-      let word = one_some color first (omega (arith, long.0)) in
-      let all = length-append (word_of_length color (64 * first)) (shortest_words color words left) in
-      let on2 : length (shortest_words color words left) ≡ total color (n / 64 - first) + ends color (n % 64)
-      = on ∙ (ap (λ (m : ℕ). total color m + ends color (left % 64)) times
-      ∙ ap (λ (m : ℕ). total color (n / 64 - first) + ends color m) same) in
-      rw e (omega (arith, all, on2, sum, word))
-]
-
-run_bits : (color : Color) (n : ℕ) → length (shortest_run color n) ≡ total color (n / 64) + ends color (n % 64)
-unfolding shortest_run
-run_bits color n = words_bits color (n / 1664) n (omega arith)
-
-words_spelled : (color : Color) (words n : ℕ) → n < 1664 * suc words → Spells color n (shortest_words color words n)
-unfolding shortest_words
-words_spelled color zero n lt = rest_spelled color n (omega arith)
-words_spelled color (suc words) n lt = elim (cases_lt n 2624) [
-  | inl few ↦ let e : ltb n 2624 ≡ true = lt-ltb n 2624 few in rw e (rest_spelled color n few)
-  | inr many ↦
-      let e : ltb n 2624 ≡ false = le-ltb n 2624 many in
-      let first : ℕ = first_makeup color (n / 64) in
-      let long = first_long color (n / 64) in
-      let on = words_spelled color words (n - 64 * first) (omega (arith, long.0, lt)) in
-      let word = makeup_word color (64 * first) (omega (arith, long.0)) (omega (arith, long.1)) (omega arith) in
-      let whole : 64 * first + (n - 64 * first) ≡ n = omega (arith, long.1) in
-      rw e (subst (λ (m : ℕ). Spells color m (word_of_length color (64 * first) ++ shortest_words color words (n - 64 * first)))
-      whole (Spells.makeup (64 * first) (word_of_length color (64 * first)) word (omega (arith, long.0)) on))
+      let makeup = makeup_word color (64 * first) (omega (arith, long.0)) (omega (arith, long.1)) (omega arith) in
+      let whole : 64 * first + left ≡ n = omega (arith, long.1) in
+      rw e (
+        subst (λ (m : ℕ). Spells color m (front ++ shortest_words color words left)) whole
+            (Spells.makeup (64 * first) front makeup (omega (arith, long.0)) on.0),
+        omega (
+          arith,
+          length-append front (shortest_words color words left),
+          on.1,
+          ap (total color) times,
+          ap (ends color) same,
+          total_many color (n / 64) (omega arith),
+          one_some color first (omega (arith, long.0)),
+        ),
+      )
 ]
 
 -- ---- Any words.
@@ -341,14 +336,12 @@ longest White = refl
 longest Black = refl
 
 white_dearer : (bound times : ℕ) → times ≤ bound → 68 ≤ times → total White times < usual White times
+unfolding top
 white_dearer zero times le many = absurd (omega arith)
 white_dearer (suc bound) times le many = elim (cases_lt times 124) [
   | inl early ↦
-      let a : leb times 67 ≡ false = lt-leb times 67 (omega arith) in
-      let b : leb 66 times ≡ true = le-leb 66 times (omega arith) in
-      let short : first_makeup White times ≡ 26 = rw (a, b) refl in
       elim (dearer_first White times early (omega arith)) [
-        | inl same ↦ absurd (omega (arith, same, short))
+        | inl same ↦ absurd (omega (arith, same, first_late White times many))
         | inr dear ↦ dear
       ]
   | inr late ↦
@@ -413,15 +406,13 @@ usual_kept color (suc words) n lt le = elim (cases_lt n 2624) [
               length-append front (chosen_run color left),
             )) in
             mine ∙ (ap (λ (b : Bits). front ++ b) on ∙ sym other)
-        | inr dear ↦ absurd (omega (arith, le, dear, words_bits color (suc words) n lt, usual_bits color n))
+        | inr dear ↦ absurd (omega (arith, le, dear, (words_are color (suc words) n lt).1, usual_bits color n))
       ]
 ]
 
 -- the shortest words of a run
 pub shortest_runs : ShortestRuns
 unfolding shortest_run
-shortest_runs color n = (
-  words_spelled color (n / 1664) n (omega arith),
-  λ bits spells. omega (arith, run_bits color n, no_fewer color n bits spells),
-  usual_kept color (n / 1664) n (omega arith),
-)
+shortest_runs color n =
+    let are = words_are color (n / 1664) n (omega arith) in
+    (are.0, λ bits spells. omega (arith, are.1, no_fewer color n bits spells), usual_kept color (n / 1664) n (omega arith))

@@ -6,9 +6,9 @@ use Rattle.fax_encode.proofs.Names.{word_of_length, chosen_rest, first_makeup}
 use Rattle.fax_encode.proofs.Names.{Bool, leb, ◌&&◌, List, [], ◌∷◌, Code, word_of, cond, eqb, White, Black, codes_of, leb-true}
 use Rattle.fax_encode.proofs.Names.{and_parts, opposite}
 use Rattle.fax_encode.specs.Shortest.{shortest_words, shortest_run}
-use Rattle.fax_encode.proofs.ShortestRuns.{first_long}
+use Rattle.fax_encode.proofs.ShortestRuns.{first_long, first_late, top}
 use Rattle.fax_encode.proofs.RunsWritten.{rest_few, rest_more}
-use Rattle.fax_encode.proofs.RunLengths.{word_length, least_run, rest_least}
+use Rattle.fax_encode.proofs.RunLengths.{word_length, long_word, least_run, rest_least}
 
 words_enough : (color : Color) (some more n : ℕ) → n < 1664 * suc some → n < 1664 * suc more
     → shortest_words color some n ≡ shortest_words color more n
@@ -69,6 +69,40 @@ bits_more color n times bits word many is coded =
       word_length (word_of_length color (64 * times)) word coded,
     )
 
+-- words of one length at the front
+pub white_front : (words n : ℕ) → 1664 * words ≤ n - 2688
+    → 6 * words + length (shortest_run White (n - 1664 * words)) ≡ length (shortest_run White n)
+unfolding top
+white_front zero n le = let same : n - 1664 * zero ≡ n = omega arith in
+    omega (arith, ap (λ (m : ℕ). length (shortest_run White m)) same)
+white_front (suc words) n le =
+    let rest : n - 1664 - 1664 * words ≡ n - 1664 * suc words = omega arith in
+    let six : length (word_of_length White 1664) ≡ 6 = refl in
+    omega (
+      arith,
+      white_front words (n - 1664) (omega (arith, le)),
+      ap (λ (m : ℕ). length (shortest_run White m)) rest,
+      ap length (shortest_more White n 26 (omega (arith, le)) (sym (first_late White (n / 64) (omega (arith, le))))),
+      length-append (word_of_length White 1664) (shortest_run White (n - 1664)),
+      six,
+    )
+
+pub black_front : (words n : ℕ) → 2560 * words ≤ n - 5376
+    → 12 * words + length (shortest_run Black (n - 2560 * words)) ≡ length (shortest_run Black n)
+unfolding top
+black_front zero n le = let same : n - 2560 * zero ≡ n = omega arith in
+    omega (arith, ap (λ (m : ℕ). length (shortest_run Black m)) same)
+black_front (suc words) n le =
+    let rest : n - 2560 - 2560 * words ≡ n - 2560 * suc words = omega arith in
+    omega (
+      arith,
+      black_front words (n - 2560) (omega (arith, le)),
+      ap (λ (m : ℕ). length (shortest_run Black m)) rest,
+      ap length (shortest_more Black n 40 (omega (arith, le)) (sym (first_late Black (n / 64) (omega (arith, le))))),
+      length-append (word_of_length Black 2560) (shortest_run Black (n - 2560)),
+      long_word Black,
+    )
+
 pub rest_one : (color : Color) (n : ℕ) (last : Word) → n < 64 → IsWord (word_of_length color (n % 64)) last
     → last.count ≡ length (chosen_rest color n)
 rest_one color n last few is =
@@ -125,45 +159,29 @@ rest_few_bits color n = elim (cases_lt n 64) [
       )
 ]
 
--- a run has no more bits than its pixels and 26
-pub run_few : (color : Color) (bound n : ℕ) → n ≤ bound → length (shortest_run color n) ≤ n + 26
-run_few color zero n le = omega (arith, le, ap length (shortest_few color n (omega (arith, le))), rest_few_bits color n)
-run_few color (suc bound) n le = elim (cases_lt n 2624) [
-  | inl few ↦ omega (arith, ap length (shortest_few color n few), rest_few_bits color n)
-  | inr many ↦
-      let first : ℕ = first_makeup color (n / 64) in
-      let long = first_long color (n / 64) in
-      omega (
-        arith,
-        run_few color bound (n - 64 * first) (omega (arith, le, long.0)),
-        long.0,
-        long.1,
-        many,
-        ap length (shortest_more color n first many refl),
-        length-append (word_of_length color (64 * first)) (shortest_run color (n - 64 * first)),
-        length_few color (64 * first),
-      )
-]
+-- what a run has at least, and that it has no more bits than its pixels and 26
+few_bounds : (color : Color) (n : ℕ) → n < 2624
+    → (least_run color ≤ length (shortest_run color n)) × (length (shortest_run color n) ≤ n + 26)
+few_bounds color n few =
+    let is = ap length (shortest_few color n few) in
+    (omega (arith, is, rest_least color n), omega (arith, is, rest_few_bits color n))
 
--- what a run has at least
-shortest_least : (color : Color) (bound n : ℕ) → n ≤ bound → least_run color ≤ length (shortest_run color n)
-shortest_least color zero n le =
-    omega (arith, ap length (shortest_few color n (omega (arith, le))), rest_least color n)
-shortest_least color (suc bound) n le = elim (cases_lt n 2624) [
-  | inl few ↦ omega (arith, ap length (shortest_few color n few), rest_least color n)
+pub run_bounds : (color : Color) (bound n : ℕ) → n ≤ bound
+    → (least_run color ≤ length (shortest_run color n)) × (length (shortest_run color n) ≤ n + 26)
+run_bounds color zero n le = few_bounds color n (omega (arith, le))
+run_bounds color (suc bound) n le = elim (cases_lt n 2624) [
+  | inl few ↦ few_bounds color n few
   | inr many ↦
       let first : ℕ = first_makeup color (n / 64) in
       let long = first_long color (n / 64) in
-      omega (
-        arith,
-        shortest_least color bound (n - 64 * first) (omega (arith, le, long.0)),
-        ap length (shortest_more color n first many refl),
-        length-append (word_of_length color (64 * first)) (shortest_run color (n - 64 * first)),
-      )
+      let rest = run_bounds color bound (n - 64 * first) (omega (arith, le, long.0)) in
+      let is = ap length (shortest_more color n first many refl) in
+      let sum = length-append (word_of_length color (64 * first)) (shortest_run color (n - 64 * first)) in
+      (omega (arith, rest.0, is, sum), omega (arith, rest.1, long, many, is, sum, length_few color (64 * first)))
 ]
 
 pub least_of_run : (color : Color) (n : ℕ) → least_run color ≤ length (shortest_run color n)
-least_of_run color n = shortest_least color n n (omega arith)
+least_of_run color n = (run_bounds color n n (omega arith)).0
 
 -- and two runs, one of each colour
 pub two_runs_least : (color : Color) (m n : ℕ) → 6 ≤ length (shortest_run color m) + length (shortest_run (opposite color) n)

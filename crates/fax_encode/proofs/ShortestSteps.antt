@@ -5,7 +5,7 @@ use Rattle.fax_encode.proofs.Names.{◌++◌, length, get_or, refl, sym, ap, sub
 use Rattle.fax_encode.proofs.Names.{Vertical, pos}
 use Rattle.fax_encode.proofs.Names.{le-leb, cases_lt, Color, White, Mode, Pass, Horizontal, Bits, Row, AreChanges, AscendFrom}
 use Rattle.fax_encode.proofs.Names.{pixels, length-pixels, opposite, a1, a2, b1, b2, Place, vertical_mode, is_near, place_after}
-use Rattle.fax_encode.proofs.Names.{word_of_mode, a1_next, b2_above, shorter, shortest_runs_of_mode}
+use Rattle.fax_encode.proofs.Names.{word_of_mode, a1_next, b2_above, shorter, shortest_of, shortest_runs_of_mode}
 use Rattle.fax_encode.proofs.Names.{shortest_run, AreAllLeft, color_after, Word, IsWord, append_assoc}
 use Rattle.fax_encode.proofs.Names.{false≢true}
 use Rattle.fax_encode.specs.declared.shortest_lines.Way.{Way}
@@ -17,7 +17,8 @@ use Rattle.fax_encode.specs.declared.shortest_lines.Ahead.{Ahead}
 use Rattle.fax_encode.proofs.Elements.{a1_found, a2_found, left_of_next, still_left}
 use Rattle.fax_encode.proofs.StepsToB1.{color_next, color_second}
 use Rattle.fax_encode.proofs.ShortestWays.{going_on, first_goes_on, goes_on, goes_no_further, rest_ends, vertical_place_after}
-use Rattle.fax_encode.proofs.ShortestWays.{no_runs_of, kept_first, taken_second}
+use Rattle.fax_encode.proofs.ShortestWays.{no_runs_of, kept_first, taken_second, stays, rest_passes}
+use Rattle.fax_encode.proofs.ShortestLines.{pass_right}
 use Rattle.fax_encode.proofs.Names.{get_or_past}
 use Rattle.fax_encode.proofs.ModesWritten.{one_width}
 use Rattle.fax_encode.proofs.ShortestWays.{rest_over, rest_bounded}
@@ -170,23 +171,17 @@ module _ (columns : ℕ) (changes : List ℕ) (are : AreChanges columns changes)
       (may k (omega arith))
 
   -- a pass may be made where b2 is left of the change
-  pub may_pass : (k : ℕ) (now : Place) → now ≡ passed_by above at k → b2 above now.from now.color < get_or changes n columns
+  pub may_pass : (k : ℕ) → b2 above (passed_by above at k).from (passed_by above at k).color < get_or changes n columns
       → ((i : ℕ) → i < k → MayPass above (pixels columns changes) (passed_by above at i))
       → MayPass above (pixels columns changes) (passed_by above at k)
-  may_pass k now is lt may =
-      let here = a1_here columns changes are n (passed_by above at k) (stands_by k may) in
-      let b = ap (λ (p : Place). b2 above p.from p.color) is in
-      omega (arith, lt, here, b)
+  may_pass k lt may = omega (arith, lt, a1_here columns changes are n (passed_by above at k) (stands_by k may))
 
   -- and else it may not
-  pub may_not_pass : (k : ℕ) (now : Place) → now ≡ passed_by above at k → get_or changes n columns ≤ b2 above now.from now.color
+  pub may_not_pass : (k : ℕ) → get_or changes n columns ≤ b2 above (passed_by above at k).from (passed_by above at k).color
       → ((i : ℕ) → i < k → MayPass above (pixels columns changes) (passed_by above at i))
       → a1 (pixels columns changes) (passed_by above at k).from ≤ b2 above (passed_by above at k).from
       (passed_by above at k).color
-  may_not_pass k now is le may =
-      let here = a1_here columns changes are n (passed_by above at k) (stands_by k may) in
-      let b = ap (λ (p : Place). b2 above p.from p.color) is in
-      omega (arith, le, here, b)
+  may_not_pass k le may = omega (arith, le, a1_here columns changes are n (passed_by above at k) (stands_by k may))
 
 -- ---- The mode without another pass.
 module _ (reference row : Row) (at : Place) where
@@ -440,17 +435,21 @@ found_ahead columns reference changes are n k at now way ahead start color stand
       first = counts.first;
     })
 
--- of a1 below b1, where what follows has few bits
+-- of a1 below b1
+abbrev pub below_way : Word → Ahead → Way
+below_way word ahead = record {
+  bits = 0 * 4 + (word.count + ahead.after_a1);
+  passes = 0;
+  first = 0;
+  word = word.bits;
+  count = word.count;
+  is_vertical = true;
+}
+
+-- where what follows has few bits
 pub below_counts : (color : Color) (from start : ℕ) (ahead : Ahead) (word : Word) → start ≡ ahead.a1
     → ahead.after_a1 ≤ ahead.after_a2 + 8 → IsWord (word_of_mode (Vertical (pos 0))) word
-    → Counts color from start 0 ahead (record {
-      bits = 0 * 4 + (word.count + ahead.after_a1);
-      passes = 0;
-      first = 0;
-      word = word.bits;
-      count = word.count;
-      is_vertical = true;
-    })
+    → Counts color from start 0 ahead (below_way word ahead)
 below_counts color from start ahead word e few is =
     let below = below_is start ahead.a1 e in
     let coded : IsWord (word_of_mode (vertical_mode start ahead.a1)) word
@@ -581,6 +580,83 @@ module _ (reference row : Row) (same : length reference ≡ length row) (at : Pl
       → a1 row (passed_by reference at k).from ≤ b2 reference (passed_by reference at k).from (passed_by reference at k).color
       → IsShortest reference row at way
   searched_to_end k way is le = record { lawful = is.lawful; bits = is.bits; is = is.ends le; spelled = is.spelled }
+
+  -- or where more passes take more bits
+  pub searched_enough : (k : ℕ) (way : Way) → IsSearched reference row at k way → MayPass reference row (passed_by reference at k)
+      → way.bits < suc k * 4 + length (shortest_rest reference row (passed_by reference at (suc k)))
+      → IsShortest reference row at way
+  searched_enough k way is may few = record {
+    lawful = is.lawful;
+    bits = is.bits;
+    is = is.on may ∙ stays reference row same at (suc k) (way_bits reference row at way.passes way.is_vertical)
+        (omega (arith, few, is.bits, length-words_of_passes (suc k)));
+    spelled = is.spelled;
+  }
+
+-- ---- A least number of bits.
+shorter_least : (least : ℕ) (first second : Bits) → least ≤ length first → least ≤ length second
+    → least ≤ length (shorter first second)
+shorter_least least first second one two = elim (cases_lt (length second) (length first)) [
+  | inl lt ↦ omega (arith, two, ap length (taken_second first second lt))
+  | inr le ↦ omega (arith, one, ap length (kept_first first second le))
+]
+
+module _ (columns : ℕ) (reference changes : List ℕ) (lawful : AreChanges columns reference) (are : AreChanges columns changes)
+    (n least : ℕ) (vertical : least ≤ bits_right_of columns reference changes (n + 1))
+    (horizontal : least ≤ bits_right_of columns reference changes (n + 2) + 9) where
+  abbrev above : Row
+  above = pixels columns reference
+
+  abbrev row : Row
+  row = pixels columns changes
+
+  without_least : (at : Place) → Stands columns changes n at → least ≤ length (without_pass above row at)
+  unfolding without_pass bits_right_of
+  without_least at stands = by_near (is_near (b1 above at.from at.color) (a1 row at.from))
+    where
+      in_vertical : least ≤ length (begun_in above row at (vertical_at above row at))
+      in_vertical = omega (
+        arith,
+        vertical,
+        vertical_length above row at,
+        ap (λ (p : Place). length (shortest_rest above row p)) (right_after_vertical columns changes are n at stands above
+            (b1 above at.from at.color) (a1 row at.from) (n + 1) refl),
+      )
+
+      in_horizontal : least ≤ length (begun_in above row at Horizontal)
+      in_horizontal = omega (
+        arith,
+        horizontal,
+        horizontal_length above row at,
+        ap (λ (p : Place). length (shortest_rest above row p))
+            (right_after_horizontal columns changes are n at stands above (n + 2) refl),
+        two_runs_least at.color (a1 row at.from - (at.from - 1)) (a2 row at.from - a1 row at.from),
+      )
+
+      by_near : (near : Bool)
+          → least ≤ length (shortest_of (begun_in above row at) (cond near (vertical_at above row at ∷ []) []))
+      by_near true = shorter_least least (begun_in above row at (vertical_at above row at)) (begun_in above row at Horizontal)
+          in_vertical in_horizontal
+      by_near false = in_horizontal
+
+  -- from each position from which this number of changes is left
+  pub least_of_rest : (bound : ℕ) (at : Place) → Stands columns changes n at → columns < at.from + bound
+      → least ≤ length (shortest_rest above row at)
+  least_of_rest zero at stands few = absurd (omega (arith, few, stands.inside))
+  least_of_rest (suc bound) at stands few =
+      let same = one_width columns reference changes lawful are in
+      let inside = in_row columns changes are n at stands in
+      let without = without_least at stands in
+      elim (cases_lt (b2 above at.from at.color) (a1 row at.from)) [
+        | inl lt ↦
+            let next : Bits = shortest_rest above row (passed above at) in
+            let rest = least_of_rest bound (passed above at) (stands_passed columns changes are n at stands above same lt)
+            (omega (arith, few, pass_right above row same at.from at.color lt)) in
+            let passes = shorter_least least (word_of_mode Pass ++ next) (without_pass above row at)
+            (omega (arith, rest, length-append (word_of_mode Pass) next)) without in
+            omega (arith, passes, ap length (rest_passes above row same at inside lt))
+        | inr ge ↦ omega (arith, without, ap length (rest_ends above row same at inside ge))
+      ]
 
 -- ---- Ways as they are written.
 pub vertical_written : (reference row : Row) (at after : Place) (k start to : ℕ) (old middle new : Bits)

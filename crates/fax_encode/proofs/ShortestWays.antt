@@ -10,7 +10,7 @@ use Rattle.fax_encode.specs.Ways.{shortest_rest, begun_in, without_pass, passed,
 use Rattle.fax_encode.specs.Ways.{MayPass}
 use Rattle.fax_encode.proofs.ShortestLines.{others, begins_with, from_is, over_is, pass_right, at_most}
 use Rattle.fax_encode.proofs.Names.{◌⊎◌}
-use Rattle.fax_encode.proofs.ShortestRunsWritten.{run_few}
+use Rattle.fax_encode.proofs.ShortestRunsWritten.{run_bounds}
 use Rattle.std.proofs.lemmas.Bool.{lt-leb}
 
 -- ---- The shorter of two.
@@ -97,10 +97,6 @@ vertical_place_after reference row at start to = by_leb (leb start to) refl
     by_leb true e = rw e refl
     by_leb false e = rw e refl
 
--- a2 is right of a1, except at the row's end
-a2_next_right : (row : Row) (from : ℕ) → a1 row from < length row → a1 row from < a2 row from
-a2_next_right row from lt = (a2_next row from).above (omega (arith, lt))
-
 module _ (reference row : Row) (same : length reference ≡ length row) where
   -- a mode and enough modes after it
   enough : (some more : ℕ) (at : Place) → at.from ≤ suc (length row) → suc (length row) ≤ at.from + some
@@ -151,7 +147,7 @@ module _ (reference row : Row) (same : length reference ≡ length row) where
         let further = a2_least row at.from in
         let after = (a2_next row at.from).within in
         let apart : (second ≡ length row) ⊎ (to < second) = elim (cases_lt to (length row)) [
-          | inl lt ↦ inr (a2_next_right row at.from lt)
+          | inl lt ↦ inr ((a2_next row at.from).above (omega (arith, lt)))
           | inr ge ↦ inl (omega (arith, ge, further, after))
         ] in
         let run1 : Bits = shortest_run at.color (to - (at.from - 1)) in
@@ -171,8 +167,8 @@ module _ (reference row : Row) (same : length reference ≡ length row) where
           length-append (word_of_mode Horizontal ++ (run1 ++ run2)) rest,
           length-append (word_of_mode Horizontal) (run1 ++ run2),
           length-append run1 run2,
-          run_few at.color (to - (at.from - 1)) (to - (at.from - 1)) (omega arith),
-          run_few (opposite at.color) (second - to) (second - to) (omega arith),
+          (run_bounds at.color (to - (at.from - 1)) (to - (at.from - 1)) (omega arith)).1,
+          (run_bounds (opposite at.color) (second - to) (second - to) (omega arith)).1,
         )
   ]
 
@@ -281,3 +277,12 @@ module _ (reference row : Row) (same : length reference ≡ length row) where
     unfolding going_on
     goes_no_further k best inside le is =
         is ∙ ap (λ (b : Bits). shorter (words_of_passes k ++ b) best) (rest_ends (passed_by reference at k) inside le)
+
+    -- more passes take more bits than the best of the others
+    pub stays : (k : ℕ) (best : Bits)
+        → length best < length (words_of_passes k) + length (shortest_rest reference row (passed_by reference at k))
+        → going_on reference row at k best ≡ best
+    unfolding going_on
+    stays k best lt =
+        let rest : Bits = shortest_rest reference row (passed_by reference at k) in
+        taken_second (words_of_passes k ++ rest) best (omega (arith, lt, length-append (words_of_passes k) rest))

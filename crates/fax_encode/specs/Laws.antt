@@ -1,6 +1,6 @@
 -- The laws of the chosen encoding.
-use Rattle.std.specs.Prelude.{◌≡◌, ℕ, suc, ◌^◌, ◌<◌, ◌≤◌, Bool, true, false, List, [], ◌∷◌, ◌++◌, length, take, drop, ◌+◌, Ok}
-use Rattle.std.specs.Prelude.{All, if◌then◌else◌}
+use Rattle.std.specs.Prelude.{◌≡◌, ℕ, suc, ◌%◌, ◌^◌, ◌<◌, ◌≤◌, Bool, true, false, List, [], ◌∷◌, ◌++◌, length, take, drop, ◌+◌}
+use Rattle.std.specs.Prelude.{Ok, All, if◌then◌else◌}
 use Rattle.hayro_ccitt.specs.EncodingMode.{EncodingMode}
 use Rattle.hayro_ccitt.specs.EncodingMode.TheVariants.{Group4, Group3_1D, Group3_2D}
 use Rattle.hayro_ccitt.specs.DecodeSettings.{DecodeSettings}
@@ -10,7 +10,7 @@ use Rattle.hayro_ccitt.specs.Locality.{EndAlike}
 use Rattle.hayro_ccitt.specs.LocalityByK.{IsTaggedBody, RowsDiffer}
 use Rattle.hayro_ccitt.specs.Rows.{Row, HaveWidth, white_row, pixels}
 use Rattle.hayro_ccitt.specs.Encodings.{IsPicture, PictureT6, PictureT4, EncodesLine1D, EncodesLine2D, EncodesRows}
-use Rattle.hayro_ccitt.specs.Encodings.{EncodesLine, EncodesRowsWithEols, eol, padding}
+use Rattle.hayro_ccitt.specs.Encodings.{EncodesLine, EncodesRowsWithEols, eol, padding, tag_of}
 use Rattle.hayro_ccitt.specs.Encodings.{ClosesWithEols}
 use Rattle.hayro_ccitt.specs.BitOrder.TheVariants.{HighestFirst}
 use Rattle.hayro_ccitt.specs.PlainReading.{plain}
@@ -148,14 +148,6 @@ ChosenBySettings = (columns k : ℕ) (rows : List Row)
 
 -- ---- the fewest bits
 
--- What is chosen for a picture as Group 4 with the effort `Shortest` has no more bits than any lines that encode its rows with
--- the same alignment, with the same end (T.6, 2).
-abbrev pub NoneIsShorter : Type 0
-NoneIsShorter = (settings : EncodeSettings) (columns : ℕ) (rows : List Row) (lines : Bits) → IsPicture columns rows
-    → settings.encoding ≡ Group4 → settings.effort ≡ Shortest
-    → EncodesRows Group4 settings.rows_are_byte_aligned (white_row columns) rows lines
-    → length (chosen settings columns rows) ≤ length (with_end settings lines)
-
 -- A line of two-dimensional Group 3 that may be two-dimensional, with the effort `Shortest`, has no more bits than any modes that
 -- encode its row, and the tag (T.4, 4.2.1.3 and 4.2.2).
 abbrev pub NoLineIsShorter : Type 0
@@ -168,49 +160,44 @@ abbrev pub NoRunsAreShorter : Type 0
 NoRunsAreShorter = (left : ℕ) (reference row : Row) (bits : Bits) → 0 < length row → EncodesLine1D White row bits
     → length (chosen_line Shortest Group3_1D left reference row) ≤ length bits
 
--- lines of one-dimensional Group 3 that encode these rows: with an EOL before each, or without EOLs (T.4, 4.1)
-abbrev pub EncodesRows1D : Bool → Bool → Row → List Row → Bits → Type 0
-EncodesRows1D true aligned white rows lines = EncodesRowsWithEols Group3_1D white rows lines
-EncodesRows1D false aligned white rows lines = EncodesRows Group3_1D aligned white rows lines
-
--- What is chosen for a picture as one-dimensional Group 3 with the effort `Shortest`, without fill, has no more bits than any
--- lines that encode its rows, with EOLs if it has them and with the same alignment, with the same end (T.4, 4.1).
-abbrev pub NoneIsShorter1D : Type 0
-NoneIsShorter1D = (settings : EncodeSettings) (columns : ℕ) (rows : List Row) (lines : Bits) → IsPicture columns rows
-    → settings.encoding ≡ Group3_1D → settings.effort ≡ Shortest → settings.eols_end_at_bytes ≡ false
-    → EncodesRows1D settings.end_of_line settings.rows_are_byte_aligned (white_row columns) rows lines
-    → length (chosen settings columns rows) ≤ length (with_end settings lines)
-
--- Lines of two-dimensional Group 3 that encode these rows, each with the tag of the line that is chosen with the effort
--- `Shortest`, and filled up to a whole byte if they are aligned (T.4, 4.2.1 and 4.2.2).
-abbrev pub EncodesInKinds : ℕ → Bool → ℕ → Row → List Row → Bits → Type 0
-EncodesInKinds k aligned left reference [] bits = bits ≡ []
-EncodesInKinds k aligned left reference (row ∷ rows) bits = (line next : Bits) × EncodesLine Group3_2D reference row line
-    × (take 1 line ≡ take 1 (chosen_line Shortest Group3_2D left reference row))
-    × EncodesInKinds k aligned (left_after Shortest Group3_2D k left reference row) row rows next
+-- Lines that encode these rows, each filled up to a whole byte if they are aligned, in two-dimensional Group 3 each with the tag
+-- of the line that is chosen with the effort `Shortest` (T.4, 4.1.1, 4.2.1 and 4.2.2; T.6, 2.2).
+abbrev pub EncodesInKinds : EncodingMode → ℕ → Bool → ℕ → Row → List Row → Bits → Type 0
+EncodesInKinds encoding k aligned left reference [] bits = bits ≡ []
+EncodesInKinds encoding k aligned left reference (row ∷ rows) bits = (line next : Bits) × EncodesLine encoding reference row line
+    × (take (length (tag_of encoding)) line ≡ take (length (tag_of encoding)) (chosen_line Shortest encoding left reference row))
+    × EncodesInKinds encoding k aligned (left_after Shortest encoding k left reference row) row rows next
     × (bits ≡ line ++ (if aligned then padding (length line) else []) ++ next)
 
--- such lines, an EOL before each (T.4, 4.1.2)
-abbrev pub EncodesInKindsWithEols : ℕ → ℕ → Row → List Row → Bits → Type 0
-EncodesInKindsWithEols k left reference [] bits = bits ≡ []
-EncodesInKindsWithEols k left reference (row ∷ rows) bits = (fill : ℕ) × (line next : Bits)
-    × EncodesLine Group3_2D reference row line
-    × (take 1 line ≡ take 1 (chosen_line Shortest Group3_2D left reference row))
-    × EncodesInKindsWithEols k (left_after Shortest Group3_2D k left reference row) row rows next
+-- Such lines after this number of bits, an EOL before each, which ends at a whole byte if each EOL does (T.4, 4.1.2 and 4.1.3).
+abbrev pub EncodesInKindsWithEols : EncodingMode → ℕ → Bool → ℕ → ℕ → Row → List Row → Bits → Type 0
+EncodesInKindsWithEols encoding k fills at left reference [] bits = bits ≡ []
+EncodesInKindsWithEols encoding k fills at left reference (row ∷ rows) bits = (fill : ℕ) × (line next : Bits)
+    × (fills ≡ true → (at + 12 + fill) % 8 ≡ 0)
+    × EncodesLine encoding reference row line
+    × (take (length (tag_of encoding)) line ≡ take (length (tag_of encoding)) (chosen_line Shortest encoding left reference row))
+    × EncodesInKindsWithEols encoding k fills (at + 12 + fill + length line)
+    (left_after Shortest encoding k left reference row) row rows next
     × (bits ≡ eol fill ++ line ++ next)
 
--- such lines of a picture, with an EOL before each or without EOLs (T.4, 4.2)
-abbrev pub EncodesRows2D : Bool → ℕ → Bool → Row → List Row → Bits → Type 0
-EncodesRows2D true k aligned white rows lines = EncodesInKindsWithEols k 0 white rows lines
-EncodesRows2D false k aligned white rows lines = EncodesInKinds k aligned 0 white rows lines
+-- Any lines that encode these rows by settings: with an EOL before each or without EOLs, with EOLs that end at whole bytes or
+-- with any fill, aligned or not. In two-dimensional Group 3 each is of the kind of the line that is chosen with the effort
+-- `Shortest` (T.4, 4.1 and 4.2; T.6, 2).
+abbrev pub EncodesAlike : EncodingMode → Bool → ℕ → Bool → Bool → Row → List Row → Bits → Type 0
+EncodesAlike Group4 eols k fills aligned white rows lines = EncodesRows Group4 aligned white rows lines
+EncodesAlike Group3_1D false k fills aligned white rows lines = EncodesRows Group3_1D aligned white rows lines
+EncodesAlike Group3_1D true k false aligned white rows lines = EncodesRowsWithEols Group3_1D white rows lines
+EncodesAlike Group3_1D true k true aligned white rows lines = EncodesInKindsWithEols Group3_1D k true 0 0 white rows lines
+EncodesAlike Group3_2D false k fills aligned white rows lines = EncodesInKinds Group3_2D k aligned 0 white rows lines
+EncodesAlike Group3_2D true k fills aligned white rows lines = EncodesInKindsWithEols Group3_2D k fills 0 0 white rows lines
 
--- What is chosen for a picture as two-dimensional Group 3 with the effort `Shortest`, without fill, has no more bits than any
--- lines that encode its rows in the same kinds, with EOLs if it has them and with the same alignment, with the same end
--- (T.4, 4.2).
-abbrev pub NoneIsShorter2D : Type 0
-NoneIsShorter2D = (settings : EncodeSettings) (columns : ℕ) (rows : List Row) (lines : Bits) → IsPicture columns rows
-    → settings.encoding ≡ Group3_2D → settings.effort ≡ Shortest → settings.eols_end_at_bytes ≡ false
-    → EncodesRows2D settings.end_of_line settings.k settings.rows_are_byte_aligned (white_row columns) rows lines
+-- What is chosen for a picture with the effort `Shortest`, by any settings, has no more bits than any lines that encode its rows
+-- by the same settings, with the same end (T.4, 4; T.6, 2).
+abbrev pub NoneIsShorter : Type 0
+NoneIsShorter = (settings : EncodeSettings) (columns : ℕ) (rows : List Row) (lines : Bits) → IsPicture columns rows
+    → settings.effort ≡ Shortest
+    → EncodesAlike settings.encoding settings.end_of_line settings.k settings.eols_end_at_bytes settings.rows_are_byte_aligned
+    (white_row columns) rows lines
     → length (chosen settings columns rows) ≤ length (with_end settings lines)
 
 -- ---- damage

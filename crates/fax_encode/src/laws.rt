@@ -2,7 +2,6 @@
 
 ghost use Rattle.fax_encode.specs.Laws.{ChosenBySettings, ChosenComesBack, ChosenIsRead, ChosenLinesEncode, DamageReachesKRows};
 ghost use Rattle.fax_encode.specs.Laws.{NeverLonger, NoLineIsShorter, NoRunsAreShorter, NoneIsShorter, WorkedSettings};
-ghost use Rattle.fax_encode.specs.Laws.{NoneIsShorter1D, NoneIsShorter2D};
 ghost use Rattle.fax_encode.specs.Laws.{RowsAreChosen, BitmapRoundTripT4, BitmapRoundTripT6, ChosenIsAnEncoding, PackedIsShown};
 ghost use Rattle.fax_encode.specs.Laws.{RoundTripT6, RoundTripT4, RowsArePacked};
 ghost use Rattle.fax_encode.specs.Shortest.{ShortestLines, ShortestPicturesT6, ShortestRuns};
@@ -68,11 +67,10 @@ pub fn damage_reaches_k_rows()
 
 /// The shortest words of a run, modes of a two-dimensional line against a reference row, and T.6 picture are encodings, and no
 /// other encoding of them, with the same alignment, has fewer bits. Where T.4's words of a run, or the modes of the procedure of
-/// T.4, 4.2.1.3.2 with those words, are as short, they are the shortest. What an encoder chooses as Group 4 with
-/// [`Effort::Shortest`](crate::Effort) has no more bits than any lines that encode the rows, with the same alignment and end; and
-/// a line of two-dimensional Group 3 that may be two-dimensional no more than any two-dimensional one, and a line of
-/// one-dimensional Group 3 no more than any one-dimensional one; so neither has a picture of such lines without fill, nor one of
-/// two-dimensional Group 3 against lines of the same kinds.
+/// T.4, 4.2.1.3.2 with those words, are as short, they are the shortest. What an encoder chooses with
+/// [`Effort::Shortest`](crate::Effort) has no more bits than any lines that encode the rows with the same encoding, EOLs, fill,
+/// alignment and end, in two-dimensional Group 3 than lines of the same kinds; there a line that may be two-dimensional has no more
+/// than any two-dimensional one, and a line of one-dimensional Group 3 no more than any one-dimensional one.
 pub fn shortest()
     ensures runs { ShortestRuns }
     ensures lines { ShortestLines }
@@ -80,6 +78,4 @@ pub fn shortest()
     ensures chosen { NoneIsShorter }
     ensures kinds { NoLineIsShorter }
     ensures rows { NoRunsAreShorter }
-    ensures chosen_1d { NoneIsShorter1D }
-    ensures chosen_2d { NoneIsShorter2D }
 {}

@@ -1,6 +1,6 @@
 //! Runs of one colour, and one-dimensional lines (T.4, 4.1).
 
-ghost use Rattle.std.specs.Prelude.{◌≡◌, ◌+◌, ◌^◌, ◌<◌, ◌≤◌, ◌++◌, OnOk, length, nat_le};
+ghost use Rattle.std.specs.Prelude.{◌≡◌, ◌+◌, ◌*◌, ◌^◌, ◌<◌, ◌≤◌, ◌++◌, OnOk, length, nat_le};
 ghost use Rattle.hayro_ccitt.specs.Bits.{low_bits};
 ghost use Rattle.hayro_ccitt.specs.Rows.{AreChanges, opposite};
 ghost use Rattle.fax_encode.specs.Chosen.{chosen_rest, chosen_run, chosen_runs};
@@ -272,14 +272,48 @@ fn rest_bits(color: Color, pixels: u32) -> u32
     last
 }
 
+/// The bits of words at the front of a run, and the pixels that are left after them.
+#[derive(Clone, Copy)]
+struct Front {
+    bits: u32,
+    left: u32,
+}
+
+/// Counts words of one length, 1664 white pixels or 2560 black ones, that the shortest words of a run begin with. What is left after
+/// them takes few words.
+#[inline(always)]
+fn count_front(color: Color, pixels: u32) -> Front
+    ensures counted { result.bits + length (shortest_run color result.left) ≡ length (shortest_run color pixels) }
+    ensures few { 128 * result.bits + result.left ≤ pixels }
+    ensures rest { result.left < 7936 }
+{
+    match color {
+        Color::White => {
+            let words = pixels.saturating_sub(2688) / 1664;
+            Front {
+                bits: 6 * words,
+                left: pixels - 1664 * words,
+            }
+        }
+        Color::Black => {
+            let words = pixels.saturating_sub(5376) / 2560;
+            Front {
+                bits: 12 * words,
+                left: pixels - 2560 * words,
+            }
+        }
+    }
+}
+
 /// Returns the number of bits of the shortest words of a run.
 #[inline(never)]
 fn long_shortest_run_bits(color: Color, pixels: u32) -> u32
     ensures is { result ≡ length (shortest_run color pixels) }
     ensures few { result ≤ pixels + 26 }
 {
-    let mut left = pixels;
-    let mut bits = 0;
+    let front = count_front(color, pixels);
+    let mut left = front.left;
+    let mut bits = front.bits;
     while left >= 2624 {
         let times = first_makeup(color, left / 64);
         bits += u32::from(makeup_word(color, times).count);

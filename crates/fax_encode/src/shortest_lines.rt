@@ -43,12 +43,12 @@ pub struct Ahead {
     pub after_a2: u64,
 }
 
-/// Returns the way with this number of passes and then vertical mode.
+/// Returns the way with this number of passes and then vertical mode of this word. Takes the number of bits behind it.
 #[inline(always)]
-fn vertical_way(passes: u64, word: Word, after: u64) -> Way
-    requires few { (passes < 2 ^ 40) × (word.count ≤ 13) × (after < 2 ^ 40) }
+fn vertical_way(passes: u64, word: Word, behind: u64) -> Way
+    requires few { (passes < 2 ^ 40) × (word.count ≤ 13) × (behind < 2 ^ 41) }
     ensures { result ≡ record {
-      bits = passes * 4 + (word.count + after);
+      bits = passes * 4 + (word.count + behind);
       passes = passes;
       first = 0;
       word = word.bits;
@@ -57,7 +57,7 @@ fn vertical_way(passes: u64, word: Word, after: u64) -> Way
     } }
 {
     Way {
-        bits: passes * 4 + (u64::from(word.count) + after),
+        bits: passes * 4 + (u64::from(word.count) + behind),
         passes,
         first: 0,
         word: word.bits,
@@ -79,16 +79,12 @@ fn horizontal_way(color: Color, from: u64, passes: u64, ahead: Ahead) -> Way
     ensures first { result.first ≡ ahead.a1 - (from - 1) }
 {
     let first = ahead.a1 - from.saturating_sub(1) as u32;
-    let second = shortest_run_bits(color.opposite(), ahead.a2 - ahead.a1);
-    let behind = u64::from(second) + 3 + ahead.after_a2;
-    let word = horizontal_word();
+    let runs = u64::from(shortest_run_bits(color, first))
+        + u64::from(shortest_run_bits(color.opposite(), ahead.a2 - ahead.a1));
     Way {
-        bits: passes * 4 + (u64::from(shortest_run_bits(color, first)) + behind),
-        passes,
         first,
-        word: word.bits,
-        count: word.count,
         is_vertical: false,
+        ..vertical_way(passes, horizontal_word(), runs + ahead.after_a2)
     }
 }
 
@@ -134,8 +130,22 @@ fn shorter_way(first: Way, second: Way) -> Way
     }
 }
 
+/// Returns a number of bits that a line has at least from each position left of a1 on, however many passes are made: after a1, or in
+/// horizontal mode, whose runs have six bits or more, and after a2.
+#[inline(always)]
+fn least_ahead(ahead: Ahead) -> u64
+    requires { ahead.after_a2 < 2 ^ 40 }
+    ensures vertical { result ≤ ahead.after_a1 }
+    ensures horizontal { result ≤ ahead.after_a2 + 9 }
+{
+    if ahead.after_a1 <= ahead.after_a2 + 9 {
+        return ahead.after_a1;
+    }
+    ahead.after_a2 + 9
+}
+
 /// Finds how a line is coded from a change on with the fewest bits, if a pass is made there or not. Takes how it is coded
-/// without one.
+/// without one. The search ends where more passes take more bits in any case.
 #[inline(never)]
 fn search_passes(
     columns: u32,
@@ -160,7 +170,11 @@ fn search_passes(
     let mut passes = 0;
     let mut best = without;
     let mut b2 = change_or_end(reference, above.index + 1, columns);
+    let least = least_ahead(ahead) + 4;
     'passes: while b2 < ahead.a1 {
+        if best.bits < passes * 4 + least {
+            return best;
+        }
         let now = Coding {
             from: u64::from(b2) + 1,
             next: at.next,
@@ -323,6 +337,7 @@ fn find_ways(
     ways.reserve_exact(changes.len() + 1)?;
     let mut next = changes.len() + 1;
     let mut index = reference.len() + (reference.len() + next) % 2;
+    let mut second = columns;
     let mut after_a1 = 0;
     let mut after_a2 = 0;
     'changes: while next > 0 {
@@ -337,12 +352,13 @@ fn find_ways(
         };
         let ahead = Ahead {
             a1: change_or_end(changes, next, columns),
-            a2: change_or_end(changes, next + 1, columns),
+            a2: second,
             after_a1,
             after_a2,
         };
         let way = find_way(columns, reference, changes, at, above, ahead);
         ways.push_reserved(way);
+        second = ahead.a1;
         after_a2 = after_a1;
         after_a1 = way.bits;
     }

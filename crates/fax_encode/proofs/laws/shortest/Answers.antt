@@ -1,5 +1,4 @@
-use Rattle.fax_encode.proofs.ShortestBySettings.{none_is_shorter, no_line_is_shorter, no_runs_are_shorter, none_is_shorter_1d}
-use Rattle.fax_encode.proofs.ShortestKinds.{none_is_shorter_2d}
+use Rattle.fax_encode.proofs.ShortestBySettings.{none_is_shorter, no_line_is_shorter, no_runs_are_shorter}
 use Rattle.fax_encode.proofs.ShortestRuns.{shortest_runs}
 use Rattle.fax_encode.proofs.ShortestLines.{shortest_lines}
 use Rattle.fax_encode.proofs.ShortestPictures.{shortest_pictures_t6}
@@ -22,9 +21,3 @@ returns-clause-kinds c = no_line_is_shorter
 
 pub returns-clause-rows : goal.returns-clause-rows
 returns-clause-rows c = no_runs_are_shorter
-
-pub returns-clause-chosen_1d : goal.returns-clause-chosen_1d
-returns-clause-chosen_1d c = none_is_shorter_1d
-
-pub returns-clause-chosen_2d : goal.returns-clause-chosen_2d
-returns-clause-chosen_2d c = none_is_shorter_2d

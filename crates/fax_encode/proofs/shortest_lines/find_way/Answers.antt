@@ -1,4 +1,4 @@
-use Rattle.fax_encode.proofs.Names.{◌≡◌, ◌+◌, ◌*◌, ◌≤◌, ℕ, true, List, refl, sym, subst, arith, Row, pixels, Place, place_of}
+use Rattle.fax_encode.proofs.Names.{◌≡◌, ◌+◌, ◌≤◌, ℕ, List, refl, sym, subst, arith, Row, pixels, Place, place_of}
 use Rattle.fax_encode.proofs.Names.{AreChanges, a1, b2}
 use Rattle.fax_encode.specs.declared.shortest_lines.Way.{Way}
 use Rattle.fax_encode.specs.Ways.{IsFound, IsShortest, passed_by}
@@ -6,7 +6,7 @@ use Rattle.fax_encode.proofs.Elements.{next_is_right}
 use Rattle.fax_encode.proofs.ModesWritten.{one_width}
 use Rattle.fax_encode.proofs.ShortestSteps.{Stands, stands_at, not_right, in_row, a1_here, found_ahead}
 use Rattle.fax_encode.proofs.ShortestSteps.{first_searched, searched_to_end}
-use Rattle.fax_encode.proofs.ShortestSteps.{below_counts}
+use Rattle.fax_encode.proofs.ShortestSteps.{below_counts, below_way}
 use Rattle.fax_encode.proofs.shortest_lines.find_way.Goals.{After-way_without_pass-way}
 use Rattle.fax_encode.proofs.shortest_lines.find_way.Goals as goal
 
@@ -67,14 +67,7 @@ returns-then-ahead c =
     let stands = stands_at columns c.args._changes.now c.requires.changes c.args.at.next at c.requires.inside c.requires.right in
     let here = a1_here columns c.args._changes.now c.requires.changes c.args.at.next at stands in
     let below : c.args.above.b1 ≡ c.args.ahead.a1 = c.if-above-ahead.true in
-    let way : Way = record {
-      bits = 0 * 4 + (c.below_word.result.count + c.args.ahead.after_a1);
-      passes = 0;
-      first = 0;
-      word = c.below_word.result.bits;
-      count = c.below_word.result.count;
-      is_vertical = true;
-    } in
+    let way : Way = below_way c.below_word.result c.args.ahead in
     let found : IsFound R C at 0 way =
     found_ahead columns c.args.reference.now c.args._changes.now c.requires.changes c.args.at.next 0 at at way c.args.ahead
     c.args.above.b1 at.color stands refl c.requires.ahead c.requires.b1 refl

@@ -35,6 +35,7 @@ changes-init c =
         c.clear.ensures.len,
       );
       each = λ n ge le. absurd (omega (arith, ge, le));
+      second = sym (get_or_past changes (length changes + 1) columns (omega arith));
       vertical = sym (none_right columns c.args.reference.now changes c.requires.reference c.requires.changes (length changes + 1)
           (omega arith));
       horizontal = sym (none_right columns c.args.reference.now changes c.requires.reference c.requires.changes
@@ -88,7 +89,7 @@ find_way-way-requires-clause-ahead c =
     let two : c.changes.next + 1 ≡ c.changes.next - 1 + 2 = omega (arith, c.changes-test.true) in
     record {
       a1 = c.change_or_end.ensures;
-      a2 = c.change_or_end-in-changes.ensures;
+      a2 = c.changes.invariant.second ∙ ap (λ (m : ℕ). get_or c.args.changes.now m c.args.columns) one;
       after_a1 = c.changes.invariant.vertical ∙ ap (bits_right_of c.args.columns c.args.reference.now c.args.changes.now) one;
       after_a2 = c.changes.invariant.horizontal ∙ ap (bits_right_of c.args.columns c.args.reference.now c.args.changes.now) two;
     }
@@ -152,6 +153,7 @@ changes-preserved c =
         c.changes-test.true,
       );
       each = is;
+      second = c.change_or_end.ensures;
       vertical = bits_of_way columns above changes c.requires.reference c.requires.changes n at way place shortest;
       horizontal = c.changes.invariant.vertical ∙ ap (bits_right_of columns above changes) next;
     }

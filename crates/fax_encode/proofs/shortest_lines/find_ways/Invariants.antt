@@ -13,6 +13,7 @@ invariant-changes l = record {
   room : vec_len l.ways + l.next ≤ vec_capacity l.ways;
   each : (n : ℕ) → l.next ≤ n → n ≤ length l.changes → IsShortest (pixels l.columns l.reference) (pixels l.columns l.changes)
       (right_of_changes l.columns l.changes n) (get_or l.ways.items (length l.changes - n) no_way);
+  second : l.second ≡ get_or l.changes l.next l.columns;
   vertical : l.after_a1 ≡ bits_right_of l.columns l.reference l.changes l.next;
   horizontal : l.after_a2 ≡ bits_right_of l.columns l.reference l.changes (l.next + 1);
 }

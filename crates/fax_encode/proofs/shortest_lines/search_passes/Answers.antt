@@ -8,7 +8,7 @@ use Rattle.fax_encode.proofs.ModesWritten.{one_width}
 use Rattle.fax_encode.proofs.StepsToB1.{near_pass}
 use Rattle.fax_encode.proofs.ShortestSteps.{Stands, stands_at, stands_by, may_pass, may_not_pass, passed_next, found_ahead}
 use Rattle.fax_encode.proofs.ShortestSteps.{IsSearched, first_searched, next_searched, searched_to_end, in_row, no_more_changes}
-use Rattle.fax_encode.proofs.ShortestSteps.{change_within, all_before}
+use Rattle.fax_encode.proofs.ShortestSteps.{change_within, all_before, least_of_rest, searched_enough}
 use Rattle.fax_encode.proofs.shortest_lines.search_passes.Goals as goal
 
 pub find_above-above-requires-clause-inside : goal.find_above-above-requires-clause-inside
@@ -109,7 +109,7 @@ passes-preserved c =
     let stands = stands_at columns changes c.requires.changes n at c.requires.inside c.requires.right in
     let before = c.passes.invariant.searched.passes in
     let standing = stands_by columns changes c.requires.changes R same n at stands k before in
-    let may : MayPass R C here = may_pass columns changes c.requires.changes R same n at stands k here refl
+    let may : MayPass R C here = may_pass columns changes c.requires.changes R same n at stands k
     (omega (arith, c.passes-test.true, c.passes.invariant.b2_is, c.requires.ahead.a1)) before in
     let all : (i : ℕ) → i < suc k → MayPass R C (passed_by R at i) = all_before R C at k before may in
     let now : Place = record { from = c.from.result + 1; color = color_after n } in
@@ -145,6 +145,29 @@ passes-preserved c =
           (subst (λ (m : ℕ). IsFound R C at m way) (sym one) found) c.shorter_way-best.result c.shorter_way-best.ensures);
     }
 
+-- more passes take more bits
+pub returns-then-best-passes : goal.returns-then-best-passes
+returns-then-best-passes c =
+    let columns : ℕ = c.args.columns in
+    let above : List ℕ = c.args.reference.now in
+    let changes : List ℕ = c.args._changes.now in
+    let R : Row = pixels columns above in
+    let C : Row = pixels columns changes in
+    let at : Place = place_of c.args.at in
+    let n : ℕ = c.args.at.next in
+    let k : ℕ = c.passes.passes in
+    let same = one_width columns above changes c.requires.reference c.requires.changes in
+    let stands = stands_at columns changes c.requires.changes n at c.requires.inside c.requires.right in
+    let before = c.passes.invariant.searched.passes in
+    let may : MayPass R C (passed_by R at k) = may_pass columns changes c.requires.changes R same n at stands k
+    (omega (arith, c.passes-test.true, c.passes.invariant.b2_is, c.requires.ahead.a1)) before in
+    let standing = stands_by columns changes c.requires.changes R same n at stands (suc k) (all_before R C at k before may) in
+    let least = least_of_rest columns above changes c.requires.reference c.requires.changes n c.least_ahead-least.result
+    (omega (arith, c.least_ahead-least.ensures.vertical, c.requires.ahead.after_a1))
+    (omega (arith, c.least_ahead-least.ensures.horizontal, c.requires.ahead.after_a2)) (suc columns) (passed_by R at (suc k))
+    standing (omega arith) in
+    searched_enough R C same at k c.passes.best c.passes.invariant.searched may (omega (arith, c.if-best-passes.true, least))
+
 pub returns : goal.returns
 returns c =
     let columns : ℕ = c.args.columns in
@@ -155,5 +178,4 @@ returns c =
     let stands = stands_at columns c.args._changes.now c.requires.changes c.args.at.next at c.requires.inside c.requires.right in
     searched_to_end R C same at c.passes.passes c.passes.best c.passes.invariant.searched
     (may_not_pass columns c.args._changes.now c.requires.changes R same c.args.at.next at stands c.passes.passes
-    (passed_by R at c.passes.passes) refl
     (omega (arith, c.passes-test.false, c.passes.invariant.b2_is, c.requires.ahead.a1)) c.passes.invariant.searched.passes)
