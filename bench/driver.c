@@ -101,7 +101,7 @@ int main(int count, char **words)
         return 2;
     decoder = words[1];
     settings = (hayro_ccitt_settings){strtoul(words[3], NULL, 10), strtoul(words[4], NULL, 10), strtoul(words[2], NULL, 10),
-                                      strtoul(words[5], NULL, 10)};
+                                      strtoul(words[5], NULL, 10), 0};
     data = contents(words[6]);
     if (strstr(decoder, "packed"))
         room = ((size_t)settings.columns + 7) / 8 * settings.rows;

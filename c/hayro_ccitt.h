@@ -9,7 +9,7 @@
  *   int main(void)
  *   {
  *       const uint8_t data[2] = {0x31, 0xC0};
- *       const hayro_ccitt_settings settings = {8, 1, HAYRO_CCITT_GROUP_4, 0};
+ *       const hayro_ccitt_settings settings = {8, 1, HAYRO_CCITT_GROUP_4, 0, 0};
  *       hayro_ccitt_outcome outcome;
  *       uint8_t row = 0;
  *       uint32_t status = hayro_ccitt_decode_packed(data, sizeof data, &settings, &row, 1, &outcome);
@@ -48,13 +48,15 @@ enum {
     HAYRO_CCITT_GROUP_3_2D = 2  /* a tag before each line says which kind it is (T.4, MR) */
 };
 
-/* Flags, to be added up. Settings with any other flag, or with another encoding, are invalid. */
+/* Flags, to be added up. Settings with any other flag, or with another encoding, are invalid. HAYRO_CCITT_BLACK_IS_0 has no effect
+ * on calls that don't pack rows, and `stride` none on calls but hayro_ccitt_decode_packed; they must be valid all the same. */
 enum {
     HAYRO_CCITT_END_OF_BLOCK = 1, /* EOFB or RTC may end the data */
     HAYRO_CCITT_END_OF_LINE = 2,  /* an EOL precedes each line of Group 3 */
     HAYRO_CCITT_ALIGNED_ROWS = 4, /* each row is padded up to a whole byte */
     HAYRO_CCITT_STRICT = 8,       /* data that breaks a rule is an error, rather than repaired or cut */
-    HAYRO_CCITT_LOW_FIRST = 16    /* each byte's lowest bit comes first (TIFF's FillOrder 2), rather than its highest */
+    HAYRO_CCITT_LOW_FIRST = 16,   /* each byte's lowest bit comes first (TIFF's FillOrder 2), rather than its highest */
+    HAYRO_CCITT_BLACK_IS_0 = 32   /* packed rows have 0 for black and 1 for white, rather than 1 and 0 */
 };
 
 typedef struct {
@@ -62,6 +64,8 @@ typedef struct {
     uint32_t rows;     /* the largest number of rows that are decoded; 0: no limit */
     uint32_t encoding; /* one of the encodings above */
     uint32_t flags;    /* a sum of the flags above */
+    uint32_t stride;   /* of a bitmap, the bytes from the start of a row to the start of the next one; 0: those of a row. Settings
+                        * with fewer than those, (columns + 7) / 8, are invalid. */
 } hayro_ccitt_settings;
 
 /* What every call fills in, whatever it returns. */
@@ -95,7 +99,9 @@ uint32_t hayro_ccitt_measure(const uint8_t *data, size_t data_length, const hayr
                              hayro_ccitt_outcome *outcome);
 
 /* Packs rows into a bitmap, from the top. A row has (columns + 7) / 8 bytes: one bit a pixel, 1 for black, the leftmost pixel
- * in a byte's highest bit, and zeros up to the end of the last byte. The bytes after the last row keep their values. */
+ * in a byte's highest bit, and white up to the end of the last byte, which is 0, or 1 with HAYRO_CCITT_BLACK_IS_0. Each row begins
+ * `stride` bytes after the one before. The bytes between them, and after the last row, keep their values; the last row needs only
+ * its own bytes. */
 uint32_t hayro_ccitt_decode_packed(const uint8_t *data, size_t data_length, const hayro_ccitt_settings *settings,
                                    uint8_t *bitmap, size_t bitmap_length, hayro_ccitt_outcome *outcome);
 
@@ -148,7 +154,8 @@ uint32_t hayro_ccitt_open(const uint8_t *data, size_t data_length, const hayro_c
 uint32_t hayro_ccitt_next_changes(const uint8_t *data, size_t data_length, hayro_ccitt_reader *reader, uint32_t *changes,
                                   size_t changes_length, hayro_ccitt_row *row);
 
-/* The same, but packs the row, into (columns + 7) / 8 bytes as hayro_ccitt_decode_packed does. */
+/* The same, but packs the row, into (columns + 7) / 8 bytes as hayro_ccitt_decode_packed does; `stride` has no effect. The bytes
+ * after them keep their values, and all of them unless the call returns HAYRO_CCITT_OK. */
 uint32_t hayro_ccitt_next_packed(const uint8_t *data, size_t data_length, hayro_ccitt_reader *reader, uint8_t *packed,
                                  size_t packed_length, hayro_ccitt_row *row);
 

@@ -110,7 +110,7 @@ int main(void)
     size_t size = 0;
     while (getline(&line, &size, stdin) > 0) {
         const char *mode = strtok(line, " \n");
-        hayro_ccitt_settings settings = {0, 0, 0, 0};
+        hayro_ccitt_settings settings = {0, 0, 0, 0, 0};
         settings.columns = (uint32_t)strtoul(strtok(NULL, " \n"), NULL, 10);
         settings.rows = (uint32_t)strtoul(strtok(NULL, " \n"), NULL, 10);
         const char *letters = strtok(NULL, " \n");

@@ -19,6 +19,7 @@ NAMED = {
     },
     "faxrows_tests": {
         "tests::refused_memory_by_row": (19, 6),
+        "tests::refused_memory_of_checks": (19, 5),
         "tests::refused_memory_of_damage": (19, 6),
         "tests::sink_without_memory": (1, 0),
     },

@@ -39,7 +39,7 @@ MISSED = [
 
 
 class Settings(ctypes.Structure):
-    _fields_ = [(name, ctypes.c_uint32) for name in ("columns", "rows", "encoding", "flags")]
+    _fields_ = [(name, ctypes.c_uint32) for name in ("columns", "rows", "encoding", "flags", "stride")]
 
 
 class Outcome(ctypes.Structure):
@@ -173,8 +173,44 @@ def known_cases():
         told = joined(answer, len(rows), len(lists) - len(rows), 0 if answer else int(last.split()[1]), len(lists), *lists)
         for flags, turned in ((settings.flags, data), (settings.flags ^ 16, data.translate(MIRRORED))):
             yield f"d {joined(settings.encoding, settings.columns, settings.rows, flags)} {turned.hex() or '-'} {told}\n"
-    for encoding, flags in ((3, 0), (0, 32), (2, 1 << 31)):
+    for encoding, flags in ((3, 0), (0, 64), (2, 1 << 31)):
         yield f"d {encoding} 8 0 {flags} 80 6 0 0 0 0\n"
+
+
+def spread(columns, rows, stride, is_inverted):
+    """The bytes of packed rows, one every so many bytes; the bytes between them are those of lent memory."""
+    width = (columns + 7) // 8
+    memory = bytearray(b"\xa5" * ((len(rows) - 1) * stride + width if rows else 0))
+    for index, changes in enumerate(rows):
+        line = packed_row(columns, changes)
+        memory[index * stride : index * stride + width] = bytes(255 - byte for byte in line) if is_inverted else line
+    return bytes(memory)
+
+
+def spread_cases():
+    """Each case as a line that `known_calls.c` packs, with several strides, 1 or 0 for black; and strides that aren't taken."""
+    with open("corpus/cases.tsv", encoding="utf-8") as file:
+        lines = [line.rstrip("\n").split("\t") for line in file if not line.startswith("#")]
+    for words, text, expected in lines:
+        data, settings = program.bytes_of(text), settings_of(*words.split())
+        *rows, last = expected.split("/")
+        rows = [[int(number) for number in row.split()[1:]] for row in rows]
+        width = (settings.columns + 7) // 8
+        if settings.columns > 1 << 12 or len(data) > 1 << 10:
+            continue
+        for stride, flags in ((0, 32), (width, 32), (width + 1, 0), (width + 3, 32), (2 * width + 64, 0)):
+            bitmap = spread(settings.columns, rows, stride or width, flags)
+            told = joined(ANSWERS.get(last, 0), len(rows), bitmap.hex() or "-")
+            yield f"p {joined(settings.encoding, settings.columns, settings.rows, settings.flags + flags, stride)} {data.hex() or '-'} {told}\n"
+    for columns, stride, flags in ((9, 1, 0), (9, 1, 32), (4294967295, 536870911, 0), (8, 0, 64), (17, 2, 0)):
+        yield f"p 0 {columns} 1 {flags} {stride} 31c0 6 0 -\n"
+
+
+def rows_are_spread():
+    """Packed rows lie at their stride, with 1 or 0 for black, and the bytes between and behind them keep their values; the last row
+    needs no more than its own bytes; a smaller stride than a row's bytes is refused by each call."""
+    build()
+    print(*(f"  {line}" for line in by_each_library("known_calls", "".join(spread_cases()))), sep="", end="")
 
 
 def calls_on_known_cases():
@@ -292,4 +328,4 @@ def example_without_memory():
     print(f"  {seen} allocations refused in turn")
 
 
-CHECKS = [example_on_strips, examples_by_rows, calls_on_known_cases, missed_eols_are_told, flips_are_told, example_without_memory]
+CHECKS = [example_on_strips, examples_by_rows, calls_on_known_cases, rows_are_spread, missed_eols_are_told, flips_are_told, example_without_memory]

@@ -54,7 +54,7 @@ static void each_call(const uint8_t *data, size_t length, const hayro_ccitt_sett
 
 int main(void) {
     static char hex[1 << 16];
-    hayro_ccitt_settings settings;
+    hayro_ccitt_settings settings = {0, 0, 0, 0, 0};
     while (scanf("%u %u %u %u %65535s", &settings.encoding, &settings.columns, &settings.rows, &settings.flags, hex) == 5) {
         size_t length;
         uint8_t *data = lend_bytes(hex, &length);

@@ -59,7 +59,7 @@ int main(void)
     uint32_t number = 0, encoding, flags, one, two, all = 0;
     int width;
     for (encoding = 0; encoding < 4; encoding++)
-        for (flags = 0; flags < 33; flags++)
+        for (flags = 0; flags < 65; flags++)
             for (width = 0; width < 4; width++) {
                 hayro_ccitt_settings settings;
                 hayro_ccitt_outcome first, second;
@@ -67,6 +67,7 @@ int main(void)
                 fax_encode_outcome told, other;
                 settings.columns = encoded.columns = widths[width];
                 settings.rows = 0;
+                settings.stride = 0;
                 settings.encoding = encoded.encoding = encoding;
                 settings.flags = encoded.flags = flags;
                 encoded.k = 2;
@@ -142,6 +143,7 @@ int main(void)
     settings.rows = 1;
     settings.encoding = HAYRO_CCITT_GROUP_4;
     settings.flags = 0;
+    settings.stride = 0;
     if (hayro_ccitt_measure(data, 2, &settings, &outcome) != HAYRO_CCITT_OK || outcome.changes != 2)
         return 1;
     printf("%s\n", taken > 0 && taken == freed ? "own" : "other");

@@ -5,6 +5,11 @@
    is data to decode: its status, what is told, and the lists. Each call is made with exactly enough room, with one byte or number more,
    with one less, and with none.
 
+     p ENCODING COLUMNS ROWS FLAGS STRIDE DATA STATUS ROWS BITMAP
+
+   is data to pack, and the bitmap, whose bytes between the rows are as they were lent: with exactly enough room, with more, with too
+   little for each row; and by a reader, row by row. With settings that aren't taken every call says so, and writes nothing.
+
      e COLUMNS ENCODING FLAGS K BITMAP STATUS ROWS DATA
 
    is a bitmap to encode: with exactly enough room, with nine bytes more, and with each smaller room. Bytes are in hexadecimal, `-` for
@@ -101,6 +106,68 @@ static void decode(known *it) {
     if (size > 1) pack_rows(it, 0);
 }
 
+/* Packs rows into this many bytes: those that fit, without one byte between them or behind the last. */
+static void spread_rows(const known *it, const uint8_t *bitmap, size_t room) {
+    hayro_ccitt_outcome outcome;
+    size_t width = (it->columns + 7ULL) / 8, stride = it->settings.stride ? it->settings.stride : width, size = 0;
+    uint64_t rows = 0;
+    uint8_t *memory = lend(room);
+    while (rows < it->rows && rows * stride + width <= room) size = rows++ * stride + width;
+    uint32_t wanted = rows == it->rows ? it->status : HAYRO_CCITT_REFUSED;
+    ended(hayro_ccitt_decode_packed(it->data, it->length, &it->settings, memory, room, &outcome), wanted, "the status of spread rows");
+    must(outcome.rows == rows, "how many rows are spread");
+    must(are_same(memory, bitmap, size), "the spread rows, and the bytes between them");
+    must(is_untouched_behind(memory, size, room), "nothing is written behind the last spread row");
+    take_back(memory);
+}
+
+/* Reads rows packed, each into exactly its own bytes. */
+static void read_rows(const known *it, const uint8_t *bitmap) {
+    size_t width = (it->columns + 7ULL) / 8, stride = it->settings.stride ? it->settings.stride : width;
+    hayro_ccitt_reader reader = {0, 0, 0};
+    hayro_ccitt_row row;
+    must(hayro_ccitt_open(it->data, it->length, &it->settings, &reader) == HAYRO_CCITT_OK, "a reader of packed rows");
+    for (uint64_t index = 0; index < it->rows; index++) {
+        uint8_t *memory = lend(width);
+        must(hayro_ccitt_next_packed(it->data, it->length, &reader, memory, width, &row) == HAYRO_CCITT_OK, "a packed row");
+        must(are_same(memory, bitmap + index * stride, width), "the bytes of a packed row");
+        take_back(memory);
+    }
+    uint32_t wanted = it->status ? it->status : HAYRO_CCITT_NO_ROW;
+    must(hayro_ccitt_next_packed(it->data, it->length, &reader, NULL, 0, &row) == wanted, "the end of packed rows");
+    ended(hayro_ccitt_close(&reader), HAYRO_CCITT_OK, "closed");
+}
+
+/* Settings that aren't taken: each call says so. */
+static void refuse_settings(const known *it) {
+    hayro_ccitt_outcome outcome;
+    hayro_ccitt_reader reader = {0, 0, 0};
+    uint8_t *memory = lend(64);
+    uint32_t *lists = lend(64);
+    ended(hayro_ccitt_measure(it->data, it->length, &it->settings, &outcome), HAYRO_CCITT_NOT_TAKEN, "measured");
+    ended(hayro_ccitt_decode_packed(it->data, it->length, &it->settings, memory, 64, &outcome), HAYRO_CCITT_NOT_TAKEN, "packed");
+    ended(hayro_ccitt_decode_changes(it->data, it->length, &it->settings, lists, 16, &outcome), HAYRO_CCITT_NOT_TAKEN, "listed");
+    ended(hayro_ccitt_open(it->data, it->length, &it->settings, &reader), HAYRO_CCITT_NOT_TAKEN, "opened");
+    must(outcome.rows == 0 && !reader.is_open, "nothing is told");
+    must(is_untouched_behind(memory, 0, 64) && is_untouched_behind(lists, 0, 64), "nothing is written");
+    take_back(lists);
+    take_back(memory);
+}
+
+static void spread(const known *it, const uint8_t *bitmap, size_t size) {
+    if (it->status == HAYRO_CCITT_NOT_TAKEN) {
+        refuse_settings(it);
+        return;
+    }
+    spread_rows(it, bitmap, size);
+    spread_rows(it, bitmap, size + 1);
+    spread_rows(it, bitmap, size + it->settings.stride + 9);
+    if (size > 0) spread_rows(it, bitmap, size - 1);
+    if (size > 1) spread_rows(it, bitmap, size / 2);
+    if (size > 2) spread_rows(it, bitmap, 0);
+    read_rows(it, bitmap);
+}
+
 static void encode(const uint8_t *bitmap, size_t length, const fax_encode_settings *settings, uint32_t status, uint64_t rows, const uint8_t *strip,
                    size_t size) {
     for (size_t room = 0; room <= size + 9; room += room < size ? 1 : 9) {
@@ -143,6 +210,24 @@ static void decode_line(void) {
     take_back(data);
 }
 
+static void spread_line(void) {
+    known it = {0};
+    size_t size;
+    it.settings.encoding = (uint32_t)number();
+    it.columns = it.settings.columns = (uint32_t)number();
+    it.settings.rows = (uint32_t)number();
+    it.settings.flags = (uint32_t)number();
+    it.settings.stride = (uint32_t)number();
+    uint8_t *data = lend_bytes(strtok(NULL, " \n"), &it.length);
+    it.data = data;
+    it.status = (uint32_t)number(), it.rows = number();
+    uint8_t *bitmap = lend_bytes(strtok(NULL, " \n"), &size);
+    held = live;
+    spread(&it, bitmap, size);
+    take_back(bitmap);
+    take_back(data);
+}
+
 static void encode_line(void) {
     fax_encode_settings settings;
     size_t length, size;
@@ -164,8 +249,9 @@ int main(void) {
     unsigned long lines = 0;
     while (getline(&line, &room, stdin) > 0) {
         char *kind = strtok(line, " \n");
-        must(kind && (*kind == 'd' || *kind == 'e'), "a line");
+        must(kind && strchr("dpe", *kind), "a line");
         if (*kind == 'd') decode_line();
+        else if (*kind == 'p') spread_line();
         else encode_line();
         lines++;
     }

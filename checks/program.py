@@ -175,7 +175,7 @@ def words_alone():
     done = run(["--version"], b"")
     assert (done.returncode, done.stdout, done.stderr) == (0, f"faxrows {version}\n".encode(), b""), done
     done = run(["--help"], b"")
-    forms = [f"faxrows {form}MODE COLUMNS ROWS FLAGS" for form in ("", "-o ", "-i ", "-d ")]
+    forms = [f"faxrows {form}MODE COLUMNS ROWS FLAGS" for form in ("", "-o ", "-i ", "-d ", "-c ")]
     text = "\n".join([*forms, "faxrows --help", "faxrows --version", ""])
     assert (done.returncode, done.stdout, done.stderr) == (0, text.encode(), b""), done
     with open("/dev/full", "wb") as full:
@@ -239,6 +239,57 @@ def damage():
     for words in ("-d", "-d -i g4 8 1 -", "-i -d g4 8 1 -", "-d g4 8 1 -d"):
         done = run(words.split(), bytes.fromhex("31C0"))
         assert (done.returncode, done.stdout, done.stderr) == (2, b"", b"faxrows: bad arguments\n"), (words, done)
+
+
+MODE, RUN = "a mode is expected (T.4, 4.2.1.3)", "a run is expected (T.4, 4.1.1)"
+# Arguments after `-c` and data, the line that the program writes, and its status: EOFB closes it, in either order, and with `s`, which
+# has no effect; the row limit closes it, and what follows isn't looked at; nothing closes it; pass mode to the end of a row of one pixel,
+# which is read strictly without a fault; five EOLs in place of RTC; and nothing at all.
+CHECKED = [
+    ("g4 8 0 b", "31C0040040", "ok", 0),
+    ("g4 8 0 br", "8C03200002", "ok", 0),
+    ("g4 8 0 bs", "31C0040040", "ok", 0),
+    ("g4 8 1 -", "31C0FF", "ok", 0),
+    ("g4 8 0 -", "31C0", f"violation 10 {MODE}", 1),
+    ("g4 1 0 b", "10010010", "violation 0 pass mode to the row's end (T.4, 4.2.1.3.2)", 1),
+    ("1d 8 0 b", "00198008008008008008", f"violation 29 {RUN}", 1),
+    ("1d 8 1 -", "", f"violation 0 {RUN}", 1),
+]
+
+
+def conforming():
+    for words, data, line, status in CHECKED:
+        done = run(["-c", *words.split()], bytes.fromhex(data))
+        assert (done.returncode, done.stdout.decode(), done.stderr) == (status, f"{line}\n", b""), (words, done)
+    for words in ("-c", "-c -d g4 8 1 -", "-d -c g4 8 1 -", "-c g4 8 1 -c", "-c --help"):
+        done = run(words.split(), bytes.fromhex("31C0"))
+        assert (done.returncode, done.stdout, done.stderr) == (2, b"", b"faxrows: bad arguments\n"), (words, done)
+
+
+def conforming_strips():
+    """Each strip conforms, in both orders of bits, unless nothing closes it, as there is no row limit, and no flag `b` or no EOFB or
+    RTC; or it is one of mgetty, whose rows that end black are followed by a white run of no pixels."""
+    with open("corpus/manifest.tsv", encoding="utf-8") as file:
+        lines = [line.rstrip("\n").split("\t") for line in file if not line.startswith("#")]
+    seen = unclosed = of_mgetty = 0
+    for name, strip, mode, columns, _, runs, *_ in lines:
+        with open(f"corpus/{strip}", "rb") as file:
+            data = file.read()
+        for setting in runs.split(","):
+            limit, flags = setting.split(":")
+            both = [run(["-c", *words], read) for words, read in in_both_orders(mode, columns, limit, flags, data)]
+            here, there = ((done.returncode, done.stdout.decode(), done.stderr) for done in both)
+            assert here == there and here[2] == b"", (name, setting, here, there)
+            seen += 1
+            if here[:2] == (0, "ok\n"):
+                continue
+            place = re.fullmatch(r"violation (\d+) [^\n]*\n", here[1]).group(1)
+            assert here[0] == 1 and int(place) <= 8 * len(data), (name, setting, here)
+            assert ".mg-" in name or limit == "0", (name, setting, here)
+            unclosed += ".mg-" not in name
+            of_mgetty += ".mg-" in name
+    assert seen > unclosed + of_mgetty
+    print(f"  {seen} runs, of which {seen - unclosed - of_mgetty} conform, {unclosed} are not closed, and {of_mgetty} are mgetty's")
 
 
 def flips_are_told():
@@ -354,6 +405,8 @@ CHECKS = [
     words_alone,
     bitmaps,
     damage,
+    conforming,
+    conforming_strips,
     flips_are_told,
     devices_that_fail,
     a_file_and_a_pipe,

@@ -119,7 +119,7 @@ static void each_case(const uint8_t *data, size_t length, const hayro_ccitt_sett
 
 int main(void) {
     static char text[1 << 22];
-    hayro_ccitt_settings settings;
+    hayro_ccitt_settings settings = {0, 0, 0, 0, 0};
     while (scanf("%u %u %u %u %4194303s", &settings.encoding, &settings.columns, &settings.rows, &settings.flags, text) == 5) {
         size_t length;
         uint8_t *data = lend_bytes(text, &length);

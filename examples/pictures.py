@@ -28,7 +28,7 @@ class Unreadable(Exception):
 
 
 class Settings(ctypes.Structure):
-    _fields_ = [(name, ctypes.c_uint32) for name in ("columns", "rows", "encoding", "flags")]
+    _fields_ = [(name, ctypes.c_uint32) for name in ("columns", "rows", "encoding", "flags", "stride")]
 
 
 class Outcome(ctypes.Structure):

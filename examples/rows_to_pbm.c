@@ -11,7 +11,7 @@ static uint8_t data[1 << 24];
 
 int main(int count, char **words)
 {
-    hayro_ccitt_settings settings = {0, 0, HAYRO_CCITT_GROUP_4, HAYRO_CCITT_END_OF_BLOCK};
+    hayro_ccitt_settings settings = {0, 0, HAYRO_CCITT_GROUP_4, HAYRO_CCITT_END_OF_BLOCK, 0};
     hayro_ccitt_reader reader = {0, 0, 0};
     hayro_ccitt_row row;
     FILE *file = count == 3 ? fopen(words[1], "rb") : NULL;

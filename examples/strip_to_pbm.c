@@ -60,6 +60,7 @@ static int read_words(char **words, hayro_ccitt_settings *settings)
 {
     static const char *const modes[] = {"g4", "1d", "2d"};
     settings->encoding = 0;
+    settings->stride = 0;
     while (settings->encoding < 3 && strcmp(words[0], modes[settings->encoding]))
         settings->encoding++;
     return settings->encoding < 3 && read_number(words[1], &settings->columns) && read_number(words[2], &settings->rows)

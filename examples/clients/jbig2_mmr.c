@@ -14,7 +14,7 @@ int jbig2_decode_halftone_mmr(Jbig2Ctx *, const void *params, const uint8_t *dat
  * have are white. */
 static size_t decode(const uint8_t *data, size_t size, Jbig2Image *image, int *failed)
 {
-    const hayro_ccitt_settings settings = {image->width, image->height, HAYRO_CCITT_GROUP_4, HAYRO_CCITT_END_OF_BLOCK};
+    const hayro_ccitt_settings settings = {image->width, image->height, HAYRO_CCITT_GROUP_4, HAYRO_CCITT_END_OF_BLOCK, 0};
     hayro_ccitt_reader reader = {0, 0, 0};
     hayro_ccitt_row row = {0};
     uint32_t status = hayro_ccitt_open(data, size, &settings, &reader);

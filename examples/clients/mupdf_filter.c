@@ -11,7 +11,6 @@ typedef struct {
     fz_buffer *data;
     hayro_ccitt_reader reader;
     size_t width;
-    int black_is_1;
     uint8_t row[]; /* the last row, which the stream lends */
 } fax;
 
@@ -29,8 +28,6 @@ static int next_fax(fz_context *ctx, fz_stream *stream, size_t max)
             fz_warn(ctx, "fault in the fax data after %d rows", (int)told.rows);
         return EOF;
     }
-    for (size_t at = 0; !state->black_is_1 && at < state->width; at++)
-        state->row[at] ^= 0xFF;
     stream->rp = state->row;
     stream->wp = state->row + state->width;
     stream->pos += (int64_t)state->width;
@@ -51,15 +48,14 @@ fz_stream *fz_open_faxd(fz_context *ctx, fz_stream *chain, int k, int end_of_lin
     if (columns <= 0 || rows < 0)
         fz_throw(ctx, FZ_ERROR_GENERIC, "fax image of %d columns and %d rows", columns, rows);
     size_t width = ((size_t)columns + 7) / 8;
-    hayro_ccitt_settings settings = {(uint32_t)columns, (uint32_t)rows, HAYRO_CCITT_GROUP_4, 0};
+    hayro_ccitt_settings settings = {(uint32_t)columns, (uint32_t)rows, HAYRO_CCITT_GROUP_4, 0, 0};
     if (k >= 0)
         settings.encoding = k ? HAYRO_CCITT_GROUP_3_2D : HAYRO_CCITT_GROUP_3_1D;
     settings.flags = (end_of_block ? HAYRO_CCITT_END_OF_BLOCK : 0) | (end_of_line ? HAYRO_CCITT_END_OF_LINE : 0) |
-                     (encoded_byte_align ? HAYRO_CCITT_ALIGNED_ROWS : 0);
+                     (encoded_byte_align ? HAYRO_CCITT_ALIGNED_ROWS : 0) | (black_is_1 ? 0 : HAYRO_CCITT_BLACK_IS_0);
     fax *state = fz_calloc(ctx, 1, sizeof *state + width);
     fz_stream *stream = NULL;
     state->width = width;
-    state->black_is_1 = black_is_1;
     fz_try(ctx)
     {
         state->data = fz_read_all(ctx, chain, 0);

@@ -12,7 +12,7 @@ static TIFFInitMethod libtiffs[5]; /* by the number of the compression */
 
 static hayro_ccitt_settings settings_of(TIFF *tif)
 {
-    hayro_ccitt_settings settings = {0, 0, HAYRO_CCITT_GROUP_4, HAYRO_CCITT_END_OF_BLOCK};
+    hayro_ccitt_settings settings = {0, 0, HAYRO_CCITT_GROUP_4, HAYRO_CCITT_END_OF_BLOCK, 0};
     uint32_t options = 0;
     settings.columns = isTiled(tif) ? tif->tif_dir.td_tilewidth : tif->tif_dir.td_imagewidth;
     if (tif->tif_dir.td_compression == COMPRESSION_CCITTRLE) {

@@ -6,12 +6,14 @@ from ctypes import POINTER, c_size_t, c_uint8, c_uint32, c_uint64, c_void_p
 OK, UNEXPECTED_EOF, INVALID_CODE, OVERFLOW, OUT_OF_MEMORY, REFUSED, NOT_TAKEN, NO_ROW = range(8)
 GROUP_4, GROUP_3_1D, GROUP_3_2D = range(3)
 END_OF_BLOCK, END_OF_LINE, ALIGNED_ROWS, STRICT, LOW_FIRST, EOLS_END_AT_BYTES, SHORTEST = (1 << bit for bit in range(7))
+# Flags of decoding have numbers of their own.
+BLACK_IS_0 = 32
 # The installed library whose interface this package calls.
 SONAME = "libhayro_ccitt.so.0.6"
 
 
 class Settings(ctypes.Structure):
-    _fields_ = [(name, c_uint32) for name in ("columns", "rows", "encoding", "flags")]
+    _fields_ = [(name, c_uint32) for name in ("columns", "rows", "encoding", "flags", "stride")]
 
 
 class Outcome(ctypes.Structure):

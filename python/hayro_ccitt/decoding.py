@@ -41,13 +41,15 @@ class Picture(NamedTuple):
     rows: int
     """The number of rows that were decoded."""
     packed: bytes
-    """The samples of the rows from the top, as PDF's CCITTFaxDecode yields them: `(columns + 7) // 8` bytes a row, one bit a pixel,
-    the leftmost in a byte's highest bit. A sample is 0 for a black pixel, or 1 with `black_is_1`. Bits after a row's last pixel are
+    """The samples of the rows from the top, as PDF's CCITTFaxDecode yields them: `(columns + 7) // 8` bytes a row, or `stride` of
+    them, of which the last ones are zeros; one bit a pixel, the leftmost in a byte's highest bit. A sample is 0 for a black pixel, or 1 with `black_is_1`. Bits after a row's last pixel are
     those of white pixels. As sample 0 is shown black, `PIL.Image.frombytes("1", (columns, rows), packed)` is the picture."""
     bytes_read: int
     """The number of bytes of the data that were consumed; 0 after a fault."""
     damage: Damage
     """What was repaired."""
+    stride: int = 0
+    """The bytes from the start of a row to the start of the next one, if they aren't those of a row; else 0."""
 
     def pbm(self, rows: int = 0) -> bytes:
         """The picture as a PBM file (`P4`), in which samples of 0 are black; with white rows below, if there are fewer than `rows`."""
@@ -58,6 +60,8 @@ class Picture(NamedTuple):
         """The rows of `pbm`, without its header: 1 for black, and zeros after a row's last pixel."""
         width = (self.columns + 7) // 8
         bits = self.packed.translate(NEGATIVE)
+        if self.stride:
+            bits = b"".join(bits[start : start + width] for start in range(0, self.rows * self.stride, self.stride))
         if self.columns % 8:
             last = bytes([0xFF << (8 - self.columns % 8) & 0xFF])
             mask = int.from_bytes((b"\xff" * (width - 1) + last) * self.rows, "big")
@@ -77,6 +81,7 @@ def decode(
     black_is_1: bool = False,
     low_first: bool = False,
     strict: bool = False,
+    stride: int = 0,
 ) -> Picture:
     """Decodes an image, or a strip of one. The arguments are the keys of PDF's CCITTFaxDecode, with its defaults.
 
@@ -91,15 +96,20 @@ def decode(
         black_is_1: whether a sample is 1 for a black pixel, rather than 0.
         low_first: whether each byte's lowest bit comes first, as in TIFF files of FillOrder 2.
         strict: whether data that breaks a rule is a fault, rather than repaired or cut.
+        stride: the bytes from the start of a row of `Picture.packed` to the start of the next one; 0 for those of a row,
+            `(columns + 7) // 8`. With more, zeros follow each row.
 
     Raises:
         UnexpectedEof, InvalidCode, Overflow: there is a fault, before which the exception's `picture` has the rows.
-        ValueError: `columns` or `rows` isn't in its range.
+        ValueError: `columns`, `rows` or `stride` isn't in its range.
         MemoryError: an allocation failed, or the picture is too large.
     """
     data = bytes_of(data)
-    settings = settings_of(columns, rows, k, end_of_line, encoded_byte_align, end_of_block, low_first, strict)
-    width = (columns + 7) // 8
+    settings = settings_of(columns, rows, k, end_of_line, encoded_byte_align, end_of_block, black_is_1, low_first, strict)
+    settings.stride = number("stride", stride)
+    width = stride or (columns + 7) // 8
+    if width < (columns + 7) // 8:
+        raise ValueError(f"stride is {stride}: a row has {(columns + 7) // 8} bytes")
     outcome = c.Outcome()
     most = min(rows or len(data) * 8 + 1, len(data) * 8 + 1) * width
     if most > max(USUAL_BYTES, 64 * len(data)):
@@ -109,10 +119,8 @@ def decode(
     status = c.LIBRARY.hayro_ccitt_decode_packed(data, len(data), settings, bitmap, most, outcome)
     check(status)
     packed = memoryview(bitmap)[: outcome.rows * width].tobytes()
-    if not black_is_1:
-        packed = packed.translate(NEGATIVE)
     damage = Damage(outcome.damaged_rows, outcome.missed_eols, outcome.cut_rows)
-    picture = Picture(columns, outcome.rows, packed, outcome.bytes_read, damage)
+    picture = Picture(columns, outcome.rows, packed, outcome.bytes_read, damage, stride)
     if status != c.OK:
         raise fault_of(status, outcome.fault_start, picture)
     return picture
@@ -139,17 +147,17 @@ def rows(
     Raises:
         ValueError, MemoryError: as `decode`. The faults are raised by the iterator, after the rows before them.
     """
-    settings = settings_of(columns, rows, k, end_of_line, encoded_byte_align, end_of_block, low_first, strict)
-    return Rows(bytes_of(data), columns, settings, black_is_1)
+    settings = settings_of(columns, rows, k, end_of_line, encoded_byte_align, end_of_block, black_is_1, low_first, strict)
+    return Rows(bytes_of(data), columns, settings)
 
 
 class Rows(Iterator[memoryview]):
     """The rows of an image, read one at a time by `rows`. Its numbers are those of the rows read so far."""
 
-    def __init__(self, data: bytes, columns: int, settings: c.Settings, black_is_1: bool):
+    def __init__(self, data: bytes, columns: int, settings: c.Settings):
         self._reader = c.Reader()
         self._lock = threading.Lock()
-        self._data, self._black_is_1 = data, black_is_1
+        self._data = data
         self._bitmap = room_for((columns + 7) // 8)
         self._row = c.Row()
         self._lent = memoryview(self._bitmap).cast("B").toreadonly()
@@ -165,8 +173,6 @@ class Rows(Iterator[memoryview]):
             room = len(self._lent)
             status = c.LIBRARY.hayro_ccitt_next_packed(self._data, len(self._data), self._reader, self._bitmap, room, self._row)
             if status == c.OK:
-                if not self._black_is_1:
-                    self._bitmap[:] = self._bitmap.raw.translate(NEGATIVE)
                 return self._lent
         self.close()
         if status == c.NO_ROW:
@@ -241,13 +247,14 @@ def sum_of(*flags: tuple[bool, int]) -> int:
     return sum(flag for is_set, flag in flags if is_set)
 
 
-def settings_of(columns, rows, k, end_of_line, encoded_byte_align, end_of_block, low_first, strict) -> c.Settings:
+def settings_of(columns, rows, k, end_of_line, encoded_byte_align, end_of_block, black_is_1, low_first, strict) -> c.Settings:
     flags = sum_of(
         (end_of_block, c.END_OF_BLOCK),
         (end_of_line, c.END_OF_LINE),
         (encoded_byte_align, c.ALIGNED_ROWS),
         (strict, c.STRICT),
         (low_first, c.LOW_FIRST),
+        (not black_is_1, c.BLACK_IS_0),
     )
     return c.Settings(number("columns", columns), number("rows", rows), encoding_of(k), flags)
 

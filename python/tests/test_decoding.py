@@ -42,6 +42,21 @@ def test_a_picture_has_zeros_after_its_rows():
         assert picture.pbm(3) == b"P4\n9 3\n" + row + bytes(4)
 
 
+def test_rows_lie_at_their_stride():
+    for black_is_1 in (False, True):
+        for columns, data in ((8, b"\x31\xf8"), (9, hayro_ccitt.encode(b"\x18\x80\x00\x00", 9, k=-1, black_is_1=True))):
+            plain = hayro_ccitt.decode(data, columns, 2, k=-1, end_of_block=False, black_is_1=black_is_1)
+            width = (columns + 7) // 8
+            for stride in (width, width + 1, 64):
+                spread = hayro_ccitt.decode(data, columns, 2, k=-1, end_of_block=False, black_is_1=black_is_1, stride=stride)
+                rows = [plain.packed[:width], plain.packed[width:]]
+                assert spread.packed == b"".join(row.ljust(stride, b"\0") for row in rows)
+                assert (spread.pbm(), spread.rows, spread.stride) == (plain.pbm(), 2, stride)
+    for stride in (1, -1, 1 << 32):
+        with pytest.raises(ValueError):
+            hayro_ccitt.decode(b"", 9, k=-1, stride=stride)
+
+
 def test_whole_as_in_c(answers):
     results = set()
     for words, data, lines in answers:

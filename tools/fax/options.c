@@ -193,7 +193,7 @@ static int is_possible(const options *it)
 
 int read_options(int count, char **words, options *into, int *status)
 {
-    static const options usual = {.raw = {1728, 0, HAYRO_CCITT_GROUP_3_1D, HAYRO_CCITT_END_OF_BLOCK}};
+    static const options usual = {.raw = {1728, 0, HAYRO_CCITT_GROUP_3_1D, HAYRO_CCITT_END_OF_BLOCK, 0}};
     const char *slash = count ? strrchr(words[0], '/') : NULL;
     int option, has_format = 0;
     *into = usual;

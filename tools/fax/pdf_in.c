@@ -401,6 +401,7 @@ static hayro_ccitt_settings settings_of(pdf *in, pdf_value image, pdf_value para
     settings.flags = (!closed.at || pdf_is_true(closed) ? HAYRO_CCITT_END_OF_BLOCK : 0)
         | (pdf_is_true(pdf_key(in, parameters, "EndOfLine")) ? HAYRO_CCITT_END_OF_LINE : 0)
         | (pdf_is_true(pdf_key(in, parameters, "EncodedByteAlign")) ? HAYRO_CCITT_ALIGNED_ROWS : 0);
+    settings.stride = 0;
     settings.rows = height ? height : rows;
     if (rows && rows < settings.rows && !(settings.flags & HAYRO_CCITT_END_OF_BLOCK))
         settings.rows = rows;

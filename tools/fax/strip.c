@@ -180,7 +180,7 @@ int encode_strip(const page *it, const picture *drawn, const way *how, strips *i
         release_strips(into);
         return 0;
     }
-    hayro_ccitt_settings read = {drawn->columns, drawn->rows, settings.encoding, settings.flags & FAX_ENCODE_END_OF_BLOCK};
+    hayro_ccitt_settings read = {drawn->columns, drawn->rows, settings.encoding, settings.flags & FAX_ENCODE_END_OF_BLOCK, 0};
     into->owned.length = (size_t)outcome.bytes;
     into->strips[0].data = bytes_in(&into->owned);
     into->strips[0].settings = read;

@@ -189,7 +189,7 @@ static void lay_out_parts(const directory *in, const layout *of, hayro_ccitt_set
 /* How the compression is read; its columns and rows are those of a part. */
 static hayro_ccitt_settings settings_of(const directory *in, uint64_t compression)
 {
-    hayro_ccitt_settings settings = {0, 0, HAYRO_CCITT_GROUP_3_1D, 0};
+    hayro_ccitt_settings settings = {0, 0, HAYRO_CCITT_GROUP_3_1D, 0, 0};
     if (compression == 4) {
         settings.encoding = HAYRO_CCITT_GROUP_4;
         settings.flags = HAYRO_CCITT_END_OF_BLOCK;

@@ -5,7 +5,7 @@
 //! The keys are those of DecodeParms: K, Columns, Rows, EndOfLine, EncodedByteAlign, EndOfBlock and BlackIs1; HEIGHT is the image's.
 //! There are HEIGHT rows of samples, one bit each, from the highest bit of each byte: those that are missing are white.
 
-use hayro_ccitt::{DecodeSettings, DecoderContext, EncodingMode, decode_packed};
+use hayro_ccitt::{DecodeSettings, DecoderContext, EncodingMode, PackedLayout, decode_packed_into};
 use std::io::{self, Read, Write};
 use std::process::ExitCode;
 
@@ -71,11 +71,14 @@ impl Parms {
 /// Decodes a stream to the samples of an image of this height. The rows before a fault are shown, and the rest is white.
 fn ccitt_fax_decode(data: &[u8], parms: &Parms, height: u32) -> Vec<u8> {
     let width = parms.columns.div_ceil(8) as usize;
-    let mut samples = decode_packed(data, &mut DecoderContext::new(parms.settings(height))).bytes;
-    samples.resize(width * height as usize, 0);
-    if !parms.black_is_1 {
-        samples.iter_mut().for_each(|byte| *byte = !*byte);
-    }
+    let white = if parms.black_is_1 { 0x00 } else { 0xFF };
+    let mut samples = vec![white; width * height as usize];
+    let layout = PackedLayout {
+        stride: 0,
+        black_is_0: !parms.black_is_1,
+    };
+    let mut context = DecoderContext::new(parms.settings(height));
+    let _ = decode_packed_into(data, &mut context, layout, &mut samples);
     samples
 }
 

@@ -1,6 +1,6 @@
 //! The calls of `c/hayro_ccitt.h` and `c/fax_encode.h`. All unsafe code is here.
 
-use crate::{DecodeSettings, EncodingMode};
+use crate::{DecodeSettings, EncodingMode, PackedLayout};
 use core::ffi::c_void;
 
 pub(crate) const OK: u32 = 0;
@@ -13,14 +13,17 @@ pub(crate) const NOT_TAKEN: u32 = 6;
 pub(crate) const NO_ROW: u32 = 7;
 
 const LOW_FIRST: u32 = 16;
+const BLACK_IS_0: u32 = 32;
 
 /// `hayro_ccitt_settings`.
 #[repr(C)]
+#[derive(Copy, Clone)]
 pub(crate) struct Settings {
     columns: u32,
     rows: u32,
     encoding: u32,
     flags: u32,
+    stride: u32,
 }
 
 impl From<&DecodeSettings> for Settings {
@@ -36,6 +39,7 @@ impl From<&DecodeSettings> for Settings {
             rows: settings.rows,
             encoding: number_of(settings.encoding),
             flags: sum_of(&flags),
+            stride: 0,
         }
     }
 }
@@ -62,6 +66,27 @@ impl Settings {
         Self {
             flags: self.flags | LOW_FIRST,
             ..self
+        }
+    }
+
+    /// Returns the same settings, with 0 for black in packed rows.
+    pub(crate) fn black_is_0(self) -> Self {
+        Self {
+            flags: self.flags | BLACK_IS_0,
+            ..self
+        }
+    }
+
+    /// Returns the same settings with this layout of packed rows.
+    pub(crate) fn laid_out(self, layout: PackedLayout) -> Self {
+        let settings = if layout.black_is_0 {
+            self.black_is_0()
+        } else {
+            self
+        };
+        Self {
+            stride: layout.stride,
+            ..settings
         }
     }
 }

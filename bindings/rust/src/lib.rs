@@ -42,7 +42,7 @@
 //! # Differences from that crate
 //!
 //! If an allocation fails, the program ends, as with a [`Vec`].
-//! `decode_low_first`, [`decode_packed`], [`RowReader`], [`DecoderContext::damaged_rows`], [`DecoderContext::missed_eols`],
+//! `decode_low_first`, [`decode_packed`], [`decode_packed_into`], [`RowReader`], [`DecoderContext::damaged_rows`], [`DecoderContext::missed_eols`],
 //! [`DecoderContext::cut_rows`], [`DecoderContext::fault_start`] and [`encode_bitmap`] are added. The package is `no_std`, and needs an allocator and a C compiler.
 
 #![no_std]
@@ -53,9 +53,11 @@ extern crate alloc;
 
 mod c;
 mod encoding;
+mod packed_into;
 mod row_reader;
 
 pub use encoding::{EncodeError, EncodeSettings, encode_bitmap};
+pub use packed_into::{IntoError, PackedLayout, decode_packed_into, decode_packed_into_low_first};
 pub use row_reader::RowReader;
 
 use alloc::alloc::{Layout, handle_alloc_error};
@@ -188,10 +190,7 @@ fn pack_at_once(
         c::OK => Ok(outcome.bytes_read as usize),
         _ => Err(error_of(status)),
     };
-    ctx.damaged_rows = outcome.damaged_rows;
-    ctx.missed_eols = outcome.missed_eols;
-    ctx.cut_rows = outcome.cut_rows;
-    ctx.fault_start = result.is_err().then(|| usize_of(outcome.fault_start));
+    ctx.tell(&outcome, result.is_err());
     PackedRows {
         rows: usize_of(outcome.rows),
         bytes,
@@ -302,6 +301,14 @@ impl DecoderContext {
             cut_rows: 0,
             fault_start: None,
         }
+    }
+
+    /// Takes the counts of an image, and the place of its fault if there is one.
+    fn tell(&mut self, outcome: &c::Outcome, is_fault: bool) {
+        self.damaged_rows = outcome.damaged_rows;
+        self.missed_eols = outcome.missed_eols;
+        self.cut_rows = outcome.cut_rows;
+        self.fault_start = is_fault.then(|| usize_of(outcome.fault_start));
     }
 
     /// Returns the number of rows of the last image whose line was damaged and repaired, as a lenient reading of Group 3 with EOLs

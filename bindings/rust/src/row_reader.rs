@@ -24,6 +24,8 @@ use alloc::vec::Vec;
 /// ```
 pub struct RowReader<'a> {
     rows: c::Rows<'a>,
+    data: &'a [u8],
+    settings: c::Settings,
     columns: u32,
     changes: Vec<u32>,
     packed: Vec<u8>,
@@ -40,9 +42,21 @@ impl<'a> RowReader<'a> {
         Self::with(data, &settings, c::Settings::from(&settings).low_first())
     }
 
+    /// Returns a reader before the first row, whose packed rows have 0 for black and 1 for white, also after the last pixel.
+    pub fn black_is_0(self) -> Self {
+        let settings = self.settings.black_is_0();
+        Self {
+            rows: open_rows(self.data, &settings),
+            settings,
+            ..self
+        }
+    }
+
     pub(crate) fn with(data: &'a [u8], settings: &DecodeSettings, told: c::Settings) -> Self {
         Self {
             rows: open_rows(data, &told),
+            data,
+            settings: told,
             columns: settings.columns,
             changes: Vec::new(),
             packed: Vec::new(),
@@ -76,8 +90,8 @@ impl<'a> RowReader<'a> {
         self.changes = zeros(wanted.min(self.columns as usize).max(64));
     }
 
-    /// Reads the next row, and returns it packed: `columns.div_ceil(8)` bytes, one bit a pixel, 1 for black, the leftmost pixel
-    /// in a byte's highest bit; `None` at the end of the image.
+    /// Reads the next row, and returns it packed: `columns.div_ceil(8)` bytes, one bit a pixel, 1 for black, or 0 for a reader of
+    /// [`black_is_0`](Self::black_is_0), the leftmost pixel in a byte's highest bit; `None` at the end of the image.
     ///
     /// # Errors
     ///

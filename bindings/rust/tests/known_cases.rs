@@ -4,7 +4,8 @@ mod common;
 
 use common::settings_of;
 use hayro_ccitt::{
-    DecodeSettings, Decoder, DecoderContext, PackedRows, decode, decode_low_first, decode_packed,
+    DecodeSettings, Decoder, DecoderContext, IntoError, PackedLayout, PackedRows, RowReader,
+    decode, decode_low_first, decode_packed, decode_packed_into, decode_packed_into_low_first,
     decode_packed_low_first,
 };
 use std::fs;
@@ -53,6 +54,56 @@ impl Decoder for Bitmap {
     }
 }
 
+/// The same rows at a stride, with 0 for black: what is between them is kept, and with a byte less there is no room for the last.
+fn compare_spread(bytes: &[u8], settings: DecodeSettings, low_first: bool, packed: &PackedRows) {
+    let width = settings.columns.div_ceil(8) as usize;
+    let stride = width + packed.rows % 3;
+    let layout = PackedLayout {
+        stride: stride as u32,
+        black_is_0: true,
+    };
+    if packed.rows == 0 || width == 0 {
+        return;
+    }
+    let room = (packed.rows - 1) * stride + width;
+    let mut expected = vec![7; room];
+    for row in 0..packed.rows {
+        for byte in 0..width {
+            expected[row * stride + byte] = !packed.bytes[row * width + byte];
+        }
+    }
+    let into = if low_first {
+        decode_packed_into_low_first
+    } else {
+        decode_packed_into
+    };
+    let mut context = DecoderContext::new(settings);
+    let mut bitmap = vec![7; room];
+    let spread = into(bytes, &mut context, layout, &mut bitmap);
+    let result = packed.result.map_err(IntoError::Data);
+    assert_eq!((spread, bitmap), ((packed.rows, result), expected));
+    let mut shorter = vec![7; room - 1];
+    let refused = into(bytes, &mut context, layout, &mut shorter);
+    assert_eq!(refused, (packed.rows - 1, Err(IntoError::NoRoom)));
+    let short = PackedLayout {
+        stride: width as u32 - 1,
+        black_is_0: false,
+    };
+    if width > 1 {
+        let untaken = into(bytes, &mut context, short, &mut shorter);
+        assert_eq!(untaken, (0, Err(IntoError::ShortStride)));
+    }
+    let mut rows = if low_first {
+        RowReader::new_low_first(bytes, settings).black_is_0()
+    } else {
+        RowReader::new(bytes, settings).black_is_0()
+    };
+    for row in packed.bytes.chunks(width) {
+        let inverted: Vec<u8> = row.iter().map(|byte| !byte).collect();
+        assert_eq!(rows.next_packed().unwrap().unwrap(), inverted);
+    }
+}
+
 /// The packed rows are those that a sink gets, also with another limit that is no limit, and take no more memory.
 fn compare_packed(bytes: &[u8], settings: DecodeSettings, low_first: bool) {
     let unreached = u32::MAX;
@@ -74,6 +125,12 @@ fn compare_packed(bytes: &[u8], settings: DecodeSettings, low_first: bool) {
         };
         let width = settings.columns.div_ceil(8) as usize;
         assert_eq!((packed.result, &packed.bytes), (result, &bitmap.bytes));
+        compare_spread(
+            bytes,
+            DecodeSettings { rows, ..settings },
+            low_first,
+            &packed,
+        );
         assert_eq!(packed.rows * width, packed.bytes.len());
         assert_eq!(packed.bytes.capacity(), packed.bytes.len());
     }

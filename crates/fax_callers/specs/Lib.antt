@@ -1,5 +1,6 @@
 pub mod Blank
 pub mod Counting
 pub mod FirstRows
+pub mod InStep
 pub mod Pages
 pub mod Readings

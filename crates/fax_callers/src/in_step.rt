@@ -1,12 +1,14 @@
 //! From which row on a damaged strip is as it was sent.
 
-ghost use Rattle.std.specs.Prelude.{◌≡◌, ◌<◌, ℕ, Ok, Some, length, get_or};
+ghost use Rattle.std.specs.Prelude.{◌≡◌, ◌≢◌, ◌<◌, ℕ, Ok, Err, Some, None, IfErr, length, get_or};
 ghost use Rattle.hayro_ccitt.specs.Bits.{BitsFit, bits_of};
 ghost use Rattle.hayro_ccitt.specs.PlainReading.{line_starts, plain};
 ghost use Rattle.hayro_ccitt.specs.RowsKept.{IsInStepFrom, RowsFollow};
+ghost use Rattle.hayro_ccitt.specs.Answers.{IsFault};
+ghost use Rattle.fax_callers.specs.InStep.{NoLineInStep};
 
 use hayro_ccitt::bit_reader::BitOrder;
-use hayro_ccitt::{DecodeSettings, DecoderContext, Result, RowReader, in_step_from};
+use hayro_ccitt::{DecodeError, DecodeSettings, DecoderContext, Result, RowReader, in_step_from};
 use std::alloc::Global;
 
 /// Returns from which row on, counted from 0, a damaged strip of Group 3 is as it was sent, if the damage lies before the EOL
@@ -33,6 +35,10 @@ pub fn row_in_step(
         → IsInStepFrom settings (bits_of «data».now) to (get_or (line_starts settings (bits_of «data».now)) row 0) }
     ensures follow { (row : ℕ) → result ≡ Ok (Some row)
         → RowsFollow settings (bits_of «data».now) to (get_or (line_starts settings (bits_of «data».now)) row 0) }
+    ensures none { result ≡ Ok None → NoLineInStep settings (bits_of «data».now) to }
+    ensures fault { IfErr result (λ e. IsFault e
+        → ((plain settings (bits_of «data».now)).outcome ≡ Err e) × NoLineInStep settings (bits_of «data».now) to) }
+    ensures not_refused { result ≢ Err DecodeError.Refused }
 {
     let mut ctx = DecoderContext::new(alloc, settings)?;
     let Some(place) = in_step_from(data, &mut ctx, to) else {

@@ -1,6 +1,6 @@
 -- Lines with what fills them up to a whole byte.
 use Rattle.hayro_ccitt.proofs.Names.{◌≡◌, ℕ, ◌+◌, ◌-◌, ◌%◌, ◌≤◌, Bool, true, false, ◌++◌, ◌↔◌, length, replicate, refl, ap}
-use Rattle.hayro_ccitt.proofs.Names.{sym, ◌∙◌, arith, length-append, length-drop, Bits, BitsAt, Row, here}
+use Rattle.hayro_ccitt.proofs.Names.{sym, ◌∙◌, arith, length-append, length-drop, Bits, BitsAt, Row, here, subst, padding}
 use Rattle.hayro_ccitt.proofs.Names.{DecodeSettings}
 use Rattle.fax_conforms.specs.Standing.{LineStands, Leads, Never, IsOnly}
 use Rattle.fax_conforms.specs.Conforming.{FilledStands, fill_at}
@@ -9,6 +9,12 @@ use Rattle.fax_conforms.specs.Conforming.{FilledStands, fill_at}
 same_fill : (aligned : Bool) (m n : ℕ) → (aligned ≡ true → m % 8 ≡ n % 8) → fill_at aligned m ≡ fill_at aligned n
 same_fill true m n same = ap (λ (k : ℕ). replicate ((8 - k) % 8) false) (same refl)
 same_fill false m n same = refl
+
+-- what isn't filled isn't filled with zeros
+pub no_padding : (aligned : Bool) (end : BitsAt) (place : ℕ) → place ≡ end.place
+    → ((rest : Bits) → here end ≡ fill_at aligned end.place ++ rest → ⊥) → (rest : Bits) → here end ≡ padding place ++ rest → ⊥
+no_padding true end place at none rest is = none rest (subst (λ (n : ℕ). here end ≡ padding n ++ rest) at is)
+no_padding false end place at none rest is = none (here end) refl
 
 module _ (settings : DecodeSettings) (reference row : Row) (start end next : BitsAt) (same_bits : end.bits ≡ start.bits)
     (start_within : start.place ≤ length start.bits) (end_within : end.place ≤ length end.bits)

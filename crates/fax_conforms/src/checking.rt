@@ -1,10 +1,10 @@
 //! Whether data is an encoding.
 
-ghost use Rattle.std.specs.Prelude.{◌≡◌, ◌<◌, ◌↔◌, None, IsTrue, IfOk, OnOk, IfErr, IsOkUnless};
+ghost use Rattle.std.specs.Prelude.{◌≡◌, ◌<◌, ◌↔◌, None, IsTrue, IfOk, IfSome, OnOk, IfErr, IsOkUnless};
 ghost use Rattle.hayro_ccitt.specs.Bits.{Bits, BitsFit, bits_in, here};
 ghost use Rattle.hayro_ccitt.specs.EncodingMode.TheVariants.{Group4};
 ghost use Rattle.fax_conforms.specs.Conforming.{Conforms, EolStands};
-ghost use Rattle.fax_conforms.specs.Stops.{IsBroken};
+ghost use Rattle.fax_conforms.specs.Stops.{EndsAt, IsBroken, IsViolationOf};
 
 use crate::pictures::{has_eol, read_body, read_lines};
 use crate::stops::{Rule, Stop, Violation, broken};
@@ -32,6 +32,7 @@ fn read_picture(
     requires start { reader.old.place ≡ 0 }
     ensures stands { OnOk result (Conforms settings (here reader.old)) }
     ensures none { IfErr result (λ e. IsBroken e → Conforms settings (here reader.old) → ⊥) }
+    ensures at { IfErr result (EndsAt reader.old.bits) }
 {
     // The range of a number is known once it is read.
     let _columns = settings.columns;
@@ -68,6 +69,7 @@ fn read_data(
     requires fit { BitsFit «data».now }
     ensures stands { OnOk result (Conforms settings (bits_in order «data».now)) }
     ensures none { IfErr result (λ e. IsBroken e → Conforms settings (bits_in order «data».now) → ⊥) }
+    ensures at { IfErr result (EndsAt (bits_in order «data».now)) }
 {
     if settings.columns == 0 {
         return broken(0, Rule::Columns);
@@ -87,10 +89,13 @@ fn read_data(
     )
 }
 
-/// Returns the first place at which data breaks a rule of its encoding, and which rule; `None` if it begins with an encoding of
-/// a picture, by every rule of T.4 and T.6, that is closed as the settings ask: by EOFB (T.6, 2.4.1.1) or RTC (T.4, 4.1.4) with
-/// `end_of_block`, or by as many rows as the row limit, whichever comes first. What follows the picture isn't looked at. Each
-/// byte has its bits in this order.
+/// Returns where data breaks a rule of its encoding, and which rule; `None` if it begins with an encoding of a picture, by every
+/// rule of T.4 and T.6, that is closed as the settings ask: by EOFB (T.6, 2.4.1.1) or RTC (T.4, 4.1.4) with `end_of_block`, or by
+/// as many rows as the row limit, whichever comes first. What follows the picture isn't looked at. Each byte has its bits in
+/// this order.
+///
+/// The place is not behind the last bit, and from there on are what breaks the rule: no word of the kind that the rule asks for, or
+/// one that the rule is about. The lines and the words before it keep to the rules; that is tested, and not proved.
 ///
 /// More is asked here than of data that [`hayro_ccitt::decode`] reads strictly. Pass mode is only where b2 is left of a1, and
 /// each vertical mode to the right of a0 (T.4, 4.2.1.3); only the first run of a row has no pixels, and one at the row's end in
@@ -114,6 +119,7 @@ pub fn first_violation(
 ) -> hayro_ccitt::Result<Option<Violation>>
     requires fit { BitsFit «data».now }
     ensures none { IfOk result (λ found. (found ≡ None) ↔ Conforms settings (bits_in order «data».now)) }
+    ensures place { IfOk result (λ found. IfSome found (IsViolationOf (bits_in order «data».now))) }
     ensures only_memory { IsOkUnless result DecodeError.OutOfMemory }
 {
     match read_data(alloc, settings, order, data) {

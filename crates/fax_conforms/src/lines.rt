@@ -1,6 +1,6 @@
 //! Lines of encodings: the modes and runs of a row, each of them lawful.
 
-ghost use Rattle.std.specs.Prelude.{◌≡◌, ◌+◌, ◌<◌, ◌≤◌, false, true, IfOk, OnOk, IfErr, length, ℕ, List};
+ghost use Rattle.std.specs.Prelude.{◌≡◌, ◌+◌, ◌<◌, ◌≤◌, false, true, IfOk, OnOk, IfErr, length, drop, ℕ, List};
 ghost use Rattle.hayro_ccitt.specs.Bits.{Bits, here};
 ghost use Rattle.hayro_ccitt.specs.EncodingMode.TheVariants.{Group4, Group3_1D};
 ghost use Rattle.hayro_ccitt.specs.Mode.TheVariants.{Pass, Horizontal, Vertical};
@@ -8,7 +8,7 @@ ghost use Rattle.hayro_ccitt.specs.Rows.{Row, AreChanges, pixels, b1, b2, is_bla
 ghost use Rattle.fax_conforms.specs.Standing.{LineStands, Leads, Never, IsOnly, LineFrom, ModeFrom, RunsFrom, spot_of};
 ghost use Rattle.fax_conforms.specs.Standing.{from_of, IsDrawn, IsAbove, IsPainted, DrawsOn};
 ghost use Rattle.fax_conforms.specs.Standing.{NextRun, PaintsRun};
-ghost use Rattle.fax_conforms.specs.Stops.{IsBroken};
+ghost use Rattle.fax_conforms.specs.Stops.{EndsAt, IsBroken, ModeIsHere};
 
 use crate::stops::{Rule, Stop, broken};
 use crate::words::Words;
@@ -145,6 +145,8 @@ fn draw_pass(
     ensures on { IfOk result (λ next. DrawsOn columns reference.now pen next coding.new.items) }
     ensures none { IfErr result (λ e. IsBroken e → (here : Bits) → Never columns
         (ModeFrom (pixels columns reference.now) (spot_of pen coding.old.items) Pass here)) }
+    ensures at { IfErr result (λ e. (bits : Bits) → pen.word ≤ length bits → ModeIsHere Pass (drop pen.word bits)
+        → EndsAt bits e) }
 {
     let above = find_above(columns, reference, pen, &mut words.ticks);
     if above.b2 >= columns {
@@ -172,6 +174,8 @@ fn draw_vertical(
     ensures on { IfOk result (λ next. DrawsOn columns reference.now pen next coding.new.items) }
     ensures none { IfErr result (λ e. IsBroken e → (here : Bits) → Never columns
         (ModeFrom (pixels columns reference.now) (spot_of pen coding.old.items) (Vertical offset) here)) }
+    ensures at { IfErr result (λ e. (bits : Bits) → pen.word ≤ length bits → ModeIsHere (Vertical offset) (drop pen.word bits)
+        → EndsAt bits e) }
 {
     let above = find_above(columns, reference, pen, &mut words.ticks);
     let Some(place) = above.b1.checked_add_signed(i32::from(offset)) else {
@@ -206,6 +210,7 @@ fn run_end(
     ensures run { IfOk result (λ place. (run : ℕ) × NextRun columns pen (here reader.old) (here reader.new) run
         × (place ≡ pen.painted + run)) }
     ensures none { IfErr result (λ e. IsBroken e → (run : ℕ) (rest : Bits) → NextRun columns pen (here reader.old) rest run → ⊥) }
+    ensures at { IfErr result (EndsAt reader.old.bits) }
     ensures same_bits { reader.new.bits ≡ reader.old.bits }
 {
     let word = reader.bit_pos();
@@ -234,6 +239,7 @@ fn paint_run(
     ensures run { IfOk result (λ next. PaintsRun columns pen next coding.old.items coding.new.items (here reader.old)
         (here reader.new)) }
     ensures none { IfErr result (λ e. IsBroken e → (run : ℕ) (rest : Bits) → NextRun columns pen (here reader.old) rest run → ⊥) }
+    ensures at { IfErr result (EndsAt reader.old.bits) }
     ensures same_bits { reader.new.bits ≡ reader.old.bits }
 {
     let place = run_end(words, reader, columns, pen)?;
@@ -258,6 +264,7 @@ fn draw_horizontal(
         → DrawsOn columns reference pen next coding.new.items) }
     ensures none { IfErr result (λ e. IsBroken e → (reference : Row) → length reference ≡ columns → Never columns
         (ModeFrom reference (spot_of pen coding.old.items) Horizontal (here reader.old))) }
+    ensures at { IfErr result (EndsAt reader.old.bits) }
     ensures same_bits { reader.new.bits ≡ reader.old.bits }
 {
     let between = paint_run(words, reader, columns, coding, pen)?;
@@ -283,6 +290,7 @@ fn draw_mode(
     ensures on { IfOk result (λ next. DrawsOn columns reference.now pen next coding.new.items) }
     ensures none { IfErr result (λ e. IsBroken e → Never columns
         (LineFrom (pixels columns reference.now) (spot_of pen coding.old.items) (here reader.old))) }
+    ensures at { IfErr result (EndsAt reader.old.bits) }
     ensures same_bits { reader.new.bits ≡ reader.old.bits }
 {
     let mut pen = pen;
@@ -313,6 +321,7 @@ pub fn draw_line_2d(
     ensures lawful { OnOk result (AreChanges columns coding.new.items) }
     ensures none { IfErr result (λ e. IsBroken e
         → Never columns (λ row rest. LineStands Group4 (pixels columns reference.now) row (here reader.old) rest)) }
+    ensures at { IfErr result (EndsAt reader.old.bits) }
     ensures same_bits { reader.new.bits ≡ reader.old.bits }
 {
     coding.clear();
@@ -339,6 +348,7 @@ fn draw_run(
     ensures drawn { IfOk result (λ next. IsDrawn columns next coding.new.items) }
     ensures onward { IfOk result (λ next. from_of pen < from_of next) }
     ensures none { IfErr result (λ e. IsBroken e → Never columns (RunsFrom (spot_of pen coding.old.items) (here reader.old))) }
+    ensures at { IfErr result (EndsAt reader.old.bits) }
     ensures same_bits { reader.new.bits ≡ reader.old.bits }
 {
     let next = paint_run(words, reader, columns, coding, pen)?;
@@ -359,6 +369,7 @@ pub fn draw_line_1d(
     ensures lawful { OnOk result (AreChanges columns coding.new.items) }
     ensures none { IfErr result (λ e. IsBroken e → (reference : Row)
         → Never columns (λ row rest. LineStands Group3_1D reference row (here reader.old) rest)) }
+    ensures at { IfErr result (EndsAt reader.old.bits) }
     ensures same_bits { reader.new.bits ≡ reader.old.bits }
 {
     coding.clear();

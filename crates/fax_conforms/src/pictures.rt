@@ -11,7 +11,7 @@ ghost use Rattle.fax_conforms.specs.Conforming.{EofbStands, SeeksEofb, TwoEolsSt
 ghost use Rattle.fax_conforms.specs.Conforming.{EolStands, TaggedEolStands, EolsStand, RtcStands};
 ghost use Rattle.fax_conforms.specs.Conforming.{EolLineStands, LinesStand};
 ghost use Rattle.fax_conforms.specs.Standing.{LineStands, Leads, Never, IsOnly};
-ghost use Rattle.fax_conforms.specs.Stops.{IsBroken};
+ghost use Rattle.fax_conforms.specs.Stops.{EndsAt, IsBroken};
 
 use crate::lines::{draw_line_1d, draw_line_2d};
 use crate::stops::{Rule, Stop, broken};
@@ -37,6 +37,7 @@ fn draw_tagged_line(
     ensures lawful { OnOk result (AreChanges columns coding.new.items) }
     ensures none { IfErr result (λ e. IsBroken e
         → Never columns (λ row rest. LineStands Group3_2D (pixels columns reference.now) row (here reader.old) rest)) }
+    ensures at { IfErr result (EndsAt reader.old.bits) }
     ensures same_bits { reader.new.bits ≡ reader.old.bits }
 {
     let place = reader.bit_pos();
@@ -63,6 +64,7 @@ fn draw_line(
     ensures lawful { OnOk result (AreChanges settings.columns coding.new.items) }
     ensures none { IfErr result (λ e. IsBroken e → Never settings.columns
         (λ row rest. LineStands settings.encoding (pixels settings.columns reference.now) row (here reader.old) rest)) }
+    ensures at { IfErr result (EndsAt reader.old.bits) }
     ensures same_bits { reader.new.bits ≡ reader.old.bits }
 {
     let columns = settings.columns;
@@ -183,6 +185,7 @@ fn draw_filled_line(
     ensures fit { length reader.old.bits + 64 < 2 ^ 64 }
     ensures none { IfErr result (λ e. IsBroken e → Never settings.columns
         (λ row rest. FilledStands settings (pixels settings.columns reference.now) row (here reader.old) rest)) }
+    ensures at { IfErr result (EndsAt reader.old.bits) }
     ensures same_bits { reader.new.bits ≡ reader.old.bits }
 {
     // The range of a number is known once it is read.
@@ -208,6 +211,7 @@ pub fn read_body(
     requires start { reader.old.place ≡ 0 }
     ensures stands { OnOk result (BodyStands settings 0 (white_row settings.columns) (here reader.old)) }
     ensures none { IfErr result (λ e. IsBroken e → BodyStands settings 0 (white_row settings.columns) (here reader.old) → ⊥) }
+    ensures at { IfErr result (EndsAt reader.old.bits) }
 {
     reference.clear();
     let mut taken = 0;
@@ -327,6 +331,7 @@ fn draw_line_behind_eol(
     ensures fit { length reader.old.bits + 64 < 2 ^ 64 }
     ensures none { IfErr result (λ e. IsBroken e → Never settings.columns
         (λ row rest. EolLineStands settings (pixels settings.columns reference.now) row (here reader.old) rest)) }
+    ensures at { IfErr result (EndsAt reader.old.bits) }
     ensures same_bits { reader.new.bits ≡ reader.old.bits }
 {
     // The range of a number is known once it is read.
@@ -349,6 +354,7 @@ pub fn read_lines(
     requires wide { 0 < settings.columns }
     ensures stands { OnOk result (LinesStand settings 0 (white_row settings.columns) (here reader.old)) }
     ensures none { IfErr result (λ e. IsBroken e → LinesStand settings 0 (white_row settings.columns) (here reader.old) → ⊥) }
+    ensures at { IfErr result (EndsAt reader.old.bits) }
 {
     reference.clear();
     let mut taken = 0;

@@ -1,5 +1,6 @@
 //! Where data breaks a rule, and which one.
 
+ghost use Rattle.std.specs.Prelude.{◌≡◌, Err};
 ghost use Rattle.fax_conforms.specs.Stops.{IsViolated};
 
 /// A rule of T.4 or T.6 that data breaks.
@@ -45,7 +46,8 @@ pub enum Stop {
 
 /// Returns the stop at a place where a rule is broken.
 pub fn broken<T>(place: usize, rule: Rule) -> Result<T, Stop>
-    ensures { IsViolated result }
+    ensures violated { IsViolated result }
+    ensures exact { result ≡ Err (Stop.Violation (record { place = place; rule = rule })) }
 {
     Err(Stop::Violation(Violation { place, rule }))
 }

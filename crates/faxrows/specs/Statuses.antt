@@ -1,5 +1,5 @@
--- The status that the program exits with: 0 if the data was decoded, 1 if the data is invalid, 2 for invalid arguments,
--- and 3 for a failed allocation or device.
+-- The status that the program exits with: 0 if the data was decoded or conforms, 1 if the data is invalid or doesn't, 2 for
+-- invalid arguments, and 3 for a failed allocation or device.
 use Rattle.std.specs.Prelude.{◌≡◌, ◌⊎◌, ℕ, Result, Ok, Err}
 use Rattle.hayro_ccitt.specs.DecodeError.{DecodeError}
 use Rattle.hayro_ccitt.specs.DecodeError.TheVariants.{UnexpectedEof, InvalidCode, Overflow, OutOfMemory, Refused}

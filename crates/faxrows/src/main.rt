@@ -1,9 +1,10 @@
 //! `faxrows`: decodes a fax image from standard input, and writes its rows as text to standard output.
 //!
 //! It is called as `faxrows MODE COLUMNS ROWS FLAGS`, with `-o` before these arguments to write the rows as a bitmap of one
-//! bit a pixel, with `-i` to write each row as it is read, or with `-d` to write the damage. The mode is `g4`, `1d` or
-//! `2d`, columns and rows are decimal numbers, and the flags are `-` or letters: `b` if EOFB or RTC may end the data, `l`
-//! if EOLs precede its lines, `a` for aligned rows, `s` for a strict reading, `r` for the lowest bit of each byte first.
+//! bit a pixel, with `-i` to write each row as it is read, with `-d` to write the damage, or with `-c` to write whether the data
+//! is an encoding by every rule. The mode is `g4`, `1d` or `2d`, columns and rows are decimal numbers, and the flags are `-` or
+//! letters: `b` if EOFB or RTC may end the data, `l` if EOLs precede its lines, `a` for aligned rows, `s` for a strict reading,
+//! `r` for the lowest bit of each byte first.
 #![tactic(auto)]
 
 ghost use Rattle.std.specs.Prelude.{◌≡◌, IfOk};
@@ -12,7 +13,7 @@ ghost use Rattle.faxrows.specs.Statuses.{IsStatusOfRun, status_of_answer, status
 use fax_program::words::{is_first_word, is_only_word};
 use fax_program::{print, status_of_fault, words_of_run};
 pub use fax_program::{Device, Failed, RunFault};
-pub use faxrows_runs::{Done, TextSink, run, run_by_row, run_damage, run_packed};
+pub use faxrows_runs::{Done, TextSink, run, run_by_row, run_check, run_damage, run_packed};
 use hayro_ccitt::DecodeError;
 use std::process::ExitCode;
 
@@ -60,6 +61,8 @@ fn run_with(rt: &HostRuntime, words: &[String]) -> Result<u8, RunFault>
         run_by_row(rt.alloc(), &words[1..], &mut reader, &mut writer)?
     } else if is_first_word(words, "-d") {
         run_damage(rt.alloc(), &words[1..], &mut reader, &mut writer)?
+    } else if is_first_word(words, "-c") {
+        run_check(rt.alloc(), &words[1..], &mut reader, &mut writer)?
     } else {
         run(rt.alloc(), words, &mut reader, &mut writer)?
     };
@@ -69,7 +72,7 @@ fn run_with(rt: &HostRuntime, words: &[String]) -> Result<u8, RunFault>
 /// What `--help` prints.
 const USAGE: &str = "faxrows MODE COLUMNS ROWS FLAGS\nfaxrows -o MODE COLUMNS ROWS FLAGS\n\
      faxrows -i MODE COLUMNS ROWS FLAGS\nfaxrows -d MODE COLUMNS ROWS FLAGS\n\
-     faxrows --help\nfaxrows --version";
+     faxrows -c MODE COLUMNS ROWS FLAGS\nfaxrows --help\nfaxrows --version";
 
 /// What `--version` prints.
 const VERSION: &str = "faxrows 0.6.0";

@@ -1,3 +1,4 @@
+pub mod Checks
 pub mod DamageTexts
 pub mod Examples
 pub mod Names

@@ -3,6 +3,11 @@ pub use Rattle.fax_encode.specs.Laws.{RowsArePacked}
 pub use Rattle.fax_encode.specs.Packed.{Bitmap, packed, with_packed_row}
 pub use Rattle.fax_program.specs.Devices.{AppendsFront}
 pub use Rattle.faxrows_runs.specs.Arguments.{arguments_of_words}
+pub use Rattle.fax_program.specs.declared.fault.RunFault.{RunFault}
+pub use Rattle.fax_conforms.specs.Conforming.{Conforms}
+pub use Rattle.fax_conforms.specs.Stops.{IsViolationOf}
+pub use Rattle.fax_conforms.specs.declared.stops.Violation.{Violation}
+pub use Rattle.faxrows_runs.specs.CheckText.{IsCheck, done_of_check, end_with_rule, line_of_check, line_of_violation}
 pub use Rattle.faxrows_runs.specs.DamageText.{IsDamageText, IsDamageWithoutMemory, damage_after, damage_lines, damage_of_row}
 pub use Rattle.faxrows_runs.specs.DamageText.{end_with_fault, last_line_of_damage, line_of_damage, line_of_miss, miss_of_row}
 pub use Rattle.faxrows_runs.specs.DamageText.{line_of_cut}
@@ -33,7 +38,7 @@ pub use Rattle.hayro_ccitt.specs.EncodingMode.TheVariants.{Group3_1D, Group3_2D,
 pub use Rattle.std.proofs.Common.{Bool, Err, IfOk, IfSome, List, None, Ok, OnErr, OnOk, Option, Result, Some, [], ap, append-nil}
 pub use Rattle.std.proofs.Common.{append_assoc, arith, drop, drop_of_length-le, false, get_or, inl, inr, length, length-append}
 pub use Rattle.std.proofs.Common.{length-drop, map, refl, rules, set, string_bytes, subst, suc, sym, take, take-append-drop}
-pub use Rattle.std.proofs.Common.{take_all, true, zero, ℕ, ◌++◌, ◌+◌, ◌-◌, ◌/◌, ◌<◌, ◌^◌, ◌∙◌, ◌∷◌, ◌≡◌, ◌≢◌, ◌≤◌}
+pub use Rattle.std.proofs.Common.{take_all, true, zero, ℕ, ◌++◌, ◌+◌, ◌-◌, ◌/◌, ◌<◌, ◌^◌, ◌∙◌, ◌∷◌, ◌≡◌, ◌≢◌, ◌≤◌, ◌↔◌}
 pub use Rattle.std.proofs.KnownBytes.{Appends-nil, Appends-trans}
 pub use Rattle.std.proofs.lemmas.Fmt.{decimal_digit, decimal_nonempty, decimal_step, length-decimal-le}
 pub use Rattle.std.proofs.lemmas.Grind.{drop-set_at, flat_map-append}

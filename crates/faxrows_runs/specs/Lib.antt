@@ -1,4 +1,5 @@
 pub mod Arguments
+pub mod CheckText
 pub mod DamageText
 pub mod Output
 pub mod PackedRuns

@@ -1,5 +1,5 @@
 use fax_program::{Device, RunFault};
-use faxrows_runs::{Done, TextSink, run, run_by_row, run_damage, run_packed};
+use faxrows_runs::{Done, TextSink, run, run_by_row, run_check, run_damage, run_packed};
 use named_requests::{refuse_request, was_refused};
 use std::alloc::AllocGlobal;
 use std::fmt::Debug;
@@ -144,6 +144,7 @@ fn made<R: Read, W: Write>(
     match name {
         "run" => run(alloc, words, reader, writer),
         "run_by_row" => run_by_row(alloc, words, reader, writer),
+        "run_check" => run_check(alloc, words, reader, writer),
         "run_damage" => run_damage(alloc, words, reader, writer),
         "run_packed" => match run_packed(alloc, words, reader, writer)? {
             Ok(()) => Ok(Done::Good),
@@ -210,6 +211,32 @@ fn writes_damage(rt: HostRuntime) {
         1d 8 1 l: 001380: Ok(Good) "cut 0 12\nok 1 0 3\n"
         // In no columns nothing is read.
         g4 0 0 -: 80: Ok(Good) "ok 0 0 0\n"
+        "#,
+    );
+}
+
+#[test]
+fn checks_each_rule(rt: HostRuntime) {
+    check(
+        &rt,
+        "run_check",
+        r#"
+        g4 8 0 b: 31C0040040: Ok(Good) "ok\n"
+        g4 8 0 br: 8C03200002: Ok(Good) "ok\n"
+        g4 8 0 bs: 31C0040040: Ok(Good) "ok\n"
+        // What follows the last row or EOFB isn't looked at.
+        g4 8 1 -: 31C0FF: Ok(Good) "ok\n"
+        // Nothing closes the picture.
+        g4 8 0 -: 31C0: Ok(Faulty) "violation 10 a mode is expected (T.4, 4.2.1.3)\n"
+        g4 8 1 -: 2000: Ok(Faulty) "violation 3 a run is expected (T.4, 4.1.1)\n"
+        1d 8 1 -: A0: Ok(Faulty) "violation 0 beyond the row's end (T.4, 4.1.1 and 4.2.1.3)\n"
+        1d 8 1 -: 80DC: Ok(Faulty) "violation 4 no pixels (T.4, 4.1.1 and 4.2.1.3)\n"
+        g4 0 0 b: : Ok(Faulty) "violation 0 no columns\n"
+        1d 8 1 l: 98: Ok(Faulty) "violation 0 an EOL is expected (T.4, 4.1.2)\n"
+        2d 8 1 l: 0001: Ok(Faulty) "violation 16 a tag is expected (T.4, 4.2.2)\n"
+        g4 8 2 a: C0: Ok(Faulty) "violation 1 zeros up to a whole byte are expected (T.4, 4.1.3)\n"
+        g4 1 0 b: 10010010: Ok(Faulty) "violation 0 pass mode to the row's end (T.4, 4.2.1.3.2)\n"
+        g4 8 1 bb: 31C0: Err(BadArguments) ""
         "#,
     );
 }
@@ -425,6 +452,7 @@ fn fails_at_each_write(rt: HostRuntime) {
         "0019800C400033",
         "damaged 1 29 invalid CCITT code sequence\nok 3 1 7\n",
     );
+    fails_at_writes(&rt, "run_check", "g4 8 0 b", "31C0040040", "ok\n");
 }
 
 /// Compares the text of a fault, plain and where it is given a width, which it ignores.
@@ -495,6 +523,21 @@ fn refused_memory_of_damage(rt: HostRuntime) {
         r#"
         Ok(Good) "damaged 1 29 invalid CCITT code sequence\nok 3 1 7\n"
         Ok(Memory) "error 1 29 out of memory\n"
+        Err(Memory) ""
+        "#,
+    );
+}
+
+/// A run without the memory to check the data writes nothing, and one without that for a piece of text writes all of it.
+#[test]
+fn refused_memory_of_checks(rt: HostRuntime) {
+    in_want(
+        &rt,
+        "run_check",
+        "g4 8 0 -",
+        "31C0",
+        r#"
+        Ok(Faulty) "violation 10 a mode is expected (T.4, 4.2.1.3)\n"
         Err(Memory) ""
         "#,
     );

@@ -1,142 +1,332 @@
 -- Packed rows in the caller's memory, from what the sink leaves.
-use Rattle.std.proofs.Common.{◌≡◌, ℕ, suc, ◌+◌, ◌-◌, ◌*◌, ◌≤◌, ◌<◌, List, [], ◌∷◌, ◌++◌, length, take, drop, refl, sym, ap}
-use Rattle.std.proofs.Common.{subst, ◌∙◌, arith, append_assoc}
+use Rattle.std.proofs.Common.{◌≡◌, ℕ, zero, suc, ◌+◌, ◌-◌, ◌*◌, ◌≤◌, ◌<◌, Bool, true, false, not, List, [], ◌∷◌, ◌++◌}
+use Rattle.std.proofs.Common.{◌%◌, All, Fits, w8, get_or, length, map, min, take, drop, refl, sym, ap, subst, ◌∙◌, arith, inl}
+use Rattle.std.proofs.Common.{append_assoc, inr}
+use Rattle.std.proofs.lemmas.Bool.{cases_lt}
 use Rattle.std.proofs.lemmas.Grind.{flat_map-append}
-use Rattle.std.proofs.lemmas.List.{append-nil, length-take, length-drop, drop-drop}
-use Rattle.std.proofs.lemmas.List.Elements.{All-head, All-tail, All-take}
-use Rattle.std.proofs.lemmas.Slice.{take-put_mid, drop-put_mid}
-use borrow.Rule.Slice.PartMut.{put_mid}
+use Rattle.std.proofs.lemmas.List.{append-nil, length-append, length-map, length-take, length-drop, drop-drop, drop_all, drop_at}
+use Rattle.std.proofs.lemmas.List.{length-replicate, take_all, take_at}
+use Rattle.std.proofs.lemmas.List.Elements.{All-drop, All-head, All-tail, All-take}
+use Rattle.std.proofs.lemmas.Slice.{drop-put_mid}
+use borrow.Rule.Slice.PartMut.{post_of, put_mid}
 use Rattle.hayro_ccitt.specs.DecodeSettings.{DecodeSettings}
 use Rattle.hayro_ccitt.specs.Answers.{meaning_after}
 use Rattle.hayro_ccitt.specs.BitOrder.TheVariants.{HighestFirst}
 use Rattle.hayro_ccitt.specs.Bits.{Bits, bits_of, bits_of_byte}
+use Rattle.hayro_ccitt.specs.PlainReading.{plain}
 use Rattle.hayro_ccitt.specs.Rows.{Row, HaveWidth, pixels, changes}
-use Rattle.fax_encode.specs.Chosen.{filled_up}
-use Rattle.fax_encode.specs.Packed.{packed}
+use Rattle.hayro_ccitt.proofs.BitReading.BitLists.{length-bits_of}
 use Rattle.hayro_ccitt.proofs.PixelRows.ChangesAndPixels.{pixels-changes}
 use Rattle.hayro_ccitt.proofs.Readings.RowWidths.{plain_width}
-use Rattle.hayro_ccitt_c.specs.Packing.{Packing, with_packed, bytes_of_row}
+use Rattle.hayro_ccitt.specs.Encodings.{padding}
+use Rattle.fax_encode.specs.Chosen.{filled_up}
+use Rattle.fax_encode.proofs.BytesOfBits.{same_bytes}
+use Rattle.fax_encode.proofs.PaintedWords.{bits_of-take, bits_of-drop}
+use Rattle.fax_encode.proofs.ScannedRows.{bits_of-parts}
+use Rattle.hayro_ccitt_c.specs.Packing.{Packing, with_packed, bytes_of_row, bytes_of_rows, packed_row, row_and_gap, rows_at}
+use Rattle.hayro_ccitt_c.specs.Packing.{outside_rows}
 use Rattle.hayro_ccitt_c.specs.Reports.{changes_taken, ArePacked}
+use Rattle.hayro_ccitt_c.specs.declared.packed_rows.Layout.{Layout}
 use Rattle.hayro_ccitt_c.proofs.Reporting.{counts, changes_counted}
-use Rattle.hayro_ccitt.specs.PlainReading.{plain}
 
--- a row is painted after the earlier ones
-pub packed_more : (columns end bytes : ℕ) (list bitmap row : List ℕ) → bytes ≡ bytes_of_row columns
-    → bytes ≤ length bitmap - end → end ≤ length bitmap → length row ≡ length (take (end + bytes - end) (drop end bitmap))
-    → bits_of row ≡ filled_up (pixels columns list) → (bits_of (take (end + bytes) (put_mid end (end + bytes - end) bitmap row))
-    ≡ bits_of (take end bitmap) ++ filled_up (pixels columns list))
-    × (drop (end + bytes) (put_mid end (end + bytes - end) bitmap row) ≡ drop (bytes_of_row columns) (drop end bitmap))
-packed_more columns end bytes list bitmap row is room within same painted =
-    let long : length row ≡ bytes = omega (arith, length-take (end + bytes - end) (drop end bitmap), length-drop end bitmap) in
-    let behind : end + bytes ≡ end + length row = omega arith in
-    let reach : end + (end + bytes - end) ≤ end + bytes = omega arith in
-    let part : length row ≡ end + bytes - end = omega arith in (
-      ap bits_of (take-put_mid end (end + bytes - end) bitmap row (end + bytes) behind within) ∙ flat_map-append
-          (bits_of_byte HighestFirst) (take end bitmap) row ∙ ap (λ (b : Bits). bits_of (take end bitmap) ++ b) painted,
-      drop-put_mid end (end + bytes - end) bitmap row (end + bytes) reach within part
-          ∙ sym (drop-drop (bytes_of_row columns) end bitmap ∙ ap (λ (n : ℕ). drop (end + n) bitmap) (sym is)),
-    )
+-- ---- one row
+-- the first elements of a list in two parts
+take_into : {X : Type 0} (front behind : List X) (n more : ℕ) → n ≡ length front + more
+    → take n (front ++ behind) ≡ front ++ take more behind
+take_into [] behind n more is = let same : n ≡ more = omega (arith, is) in ap (λ (m : ℕ). take m behind) same
+take_into (x ∷ front) behind zero more is = absurd (omega (arith, is))
+take_into (x ∷ front) behind (suc n) more is =
+    ap (λ (l : List _). x ∷ l) (take_into front behind n more (omega (arith, is)))
+
+-- a row is packed after the earlier ones
+module _ (layout : Layout) (columns start bytes : ℕ) (list bitmap row : List ℕ) (is : bytes ≡ bytes_of_row columns)
+    (reaches : bytes_of_row columns ≤ layout.stride) (within : start ≤ length bitmap) (room : bytes ≤ length bitmap - start)
+    (same : length row ≡ length (take (start + bytes - start) (drop start bitmap)))
+    (packs : bits_of row ≡ packed_row layout.black_is_0 (pixels columns list)) where
+  abbrev now : List ℕ
+  now = put_mid start (start + bytes - start) bitmap row
+
+  long : length row ≡ bytes
+  long = omega (arith, same, length-take (start + bytes - start) (drop start bitmap), length-drop start bitmap)
+
+  -- the bytes after the row
+  abbrev behind : List ℕ
+  behind = post_of start (start + bytes - start) bitmap
+
+  behind_is : behind ≡ drop (bytes_of_row columns) (drop start bitmap)
+  behind_is =
+      let e : start + bytes - start ≡ bytes_of_row columns = omega (arith, is) in
+      ap (λ (n : ℕ). drop n (drop start bitmap)) e
+
+  front : length (take start bitmap) ≡ start
+  front = omega (arith, length-take start bitmap, within)
+
+  abbrev gap : ℕ
+  gap = layout.stride - bytes_of_row columns
+
+  taken : take (start + layout.stride) now ≡ take start bitmap ++ (row ++ take gap behind)
+  taken =
+      take_into (take start bitmap) (row ++ behind) (start + layout.stride) layout.stride (omega (arith, front))
+      ∙ ap (λ (l : List ℕ). take start bitmap ++ l) (take_into row behind layout.stride gap (omega (arith, long, is, reaches)))
+
+  pub bits_more : bits_of (take (start + layout.stride) now)
+      ≡ bits_of (take start bitmap) ++ row_and_gap layout columns (pixels columns list) (drop start bitmap)
+  bits_more =
+      ap bits_of taken ∙ flat_map-append (bits_of_byte HighestFirst) (take start bitmap) (row ++ take gap behind)
+      ∙ ap (λ (b : Bits). bits_of (take start bitmap) ++ b) (flat_map-append (bits_of_byte HighestFirst) row (take gap behind)
+      ∙ ap (λ (b : Bits). b ++ bits_of (take gap behind)) packs
+      ∙ ap (λ (l : List ℕ). packed_row layout.black_is_0 (pixels columns list) ++ bits_of (take gap l)) behind_is)
+
+  pub rest_more : drop (start + layout.stride) now ≡ drop layout.stride (drop start bitmap)
+  rest_more =
+      drop-put_mid start (start + bytes - start) bitmap row (start + layout.stride) (omega (arith, is, reaches)) within
+      (omega (arith, long)) ∙ sym (drop-drop layout.stride start bitmap)
+
+  pub size_more : length now ≡ length bitmap
+  size_more =
+      omega (
+        arith,
+        long,
+        front,
+        room,
+        within,
+        length-append (take start bitmap) (row ++ behind),
+        length-append row behind,
+        length-drop (start + bytes - start) (drop start bitmap),
+        length-drop start bitmap,
+      )
 
 -- the same in each part is the same
-pub same_packing : (end end' : ℕ) (bits bits' : Bits) (rest rest' : List ℕ) (count count' name : ℕ)
-    → end ≡ end' → bits ≡ bits' → rest ≡ rest'
-    → count ≡ count' → ◌≡◌ {A = Packing} (record { end = end; bits = bits; rest = rest; changes = count; name = name })
-    (record { end = end'; bits = bits'; rest = rest'; changes = count'; name = name })
-same_packing end end' bits bits' rest rest' count count' name e f g h = cc
+pub same_packing : (layout : Layout) (start start' : ℕ) (bits bits' : Bits) (rest rest' : List ℕ)
+    (size size' count count' name : ℕ)
+    → start ≡ start' → bits ≡ bits' → rest ≡ rest' → size ≡ size' → count ≡ count' → ◌≡◌ {A = Packing}
+    (record { layout = layout; start = start; bits = bits; rest = rest; size = size; changes = count; name = name })
+    (record { layout = layout; start = start'; bits = bits'; rest = rest'; size = size'; changes = count'; name = name })
+same_packing layout start start' bits bits' rest rest' size size' count count' name e f g h i = cc
 
 -- ---- all rows
-one_row_more : (n width : ℕ) → suc n * width ≡ width + n * width
+pub one_row_more : (n width : ℕ) → suc n * width ≡ width + n * width
 one_row_more n width = grind arith
+
+-- the bits of memory with rows packed into it
+pub laid : Layout → ℕ → List Row → List ℕ → Bits
+laid layout columns [] memory = bits_of memory
+laid layout columns (row ∷ rows) memory =
+    row_and_gap layout columns row memory ++ laid layout columns rows (drop layout.stride memory)
 
 -- rows were packed after others
 pub record HasPacked (columns : ℕ) (rows : List Row) (before after : Packing) : Type 0 where
-  pub end : after.end ≡ before.end + length rows * bytes_of_row columns
-  pub bits : after.bits ≡ before.bits ++ packed rows
-  pub rest : after.rest ≡ drop (length rows * bytes_of_row columns) before.rest
+  pub layout : after.layout ≡ before.layout
+  pub start : after.start ≡ before.start + length rows * before.layout.stride
+  pub bits : after.bits ++ bits_of after.rest ≡ before.bits ++ laid before.layout columns rows before.rest
+  pub size : after.size ≡ before.size
   pub changes : after.changes ≡ meaning_after counts before.changes rows
   pub name : after.name ≡ before.name
-
-plus_one : (n width : ℕ) → n * width + width ≡ (n + 1) * width
-plus_one n width = grind arith
 
 -- what the sink means after rows of the width
 pub rows_packed : (columns : ℕ) (before : Packing) (rows : List Row) → HaveWidth columns rows
     → HasPacked columns rows before (meaning_after (with_packed columns) before rows)
+unfolding laid
 rows_packed columns before [] have =
-    let none : length {A = Row} [] * bytes_of_row columns ≡ 0 = omega arith in
-    record {
-      end = omega arith;
-      bits = sym (append-nil before.bits);
-      rest = sym (ap (λ (n : ℕ). drop n before.rest) none);
-      changes = refl;
-      name = refl;
-    }
+    record { layout = refl; start = omega arith; bits = refl; size = refl; changes = refl; name = refl }
 rows_packed columns before (row ∷ rows) have =
-    let width : ℕ = bytes_of_row columns in
+    let layout : Layout = before.layout in
     let next : Packing = with_packed columns before (changes row) in
     let others : HasPacked columns rows next (meaning_after (with_packed columns) next rows)
     = rows_packed columns next rows (All-tail (λ r. length r ≡ columns) row rows have) in
-    let more : suc (length rows) * width ≡ width + length rows * width = one_row_more (length rows) width in
+    let more : suc (length rows) * layout.stride ≡ layout.stride + length rows * layout.stride =
+    one_row_more (length rows) layout.stride in
     let same : pixels columns (changes row) ≡ row =
     subst (λ (n : ℕ). pixels n (changes row) ≡ row) (All-head (λ r. length r ≡ columns) row rows have) (pixels-changes row) in
+    let after : Bits = laid layout columns rows (drop layout.stride before.rest) in
     record {
-      end = omega (arith, others.end);
-      bits = others.bits ∙ ap (λ (r : Row). (before.bits ++ filled_up r) ++ packed rows) same
-          ∙ append_assoc before.bits (filled_up row) (packed rows);
-      rest = others.rest ∙ drop-drop (length rows * width) width before.rest ∙ ap (λ (n : ℕ). drop n before.rest) (sym more);
+      layout = others.layout;
+      start = omega (arith, others.start, more);
+      bits = others.bits ∙ ap (λ (r : Row). (before.bits ++ row_and_gap layout columns r before.rest) ++ after) same
+          ∙ append_assoc before.bits (row_and_gap layout columns row before.rest) after;
+      size = others.size;
       changes = others.changes;
       name = others.name;
     }
 
+-- ---- where the rows are
+filled : (row : Row) → length (filled_up row) ≡ 8 * bytes_of_row (length row)
+filled row = omega (arith, length-append row (padding (length row)), length-replicate ((8 - length row % 8) % 8) false)
+
+-- a packed row has whole bytes
+long_row : (black_is_0 : Bool) (columns : ℕ) (row : Row) → length row ≡ columns
+    → length (packed_row black_is_0 row) ≡ 8 * bytes_of_row columns
+long_row true columns row is = omega (arith, filled row, is, length-map (filled_up row) not)
+long_row false columns row is = omega (arith, filled row, is)
+
+none_left : (bits : Bits) → length bits ≡ 0 → bits ≡ []
+none_left [] is = refl
+none_left (bit ∷ bits) is = absurd (omega (arith, is))
+
+-- memory whose first bits are those of the same bytes as before
+module _ (gap : ℕ) (before after : List ℕ) (rest : Bits) (same : length after ≡ length before)
+    (is : bits_of after ≡ bits_of (take gap before) ++ rest) where
+  long_front : length (bits_of (take gap before)) ≡ 8 * min gap (length before)
+  long_front = omega (arith, length-bits_of (take gap before), length-take gap before)
+
+  -- no bits are behind memory that is shorter
+  nothing : length before ≤ gap → rest ≡ []
+  nothing short = none_left rest (omega (
+    arith,
+    ap length is,
+    length-bits_of after,
+    same,
+    long_front,
+    short,
+    length-append (bits_of
+        (take gap before)) rest,
+  ))
+
+  front_is : bits_of (take gap after) ≡ bits_of (take gap before)
+  front_is = bits_of-take gap after ∙ ap (take (8 * gap)) is ∙ elim (cases_lt gap (length before)) [
+    | inl long ↦ take_at (bits_of (take gap before)) rest (8 * gap) (omega (arith, long_front, long))
+    | inr short ↦
+        ap (λ (b : Bits). take (8 * gap) (bits_of (take gap before) ++ b)) (nothing short)
+        ∙ ap (take (8 * gap)) (append-nil (bits_of (take gap before)))
+        ∙ take_all (8 * gap) (bits_of (take gap before)) (omega (arith, long_front))
+  ]
+
+  behind_is_rest : bits_of (drop gap after) ≡ rest
+  behind_is_rest = bits_of-drop gap after ∙ ap (drop (8 * gap)) is ∙ elim (cases_lt gap (length before)) [
+    | inl long ↦ drop_at (bits_of (take gap before)) rest (8 * gap) (omega (arith, long_front, long))
+    | inr short ↦
+        ap (λ (b : Bits). drop (8 * gap) (bits_of (take gap before) ++ b)) (nothing short)
+        ∙ ap (drop (8 * gap)) (append-nil (bits_of (take gap before)))
+        ∙ drop_all (8 * gap) (bits_of (take gap before)) (omega (arith, long_front)) ∙ sym (nothing short)
+  ]
+
+-- rows are where they were laid, and nothing else has changed
+pub record StandWhereLaid (layout : Layout) (columns : ℕ) (rows : List Row) (before after : List ℕ) : Type 0 where
+  pub rows_are : rows_at layout.stride columns (length rows) after ≡ map (packed_row layout.black_is_0) rows
+  pub others : outside_rows layout.stride columns (length rows) after ≡ outside_rows layout.stride columns (length rows) before
+
+pub stand_where_laid : (layout : Layout) (columns : ℕ) (rows : List Row) (before after : List ℕ)
+    → bytes_of_row columns ≤ layout.stride → HaveWidth columns rows → length after ≡ length before
+    → All (λ byte. byte < 256) before → All (λ byte. byte < 256) after → bits_of after ≡ laid layout columns rows before
+    → StandWhereLaid layout columns rows before after
+unfolding laid
+stand_where_laid layout columns [] before after reaches have same fits fit is =
+    record { rows_are = refl; others = same_bytes HighestFirst after before fit fits is }
+stand_where_laid layout columns (row ∷ rows) before after reaches have same fits fit is =
+    let width : ℕ = bytes_of_row columns in
+    let gap : ℕ = layout.stride - width in
+    let line : Bits = packed_row layout.black_is_0 row in
+    let long : length line ≡ 8 * width =
+    long_row layout.black_is_0 columns row (All-head (λ r. length r ≡ columns) row rows have) in
+    let behind : List ℕ = drop width before in
+    let behind' : List ℕ = drop width after in
+    let rest : Bits = laid layout columns rows (drop layout.stride before) in
+    let parts : bits_of after ≡ line ++ (bits_of (take gap behind) ++ rest) =
+    is ∙ append_assoc line (bits_of (take gap behind)) rest in
+    let here : bits_of (take width after) ≡ line = bits_of-take width after ∙ ap (take (8 * width)) parts
+    ∙ take_at line (bits_of (take gap behind) ++ rest) (8 * width) long in
+    let there : bits_of behind' ≡ bits_of (take gap behind) ++ rest = bits_of-drop width after ∙ ap (drop (8 * width)) parts
+    ∙ drop_at line (bits_of (take gap behind) ++ rest) (8 * width) long in
+    let same_behind : length behind' ≡ length behind = omega (arith, same, length-drop width before, length-drop width after) in
+    let gaps : take gap behind' ≡ take gap behind = same_bytes HighestFirst (take gap behind') (take gap behind)
+    (All-take (λ byte. byte < 256) gap behind' (All-drop (λ byte. byte < 256) width after fit))
+    (All-take (λ byte. byte < 256) gap behind (All-drop (λ byte. byte < 256) width before fits))
+    (front_is gap behind behind' rest same_behind there) in
+    let whole : width + gap ≡ layout.stride = omega (arith, reaches) in
+    let next : drop gap behind' ≡ drop layout.stride after =
+    drop-drop gap width after ∙ ap (λ (n : ℕ). drop n after) whole in
+    let others : StandWhereLaid layout columns rows (drop layout.stride before) (drop layout.stride after) =
+    stand_where_laid layout columns rows (drop layout.stride before) (drop layout.stride after) reaches
+    (All-tail (λ r. length r ≡ columns) row rows have)
+    (omega (arith, same, length-drop layout.stride before, length-drop layout.stride after))
+    (All-drop (λ byte. byte < 256) layout.stride before fits) (All-drop (λ byte. byte < 256) layout.stride after fit)
+    (ap bits_of (sym next) ∙ behind_is_rest gap behind behind' rest same_behind there) in
+    record {
+      rows_are = ap (λ (b : Bits). b ∷ rows_at layout.stride columns (length rows) (drop layout.stride after)) here
+          ∙ ap (λ (l : List Bits). line ∷ l) others.rows_are;
+      others = ap (λ (l : List ℕ). l ++ outside_rows layout.stride columns (length rows) (drop layout.stride after)) gaps
+          ∙ ap (λ (l : List ℕ). take gap behind ++ l) others.others;
+    }
+
+-- the room that n rows need
+room_for : (stride columns n size : ℕ) → n * stride + bytes_of_row columns ≤ size + stride → bytes_of_rows stride columns n ≤ size
+room_for stride columns zero size le = omega arith
+room_for stride columns (suc n) size le = omega (arith, le, one_row_more n stride)
+
 -- ---- what the caller's memory contains after a sink borrowed it that accepted the first rows
-pub record IsLent (settings : DecodeSettings) (read : Bits) (taken : ℕ) (before after : List ℕ) (final : Packing) : Type 0 where
-  pub end : final.end ≡ taken * bytes_of_row settings.columns
-  pub changes : final.changes ≡ changes_taken settings read taken
-  pub packed : ArePacked settings read taken before after
+-- what a sink's memory means
+abbrev pub packing_of : Layout → ℕ → List ℕ → ℕ → ℕ → Packing
+packing_of layout start memory changes name = record {
+  layout = layout;
+  start = start;
+  bits = bits_of (take start memory);
+  rest = drop start memory;
+  size = length memory;
+  changes = changes;
+  name = name;
+}
 
-module _ (settings : DecodeSettings) (read : Bits) (taken columns : ℕ) (start final : Packing) (before after : List ℕ)
-    (wide : columns ≡ settings.columns) (begun : start.end ≡ 0) (empty : start.bits ≡ []) (whole : start.rest ≡ before)
-    (uncounted : start.changes ≡ 0) (bits : bits_of (take final.end after) ≡ final.bits) (rest : drop final.end after
-    ≡ final.rest) (within : final.end ≤ length after) (enough : taken ≤ length (plain settings read).rows)
-    (meaning : final ≡ meaning_after (with_packed columns) start (take taken (plain settings read).rows)) where
-  has_packed : HasPacked columns (take taken (plain settings read).rows) start final
-  has_packed =
-      subst (HasPacked columns (take taken (plain settings read).rows) start) (sym meaning) (rows_packed columns start
-      (take taken (plain settings read).rows) (All-take (λ r. length r ≡ columns) taken (plain settings read).rows
-      (subst (λ (n : ℕ). HaveWidth n (plain settings read).rows) (sym wide) (plain_width settings read))))
+-- memory that a sink borrowed before the first row, and after this many
+module _ (layout layout' : Layout) (settings : DecodeSettings) (read : Bits) (taken columns start name name' count : ℕ)
+    (before after : List ℕ) (wide : columns ≡ settings.columns) (enough : taken ≤ length (plain settings read).rows)
+    (meaning : packing_of layout' start after count name' ≡ meaning_after (with_packed columns)
+    (packing_of layout 0 before 0 name) (take taken (plain settings read).rows)) where
+  abbrev rows : List Row
+  rows = take taken (plain settings read).rows
 
-  pub same_name : start.name ≡ final.name
+  have : HaveWidth columns rows
+  have = All-take (λ r. length r ≡ columns) taken (plain settings read).rows
+      (subst (λ (n : ℕ). HaveWidth n (plain settings read).rows) (sym wide) (plain_width settings read))
+
+  has_packed : HasPacked columns rows (packing_of layout 0 before 0 name) (packing_of layout' start after count name')
+  has_packed = subst (HasPacked columns rows (packing_of layout 0 before 0 name)) (sym meaning)
+      (rows_packed columns (packing_of layout 0 before 0 name) rows have)
+
+  pub same_name : name ≡ name'
   same_name = sym has_packed.name
 
-  count : length (take taken (plain settings read).rows) ≡ taken
-  count = omega (arith, length-take taken (plain settings read).rows)
+  many : length rows ≡ taken
+  many = omega (arith, length-take taken (plain settings read).rows)
 
-  bytes : length (take taken (plain settings read).rows) * bytes_of_row columns ≡ taken * bytes_of_row settings.columns
-  bytes = ap (λ (n : ℕ). n * bytes_of_row columns) count ∙ ap (λ (n : ℕ). taken * bytes_of_row n) wide
+  pub start_is : start ≡ taken * layout.stride
+  start_is = omega (arith, has_packed.start, ap (λ (n : ℕ). n * layout.stride) many)
 
-  end_is : final.end ≡ taken * bytes_of_row settings.columns
-  end_is = omega (arith, has_packed.end, bytes)
+  stand : bytes_of_row columns ≤ layout.stride → All (λ byte. byte < 256) before → All (λ byte. byte < 256) after
+      → StandWhereLaid layout columns rows before after
+  stand reaches fits fit = stand_where_laid layout columns rows before after reaches have has_packed.size fits fit
+      (bits_of-parts start after ∙ has_packed.bits)
 
-  pub is_lent : IsLent settings read taken before after final
-  is_lent = record {
-    end = end_is;
-    changes = has_packed.changes ∙ ap (λ (n : ℕ). meaning_after counts n (take taken (plain settings read).rows)) uncounted
-        ∙ changes_counted 0 (take taken (plain settings read).rows);
-    packed = record {
-      rows = ap (λ (n : ℕ). bits_of (take n after)) (sym end_is) ∙ bits ∙ has_packed.bits
-          ∙ ap (λ (b : Bits). b ++ packed (take taken (plain settings read).rows)) empty;
-      rest = ap (λ (n : ℕ). drop n after) (sym end_is) ∙ rest ∙ has_packed.rest ∙ ap (λ (n : ℕ). drop n start.rest) bytes
-          ∙ ap (drop (taken * bytes_of_row settings.columns)) whole;
-      room = subst (λ (n : ℕ). n ≤ length after) end_is within;
-    };
-  }
+  same_stride : layout'.stride ≡ layout.stride
+  same_stride = ap (λ (l : Layout). l.stride) has_packed.layout
 
--- there is no room for one more row
-pub no_room : (settings : DecodeSettings) (taken end columns long : ℕ) → end ≡ taken * bytes_of_row settings.columns
-    → columns ≡ settings.columns → long < end + bytes_of_row columns → long < (taken + 1) * bytes_of_row settings.columns
-no_room settings taken end columns long is wide lt =
-    let width : ℕ = bytes_of_row settings.columns in
-    let here : long < taken * width + width =
-    subst (λ (n : ℕ). long < taken * width + bytes_of_row n) wide (subst (λ (n : ℕ). long < n + bytes_of_row columns) is lt) in
-    let more : taken * width + width ≡ (taken + 1) * width = plus_one taken width in
-    subst (λ (n : ℕ). long < n) more here
+  pub changes_are : count ≡ changes_taken settings read taken
+  changes_are = has_packed.changes ∙ changes_counted 0 rows
+
+  pub are_packed : bytes_of_row columns ≤ layout.stride → start + bytes_of_row columns ≤ length after + layout'.stride
+      → All (λ byte. byte < 256) before → All (λ byte. byte < 256) after → ArePacked layout settings read taken before after
+  are_packed reaches room fits fit =
+      let there = stand reaches fits fit in
+      record {
+        rows = ap (λ (n : ℕ). rows_at layout.stride n taken after) (sym wide)
+            ∙ ap (λ (n : ℕ). rows_at layout.stride columns n after) (sym many) ∙ there.rows_are;
+        others = ap (λ (n : ℕ). outside_rows layout.stride n taken after) (sym wide)
+            ∙ ap (λ (n : ℕ). outside_rows layout.stride columns n after) (sym many) ∙ there.others
+            ∙ ap (λ (n : ℕ). outside_rows layout.stride columns n before) many
+            ∙ ap (λ (n : ℕ). outside_rows layout.stride n taken before) wide;
+        room = subst (λ (n : ℕ). bytes_of_rows layout.stride n taken ≤ length after) wide
+            (room_for layout.stride columns taken (length after)
+            (subst (λ (n : ℕ). n + bytes_of_row columns ≤ length after + layout.stride) start_is
+            (subst (λ (n : ℕ). start + bytes_of_row columns ≤ length after + n) same_stride room)));
+      }
+
+-- the same memory means the same
+pub same_meaning : (layout layout' : Layout) (start start' : ℕ) (memory memory' : List ℕ) (count count' name : ℕ)
+    → layout ≡ layout' → start ≡ start' → memory ≡ memory' → count ≡ count'
+    → packing_of layout start memory count name ≡ packing_of layout' start' memory' count' name
+same_meaning layout layout' start start' memory memory' count count' name e f g h = cc
+
+-- memory is bytes
+pub all_fit : (memory : List ℕ) → ((k : ℕ) → Fits w8 (get_or memory k 0)) → All (λ byte. byte < 256) memory
+all_fit [] fits k d lt = absurd (omega (arith, lt))
+all_fit (byte ∷ memory) fits zero d lt = omega (arith, (fits 0).fits)
+all_fit (byte ∷ memory) fits (suc k) d lt = all_fit memory (λ n. fits (suc n)) k d (omega (arith, lt))

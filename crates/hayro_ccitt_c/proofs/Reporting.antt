@@ -4,17 +4,15 @@ use Rattle.std.proofs.Common.{None, IfSome, inl, inr, arith}
 use Rattle.hayro_ccitt.specs.DecodeError.TheVariants.{UnexpectedEof, InvalidCode, Overflow, OutOfMemory, Refused}
 use Rattle.hayro_ccitt.specs.DecodeError.{DecodeError}
 use Rattle.hayro_ccitt.specs.DecodeSettings.{DecodeSettings}
-use Rattle.std.specs.Prelude.{Result, OnErr, OnOk}
+use Rattle.std.specs.Prelude.{Result}
 use Rattle.std.specs.List.{fold}
 use Rattle.hayro_ccitt.specs.Answers.{meaning_after}
 use Rattle.hayro_ccitt.specs.BitOrder.{BitOrder}
 use Rattle.hayro_ccitt.specs.Bits.{Bits, bits_in}
 use Rattle.hayro_ccitt.specs.Rows.{Row, changes}
-use Rattle.hayro_ccitt.specs.Context.{Held}
-use Rattle.hayro_ccitt.specs.Decoding.{SinkState, TakesRows, StopsShort}
-use Rattle.hayro_ccitt.specs.PlainReading.{plain, lines_of, failed_at}
+use Rattle.hayro_ccitt.specs.PlainReading.{plain}
 use Rattle.hayro_ccitt_c.specs.Packing.{counted}
-use Rattle.hayro_ccitt_c.specs.Reports.{EndsAfter, FailsAt, IsReport, OnSettings}
+use Rattle.hayro_ccitt_c.specs.Reports.{EndsAfter, IsReport, OnSettings}
 use Rattle.hayro_ccitt_c.specs.Settings.{order_of, settings_of}
 use Rattle.hayro_ccitt_c.specs.declared.settings.Settings.{Settings}
 

@@ -6,7 +6,6 @@ use Rattle.fax_encode.specs.RowByRow.{RowsEncoded, with_row}
 use Rattle.fax_encode.specs.declared.error.EncodeError.{EncodeError}
 use Rattle.fax_encode.specs.declared.error.EncodeError.TheVariants.{NoEncoding, NoColumns, NoRows, NotARow, OutOfMemory}
 use Rattle.hayro_ccitt_c.specs.RowsTaken.{TakesNext, status_of_adding}
-use Rattle.hayro_ccitt_c.specs.declared.strip.Strip.{Strip}
 use Rattle.hayro_ccitt_c.specs.declared.strip.Strip.TheVariants.{Rows}
 
 pub takes_next : (rows new : RowsEncoded) (IsRow IsNone : Type 0) (row : Row) (answer : Result (Unit {0}) EncodeError)

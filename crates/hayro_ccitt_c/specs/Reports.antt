@@ -1,6 +1,6 @@
 -- What C gets of a decoding.
-use Rattle.std.specs.Prelude.{sum_by, ◌≡◌, ◌≤◌, ◌<◌, ◌⊎◌, ℕ, ◌*◌, List, length, map, take, drop, sum, min, IfSome, Result, Ok}
-use Rattle.std.specs.Prelude.{Err}
+use Rattle.std.specs.Prelude.{sum_by, ◌≡◌, ◌≤◌, ◌<◌, ◌⊎◌, ◌*◌, ℕ, List, length, map, take, drop, sum, min, IfSome, Result}
+use Rattle.std.specs.Prelude.{Err, Ok}
 use Rattle.hayro_ccitt.specs.DecodeError.{DecodeError}
 use Rattle.hayro_ccitt.specs.DecodeError.TheVariants.{UnexpectedEof, InvalidCode, Overflow, OutOfMemory, Refused}
 use Rattle.hayro_ccitt.specs.DecodeSettings.{DecodeSettings}
@@ -10,9 +10,10 @@ use Rattle.hayro_ccitt.specs.Damage.{repairs_by_line, cuts_by_line, misses_by_li
 use Rattle.hayro_ccitt.specs.PlainReading.{plain, lines_of, failed_at}
 use Rattle.hayro_ccitt.specs.Rows.{changes}
 use Rattle.fax_encode.specs.Packed.{packed}
-use Rattle.hayro_ccitt_c.specs.Packing.{bytes_of_row}
+use Rattle.hayro_ccitt_c.specs.Packing.{bytes_of_row, bytes_of_rows, packed_row, rows_at, outside_rows}
 use Rattle.hayro_ccitt_c.specs.Listing.{listed}
 use Rattle.hayro_ccitt_c.specs.Settings.{settings_of, order_of}
+use Rattle.hayro_ccitt_c.specs.declared.packed_rows.Layout.{Layout}
 use Rattle.hayro_ccitt_c.specs.declared.report.Outcome.{Outcome}
 use Rattle.hayro_ccitt_c.specs.declared.settings.Settings.{Settings}
 
@@ -94,8 +95,16 @@ outcome_of rows changes bytes_read damaged_rows fault_start missed_eols cut_rows
 abbrev pub OnSettings : Settings → List ℕ → (DecodeSettings → Bits → Type 0) → Type 0
 OnSettings settings input P = BitsFit input → IfSome (settings_of settings) (λ s. P s (bits_in (order_of settings) input))
 
--- The caller's memory begins with the first packed rows, this many, and what follows them is unchanged.
-pub record ArePacked (settings : DecodeSettings) (bits : Bits) (taken : ℕ) (before after : List ℕ) : Type 0 where
+-- The first packed rows, this many, are in the caller's memory, by this layout, and what is outside them is unchanged.
+pub record ArePacked (layout : Layout) (settings : DecodeSettings) (bits : Bits) (taken : ℕ) (before after : List ℕ)
+    : Type 0 where
+  pub rows : rows_at layout.stride settings.columns taken after
+      ≡ map (packed_row layout.black_is_0) (take taken (plain settings bits).rows)
+  pub others : outside_rows layout.stride settings.columns taken after ≡ outside_rows layout.stride settings.columns taken before
+  pub room : bytes_of_rows layout.stride settings.columns taken ≤ length after
+
+-- The same of rows that follow one another, with 1 for black: memory begins with their bits, and what follows them is unchanged.
+pub record AreTogether (settings : DecodeSettings) (bits : Bits) (taken : ℕ) (before after : List ℕ) : Type 0 where
   pub rows : bits_of (take (taken * bytes_of_row settings.columns) after) ≡ packed (take taken (plain settings bits).rows)
   pub rest : drop (taken * bytes_of_row settings.columns) after ≡ drop (taken * bytes_of_row settings.columns) before
   pub room : taken * bytes_of_row settings.columns ≤ length after

@@ -10,8 +10,7 @@ use Rattle.hayro_ccitt.specs.Bits.{Bits, bits_in, bits_of}
 use Rattle.hayro_ccitt.specs.RowCursors.{Paused, IsReadingOf, rows_over}
 use Rattle.hayro_ccitt.specs.Rows.{Row, changes}
 use Rattle.hayro_ccitt.specs.RowsRead.{ReadsNext, at_end_of_rows, ended}
-use Rattle.fax_encode.specs.Chosen.{filled_up}
-use Rattle.hayro_ccitt_c.specs.Packing.{bytes_of_row}
+use Rattle.hayro_ccitt_c.specs.Packing.{bytes_of_row, packed_row}
 use Rattle.hayro_ccitt_c.specs.declared.reading.Reading.{Reading}
 use Rattle.hayro_ccitt_c.specs.declared.row_outcome.RowOutcome.{RowOutcome}
 
@@ -51,6 +50,7 @@ pub record GivesRow (input : List ℕ) (old new : Reading) (status : ℕ) : Type
   pub status_is : (status ≡ status_of_row answer) ⊎ ((status ≡ 5) × (answer ≡ Ok true))
   pub kept : (new.is_kept ≡ true) → status ≡ 5
   pub refused : status ≡ 5 → new.is_kept ≡ true
+  pub black : new.black_is_0 ≡ old.black_is_0
 
 -- the changes of a row are at the front of the caller's memory, and what follows them is unchanged
 pub record IsListed (row : Row) (before after : List ℕ) : Type 0 where
@@ -59,9 +59,9 @@ pub record IsListed (row : Row) (before after : List ℕ) : Type 0 where
   pub rest : drop (length (changes row)) after ≡ drop (length (changes row)) before
 
 -- a packed row is at the front of the caller's memory, and what follows it is unchanged
-pub record IsPacked (columns : ℕ) (row : Row) (before after : List ℕ) : Type 0 where
+pub record IsPacked (black_is_0 : Bool) (columns : ℕ) (row : Row) (before after : List ℕ) : Type 0 where
   pub room : bytes_of_row columns ≤ length after
-  pub row_is : bits_of (take (bytes_of_row columns) after) ≡ filled_up row
+  pub row_is : bits_of (take (bytes_of_row columns) after) ≡ packed_row black_is_0 row
   pub rest : drop (bytes_of_row columns) after ≡ drop (bytes_of_row columns) before
 
 -- zeros
@@ -109,10 +109,12 @@ pub record TellsOf (paused : Paused) (told : RowOutcome) : Type 0 where
   pub is_cut : told.is_cut ≡ cut_told paused.cut
   pub missed_eol : told.missed_eol ≡ miss_told paused.missed
 
--- A reading of these bits by these settings before the first row.
-pub record IsOpened (settings : DecodeSettings) (bits : Bits) (order : BitOrder) (opened : Reading) : Type 0 where
+-- A reading of these bits by these settings before the first row, whose packed rows have 0 for black if it says so.
+pub record IsOpened (settings : DecodeSettings) (bits : Bits) (order : BitOrder) (black_is_0 : Bool) (opened : Reading)
+    : Type 0 where
   pub reading : IsReadingOf bits opened.rows
   pub settings_are : opened.rows.held.settings ≡ settings
   pub order_is : opened.rows.order ≡ order
   pub none_read : opened.rows.held.taken ≡ 0
   pub none_kept : opened.is_kept ≡ false
+  pub black : opened.black_is_0 ≡ black_is_0

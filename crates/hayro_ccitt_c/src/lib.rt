@@ -13,13 +13,13 @@ ghost use Rattle.fax_encode.specs.Packed.{shown};
 ghost use Rattle.fax_encode.specs.RowByRow.{no_rows};
 ghost use Rattle.hayro_ccitt_c.specs.Encoding.{asked, bits_asked, of_rows, AreEncoded, HaveNoRoom};
 ghost use Rattle.hayro_ccitt_c.specs.Owned.{OnReading, OnReadings, OnStrip, OnStrips};
-ghost use Rattle.hayro_ccitt_c.specs.Packing.{bytes_of_row};
+ghost use Rattle.hayro_ccitt_c.specs.Packing.{bytes_of_row, together};
 ghost use Rattle.hayro_ccitt_c.specs.Reports.{OnSettings, IsReport, changes_taken, cut_taken, damaged_taken, missed_taken};
 ghost use Rattle.hayro_ccitt_c.specs.Reports.{outcome_of};
-ghost use Rattle.hayro_ccitt_c.specs.Reports.{ArePacked, AreListed, numbers_taken};
+ghost use Rattle.hayro_ccitt_c.specs.Reports.{ArePacked, AreListed, AreTogether, numbers_taken};
 ghost use Rattle.hayro_ccitt_c.specs.RowsGiven.{GivesRow, IsListed, IsOpened, IsPacked, TellsOf, told_nothing};
 ghost use Rattle.hayro_ccitt_c.specs.RowsTaken.{Finishes, IfFinished, IsGiven, TakesRow, strip_told};
-ghost use Rattle.hayro_ccitt_c.specs.Settings.{order_of, settings_of};
+ghost use Rattle.hayro_ccitt_c.specs.Settings.{layout_of, order_of, settings_of};
 ghost use Rattle.hayro_ccitt_c.specs.declared.strip.Strip.TheVariants.{Rows};
 
 mod change_count;
@@ -48,7 +48,7 @@ pub use row_handle::{Reader, Writer};
 pub use row_outcome::RowOutcome;
 use row_outcome::nothing_told;
 pub use settings::Settings;
-use settings::{order_of, settings_for};
+use settings::{layout_of, order_of, settings_for};
 use std::alloc::Global;
 
 /// Counts the rows of the data and their changes.
@@ -86,8 +86,9 @@ pub extern "C" fn hayro_ccitt_measure(
 }
 
 /// Packs the rows of the data into `bitmap`, one below the other: a row occupies (columns + 7) / 8 bytes, the leftmost pixel in
-/// a byte's highest bit, 1 for black, and zeros after the row up to a whole byte. The bytes after the last row keep their
-/// values.
+/// a byte's highest bit, 1 for black, and zeros after the row up to a whole byte; with a flag of 32 all of its bits are inverted.
+/// Each row begins `stride` bytes after the one before, or right after it if `stride` is 0. The bytes between the rows and after the
+/// last one keep their values.
 ///
 /// `outcome` has the number of rows, of their changes, and of the bytes consumed if the status is 0, else 0; if the status is 1
 /// to 5, the offset of the fault in bits. A status of 5 says
@@ -111,9 +112,11 @@ pub extern "C" fn hayro_ccitt_decode_packed(
     ensures cut { OnSettings settings.now «data».now (λ s bits.
         outcome.new.cut_rows ≡ cut_taken s bits outcome.new.rows) }
     ensures packed { OnSettings settings.now «data».now (λ s bits.
-        ArePacked s bits outcome.new.rows bitmap.old bitmap.new) }
+        ArePacked (layout_of settings.now) s bits outcome.new.rows bitmap.old bitmap.new) }
+    ensures together { OnSettings settings.now «data».now (λ s bits. layout_of settings.now ≡ together s.columns
+        → AreTogether s bits outcome.new.rows bitmap.old bitmap.new) }
     ensures refused { result ≡ 5 → OnSettings settings.now «data».now (λ s bits.
-        length bitmap.new < (outcome.new.rows + 1) * bytes_of_row s.columns) }
+        length bitmap.new < outcome.new.rows * (layout_of settings.now).stride + bytes_of_row s.columns) }
     ensures untaken { (settings_of settings.now ≡ None) ⊎ (¬ (BitsFit «data».now))
         → (result ≡ 6) × (outcome.new ≡ outcome_of 0 0 0 0 0 0 0)
         × (bitmap.new ≡ bitmap.old) }
@@ -121,7 +124,7 @@ pub extern "C" fn hayro_ccitt_decode_packed(
     let Some(meant) = settings_for(data, settings) else {
         return untaken(outcome);
     };
-    let mut rows = PackedRows::new(bitmap, meant.columns);
+    let mut rows = PackedRows::new(bitmap, meant.columns, layout_of(settings));
     let report = decoded(alloc, data, order_of(settings), meant, &mut rows);
     told(&report, rows.changes(), outcome)
 }
@@ -181,7 +184,7 @@ pub extern "C" fn hayro_ccitt_open(
 ) -> u32
     ensures statuses { (result ≡ 0) ⊎ (result ≡ 4) ⊎ (result ≡ 6) }
     ensures opened { result ≡ 0 → OnSettings settings.now «data».now (λ s bits.
-        OnReading reader.new.handle.value (IsOpened s bits (order_of settings.now))) }
+        OnReading reader.new.handle.value (IsOpened s bits (order_of settings.now) (layout_of settings.now).black_is_0)) }
     ensures is_open { result ≡ 0 → reader.new.is_open ≡ true }
     ensures unchanged { result ≢ 0 → reader.new ≡ reader.old }
     ensures untaken { (result ≡ 6) ↔ ((settings_of settings.now ≡ None) ⊎ ((¬ (BitsFit «data».now)) ⊎ (reader.old.is_open ≡ true))) }
@@ -192,7 +195,8 @@ pub extern "C" fn hayro_ccitt_open(
     let Some(meant) = settings_for(data, settings) else {
         return 6;
     };
-    let Ok(reading) = Owned::reading(alloc, data, order_of(settings), meant) else {
+    let black_is_0 = layout_of(settings).black_is_0;
+    let Ok(reading) = Owned::reading(alloc, data, order_of(settings), meant, black_is_0) else {
         return 4;
     };
     reader.hold(reading);
@@ -237,8 +241,8 @@ pub extern "C" fn hayro_ccitt_next_changes(
 }
 
 /// Reads the next row of the data, and packs it into `bytes`: (columns + 7) / 8 bytes, the leftmost pixel in a byte's
-/// highest bit, 1 for black, and zeros after the last pixel. The data is passed to each call again. The bytes after the row
-/// keep their values.
+/// highest bit, 1 for black, and zeros after the last pixel; if the settings had a flag of 32, all of its bits are inverted. The
+/// data is passed to each call again. The bytes after the row keep their values.
 ///
 /// A status of 7 says that no row is left; 5, that there is no room for the row, which the next call returns; 6, that the
 /// reader isn't open or the data is too long. `outcome` describes the last row that was read; with a status of 6, it is
@@ -254,7 +258,7 @@ pub extern "C" fn hayro_ccitt_next_packed(
     ensures gives { reader.old.is_open ≡ true → BitsFit «data».now → OnReadings reader.old.handle.value reader.new.handle.value
         (λ old new. GivesRow «data».now old new result) }
     ensures packed { result ≡ 0 → OnReading reader.new.handle.value (λ reading.
-        IsPacked reading.rows.held.settings.columns reading.rows.held.reference bytes.old bytes.new) }
+        IsPacked reading.black_is_0 reading.rows.held.settings.columns reading.rows.held.reference bytes.old bytes.new) }
     ensures refused { result ≡ 5 → OnReading reader.new.handle.value (λ reading.
         length bytes.new < bytes_of_row reading.rows.held.settings.columns) }
     ensures unwritten { result ≢ 0 → bytes.new ≡ bytes.old }

@@ -33,12 +33,14 @@ impl Owned {
         data: &[u8],
         order: BitOrder,
         settings: DecodeSettings,
+        black_is_0: bool,
     ) -> hayro_ccitt::Result<Box<Owned>>
         requires fit { BitsFit «data».now }
-        ensures opened { IfOk result (λ made. IfReading made.value (IsOpened settings (bits_in order «data».now) order)) }
+        ensures opened { IfOk result (λ made.
+            IfReading made.value (IsOpened settings (bits_in order «data».now) order black_is_0)) }
         ensures kind { IfOk result (λ made. is_reading made.value ≡ true) }
     {
-        let reading = Reading::new(alloc, data, order, settings)?;
+        let reading = Reading::new(alloc, data, order, settings, black_is_0)?;
         Box::new(alloc, Owned::Reading(reading)).map_err(|_| DecodeError::OutOfMemory)
     }
 
@@ -94,7 +96,7 @@ impl Owned {
         requires reads { is_reading self.old ≡ true }
         ensures gives { IfReadings self.old self.new (λ old new. GivesRow «data».now old new result) }
         ensures packed { result ≡ 0 → IfReading self.new (λ reading.
-            IsPacked reading.rows.held.settings.columns reading.rows.held.reference bytes.old bytes.new) }
+            IsPacked reading.black_is_0 reading.rows.held.settings.columns reading.rows.held.reference bytes.old bytes.new) }
         ensures refused { result ≡ 5 → IfReading self.new (λ reading.
             length bytes.new < bytes_of_row reading.rows.held.settings.columns) }
         ensures unwritten { result ≢ 0 → bytes.new ≡ bytes.old }

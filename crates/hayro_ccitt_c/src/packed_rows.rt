@@ -1,40 +1,104 @@
 //! A sink that packs rows into the caller's memory.
 
-ghost use Rattle.std.specs.Prelude.{◌≡◌, ◌+◌, ◌/◌, ◌<◌, ◌≤◌, true, length};
+ghost use Rattle.std.specs.Prelude.{◌≡◌, ◌+◌, ◌/◌, ◌<◌, ◌≤◌, true, length, map, not};
+ghost use Rattle.hayro_ccitt.specs.BitOrder.TheVariants.{HighestFirst};
+ghost use Rattle.hayro_ccitt.specs.Bits.{bits_of, bits_of_byte};
+ghost use Rattle.hayro_ccitt.specs.Rows.{AreChanges, pixels};
+ghost use Rattle.hayro_ccitt_c.specs.Packing.{packed_row};
 
 use crate::change_count::counted;
 use fax_encode::paint_row;
 use hayro_ccitt::{DecodeError, Decoder};
 
-/// Rows as a bitmap in the caller's memory, from the top: one bit a pixel, 1 for black, the leftmost pixel in each byte's
-/// highest bit, and zeros after each row up to a whole byte. A row that doesn't fit is refused.
+/// Where packed rows begin, and what their bits say.
+#[derive(Copy, Clone)]
+pub struct Layout {
+    /// The bytes from one row's start to the next one's.
+    pub stride: u32,
+    /// Whether 0 stands for black, and 1 for white.
+    pub black_is_0: bool,
+}
+
+/// Returns a byte with all bits inverted.
+#[inline(always)]
+fn inverted(byte: u8) -> u8
+    ensures { bits_of_byte HighestFirst result ≡ map not (bits_of_byte HighestFirst byte) }
+{
+    255 - byte
+}
+
+/// Inverts all bits.
+#[inline(never)]
+fn invert(bytes: &mut [u8])
+    ensures { bits_of bytes.new ≡ map not (bits_of bytes.old) }
+{
+    let mut index = 0;
+    while index < bytes.len() {
+        bytes[index] = inverted(bytes[index]);
+        index += 1;
+    }
+}
+
+/// Packs a row with 0 for black.
+#[inline(never)]
+fn pack_inverted(row: &mut [u8], columns: u32, changes: &[u32])
+    requires changes { AreChanges columns changes.now }
+    requires room { length row.old ≡ (columns + 7) / 8 }
+    ensures packed { bits_of row.new ≡ packed_row true (pixels columns changes.now) }
+{
+    paint_row(row, columns, changes);
+    invert(row);
+}
+
+/// Packs a row: its pixels from the left, in each byte from the highest bit on, and white ones up to the end of the last byte.
+#[inline(always)]
+pub(crate) fn pack_row(row: &mut [u8], columns: u32, changes: &[u32], black_is_0: bool)
+    requires changes { AreChanges columns changes.now }
+    requires room { length row.old ≡ (columns + 7) / 8 }
+    ensures packed { bits_of row.new ≡ packed_row black_is_0 (pixels columns changes.now) }
+{
+    if black_is_0 {
+        pack_inverted(row, columns, changes);
+    } else {
+        paint_row(row, columns, changes);
+    }
+}
+
+/// Rows as a bitmap in the caller's memory, from the top, as [`pack_row`] packs them. The bytes between them keep their values.
+/// A row that doesn't fit is refused.
 #[derive(Drop)]
 pub(crate) struct PackedRows<'a> {
     bitmap: &'a mut [u8],
-    /// The bytes that the rows occupy so far.
-    end: usize,
+    layout: Layout,
+    /// The byte at which the next row begins.
+    start: usize,
     columns: u32,
     changes: u64,
     has_refused: bool,
-    ghost within: { end ≤ length bitmap.now },
-    ghost full: { has_refused ≡ true → length bitmap.now < end + (columns + 7) / 8 },
+    ghost reaches: { (columns + 7) / 8 ≤ layout.stride },
+    ghost within: { start + (columns + 7) / 8 ≤ length bitmap.now + layout.stride },
+    ghost full: { has_refused ≡ true → length bitmap.now < start + (columns + 7) / 8 },
 }
 
 impl<'a> PackedRows<'a> {
-    ghost use Rattle.std.specs.Prelude.{◌≡◌, false};
+    ghost use Rattle.std.specs.Prelude.{◌≡◌, ◌<◌, ◌≤◌, ◌+◌, ◌/◌, All, false};
 
     /// Creates a sink without rows.
-    pub(crate) fn new(bitmap: &'a mut [u8], columns: u32) -> PackedRows<'a>
+    pub(crate) fn new(bitmap: &'a mut [u8], columns: u32, layout: Layout) -> PackedRows<'a>
+        requires { (columns + 7) / 8 ≤ layout.stride }
         ensures same_reference { result.bitmap.ghost_name ≡ bitmap.entry.ghost_name }
         ensures bytes { result.bitmap.now ≡ bitmap.old }
-        ensures end { result.end ≡ 0 }
+        ensures are_bytes { All (λ byte. byte < 256) bitmap.old }
+        ensures layout { result.layout ≡ layout }
+        ensures start { result.start ≡ 0 }
         ensures columns { result.columns ≡ columns }
         ensures changes { result.changes ≡ 0 }
         ensures has_refused { result.has_refused ≡ false }
     {
         PackedRows {
             bitmap,
-            end: 0,
+            layout,
+            start: 0,
             columns,
             changes: 0,
             has_refused: false,
@@ -51,15 +115,17 @@ impl<'a> PackedRows<'a> {
 
 impl Decoder for PackedRows<'_> {
     ghost use Rattle.hayro_ccitt.specs.Bits.{bits_of};
-    ghost use Rattle.std.specs.Prelude.{take, drop};
+    ghost use Rattle.std.specs.Prelude.{take, drop, length};
     ghost use Rattle.hayro_ccitt_c.specs.Packing.{Packing, with_packed};
 
     ghost Meaning = { Packing };
 
     ghost meaning = { λ sink. record {
-      end = sink.end;
-      bits = bits_of (take sink.end sink.bitmap.now);
-      rest = drop sink.end sink.bitmap.now;
+      layout = sink.layout;
+      start = sink.start;
+      bits = bits_of (take sink.start sink.bitmap.now);
+      rest = drop sink.start sink.bitmap.now;
+      size = length sink.bitmap.now;
       changes = sink.changes;
       name = sink.bitmap.ghost_name;
     } };
@@ -70,15 +136,21 @@ impl Decoder for PackedRows<'_> {
 
     ghost has_refused = { λ sink. sink.has_refused };
 
+    #[inline(always)]
     fn push_row(&mut self, changes: &[u32]) -> hayro_ccitt::Result<()> {
         let bytes = (self.columns as usize).div_ceil(8);
-        if self.bitmap.len() - self.end < bytes {
+        if self.bitmap.len() < self.start || self.bitmap.len() - self.start < bytes {
             self.has_refused = true;
             return Err(DecodeError::Refused);
         }
-        let end = self.end + bytes;
-        paint_row(&mut self.bitmap[self.end..end], self.columns, changes);
-        self.end = end;
+        let end = self.start + bytes;
+        pack_row(
+            &mut self.bitmap[self.start..end],
+            self.columns,
+            changes,
+            self.layout.black_is_0,
+        );
+        self.start += self.layout.stride as usize;
         self.changes = counted(self.changes, changes);
         Ok(())
     }

@@ -6,16 +6,17 @@ ghost use Rattle.hayro_ccitt.specs.Rows.{changes};
 ghost use Rattle.hayro_ccitt_c.specs.Packing.{bytes_of_row};
 ghost use Rattle.hayro_ccitt_c.specs.RowsGiven.{GivesRow, IsListed, IsOpened, IsPacked, TurnsTo, is_row, status_of_row};
 
-use fax_encode::paint_row;
+use crate::packed_rows::pack_row;
 use hayro_ccitt::bit_reader::BitOrder;
 use hayro_ccitt::{DecodeError, DecodeSettings, Result, RowCursor};
 use std::alloc::Global;
 
-/// What a handle owns: a reading, and whether its last row is still to be returned.
+/// What a handle owns: a reading, whether its last row is still to be returned, and whether 0 stands for black in packed rows.
 #[derive(Drop)]
 pub struct Reading {
     pub(crate) rows: RowCursor,
     pub(crate) is_kept: bool,
+    pub(crate) black_is_0: bool,
 }
 
 /// Returns whether there was a row.
@@ -53,14 +54,16 @@ impl Reading {
         data: &[u8],
         order: BitOrder,
         settings: DecodeSettings,
+        black_is_0: bool,
     ) -> Result<Reading>
         requires fit { BitsFit «data».now }
-        ensures opened { IfOk result (IsOpened settings (bits_in order «data».now) order) }
+        ensures opened { IfOk result (IsOpened settings (bits_in order «data».now) order black_is_0) }
     {
         let rows = RowCursor::new(alloc, data, order, settings)?;
         Ok(Reading {
             rows,
             is_kept: false,
+            black_is_0,
         })
     }
 
@@ -69,6 +72,7 @@ impl Reading {
         requires fit { BitsFit «data».now }
         ensures turns { TurnsTo self.old.is_kept (bits_in self.old.rows.order «data».now) self.old.rows self.new.rows result }
         ensures none_kept { self.new.is_kept ≡ false }
+        ensures black { self.new.black_is_0 ≡ self.old.black_is_0 }
     {
         if self.is_kept {
             self.is_kept = false;
@@ -83,6 +87,7 @@ impl Reading {
         ensures refused { result ≡ false → length list.new < length (changes self.old.rows.held.reference) }
         ensures unwritten { result ≡ false → list.new ≡ list.old }
         ensures rows { self.new.rows ≡ self.old.rows }
+        ensures black { self.new.black_is_0 ≡ self.old.black_is_0 }
         ensures kept { self.new.is_kept ≡ not result }
     {
         let row = self.rows.row();
@@ -97,11 +102,12 @@ impl Reading {
 
     /// Writes the last row packed, or keeps it if there is no room for it. Returns whether there was.
     fn pack_row(&mut self, bytes: &mut [u8]) -> bool
-        ensures packed { result ≡ true
-            → IsPacked self.old.rows.held.settings.columns self.old.rows.held.reference bytes.old bytes.new }
+        ensures packed { result ≡ true → IsPacked self.old.black_is_0 self.old.rows.held.settings.columns
+            self.old.rows.held.reference bytes.old bytes.new }
         ensures refused { result ≡ false → length bytes.new < bytes_of_row self.old.rows.held.settings.columns }
         ensures unwritten { result ≡ false → bytes.new ≡ bytes.old }
         ensures rows { self.new.rows ≡ self.old.rows }
+        ensures black { self.new.black_is_0 ≡ self.old.black_is_0 }
         ensures kept { self.new.is_kept ≡ not result }
     {
         let columns = self.rows.settings().columns;
@@ -110,7 +116,12 @@ impl Reading {
             self.is_kept = true;
             return false;
         }
-        paint_row(&mut bytes[..count], columns, self.rows.row());
+        pack_row(
+            &mut bytes[..count],
+            columns,
+            self.rows.row(),
+            self.black_is_0,
+        );
         self.is_kept = false;
         true
     }
@@ -134,8 +145,8 @@ impl Reading {
     pub(crate) fn pack_next(&mut self, data: &[u8], bytes: &mut [u8]) -> u32
         requires fit { BitsFit «data».now }
         ensures gives { GivesRow «data».now self.old self.new result }
-        ensures packed { result ≡ 0
-            → IsPacked self.new.rows.held.settings.columns self.new.rows.held.reference bytes.old bytes.new }
+        ensures packed { result ≡ 0 → IsPacked self.new.black_is_0 self.new.rows.held.settings.columns
+            self.new.rows.held.reference bytes.old bytes.new }
         ensures refused { result ≡ 5 → length bytes.new < bytes_of_row self.new.rows.held.settings.columns }
         ensures unwritten { result ≢ 0 → bytes.new ≡ bytes.old }
     {

@@ -3,8 +3,10 @@
 ghost use Rattle.std.specs.Prelude.{◌≡◌, ◌≤◌, IfSome};
 ghost use Rattle.hayro_ccitt.specs.Bits.{BitsFit};
 ghost use Rattle.hayro_ccitt.specs.Settings.{AreSettings};
-ghost use Rattle.hayro_ccitt_c.specs.Settings.{settings_of, encoding_of, order_of};
+ghost use Rattle.hayro_ccitt_c.specs.Packing.{bytes_of_row};
+ghost use Rattle.hayro_ccitt_c.specs.Settings.{settings_of, encoding_of, layout_of, order_of};
 
+use crate::packed_rows::Layout;
 use hayro_ccitt::bit_reader::BitOrder;
 use hayro_ccitt::{DecodeSettings, EncodingMode, bits_fit};
 
@@ -19,8 +21,10 @@ pub struct Settings {
     /// 0 for Group 4, 1 for Group 3 in one dimension, 2 for Group 3 in two.
     pub encoding: u32,
     /// A sum: 1 if EOFB or RTC may end the data, 2 if an EOL precedes each line, 4 if rows are aligned to whole bytes, 8 for a
-    /// strict reading, 16 if each byte's lowest bit comes first.
+    /// strict reading, 16 if each byte's lowest bit comes first, 32 if packed rows have 0 for black.
     pub flags: u32,
+    /// The bytes from one packed row's start to the next one's; 0 for the bytes of a row.
+    pub stride: u32,
 }
 
 /// Returns the encoding of a number, or `None`.
@@ -46,11 +50,27 @@ pub(crate) fn order_of(settings: &Settings) -> BitOrder
     }
 }
 
-/// Returns the settings that C means, or `None` if they are invalid: an encoding or a flag that isn't known.
+/// Returns the layout of packed rows that C means.
+pub(crate) fn layout_of(settings: &Settings) -> Layout
+    ensures { result ≡ layout_of settings.now }
+{
+    Layout {
+        stride: if settings.stride == 0 {
+            settings.columns.div_ceil(8)
+        } else {
+            settings.stride
+        },
+        black_is_0: settings.flags / 32 % 2 == 1,
+    }
+}
+
+/// Returns the settings that C means, or `None` if they are invalid: an encoding or a flag that isn't known, or a stride that is
+/// less than the bytes of a row.
 fn settings_of(settings: &Settings) -> Option<DecodeSettings>
     ensures meant { result ≡ settings_of settings.now }
+    ensures reaches { IfSome result (λ meant. bytes_of_row meant.columns ≤ (layout_of settings.now).stride) }
 {
-    if settings.flags >= 32 {
+    if settings.flags >= 64 || layout_of(settings).stride < settings.columns.div_ceil(8) {
         return None;
     }
     let encoding = encoding_of(settings.encoding)?;
@@ -69,6 +89,7 @@ fn settings_of(settings: &Settings) -> Option<DecodeSettings>
 pub(crate) fn settings_for(data: &[u8], settings: &Settings) -> Option<DecodeSettings>
     ensures meant { BitsFit «data».now → result ≡ settings_of settings.now }
     ensures fit { IfSome result (λ _. BitsFit «data».now) }
+    ensures reaches { IfSome result (λ meant. bytes_of_row meant.columns ≤ (layout_of settings.now).stride) }
 {
     if bits_fit(data) {
         settings_of(settings)

@@ -1,89 +1,144 @@
-use Rattle.std.proofs.Common.{◌≡◌, ◌∙◌, ◌≤◌, ◌<◌, ◌+◌, ◌*◌, ℕ, [], take, drop, length, refl, sym, ap, rules, Some, IfSome, List}
-use Rattle.hayro_ccitt.specs.Bits.{Bits, BitsFit, bits_of, bits_in}
+use Rattle.std.proofs.Common.{◌≡◌, ◌∙◌, ◌≤◌, ◌<◌, ◌+◌, ◌*◌, ℕ, [], All, length, sym, ap, subst, arith, rules, Some, IfSome}
+use Rattle.std.proofs.Common.{Fits, w8, List, get_or, take}
+use Rattle.hayro_ccitt.specs.Bits.{Bits, BitsFit, bits_in}
 use Rattle.hayro_ccitt.specs.PlainReading.{plain}
-use Rattle.hayro_ccitt_c.specs.Packing.{Packing, bytes_of_row}
-use Rattle.hayro_ccitt_c.specs.Reports.{changes_taken, ArePacked}
+use Rattle.hayro_ccitt.specs.Answers.{meaning_after}
+use Rattle.hayro_ccitt_c.specs.Packing.{Packing, bytes_of_row, together, with_packed}
+use Rattle.hayro_ccitt_c.specs.Reports.{changes_taken, ArePacked, AreTogether}
 use Rattle.hayro_ccitt.specs.DecodeSettings.{DecodeSettings}
-use Rattle.hayro_ccitt_c.specs.Settings.{order_of, settings_of}
-use Rattle.hayro_ccitt_c.proofs.PackedMemory.{IsLent, is_lent, same_name, no_room}
+use Rattle.hayro_ccitt_c.specs.Settings.{layout_of, order_of, settings_of}
+use Rattle.hayro_ccitt_c.specs.declared.packed_rows.Layout.{Layout}
+use Rattle.hayro_ccitt_c.proofs.PackedMemory.{all_fit, are_packed, changes_are, packing_of, same_meaning, same_name, start_is}
+use Rattle.hayro_ccitt_c.proofs.PackedTogether.{are_together}
 use Rattle.hayro_ccitt_c.proofs.Reporting.{on_settings, taken_within}
+use Rattle.hayro_ccitt_c.proofs.hayro_ccitt_decode_packed.Goals.{After-told}
 use Rattle.hayro_ccitt_c.proofs.hayro_ccitt_decode_packed.Goals as goal
 
-module _ (c : goal.After-told) where
+pub new-rows-requires : goal.new-rows-requires
+new-rows-requires c =
+    subst (λ (l : Layout). bytes_of_row c.in-Some.meant.columns ≤ l.stride) (sym c.layout_of.ensures) c.in-Some.ensures.reaches
+
+module _ (c : After-told) where
   -- the settings that C passes
   meant : settings_of c.args.settings.now ≡ Some c.in-Some.meant
   meant = sym (c.settings_for.ensures.meant c.in-Some.ensures.fit) ∙ c.in-Some.is
-
-  -- what the sink means before and after
-  abbrev start : Packing
-  start = record {
-    end = c.new-rows.result.end;
-    bits = bits_of (take c.new-rows.result.end c.new-rows.result.bitmap.now);
-    rest = drop c.new-rows.result.end c.new-rows.result.bitmap.now;
-    changes = c.new-rows.result.changes;
-    name = c.new-rows.result.bitmap.ghost_name;
-  }
-
-  abbrev final : Packing
-  final = record {
-    end = c.decoded-report.new.sink.end;
-    bits = bits_of (take c.decoded-report.new.sink.end c.decoded-report.new.sink.bitmap.now);
-    rest = drop c.decoded-report.new.sink.end c.decoded-report.new.sink.bitmap.now;
-    changes = c.decoded-report.new.sink.changes;
-    name = c.decoded-report.new.sink.bitmap.ghost_name;
-  }
 
   enough : c.decoded-report.result.rows ≤ length (plain c.in-Some.meant (bits_in c.order_of.result c.args.«data».now)).rows
   enough = taken_within c.in-Some.meant (bits_in c.order_of.result c.args.«data».now) c.decoded-report.result.rows
       c.decoded-report.ensures.report.answer c.decoded-report.ensures.report.ends
 
-  -- the memory is borrowed from its start
-  empty : start.bits ≡ []
-  empty = ap (λ (n : ℕ). bits_of (take n c.new-rows.result.bitmap.now)) c.new-rows.ensures.end
+  abbrev layout : Layout
+  layout = layout_of c.args.settings.now
 
-  whole : start.rest ≡ c.args.bitmap.now
-  whole = ap (λ (n : ℕ). drop n c.new-rows.result.bitmap.now) c.new-rows.ensures.end ∙ c.new-rows.ensures.bytes
+  same_layout : c.new-rows.result.layout ≡ layout
+  same_layout = c.new-rows.ensures.layout ∙ c.layout_of.ensures
 
-  lent : IsLent c.in-Some.meant (bits_in c.order_of.result c.args.«data».now) c.decoded-report.result.rows c.args.bitmap.now
-      c.decoded-report.new.sink.bitmap.now final
-  lent =
-      is_lent c.in-Some.meant (bits_in c.order_of.result c.args.«data».now) c.decoded-report.result.rows c.new-rows.result.columns
-      start final c.args.bitmap.now c.decoded-report.new.sink.bitmap.now c.new-rows.ensures.columns c.new-rows.ensures.end empty
-      whole c.new-rows.ensures.changes refl refl c.decoded-report.new.sink.within enough c.decoded-report.ensures.meaning
+  -- what the sink means after these rows
+  meaning : packing_of c.decoded-report.new.sink.layout c.decoded-report.new.sink.start c.decoded-report.new.sink.bitmap.now
+      c.decoded-report.new.sink.changes c.decoded-report.new.sink.bitmap.ghost_name
+      ≡ meaning_after (with_packed c.new-rows.result.columns)
+      (packing_of layout 0 c.args.bitmap.now 0 c.new-rows.result.bitmap.ghost_name) (take c.decoded-report.result.rows
+      (plain c.in-Some.meant (bits_in c.order_of.result c.args.«data».now)).rows)
+  meaning =
+      c.decoded-report.ensures.meaning ∙ ap (λ (before : Packing). meaning_after (with_packed c.new-rows.result.columns) before
+      (take c.decoded-report.result.rows (plain c.in-Some.meant (bits_in c.order_of.result c.args.«data».now)).rows))
+      (same_meaning c.new-rows.result.layout layout c.new-rows.result.start 0 c.new-rows.result.bitmap.now c.args.bitmap.now
+      c.new-rows.result.changes 0 c.new-rows.result.bitmap.ghost_name same_layout c.new-rows.ensures.start
+      c.new-rows.ensures.bytes c.new-rows.ensures.changes)
 
-  same : start.name ≡ final.name
+  same : c.new-rows.result.bitmap.ghost_name ≡ c.decoded-report.new.sink.bitmap.ghost_name
   same =
-      same_name c.in-Some.meant
-      (bits_in c.order_of.result c.args.«data».now) c.decoded-report.result.rows c.new-rows.result.columns start
-      final c.args.bitmap.now c.decoded-report.new.sink.bitmap.now c.new-rows.ensures.columns c.new-rows.ensures.end empty whole
-      c.new-rows.ensures.changes refl refl c.decoded-report.new.sink.within enough c.decoded-report.ensures.meaning
+      same_name layout c.decoded-report.new.sink.layout c.in-Some.meant (bits_in c.order_of.result c.args.«data».now)
+      c.decoded-report.result.rows c.new-rows.result.columns c.decoded-report.new.sink.start _ _
+      c.decoded-report.new.sink.changes c.args.bitmap.now c.decoded-report.new.sink.bitmap.now c.new-rows.ensures.columns enough
+      meaning
+
+  wide : c.decoded-report.new.sink.columns ≡ c.new-rows.result.columns
+  wide = c.decoded-report.ensures.width
+
+  reaches : bytes_of_row c.new-rows.result.columns ≤ layout.stride
+  reaches = subst (λ (l : Layout). bytes_of_row c.new-rows.result.columns ≤ l.stride) same_layout c.new-rows.result.reaches
+
+  room : c.decoded-report.new.sink.start + bytes_of_row c.new-rows.result.columns
+      ≤ length c.decoded-report.new.sink.bitmap.now + c.decoded-report.new.sink.layout.stride
+  room = subst (λ (n : ℕ). c.decoded-report.new.sink.start + bytes_of_row n
+      ≤ length c.decoded-report.new.sink.bitmap.now + c.decoded-report.new.sink.layout.stride) wide
+      c.decoded-report.new.sink.within
+
+  packed : All (λ byte. byte < 256) c.decoded-report.new.sink.bitmap.now
+      → ArePacked layout c.in-Some.meant (bits_in c.order_of.result c.args.«data».now) c.decoded-report.result.rows
+      c.args.bitmap.now c.decoded-report.new.sink.bitmap.now
+  packed =
+      are_packed layout c.decoded-report.new.sink.layout c.in-Some.meant (bits_in c.order_of.result c.args.«data».now)
+      c.decoded-report.result.rows c.new-rows.result.columns c.decoded-report.new.sink.start _ _
+      c.decoded-report.new.sink.changes c.args.bitmap.now c.decoded-report.new.sink.bitmap.now c.new-rows.ensures.columns enough
+      meaning reaches room c.new-rows.ensures.are_bytes
+
+  started : c.decoded-report.new.sink.start ≡ c.decoded-report.result.rows * layout.stride
+  started =
+      start_is layout c.decoded-report.new.sink.layout c.in-Some.meant (bits_in c.order_of.result c.args.«data».now)
+      c.decoded-report.result.rows c.new-rows.result.columns c.decoded-report.new.sink.start _ _
+      c.decoded-report.new.sink.changes c.args.bitmap.now c.decoded-report.new.sink.bitmap.now c.new-rows.ensures.columns enough
+      meaning
+
+  counted : c.decoded-report.new.sink.changes
+      ≡ changes_taken c.in-Some.meant (bits_in c.order_of.result c.args.«data».now) c.decoded-report.result.rows
+  counted =
+      changes_are layout c.decoded-report.new.sink.layout c.in-Some.meant (bits_in c.order_of.result c.args.«data».now)
+      c.decoded-report.result.rows c.new-rows.result.columns c.decoded-report.new.sink.start _ _
+      c.decoded-report.new.sink.changes c.args.bitmap.now c.decoded-report.new.sink.bitmap.now c.new-rows.ensures.columns enough
+      meaning
 
 -- a statement about what was decoded, and about the memory afterwards, is one about what C gets
-on_packed : (c : goal.After-told) (P : DecodeSettings → Bits → List ℕ → Type 0) (memory : List ℕ)
+on_packed : (c : After-told) (P : DecodeSettings → Bits → List ℕ → Type 0) (memory : List ℕ)
     → P c.in-Some.meant (bits_in c.order_of.result c.args.«data».now) memory → BitsFit c.args.«data».now
     → IfSome (settings_of c.args.settings.now) (λ s. P s (bits_in (order_of c.args.settings.now) c.args.«data».now) memory)
 on_packed c P memory = on_settings c.args.settings.now c.in-Some.meant c.args.«data».now c.order_of.result
     (λ s bits. P s bits memory) (meant c) c.order_of.ensures
 
+-- the same of one that holds of bytes
+on_bytes : (c : After-told) (P : DecodeSettings → Bits → List ℕ → Type 0) (memory : List ℕ)
+    → (All (λ byte. byte < 256) memory → P c.in-Some.meant (bits_in c.order_of.result c.args.«data».now) memory)
+    → ((k : ℕ) → Fits w8 (get_or memory k 0)) → BitsFit c.args.«data».now
+    → IfSome (settings_of c.args.settings.now) (λ s. P s (bits_in (order_of c.args.settings.now) c.args.«data».now) memory)
+on_bytes c P memory holds fits = on_packed c P memory (holds (all_fit memory fits))
+
 pub returns-clause-changes : goal.returns-clause-changes
 returns-clause-changes c = rw c.told.ensures.outcome (λ fit. on_packed c (λ s bits memory.
-    c.changes.result ≡ changes_taken s bits c.decoded-report.result.rows) [] (c.changes.ensures ∙ (lent c).changes) fit)
+    c.changes.result ≡ changes_taken s bits c.decoded-report.result.rows) [] (c.changes.ensures ∙ counted c) fit)
 
 pub returns-clause-packed : goal.returns-clause-packed
 returns-clause-packed c =
-    let are = (lent c).packed in
+    let are = packed c in
     let name = sym c.new-rows.ensures.same_reference ∙ same c in
     rw c.told.ensures.outcome
-    (λ fit. on_packed c (λ s bits memory. ArePacked s bits c.decoded-report.result.rows c.args.bitmap.now memory) _ (search rules)
-    fit)
+    (λ fit. on_bytes c (λ s bits memory. ArePacked (layout_of c.args.settings.now) s bits c.decoded-report.result.rows
+    c.args.bitmap.now memory) _ (search rules) c.type_inv.bitmap fit)
+
+pub returns-clause-together : goal.returns-clause-together
+returns-clause-together c =
+    let are = λ (fits : All (λ byte. byte < 256) c.decoded-report.new.sink.bitmap.now)
+    (is : layout_of c.args.settings.now ≡ together c.in-Some.meant.columns). are_together c.in-Some.meant
+    (bits_in c.order_of.result c.args.«data».now) c.decoded-report.result.rows c.args.bitmap.now
+    c.decoded-report.new.sink.bitmap.now (subst (λ (l : Layout). ArePacked l c.in-Some.meant
+    (bits_in c.order_of.result c.args.«data».now) c.decoded-report.result.rows c.args.bitmap.now
+    c.decoded-report.new.sink.bitmap.now) is (packed c fits)) in
+    let name = sym c.new-rows.ensures.same_reference ∙ same c in
+    rw c.told.ensures.outcome
+    (λ fit. on_bytes c (λ s bits memory. layout_of c.args.settings.now ≡ together s.columns
+    → AreTogether s bits c.decoded-report.result.rows c.args.bitmap.now memory) _ (search rules) c.type_inv.bitmap fit)
 
 pub returns-clause-refused : goal.returns-clause-refused
 returns-clause-refused c = λ full.
-    let wide = c.decoded-report.ensures.width ∙ c.new-rows.ensures.columns in
     let few : length c.decoded-report.new.sink.bitmap.now
-    < (c.decoded-report.result.rows + 1) * bytes_of_row c.in-Some.meant.columns =
-    no_room c.in-Some.meant c.decoded-report.result.rows c.decoded-report.new.sink.end c.decoded-report.new.sink.columns _
-    (lent c).end wide (c.decoded-report.new.sink.full (c.decoded-report.ensures.flag (sym c.told.ensures.status ∙ full))) in
+    < c.decoded-report.result.rows * (layout c).stride + bytes_of_row c.in-Some.meant.columns =
+    omega (
+      arith,
+      started c,
+      wide c,
+      c.new-rows.ensures.columns,
+      c.decoded-report.new.sink.full (c.decoded-report.ensures.flag (sym c.told.ensures.status ∙ full)),
+    ) in
     let name = sym c.new-rows.ensures.same_reference ∙ same c in
-    rw c.told.ensures.outcome (λ fit. on_packed c
-    (λ s bits memory. length memory < (c.decoded-report.result.rows + 1) * bytes_of_row s.columns) _ (search rules) fit)
+    rw c.told.ensures.outcome (λ fit. on_packed c (λ s bits memory. length memory
+    < c.decoded-report.result.rows * (layout_of c.args.settings.now).stride + bytes_of_row s.columns) _ (search rules) fit)

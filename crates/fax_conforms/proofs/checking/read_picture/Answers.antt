@@ -1,6 +1,7 @@
 use Rattle.hayro_ccitt.proofs.Names.{◌≢◌, ◌∙◌, sym, arith, false≢true, here, Group4}
 use Rattle.fax_conforms.proofs.PicturesConform.{group4_conforms, eols_conform, lines_conform, no_eols_conform}
-use Rattle.fax_conforms.proofs.Stopped.{if_err, if_done, if_broken}
+use Rattle.fax_conforms.proofs.Stopped.{if_err, if_done, if_broken, ends_here}
+use Rattle.fax_conforms.specs.declared.stops.Rule.TheVariants.{Eol}
 use Rattle.fax_conforms.proofs.checking.read_picture.Goals as goal
 use Rattle.fax_conforms.proofs.checking.read_picture.Goals.{Else-is_group4}
 
@@ -47,3 +48,7 @@ pub returns-clause-none : goal.returns-clause-none
 returns-clause-none c = if_broken c.read_body-2.result _ _ c.read_body-2.ensures.none (λ none conforms. none ((lines_conform
     c.args.settings c.requires.wide (here c.args.reader.now) (omega arith) (three (goal.at.returns-clause-none c).Else-is_group4)
     (c.has_eol.ensures.none c.if-has_eol.false) c.if-settings.false).0 conforms))
+
+pub returns-then-settings-clause-at : goal.returns-then-settings-clause-at
+returns-then-settings-clause-at c = ends_here c.broken.result c.args.reader.now 0 Eol c.broken.ensures.exact
+    (sym c.requires.start) (omega arith) (c.has_eol.ensures.none c.if-has_eol.false)

@@ -1,5 +1,6 @@
 use Rattle.hayro_ccitt.proofs.Names.{◌∙◌, ap, sym, arith, Ok, w8, to_z, of_z, to_z-of_z, SFits, rules, Mode, Pass}
-use Rattle.hayro_ccitt.proofs.Names.{Horizontal, Vertical, here, pixels}
+use Rattle.hayro_ccitt.proofs.Names.{Horizontal, Vertical, here, pixels, ℕ, subst, drop, Mode, IfErr-weaker}
+use Rattle.fax_conforms.specs.Stops.{ModeIsHere}
 use Rattle.hayro_ccitt.proofs.PixelRows.ChangesAndPixels.{length-pixels}
 use Rattle.fax_conforms.proofs.PensDrawn.{mode_here_leads, mode_here_never, no_mode_here}
 use Rattle.fax_conforms.proofs.Stopped.{if_err, if_ok, if_broken}
@@ -53,3 +54,21 @@ returns-in-Horizontal-clause-none c = if_broken c.draw_horizontal.result _ _ c.d
     (c.in-Some.ensures.found ∙ ap (λ (m : Mode). Ok (m, here c.mode.new.reader)) c.in-Horizontal.is)
     (none (pixels c.args.columns c.args.reference.now) (length-pixels c.args.columns c.args.reference.now
     c.requires.above.lawful)))
+
+pub returns-in-Pass-clause-at : goal.returns-in-Pass-clause-at
+returns-in-Pass-clause-at c = IfErr-weaker c.draw_pass.result _ _ (λ e ends. ends c.args.reader.now.bits c.bit_pos.ensures.within
+    (subst (λ (n : ℕ). ModeIsHere Pass (drop n c.args.reader.now.bits)) (sym c.bit_pos.ensures.place)
+    (here c.mode.new.reader, c.in-Some.ensures.found ∙ ap (λ (m : Mode). Ok (m, here c.mode.new.reader)) c.in-Pass.is)))
+    c.draw_pass.ensures.at
+
+pub returns-in-Vertical-clause-at : goal.returns-in-Vertical-clause-at
+returns-in-Vertical-clause-at c = IfErr-weaker c.draw_vertical.result _ _ (λ e ends. ends c.args.reader.now.bits
+    c.bit_pos.ensures.within
+    (subst (λ (n : ℕ). ModeIsHere (Vertical (to_z w8 (of_z w8 c.in-Vertical.offset))) (drop n c.args.reader.now.bits))
+    (sym c.bit_pos.ensures.place) (
+      here c.mode.new.reader,
+      c.in-Some.ensures.found ∙ ap (λ (m : Mode). Ok (m, here c.mode.new.reader))
+          (c.in-Vertical.is ∙ ap Vertical (sym (to_z-of_z
+          (let narrow : SFits w8 c.in-Vertical.offset = search rules in narrow)))),
+    )))
+    c.draw_vertical.ensures.at

@@ -1,6 +1,7 @@
 use Rattle.hayro_ccitt.proofs.Names.{arith, err_from_is_err_and, here, pixels}
-use Rattle.fax_conforms.proofs.FilledLines.{filled_leads, unfilled, no_filled_line}
-use Rattle.fax_conforms.proofs.Stopped.{if_err}
+use Rattle.fax_conforms.proofs.FilledLines.{filled_leads, unfilled, no_filled_line, no_padding}
+use Rattle.fax_conforms.proofs.Stopped.{if_err, ends_here, ends_in}
+use Rattle.fax_conforms.specs.declared.stops.Rule.TheVariants.{Padding}
 use Rattle.fax_conforms.proofs.BodyLines.{filled_shorter}
 use Rattle.fax_conforms.specs.Conforming.{FilledStands}
 use Rattle.fax_conforms.specs.Standing.{Leads, IsOnly}
@@ -40,3 +41,10 @@ returns-then-not-pass_fill-clause-none c = if_err c.broken.result _ (unfilled c.
     c.draw_line.ensures.same_bits (omega (arith, c.bit_pos-start.ensures.place, c.bit_pos-start.ensures.within))
     (omega (arith, c.bit_pos-place.ensures.place, c.bit_pos-place.ensures.within)) c.requires.whole
     c.in_ok-draw_line.ensures.row (c.pass_fill.ensures.none c.if-not-pass_fill.true))
+
+pub returns-then-not-pass_fill-clause-at : goal.returns-then-not-pass_fill-clause-at
+returns-then-not-pass_fill-clause-at c = ends_in c.broken.result c.args.reader.now.bits c.draw_line.new.reader.bits
+    c.draw_line.ensures.same_bits (ends_here c.broken.result c.draw_line.new.reader c.bit_pos-place.result Padding
+    c.broken.ensures.exact c.bit_pos-place.ensures.place c.bit_pos-place.ensures.within
+    (no_padding c.args.settings.rows_are_byte_aligned c.draw_line.new.reader c.bit_pos-place.result c.bit_pos-place.ensures.place
+    (c.pass_fill.ensures.none c.if-not-pass_fill.true)))

@@ -2,6 +2,7 @@ use Rattle.hayro_ccitt.proofs.Names.{◌∙◌, ap, sym, length, arith, err_from
 use Rattle.hayro_ccitt.proofs.PixelRows.ChangesAndPixels.{length-pixels}
 use Rattle.fax_conforms.proofs.BodyLines.{body_fails, body_leads}
 use Rattle.fax_conforms.proofs.Padded.{iff_on}
+use Rattle.fax_conforms.proofs.Stopped.{ends_in}
 use Rattle.fax_conforms.proofs.pictures.read_body.Goals as goal
 
 pub rows-preserved : goal.rows-preserved
@@ -19,6 +20,7 @@ rows-preserved c =
       lawful = rw c.swap.ensures.x_after lawful;
       allows = c.limit_met.ensures.allows c.if-limit_met.false c.rows.invariant.allows;
       whole = c.in_ok-draw_filled_line.ensures.whole;
+      same_bits = c.draw_filled_line.ensures.same_bits ∙ c.rows.invariant.same_bits;
       few = omega (
         arith,
         c.rows.invariant.few,
@@ -34,3 +36,9 @@ returns-in_err-draw_filled_line-clause-none c =
     (pixels c.args.settings.columns c.rows.reference.items) (here c.rows.reader) (c.limit_met.ensures.unmet c.if-limit_met.false)
     (λ eofb. absurd (false≢true (sym c.if-is_eofb.false ∙ c.is_eofb.ensures.1 eofb)))
     (rw c.as_slice.ensures.value at (c.in_err-draw_filled_line.ensures.none broken)) (c.rows.invariant.stands.0 stands))
+
+pub returns-in_err-draw_filled_line-clause-at : goal.returns-in_err-draw_filled_line-clause-at
+returns-in_err-draw_filled_line-clause-at c =
+    let p = err_from_is_err_and c.from_residual.result c.from_residual.ensures.1 in
+    ends_in c.from_residual.result c.args.reader.now.bits c.rows.reader.bits c.rows.invariant.same_bits
+    (rw (p.1, p.2) c.in_err-draw_filled_line.ensures.at)

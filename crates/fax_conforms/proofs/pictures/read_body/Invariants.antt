@@ -9,6 +9,7 @@ invariant-rows l = record {
   lawful : AreChanges l.settings.columns l.reference.items;
   allows : Allows l.settings l.taken;
   whole : l.settings.rows_are_byte_aligned ≡ true → l.reader.place % 8 ≡ 0;
+  same_bits : l.reader.bits ≡ l.fn.reader.bits;
   few : l.taken + length (here l.reader) ≤ length l.reader.bits;
 }
 

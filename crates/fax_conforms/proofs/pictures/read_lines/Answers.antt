@@ -2,6 +2,7 @@ use Rattle.hayro_ccitt.proofs.Names.{◌∙◌, ap, sym, length, arith, err_from
 use Rattle.hayro_ccitt.proofs.PixelRows.ChangesAndPixels.{length-pixels}
 use Rattle.fax_conforms.proofs.EolLines.{lines_fail, lines_lead}
 use Rattle.fax_conforms.proofs.Padded.{iff_on}
+use Rattle.fax_conforms.proofs.Stopped.{ends_in}
 use Rattle.fax_conforms.proofs.pictures.read_lines.Goals as goal
 
 pub rows-preserved : goal.rows-preserved
@@ -18,6 +19,7 @@ rows-preserved c =
       stands = rw c.swap.ensures.x_after (iff_on c.rows.invariant.stands on);
       lawful = rw c.swap.ensures.x_after lawful;
       allows = c.limit_met.ensures.allows c.if-limit_met.false c.rows.invariant.allows;
+      same_bits = c.draw_line_behind_eol.ensures.same_bits ∙ c.rows.invariant.same_bits;
       few = omega (
         arith,
         c.rows.invariant.few,
@@ -33,3 +35,9 @@ returns-in_err-draw_line_behind_eol-clause-none c =
     (pixels c.args.settings.columns c.rows.reference.items) (here c.rows.reader) (c.limit_met.ensures.unmet c.if-limit_met.false)
     (λ rtc. absurd (false≢true (sym c.if-is_rtc.false ∙ c.is_rtc.ensures.1 rtc)))
     (rw c.as_slice.ensures.value at (c.in_err-draw_line_behind_eol.ensures.none broken)) (c.rows.invariant.stands.0 stands))
+
+pub returns-in_err-draw_line_behind_eol-clause-at : goal.returns-in_err-draw_line_behind_eol-clause-at
+returns-in_err-draw_line_behind_eol-clause-at c =
+    let p = err_from_is_err_and c.from_residual.result c.from_residual.ensures.1 in
+    ends_in c.from_residual.result c.args.reader.now.bits c.rows.reader.bits c.rows.invariant.same_bits
+    (rw (p.1, p.2) c.in_err-draw_line_behind_eol.ensures.at)

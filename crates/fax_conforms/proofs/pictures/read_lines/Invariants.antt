@@ -1,4 +1,4 @@
-use Rattle.hayro_ccitt.proofs.Names.{◌+◌, ◌≤◌, ◌↔◌, length, here, pixels, white_row, AreChanges, Allows}
+use Rattle.hayro_ccitt.proofs.Names.{◌≡◌, ◌+◌, ◌≤◌, ◌↔◌, length, here, pixels, white_row, AreChanges, Allows}
 use Rattle.fax_conforms.specs.Conforming.{LinesStand}
 use Rattle.fax_conforms.proofs.pictures.read_lines.Given as goal
 
@@ -8,6 +8,7 @@ invariant-rows l = record {
       ↔ LinesStand l.settings l.taken (pixels l.settings.columns l.reference.items) (here l.reader);
   lawful : AreChanges l.settings.columns l.reference.items;
   allows : Allows l.settings l.taken;
+  same_bits : l.reader.bits ≡ l.fn.reader.bits;
   few : l.taken + length (here l.reader) ≤ length l.reader.bits;
 }
 

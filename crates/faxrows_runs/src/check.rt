@@ -1,0 +1,149 @@
+//! A run of the program that writes whether the data is an encoding of a picture by every rule, and otherwise where it first
+//! breaks one.
+
+ghost use Rattle.std.specs.Prelude.{◌≡◌, ◌↔◌, ◌≢◌, ◌++◌, IfOk, IfErr, OnOk, OnErr, IfSome, true, false, map, string_bytes};
+ghost use Rattle.std.specs.Prelude.{None, Ok, Err, List, ℕ};
+ghost use Rattle.std.specs.Io.KnownBytes.{Appends, IsAtEnd};
+ghost use Rattle.hayro_ccitt.specs.Bits.{BitsFit};
+ghost use Rattle.fax_program.specs.Devices.{AppendsFront, WasRead};
+ghost use Rattle.faxrows_runs.specs.Arguments.{arguments_of_words};
+ghost use Rattle.faxrows_runs.specs.CheckText.{IsCheck, done_of_check, end_with_rule, line_of_check, line_of_violation};
+ghost use Rattle.faxrows_runs.specs.Output.{PassesOn};
+ghost use Rattle.faxrows_runs.specs.Runs.{OnKnown};
+
+use crate::damage_lines::put_number;
+use crate::input::read_input;
+use crate::output::{flush, put};
+use crate::program::Done;
+use fax_conforms::{Rule, Violation, first_violation};
+use fax_program::{Device, RunFault};
+use std::alloc::Global;
+use std::io::{Read, Write};
+
+/// Reads all that the reader has, and writes whether it begins with an encoding of a picture, by every rule of T.4 and T.6, that is
+/// closed as the arguments ask ([`first_violation`]): `ok` if it does; and if not, `violation`, an offset in bits, and the rule that
+/// is broken there. It is `Done::Good` in the first case, and `Done::Faulty` in the second.
+///
+/// # Errors
+///
+/// Those of [`run_by_row`](crate::run_by_row). An allocation that fails during the check is `Memory`; nothing is written then.
+pub fn run_check<R: Read, W: Write>(
+    alloc: Global,
+    words: &[String],
+    reader: &mut Device<R>,
+    writer: &mut Device<W>,
+) -> std::result::Result<Done, RunFault>
+    ensures bad_arguments { (result ≡ Err RunFault.BadArguments)
+        ↔ (arguments_of_words (map string_bytes words.now) ≡ None) }
+    ensures unread { result ≡ Err RunFault.BadArguments → reader.new ≡ reader.old }
+    ensures unwritten { IfErr result (λ fault. fault ≢ RunFault.Write → writer.new ≡ writer.old) }
+    ensures ended { IfOk result (λ done.
+        OnKnown (arguments_of_words (map string_bytes words.now)) (R.remaining reader.old.0) (λ settings bits.
+        (text : List ℕ) × IsCheck settings bits done text
+        × Appends (W.contents writer.old.0) (W.contents writer.new.0) text)) }
+    ensures front { result ≡ Err RunFault.Write
+        → OnKnown (arguments_of_words (map string_bytes words.now)) (R.remaining reader.old.0) (λ settings bits.
+        (done : Done) × (text : List ℕ) × IsCheck settings bits done text
+        × AppendsFront (W.contents writer.old.0) (W.contents writer.new.0) text) }
+    ensures drained { IfOk result (λ _. IsAtEnd (R.remaining reader.new.0)) }
+    ensures fit { IfOk result (λ _. IfSome (R.remaining reader.old.0) BitsFit) }
+    ensures fit_write { result ≡ Err RunFault.Write → IfSome (R.remaining reader.old.0) BitsFit }
+    ensures fit_so_far { result ≢ Err RunFault.TooLong
+        → WasRead (R.remaining reader.old.0) (R.remaining reader.new.0) BitsFit }
+    ensures too_long { result ≡ Err RunFault.TooLong
+        → IfSome (R.remaining reader.old.0) (λ input. ¬ (BitsFit input)) }
+    ensures read { reader.old.1 ≡ false → ((result ≡ Err RunFault.Read) ↔ (reader.new.1 ≡ true)) }
+    ensures write { writer.old.1 ≡ false → ((result ≡ Err RunFault.Write) ↔ (writer.new.1 ≡ true)) }
+{
+    let (arguments, input) = read_input(alloc, words, reader)?;
+    let Ok(found) = first_violation(alloc, arguments.settings, arguments.order, input.as_slice())
+    else {
+        return Err(RunFault::Memory);
+    };
+    write_found(alloc, found, writer)
+}
+
+/// Writes the line of a check. It fails only if the writer does.
+fn write_found<W: Write>(
+    alloc: Global,
+    found: Option<Violation>,
+    writer: &mut Device<W>,
+) -> std::result::Result<Done, RunFault>
+    ensures done { IfOk result (λ done. done ≡ done_of_check found) }
+    ensures written { OnOk result (Appends (W.contents writer.old.0) (W.contents writer.new.0) (line_of_check found)) }
+    ensures front { OnErr result (AppendsFront (W.contents writer.old.0) (W.contents writer.new.0) (line_of_check found)) }
+    ensures flag { OnOk result (writer.new.1 ≡ writer.old.1) }
+    ensures failed { OnErr result (writer.new.1 ≡ true) }
+    ensures only { IfErr result (λ fault. fault ≡ RunFault.Write) }
+{
+    let mut waiting = Vec::new(alloc);
+    put_found(found, &mut waiting, writer)?;
+    flush(&mut waiting, writer)?;
+    Ok(done_of_check(found))
+}
+
+/// Returns how a run ends that wrote the line of a check.
+fn done_of_check(found: Option<Violation>) -> Done
+    ensures { result ≡ done_of_check found }
+{
+    match found {
+        None => Done::Good,
+        Some(_) => Done::Faulty,
+    }
+}
+
+/// Puts the line of a check.
+fn put_found<W: Write>(
+    found: Option<Violation>,
+    waiting: &mut Vec<u8>,
+    writer: &mut Device<W>,
+) -> std::result::Result<(), RunFault>
+    ensures ok { OnOk result (PassesOn (W.contents writer.old.0) (W.contents writer.new.0)
+        waiting.old.items (line_of_check found) waiting.new.items) }
+    ensures front { OnErr result (AppendsFront (W.contents writer.old.0) (W.contents writer.new.0)
+        (waiting.old.items ++ line_of_check found)) }
+    ensures flag { OnOk result (writer.new.1 ≡ writer.old.1) }
+    ensures failed { OnErr result (writer.new.1 ≡ true) }
+    ensures only { IfErr result (λ fault. fault ≡ RunFault.Write) }
+{
+    match found {
+        None => put(b"ok\n", waiting, writer),
+        Some(violation) => put_violation(violation, waiting, writer),
+    }
+}
+
+/// Puts the line of a violation: `violation`, its offset in bits, and the rule.
+fn put_violation<W: Write>(
+    violation: Violation,
+    waiting: &mut Vec<u8>,
+    writer: &mut Device<W>,
+) -> std::result::Result<(), RunFault>
+    ensures ok { OnOk result (PassesOn (W.contents writer.old.0) (W.contents writer.new.0)
+        waiting.old.items (line_of_violation violation) waiting.new.items) }
+    ensures front { OnErr result (AppendsFront (W.contents writer.old.0) (W.contents writer.new.0)
+        (waiting.old.items ++ line_of_violation violation)) }
+    ensures flag { OnOk result (writer.new.1 ≡ writer.old.1) }
+    ensures failed { OnErr result (writer.new.1 ≡ true) }
+    ensures only { IfErr result (λ fault. fault ≡ RunFault.Write) }
+{
+    put(b"violation ", waiting, writer)?;
+    put_number(violation.place as u64, b' ', waiting, writer)?;
+    put(rule_and_end(violation.rule), waiting, writer)
+}
+
+/// Returns a rule's text with the line's end.
+fn rule_and_end(rule: Rule) -> &'static [u8]
+    ensures { result.now ≡ end_with_rule rule }
+{
+    match rule {
+        Rule::Mode => b"a mode is expected (T.4, 4.2.1.3)\n",
+        Rule::Run => b"a run is expected (T.4, 4.1.1)\n",
+        Rule::RowEnd => b"beyond the row's end (T.4, 4.1.1 and 4.2.1.3)\n",
+        Rule::NoPixels => b"no pixels (T.4, 4.1.1 and 4.2.1.3)\n",
+        Rule::Columns => b"no columns\n",
+        Rule::Eol => b"an EOL is expected (T.4, 4.1.2)\n",
+        Rule::Tag => b"a tag is expected (T.4, 4.2.2)\n",
+        Rule::Padding => b"zeros up to a whole byte are expected (T.4, 4.1.3)\n",
+        Rule::PassToEnd => b"pass mode to the row's end (T.4, 4.2.1.3.2)\n",
+    }
+}
