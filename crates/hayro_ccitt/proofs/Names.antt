@@ -17,6 +17,7 @@ pub use Rattle.hayro_ccitt.specs.Decoding.{TakesRows, gap_said, leaving, repairs
 pub use Rattle.hayro_ccitt.specs.Decoding.{damage_since, missed_since}
 pub use Rattle.hayro_ccitt.specs.Encodings.{EncodesLine, EncodesLine1D, EncodesLine2D, EncodesRows, EncodesRowsWithEols, Spells}
 pub use Rattle.hayro_ccitt.specs.Encodings.{eol, padding, tag_of}
+pub use Rattle.hayro_ccitt.specs.DrawnModes.{CanDraw, Draws, line_start}
 pub use Rattle.hayro_ccitt.specs.EndOfLine.{after_eol, all_eols, next_eol, tagged_eols}
 pub use Rattle.hayro_ccitt.specs.Lines.{Line, Pen, draw_2d, draw_mode, draw_run, drawn, found_1d, line_1d, line_2d, line_found}
 pub use Rattle.hayro_ccitt.specs.Lines.{start, turn_behind, words_behind, words_drawn}
@@ -57,6 +58,8 @@ pub use Rattle.fax_bits.specs.declared.codes.Mode.{Mode}
 pub use Rattle.fax_bits.specs.declared.codes.Mode.TheVariants.{Horizontal, Pass, Vertical}
 pub use Rattle.fax_bits.specs.declared.error.DecodeError.{DecodeError}
 pub use Rattle.fax_bits.specs.declared.error.DecodeError.TheVariants.{InvalidCode, OutOfMemory, Refused}
+pub use Rattle.hayro_ccitt.specs.declared.modes.CodingLine.{CodingLine}
+pub use Rattle.hayro_ccitt.specs.declared.modes.Stroke.{Stroke}
 pub use Rattle.hayro_ccitt.specs.declared.row_reader.Stand.{Stand}
 pub use Rattle.hayro_ccitt.specs.declared.row_reader.Stand.TheVariants.{AtEnd, AtFault, AtLine, BehindRow}
 pub use Rattle.fax_bits.specs.declared.settings.DecodeSettings.{DecodeSettings}

@@ -1,5 +1,6 @@
 pub mod ContextView
 pub mod Contract
+pub mod DrawnModes
 pub mod Lending
 pub mod RowCursors
 pub mod RowsRead

@@ -1,12 +1,13 @@
 -- Two runs that are drawn at once. This is not part of the trusted specification: no contract of a public call cites it.
-use Rattle.std.specs.Prelude.{◌≡◌, ◌⊎◌, ◌+◌, ◌-◌, ◌^◌, ◌<◌, ◌≤◌, ℕ, List, []}
+use Rattle.std.specs.Prelude.{◌≡◌, ◌⊎◌, ◌+◌, ◌-◌, ◌^◌, ◌<◌, ◌≤◌, ℕ, List, [], Vec, vec_capacity}
 use Rattle.fax_bits.specs.declared.codes.Color.{Color}
+use Rattle.fax_bits.specs.declared.codes.Color.TheVariants.{White}
 use Rattle.fax_bits.specs.declared.settings.DecodeSettings.{DecodeSettings}
 use Rattle.hayro_ccitt.specs.declared.usual.TwoRuns.{TwoRuns}
 use Rattle.hayro_ccitt.specs.Bits.{BitsAt}
 use Rattle.hayro_ccitt.specs.Rows.{opposite}
-use Rattle.hayro_ccitt.specs.UsualRuns.{IsRunHere, IsOpen}
-use Rattle.hayro_ccitt.specs.Window.{moved}
+use Rattle.hayro_ccitt.specs.UsualRuns.{IsRunHere, IsOpen, IsReached, GoesOn, pen_at}
+use Rattle.hayro_ccitt.specs.Window.{AtHand, moved}
 
 -- two runs are here, of a colour and of the other one, with this many bits and words in all
 pub record AreTwoRunsHere (color : Color) (at : BitsAt) (runs : TwoRuns) : Type 0 where
@@ -27,3 +28,17 @@ pub record CanFollow (settings : DecodeSettings) (place : ℕ) (row : List ℕ) 
   pub some : 0 < runs.second
   pub fits : runs.second ≤ settings.columns - (place + runs.first)
   pub small : runs.first + runs.second < 2 ^ 32
+
+module _ {A : Type 0} where
+  -- Runs are drawn from a position on, white first: drawing goes on, and the row reaches another position.
+  pub record DrawsRuns (settings : DecodeSettings) (painted : ℕ) (hand : AtHand) (row : Vec ℕ A) (ticks : ℕ)
+      (place : ℕ) (color : Color) (rest : AtHand) (longer : Vec ℕ A) (now : ℕ) : Type 0 where
+    pub drawn : GoesOn settings.strict settings.columns (pen_at painted row.items White hand.at)
+        (pen_at place longer.items color rest.at) ticks now
+    pub reached : IsReached settings.columns place color longer.items
+
+  -- no bit is behind, and the bits and the row's room stay
+  pub record MovesOn (hand : AtHand) (row : Vec ℕ A) (rest : AtHand) (longer : Vec ℕ A) : Type 0 where
+    pub same_bits : rest.at.bits ≡ hand.at.bits
+    pub onward : hand.at.place ≤ rest.at.place
+    pub capacity : vec_capacity longer ≡ vec_capacity row

@@ -22,7 +22,7 @@ ghost use Rattle.hayro_ccitt.specs.Space.{room_for, most_stored};
 
 use crate::changes::{append_pixels, b1_index, change_or_end};
 use crate::modes::{
-    draw_modes, has_mode, has_no_room, is_white_row, lay_down_row, put_ends, take_ends,
+    CodingLine, draw_modes, has_mode, has_no_room, is_white_row, lay_down_row, put_ends, take_ends,
 };
 use crate::usual::{draw_runs, draw_two_runs, lay_down, pass_white_row, take_up};
 use crate::{DecodeError, Decoder, Result};
@@ -973,23 +973,23 @@ impl DecoderContext {
         if !put_ends(&mut self.ref_changes, self.settings.columns) {
             return;
         }
-        let ticks = &mut self.ticks;
-        let (place, index, color) = draw_modes(
-            hand,
-            &mut self.coding_changes,
-            self.settings.columns,
-            self.settings.strict,
-            self.ref_changes.as_slice(),
-            self.tables.lookup(Color::White),
-            self.tables.lookup(Color::Black),
-            ticks,
-        );
+        let line = CodingLine {
+            columns: self.settings.columns,
+            strict: self.settings.strict,
+            places: self.ref_changes.as_slice(),
+            tables: &self.tables,
+        };
+        let reached = draw_modes(hand, &mut self.coding_changes, &line, &mut self.ticks);
         take_ends(&mut self.ref_changes);
-        lay_down_row(&mut self.coding_changes, place, self.settings.columns);
-        self.pixels_decoded = place;
-        self.color = color;
+        lay_down_row(
+            &mut self.coding_changes,
+            reached.painted,
+            self.settings.columns,
+        );
+        self.pixels_decoded = reached.painted;
+        self.color = reached.color;
         // The change before b1 may be right of a0.
-        self.passed = index.saturating_sub(1);
+        self.passed = reached.index.saturating_sub(1);
     }
 
     /// The same for a reader, in whichever order its bits are.

@@ -1,27 +1,51 @@
 //! Modes whose code words are all in the window, drawn with the line's own values. The functions of `context` draw the
 //! others.
 
-ghost use Rattle.std.specs.Prelude.{vec_len, vec_capacity, get_or, ◌≡◌, ◌≢◌, ◌+◌, ◌-◌, ◌%◌, ◌<◌, ◌≤◌, ◌⊎◌, ℕ, Ok, Some, IfSome};
+ghost use Rattle.std.specs.Prelude.{vec_len, vec_capacity, get_or, ◌≡◌, ◌≢◌, ◌+◌, ◌-◌, ◌%◌, ◌<◌, ◌≤◌, ◌⊎◌, ℕ, Some, IfSome};
 ghost use Rattle.std.specs.Prelude.{max, IfNone, true, false, pos, negsuc, length, ◌++◌, ◌∷◌, []};
-ghost use Rattle.hayro_ccitt.specs.Bits.{here};
-ghost use Rattle.hayro_ccitt.specs.CodeLists.{mode_codes};
-ghost use Rattle.hayro_ccitt.specs.CodeReading.{read_code};
-ghost use Rattle.hayro_ccitt.specs.LookUps.{AreEntries};
+ghost use Rattle.hayro_ccitt.specs.DrawnModes.{IsNextMode, CanDraw, Draws, DrawsMode, DrawsNothing, KeepsRoom, line_start};
 ghost use Rattle.hayro_ccitt.specs.Rows.{AreChanges, pixels, opposite};
-ghost use Rattle.hayro_ccitt.specs.Runs.{codes_of};
 ghost use Rattle.hayro_ccitt.specs.Space.{room_for};
-ghost use Rattle.hayro_ccitt.specs.UsualModes.{AreEnded, changes_in, row_in, IsB1, IsStroke, GoesOn2d};
-ghost use Rattle.hayro_ccitt.specs.UsualRuns.{pen_at};
+ghost use Rattle.hayro_ccitt.specs.UsualModes.{AreEnded, changes_in, IsNear, IsB1};
 ghost use Rattle.hayro_ccitt.specs.TwoRunsHere.{AreTwoRunsHere};
 ghost use Rattle.hayro_ccitt.specs.Window.{moved};
 
 use crate::changes::{change_or_end, make_room};
-use crate::usual::{
-    TwoRuns, b1_after_left, change_at, has_room, is_next, lay_down, pair_at_hand, run_at_hand,
-    seek_b1, turn_at,
-};
+use crate::usual::{TwoRuns, has_room, is_next, lay_down, pair_at_hand, run_at_hand, turn_at};
 use fax_bits::bit_reader::BitsAtHand;
 use fax_bits::codes::{Color, Mode, Ticks, mode_of, tick_times};
+use fax_bits::tables::Tables;
+
+/// What doesn't change while a line is drawn.
+#[derive(Clone, Copy)]
+pub(crate) struct CodingLine<'a> {
+    /// The number of pixels of a row.
+    pub(crate) columns: u32,
+    /// Whether the data is strict. Only contracts read this.
+    pub(crate) strict: bool,
+    /// The changes of the reference row, and twice the row's end behind them.
+    pub(crate) places: &'a [u32],
+    /// The look-up tables of runs.
+    pub(crate) tables: &'a Tables,
+}
+
+/// How far a line is drawn: what a mode changes.
+#[derive(Clone, Copy)]
+pub(crate) struct Stroke {
+    /// How many pixels are painted: the position a0, or 0 at the line's start.
+    pub(crate) painted: u32,
+    /// The index of b1 among the changes of the reference row.
+    pub(crate) index: usize,
+    /// The colour of the next pixels.
+    pub(crate) color: Color,
+}
+
+/// A vertical mode: how far from b1 it is, in pixels, and the number of its bits.
+#[derive(Clone, Copy)]
+struct VerticalMode {
+    distance: u32,
+    width: usize,
+}
 
 /// Returns whether there is room for as many changes as the window has bits: a code word stores no more changes than it has
 /// bits.
@@ -55,9 +79,7 @@ pub(crate) fn has_mode(hand: &mut BitsAtHand<'_>, row: &mut Vec<u32>) -> bool
 #[inline(always)]
 fn mode_at_hand(hand: &BitsAtHand<'_>) -> (Option<Mode>, usize)
     requires within { 7 ≤ hand.now.left }
-    ensures mode { IfSome result.0 (λ mode. read_code mode_codes (here hand.now.at) ≡ Ok (mode, here (moved result.1 hand.now.at))) }
-    ensures some { 0 < result.1 }
-    ensures few { result.1 ≤ 7 }
+    ensures mode { IfSome result.0 (λ mode. IsNextMode mode result.1 hand.now) }
     ensures v0 { result.0 ≡ Some (Mode.Vertical (pos 0)) → result.1 ≡ 1 }
     ensures horizontal { result.0 ≡ Some Mode.Horizontal → result.1 ≡ 3 }
     ensures pass { result.0 ≡ Some Mode.Pass → result.1 ≡ 4 }
@@ -74,46 +96,91 @@ pub(crate) fn has_no_room(changes: &Vec<u32>) -> bool
     changes.capacity() == 0
 }
 
-/// Draws V0: a change below b1, or the rest of the row. Returns `None`, and draws nothing, if there is no room for a
-/// change.
+/// Returns the change of the reference row at an index, or the row's end behind the last one.
+#[inline(always)]
+fn change_at(line: &CodingLine<'_>, index: usize) -> u32
+    requires ended { AreEnded line.now.columns line.now.places.now }
+    requires near { index ≤ length (changes_in line.now.places.now) + 1 }
+    ensures { result ≡ get_or (changes_in line.now.places.now) index line.now.columns }
+{
+    line.places[index]
+}
+
+/// Returns the index of b1, going up in steps of two from an index near it. Each change that is looked at is a tick.
+#[inline(always)]
+fn seek_b1(line: &CodingLine<'_>, painted: u32, start: usize, ticks: &mut Ticks) -> usize
+    requires ended { AreEnded line.now.columns line.now.places.now }
+    requires inside { (0 < painted) × (painted < line.now.columns) }
+    requires within { start ≤ length (changes_in line.now.places.now) + 1 }
+    requires near { IsNear line.now.columns (changes_in line.now.places.now) painted start }
+    ensures near { IsNear line.now.columns (changes_in line.now.places.now) painted result }
+    ensures right { painted < get_or (changes_in line.now.places.now) result line.now.columns }
+    ensures onward { (start ≤ result) × (result % 2 ≡ start % 2) }
+    ensures work { ticks.new + ticks.new + start ≡ ticks.old + ticks.old + result + 2 }
+{
+    let mut index = start;
+    ticks.tick();
+    'changes: while change_at(line, index) <= painted {
+        ticks.tick();
+        index += 2;
+    }
+    index
+}
+
+/// Returns the index of b1 after a mode that changes the colour left of b1, at a position right of a0.
+#[inline(always)]
+fn b1_after_left(line: &CodingLine<'_>, stroke: Stroke, place: u32) -> usize
+    requires ended { AreEnded line.now.columns line.now.places.now }
+    requires within { stroke.index ≤ length (changes_in line.now.places.now) + 1 }
+    requires at { IsB1 line.now.columns (changes_in line.now.places.now) stroke.painted stroke.index stroke.color }
+    requires right { stroke.painted < place }
+    requires left { place < get_or (changes_in line.now.places.now) stroke.index line.now.columns }
+    ensures at { IsB1 line.now.columns (changes_in line.now.places.now) place result (opposite stroke.color) }
+    ensures near { stroke.index ≤ result + 1 }
+{
+    if stroke.index == 0 {
+        return 1;
+    }
+    let before = stroke.index - 1;
+    if change_at(line, before) > place {
+        before
+    } else {
+        before + 2
+    }
+}
+
+/// Draws V0: a change below b1, or the rest of the row.
 #[inline(always)]
 fn draw_v0(
     hand: &mut BitsAtHand<'_>,
     row: &mut Vec<u32>,
-    painted: u32,
-    columns: u32,
-    _strict: bool,
-    color: Color,
-    places: &[u32],
-    index: usize,
+    line: &CodingLine<'_>,
+    stroke: Stroke,
     ticks: &mut Ticks,
-) -> Option<(u32, usize, Color)>
-    requires mode { read_code mode_codes (here hand.old.at) ≡ Ok (Mode.Vertical (pos 0), here (moved 1 hand.old.at)) }
-    requires enough { 1 ≤ hand.old.left }
-    requires room { vec_len row.old + hand.old.left ≤ vec_capacity row.old }
-    requires open { painted < columns }
-    requires ended { AreEnded columns places.now }
-    requires stroke { IsStroke columns (changes_in places.now) painted index color row.old.items }
-    ensures drawn { IfSome result (λ reached. GoesOn2d _strict columns (row_in columns places.now)
-        (pen_at painted row.old.items color hand.old.at)
-        (pen_at reached.0 row.new.items reached.2 hand.new.at) ticks.old ticks.new (index - 1) (reached.1 - 1)) }
-    ensures stroke { IfSome result (λ reached. IsStroke columns (changes_in places.now) reached.0 reached.1 reached.2 row.new.items) }
-    ensures same_bits { hand.new.at.bits ≡ hand.old.at.bits }
-    ensures onward { IfSome result (λ reached. (hand.old.at.place < hand.new.at.place)
-        × (vec_len row.new + hand.new.left ≤ vec_capacity row.new)) }
-    ensures left { IfNone result ((hand.new.at ≡ hand.old.at) × (row.new.items ≡ row.old.items) × (ticks.new ≡ ticks.old)) }
-    ensures space { (vec_capacity row.new ≡ vec_capacity row.old) × (vec_len row.old ≤ vec_len row.new) }
+) -> Stroke
+    requires mode { IsNextMode (Mode.Vertical (pos 0)) 1 hand.old }
+    requires can { CanDraw line.now stroke hand.old row.old }
+    ensures drawn { DrawsMode line.now stroke hand.old row.old ticks.old result hand.new row.new ticks.new }
+    ensures kept { KeepsRoom hand.old row.old hand.new row.new }
 {
-    let place = change_at(places, index, columns);
-    if place >= columns {
+    let place = change_at(line, stroke.index);
+    if place >= line.columns {
         hand.pass(1);
         tick_times(ticks, 2);
-        return Some((columns, index, color.opposite()));
+        return Stroke {
+            painted: line.columns,
+            color: stroke.color.opposite(),
+            ..stroke
+        };
     }
     hand.pass(1);
     tick_times(ticks, 2);
     turn_at(row, place);
-    Some((place, index + 1, color.opposite()))
+    Stroke {
+        painted: place,
+        index: stroke.index + 1,
+        color: stroke.color.opposite(),
+    }
 }
 
 /// Draws VR up to the row's end. Returns `None`, and draws nothing, if it doesn't end there.
@@ -121,183 +188,133 @@ fn draw_v0(
 fn draw_to_end(
     hand: &mut BitsAtHand<'_>,
     row: &mut Vec<u32>,
-    painted: u32,
-    columns: u32,
-    _strict: bool,
-    color: Color,
-    places: &[u32],
-    index: usize,
-    more: u32,
-    width: usize,
+    line: &CodingLine<'_>,
+    stroke: Stroke,
+    mode: VerticalMode,
     ticks: &mut Ticks,
-) -> Option<(u32, usize, Color)>
-    requires mode { read_code mode_codes (here hand.old.at) ≡ Ok (Mode.Vertical (pos more), here (moved width hand.old.at)) }
-    requires some { 0 < more }
-    requires bits { (0 < width) × (width < 64) × (width ≤ hand.old.left) }
-    requires room { vec_len row.old + hand.old.left ≤ vec_capacity row.old }
-    requires open { painted < columns }
-    requires ended { AreEnded columns places.now }
-    requires stroke { IsStroke columns (changes_in places.now) painted index color row.old.items }
-    ensures drawn { IfSome result (λ reached. GoesOn2d _strict columns (row_in columns places.now)
-        (pen_at painted row.old.items color hand.old.at)
-        (pen_at reached.0 row.new.items reached.2 hand.new.at) ticks.old ticks.new (index - 1) (reached.1 - 1)) }
-    ensures stroke { IfSome result (λ reached. IsStroke columns (changes_in places.now) reached.0 reached.1 reached.2 row.new.items) }
-    ensures same_bits { hand.new.at.bits ≡ hand.old.at.bits }
-    ensures onward { IfSome result (λ reached. (hand.old.at.place < hand.new.at.place)
-        × (vec_len row.new + hand.new.left ≤ vec_capacity row.new)) }
-    ensures left { IfNone result ((hand.new.at ≡ hand.old.at) × (row.new.items ≡ row.old.items) × (ticks.new ≡ ticks.old)) }
-    ensures space { (vec_capacity row.new ≡ vec_capacity row.old) × (vec_len row.old ≤ vec_len row.new) }
+) -> Option<Stroke>
+    requires mode { IsNextMode (Mode.Vertical (pos mode.distance)) mode.width hand.old }
+    requires some { 0 < mode.distance }
+    requires can { CanDraw line.now stroke hand.old row.old }
+    ensures drawn { IfSome result (λ next. DrawsMode line.now stroke hand.old row.old ticks.old next hand.new row.new ticks.new) }
+    ensures left { IfNone result (DrawsNothing hand.old row.old ticks.old hand.new row.new ticks.new) }
+    ensures kept { KeepsRoom hand.old row.old hand.new row.new }
 {
-    let b1 = change_at(places, index, columns);
-    if columns - b1 != more {
+    let b1 = change_at(line, stroke.index);
+    if line.columns - b1 != mode.distance {
         return None;
     }
-    hand.pass(width);
+    hand.pass(mode.width);
     tick_times(ticks, 2);
-    Some((columns, index, color.opposite()))
+    Some(Stroke {
+        painted: line.columns,
+        color: stroke.color.opposite(),
+        ..stroke
+    })
 }
 
-/// Draws VR: a change `more` pixels right of b1, or the rest of the row. Returns `None`, and draws nothing, if that is
-/// after the row's end or there is no room for a change.
+/// Draws VR: a change right of b1, or the rest of the row. Returns `None`, and draws nothing, if that is after the row's end.
 #[inline(always)]
 fn draw_right(
     hand: &mut BitsAtHand<'_>,
     row: &mut Vec<u32>,
-    painted: u32,
-    columns: u32,
-    _strict: bool,
-    color: Color,
-    places: &[u32],
-    index: usize,
-    more: u32,
-    width: usize,
+    line: &CodingLine<'_>,
+    stroke: Stroke,
+    mode: VerticalMode,
     ticks: &mut Ticks,
-) -> Option<(u32, usize, Color)>
-    requires mode { read_code mode_codes (here hand.old.at) ≡ Ok (Mode.Vertical (pos more), here (moved width hand.old.at)) }
-    requires some { 0 < more }
-    requires bits { (0 < width) × (width < 64) × (width ≤ hand.old.left) }
-    requires room { vec_len row.old + hand.old.left ≤ vec_capacity row.old }
-    requires open { painted < columns }
-    requires ended { AreEnded columns places.now }
-    requires stroke { IsStroke columns (changes_in places.now) painted index color row.old.items }
-    ensures drawn { IfSome result (λ reached. GoesOn2d _strict columns (row_in columns places.now)
-        (pen_at painted row.old.items color hand.old.at)
-        (pen_at reached.0 row.new.items reached.2 hand.new.at) ticks.old ticks.new (index - 1) (reached.1 - 1)) }
-    ensures stroke { IfSome result (λ reached. IsStroke columns (changes_in places.now) reached.0 reached.1 reached.2 row.new.items) }
-    ensures same_bits { hand.new.at.bits ≡ hand.old.at.bits }
-    ensures onward { IfSome result (λ reached. (hand.old.at.place < hand.new.at.place)
-        × (vec_len row.new + hand.new.left ≤ vec_capacity row.new)) }
-    ensures left { IfNone result ((hand.new.at ≡ hand.old.at) × (row.new.items ≡ row.old.items) × (ticks.new ≡ ticks.old)) }
-    ensures space { (vec_capacity row.new ≡ vec_capacity row.old) × (vec_len row.old ≤ vec_len row.new) }
+) -> Option<Stroke>
+    requires mode { IsNextMode (Mode.Vertical (pos mode.distance)) mode.width hand.old }
+    requires some { 0 < mode.distance }
+    requires can { CanDraw line.now stroke hand.old row.old }
+    ensures drawn { IfSome result (λ next. DrawsMode line.now stroke hand.old row.old ticks.old next hand.new row.new ticks.new) }
+    ensures left { IfNone result (DrawsNothing hand.old row.old ticks.old hand.new row.new ticks.new) }
+    ensures kept { KeepsRoom hand.old row.old hand.new row.new }
 {
-    let b1 = change_at(places, index, columns);
-    if columns - b1 <= more {
-        return draw_to_end(
-            hand, row, painted, columns, _strict, color, places, index, more, width, ticks,
-        );
+    let b1 = change_at(line, stroke.index);
+    if line.columns - b1 <= mode.distance {
+        return draw_to_end(hand, row, line, stroke, mode, ticks);
     }
-    let place = b1 + more;
-    hand.pass(width);
+    let place = b1 + mode.distance;
+    hand.pass(mode.width);
     tick_times(ticks, 2);
     turn_at(row, place);
-    let next = seek_b1(places, place, columns, index + 1, ticks);
-    Some((place, next, color.opposite()))
+    let index = seek_b1(line, place, stroke.index + 1, ticks);
+    Some(Stroke {
+        painted: place,
+        index,
+        color: stroke.color.opposite(),
+    })
 }
 
 /// Draws VL up to the row's left edge, if nothing is painted: the row begins in black. Returns `None`, and draws nothing,
-/// elsewhere or if there is no room for a change.
+/// elsewhere.
 #[inline(always)]
 fn draw_to_edge(
     hand: &mut BitsAtHand<'_>,
     row: &mut Vec<u32>,
-    painted: u32,
-    columns: u32,
-    _strict: bool,
-    color: Color,
-    places: &[u32],
-    index: usize,
-    less: u32,
-    width: usize,
+    line: &CodingLine<'_>,
+    stroke: Stroke,
+    mode: VerticalMode,
     ticks: &mut Ticks,
-) -> Option<(u32, usize, Color)>
-    requires mode { read_code mode_codes (here hand.old.at) ≡ Ok (Mode.Vertical (negsuc (less - 1)), here (moved width hand.old.at)) }
-    requires some { 0 < less }
-    requires bits { (0 < width) × (width < 64) × (width ≤ hand.old.left) }
-    requires room { vec_len row.old + hand.old.left ≤ vec_capacity row.old }
-    requires open { painted < columns }
-    requires ended { AreEnded columns places.now }
-    requires stroke { IsStroke columns (changes_in places.now) painted index color row.old.items }
-    ensures drawn { IfSome result (λ reached. GoesOn2d _strict columns (row_in columns places.now)
-        (pen_at painted row.old.items color hand.old.at)
-        (pen_at reached.0 row.new.items reached.2 hand.new.at) ticks.old ticks.new (index - 1) (reached.1 - 1)) }
-    ensures stroke { IfSome result (λ reached. IsStroke columns (changes_in places.now) reached.0 reached.1 reached.2 row.new.items) }
-    ensures same_bits { hand.new.at.bits ≡ hand.old.at.bits }
-    ensures onward { IfSome result (λ reached. (hand.old.at.place < hand.new.at.place)
-        × (vec_len row.new + hand.new.left ≤ vec_capacity row.new)) }
-    ensures left { IfNone result ((hand.new.at ≡ hand.old.at) × (row.new.items ≡ row.old.items) × (ticks.new ≡ ticks.old)) }
-    ensures space { (vec_capacity row.new ≡ vec_capacity row.old) × (vec_len row.old ≤ vec_len row.new) }
+) -> Option<Stroke>
+    requires mode { IsNextMode (Mode.Vertical (negsuc (mode.distance - 1))) mode.width hand.old }
+    requires some { 0 < mode.distance }
+    requires can { CanDraw line.now stroke hand.old row.old }
+    ensures drawn { IfSome result (λ next. DrawsMode line.now stroke hand.old row.old ticks.old next hand.new row.new ticks.new) }
+    ensures left { IfNone result (DrawsNothing hand.old row.old ticks.old hand.new row.new ticks.new) }
+    ensures kept { KeepsRoom hand.old row.old hand.new row.new }
 {
-    if painted > 0 {
+    if stroke.painted > 0 {
         return None;
     }
-    if !color.is_white() {
+    if !stroke.color.is_white() {
         return None;
     }
-    let b1 = change_at(places, index, columns);
-    if b1 != less {
+    let b1 = change_at(line, stroke.index);
+    if b1 != mode.distance {
         return None;
     }
-    hand.pass(width);
+    hand.pass(mode.width);
     tick_times(ticks, 2);
-    turn_at(row, painted);
-    Some((painted, index + 1, color.opposite()))
+    turn_at(row, stroke.painted);
+    Some(Stroke {
+        painted: stroke.painted,
+        index: stroke.index + 1,
+        color: stroke.color.opposite(),
+    })
 }
 
-/// Draws VL: a change `less` pixels left of b1. Returns `None`, and draws nothing, if that is neither right of a0 nor at
-/// the row's left edge, or if there is no room for a change.
+/// Draws VL: a change left of b1. Returns `None`, and draws nothing, if that is neither right of a0 nor at the row's left edge.
 #[inline(always)]
 fn draw_left(
     hand: &mut BitsAtHand<'_>,
     row: &mut Vec<u32>,
-    painted: u32,
-    columns: u32,
-    _strict: bool,
-    color: Color,
-    places: &[u32],
-    index: usize,
-    less: u32,
-    width: usize,
+    line: &CodingLine<'_>,
+    stroke: Stroke,
+    mode: VerticalMode,
     ticks: &mut Ticks,
-) -> Option<(u32, usize, Color)>
-    requires mode { read_code mode_codes (here hand.old.at) ≡ Ok (Mode.Vertical (negsuc (less - 1)), here (moved width hand.old.at)) }
-    requires some { 0 < less }
-    requires bits { (0 < width) × (width < 64) × (width ≤ hand.old.left) }
-    requires room { vec_len row.old + hand.old.left ≤ vec_capacity row.old }
-    requires open { painted < columns }
-    requires ended { AreEnded columns places.now }
-    requires stroke { IsStroke columns (changes_in places.now) painted index color row.old.items }
-    ensures drawn { IfSome result (λ reached. GoesOn2d _strict columns (row_in columns places.now)
-        (pen_at painted row.old.items color hand.old.at)
-        (pen_at reached.0 row.new.items reached.2 hand.new.at) ticks.old ticks.new (index - 1) (reached.1 - 1)) }
-    ensures stroke { IfSome result (λ reached. IsStroke columns (changes_in places.now) reached.0 reached.1 reached.2 row.new.items) }
-    ensures same_bits { hand.new.at.bits ≡ hand.old.at.bits }
-    ensures onward { IfSome result (λ reached. (hand.old.at.place < hand.new.at.place)
-        × (vec_len row.new + hand.new.left ≤ vec_capacity row.new)) }
-    ensures left { IfNone result ((hand.new.at ≡ hand.old.at) × (row.new.items ≡ row.old.items) × (ticks.new ≡ ticks.old)) }
-    ensures space { (vec_capacity row.new ≡ vec_capacity row.old) × (vec_len row.old ≤ vec_len row.new) }
+) -> Option<Stroke>
+    requires mode { IsNextMode (Mode.Vertical (negsuc (mode.distance - 1))) mode.width hand.old }
+    requires some { 0 < mode.distance }
+    requires can { CanDraw line.now stroke hand.old row.old }
+    ensures drawn { IfSome result (λ next. DrawsMode line.now stroke hand.old row.old ticks.old next hand.new row.new ticks.new) }
+    ensures left { IfNone result (DrawsNothing hand.old row.old ticks.old hand.new row.new ticks.new) }
+    ensures kept { KeepsRoom hand.old row.old hand.new row.new }
 {
-    let b1 = change_at(places, index, columns);
-    if b1 - painted <= less {
-        return draw_to_edge(
-            hand, row, painted, columns, _strict, color, places, index, less, width, ticks,
-        );
+    let b1 = change_at(line, stroke.index);
+    if b1 - stroke.painted <= mode.distance {
+        return draw_to_edge(hand, row, line, stroke, mode, ticks);
     }
-    let place = b1 - less;
-    hand.pass(width);
+    let place = b1 - mode.distance;
+    hand.pass(mode.width);
     tick_times(ticks, 3);
     turn_at(row, place);
-    let next = b1_after_left(places, painted, columns, color, index, place);
-    Some((place, next, color.opposite()))
+    let index = b1_after_left(line, stroke, place);
+    Some(Stroke {
+        painted: place,
+        index,
+        color: stroke.color.opposite(),
+    })
 }
 
 /// Draws a pass: the colour continues to below b2.
@@ -305,37 +322,29 @@ fn draw_left(
 fn draw_pass(
     hand: &mut BitsAtHand<'_>,
     row: &mut Vec<u32>,
-    painted: u32,
-    columns: u32,
-    _strict: bool,
-    color: Color,
-    places: &[u32],
-    index: usize,
+    line: &CodingLine<'_>,
+    stroke: Stroke,
     ticks: &mut Ticks,
-) -> Option<(u32, usize, Color)>
-    requires mode { read_code mode_codes (here hand.old.at) ≡ Ok (Mode.Pass, here (moved 4 hand.old.at)) }
-    requires enough { 4 ≤ hand.old.left }
-    requires room { vec_len row.old + hand.old.left ≤ vec_capacity row.old }
-    requires open { painted < columns }
-    requires ended { AreEnded columns places.now }
-    requires stroke { IsStroke columns (changes_in places.now) painted index color row.old.items }
-    ensures drawn { IfSome result (λ reached. GoesOn2d _strict columns (row_in columns places.now)
-        (pen_at painted row.old.items color hand.old.at)
-        (pen_at reached.0 row.new.items reached.2 hand.new.at) ticks.old ticks.new (index - 1) (reached.1 - 1)) }
-    ensures stroke { IfSome result (λ reached. IsStroke columns (changes_in places.now) reached.0 reached.1 reached.2 row.new.items) }
-    ensures same_bits { hand.new.at.bits ≡ hand.old.at.bits }
-    ensures onward { IfSome result (λ reached. (hand.old.at.place < hand.new.at.place)
-        × (vec_len row.new + hand.new.left ≤ vec_capacity row.new)) }
-    ensures left { IfNone result ((hand.new.at ≡ hand.old.at) × (row.new.items ≡ row.old.items) × (ticks.new ≡ ticks.old)) }
-    ensures space { (vec_capacity row.new ≡ vec_capacity row.old) × (vec_len row.old ≤ vec_len row.new) }
+) -> Stroke
+    requires mode { IsNextMode Mode.Pass 4 hand.old }
+    requires can { CanDraw line.now stroke hand.old row.old }
+    ensures drawn { DrawsMode line.now stroke hand.old row.old ticks.old result hand.new row.new ticks.new }
+    ensures kept { KeepsRoom hand.old row.old hand.new row.new }
 {
-    let b2 = change_or_end(places, index + 1, columns);
+    let b2 = change_or_end(line.places, stroke.index + 1, line.columns);
     hand.pass(4);
     tick_times(ticks, 2);
-    if b2 >= columns {
-        return Some((columns, index, color));
+    if b2 >= line.columns {
+        return Stroke {
+            painted: line.columns,
+            ..stroke
+        };
     }
-    Some((b2, index + 2, color))
+    Stroke {
+        painted: b2,
+        index: stroke.index + 2,
+        ..stroke
+    }
 }
 
 /// Fills the window if it has fewer than 55 bits; returns false if it can't be filled, or there is no room for its changes.
@@ -358,14 +367,11 @@ fn has_long_runs(hand: &mut BitsAtHand<'_>, row: &Vec<u32>) -> bool
 fn runs_at_hand(
     hand: &mut BitsAtHand<'_>,
     row: &Vec<u32>,
+    line: &CodingLine<'_>,
     color: Color,
-    own: &[u16],
-    other: &[u16],
 ) -> Option<TwoRuns>
     requires enough { 32 ≤ hand.old.left }
     requires room { vec_len row.now + hand.old.left ≤ vec_capacity row.now }
-    requires own { AreEntries (codes_of color) own.now }
-    requires other { AreEntries (codes_of (opposite color)) other.now }
     ensures same { hand.new.at ≡ hand.old.at }
     ensures room { IfSome result (λ runs. vec_len row.now + hand.new.left ≤ vec_capacity row.now) }
     ensures runs { IfSome result (λ runs. AreTwoRunsHere color (moved 3 hand.old.at) runs) }
@@ -377,8 +383,9 @@ fn runs_at_hand(
     if !has_long_runs(hand, row) {
         return None;
     }
-    let (first, width, words) = run_at_hand(hand, 3, color, own)?;
-    let (second, width2, words2) = run_at_hand(hand, 3 + width, color.opposite(), other)?;
+    let (first, width, words) = run_at_hand(hand, 3, color, line.tables.lookup(color))?;
+    let other = color.opposite();
+    let (second, width2, words2) = run_at_hand(hand, 3 + width, other, line.tables.lookup(other))?;
     Some(TwoRuns {
         first,
         second,
@@ -393,42 +400,34 @@ fn runs_at_hand(
 fn draw_short_runs(
     hand: &mut BitsAtHand<'_>,
     row: &mut Vec<u32>,
-    painted: u32,
-    columns: u32,
-    _strict: bool,
-    color: Color,
-    places: &[u32],
-    index: usize,
+    line: &CodingLine<'_>,
+    stroke: Stroke,
     ticks: &mut Ticks,
-) -> Option<(u32, usize, Color)>
-    requires mode { read_code mode_codes (here hand.old.at) ≡ Ok (Mode.Horizontal, here (moved 3 hand.old.at)) }
-    requires room { (32 ≤ hand.old.left) × (vec_len row.old + hand.old.left ≤ vec_capacity row.old) }
-    requires open { painted < columns }
-    requires ended { AreEnded columns places.now }
-    requires stroke { IsStroke columns (changes_in places.now) painted index color row.old.items }
-    ensures drawn { IfSome result (λ reached. GoesOn2d _strict columns (row_in columns places.now)
-        (pen_at painted row.old.items color hand.old.at)
-        (pen_at reached.0 row.new.items reached.2 hand.new.at) ticks.old ticks.new (index - 1) (reached.1 - 1)) }
-    ensures stroke { IfSome result (λ reached. IsStroke columns (changes_in places.now) reached.0 reached.1 reached.2 row.new.items) }
-    ensures same_bits { hand.new.at.bits ≡ hand.old.at.bits }
-    ensures onward { IfSome result (λ reached. (hand.old.at.place < hand.new.at.place)
-        × (vec_len row.new + hand.new.left ≤ vec_capacity row.new)) }
+) -> Option<Stroke>
+    requires mode { IsNextMode Mode.Horizontal 3 hand.old }
+    requires enough { 32 ≤ hand.old.left }
+    requires can { CanDraw line.now stroke hand.old row.old }
+    ensures drawn { IfSome result (λ next. DrawsMode line.now stroke hand.old row.old ticks.old next hand.new row.new ticks.new) }
     ensures left { IfNone result ((hand.new ≡ hand.old) × (row.new ≡ row.old) × (ticks.new ≡ ticks.old)) }
-    ensures space { (vec_capacity row.new ≡ vec_capacity row.old) × (vec_len row.old ≤ vec_len row.new) }
+    ensures kept { KeepsRoom hand.old row.old hand.new row.new }
 {
-    let runs = pair_at_hand(hand, 3, color)?;
-    if runs.first + runs.second >= columns - painted {
+    let runs = pair_at_hand(hand, 3, stroke.color)?;
+    if runs.first + runs.second >= line.columns - stroke.painted {
         return None;
     }
-    let place = painted + runs.first + runs.second;
+    let place = stroke.painted + runs.first + runs.second;
     hand.pass(3);
     hand.pass(runs.width);
     ticks.tick();
     tick_times(ticks, runs.words);
-    turn_at(row, painted + runs.first);
+    turn_at(row, stroke.painted + runs.first);
     turn_at(row, place);
-    let next = seek_b1(places, place, columns, index, ticks);
-    Some((place, next, color))
+    let index = seek_b1(line, place, stroke.index, ticks);
+    Some(Stroke {
+        painted: place,
+        index,
+        ..stroke
+    })
 }
 
 /// Draws two runs of one or two code words each. Returns `None`, and draws nothing, if they aren't of the usual kind.
@@ -436,41 +435,25 @@ fn draw_short_runs(
 fn draw_runs_of_words(
     hand: &mut BitsAtHand<'_>,
     row: &mut Vec<u32>,
-    painted: u32,
-    columns: u32,
-    _strict: bool,
-    color: Color,
-    places: &[u32],
-    index: usize,
-    own: &[u16],
-    other: &[u16],
+    line: &CodingLine<'_>,
+    stroke: Stroke,
     ticks: &mut Ticks,
-) -> Option<(u32, usize, Color)>
-    requires mode { read_code mode_codes (here hand.old.at) ≡ Ok (Mode.Horizontal, here (moved 3 hand.old.at)) }
-    requires room { (32 ≤ hand.old.left) × (vec_len row.old + hand.old.left ≤ vec_capacity row.old) }
-    requires own { AreEntries (codes_of color) own.now }
-    requires other { AreEntries (codes_of (opposite color)) other.now }
-    requires open { painted < columns }
-    requires ended { AreEnded columns places.now }
-    requires stroke { IsStroke columns (changes_in places.now) painted index color row.old.items }
-    ensures drawn { IfSome result (λ reached. GoesOn2d _strict columns (row_in columns places.now)
-        (pen_at painted row.old.items color hand.old.at)
-        (pen_at reached.0 row.new.items reached.2 hand.new.at) ticks.old ticks.new (index - 1) (reached.1 - 1)) }
-    ensures stroke { IfSome result (λ reached. IsStroke columns (changes_in places.now) reached.0 reached.1 reached.2 row.new.items) }
-    ensures same_bits { hand.new.at.bits ≡ hand.old.at.bits }
-    ensures onward { IfSome result (λ reached. (hand.old.at.place < hand.new.at.place)
-        × (vec_len row.new + hand.new.left ≤ vec_capacity row.new)) }
-    ensures left { IfNone result ((hand.new.at ≡ hand.old.at) × (row.new.items ≡ row.old.items) × (ticks.new ≡ ticks.old)) }
-    ensures space { (vec_capacity row.new ≡ vec_capacity row.old) × (vec_len row.old ≤ vec_len row.new) }
+) -> Option<Stroke>
+    requires mode { IsNextMode Mode.Horizontal 3 hand.old }
+    requires enough { 32 ≤ hand.old.left }
+    requires can { CanDraw line.now stroke hand.old row.old }
+    ensures drawn { IfSome result (λ next. DrawsMode line.now stroke hand.old row.old ticks.old next hand.new row.new ticks.new) }
+    ensures left { IfNone result (DrawsNothing hand.old row.old ticks.old hand.new row.new ticks.new) }
+    ensures kept { KeepsRoom hand.old row.old hand.new row.new }
 {
-    let runs = runs_at_hand(hand, row, color, own, other)?;
+    let runs = runs_at_hand(hand, row, line, stroke.color)?;
     if !is_next(row, runs.first) {
         return None;
     }
     if runs.second == 0 {
         return None;
     }
-    let room = columns - painted;
+    let room = line.columns - stroke.painted;
     if runs.first + runs.second > room {
         return None;
     }
@@ -478,14 +461,21 @@ fn draw_runs_of_words(
     hand.pass(runs.width);
     ticks.tick();
     tick_times(ticks, runs.words);
-    turn_at(row, painted + runs.first);
+    turn_at(row, stroke.painted + runs.first);
     if runs.first + runs.second == room {
-        return Some((columns, index, color));
+        return Some(Stroke {
+            painted: line.columns,
+            ..stroke
+        });
     }
-    let place = painted + runs.first + runs.second;
+    let place = stroke.painted + runs.first + runs.second;
     turn_at(row, place);
-    let next = seek_b1(places, place, columns, index, ticks);
-    Some((place, next, color))
+    let index = seek_b1(line, place, stroke.index, ticks);
+    Some(Stroke {
+        painted: place,
+        index,
+        ..stroke
+    })
 }
 
 /// Draws two runs. Returns `None`, and draws nothing, if they aren't of the usual kind.
@@ -493,39 +483,19 @@ fn draw_runs_of_words(
 fn draw_horizontal(
     hand: &mut BitsAtHand<'_>,
     row: &mut Vec<u32>,
-    painted: u32,
-    columns: u32,
-    _strict: bool,
-    color: Color,
-    places: &[u32],
-    index: usize,
-    own: &[u16],
-    other: &[u16],
+    line: &CodingLine<'_>,
+    stroke: Stroke,
     ticks: &mut Ticks,
-) -> Option<(u32, usize, Color)>
-    requires mode { read_code mode_codes (here hand.old.at) ≡ Ok (Mode.Horizontal, here (moved 3 hand.old.at)) }
-    requires room { (32 ≤ hand.old.left) × (vec_len row.old + hand.old.left ≤ vec_capacity row.old) }
-    requires own { AreEntries (codes_of color) own.now }
-    requires other { AreEntries (codes_of (opposite color)) other.now }
-    requires open { painted < columns }
-    requires ended { AreEnded columns places.now }
-    requires stroke { IsStroke columns (changes_in places.now) painted index color row.old.items }
-    ensures drawn { IfSome result (λ reached. GoesOn2d _strict columns (row_in columns places.now)
-        (pen_at painted row.old.items color hand.old.at)
-        (pen_at reached.0 row.new.items reached.2 hand.new.at) ticks.old ticks.new (index - 1) (reached.1 - 1)) }
-    ensures stroke { IfSome result (λ reached. IsStroke columns (changes_in places.now) reached.0 reached.1 reached.2 row.new.items) }
-    ensures same_bits { hand.new.at.bits ≡ hand.old.at.bits }
-    ensures onward { IfSome result (λ reached. (hand.old.at.place < hand.new.at.place)
-        × (vec_len row.new + hand.new.left ≤ vec_capacity row.new)) }
-    ensures left { IfNone result ((hand.new.at ≡ hand.old.at) × (row.new.items ≡ row.old.items) × (ticks.new ≡ ticks.old)) }
-    ensures space { (vec_capacity row.new ≡ vec_capacity row.old) × (vec_len row.old ≤ vec_len row.new) }
+) -> Option<Stroke>
+    requires mode { IsNextMode Mode.Horizontal 3 hand.old }
+    requires enough { 32 ≤ hand.old.left }
+    requires can { CanDraw line.now stroke hand.old row.old }
+    ensures drawn { IfSome result (λ next. DrawsMode line.now stroke hand.old row.old ticks.old next hand.new row.new ticks.new) }
+    ensures left { IfNone result (DrawsNothing hand.old row.old ticks.old hand.new row.new ticks.new) }
+    ensures kept { KeepsRoom hand.old row.old hand.new row.new }
 {
-    match draw_short_runs(
-        hand, row, painted, columns, _strict, color, places, index, ticks,
-    ) {
-        None => draw_runs_of_words(
-            hand, row, painted, columns, _strict, color, places, index, own, other, ticks,
-        ),
+    match draw_short_runs(hand, row, line, stroke, ticks) {
+        None => draw_runs_of_words(hand, row, line, stroke, ticks),
         Some(reached) => Some(reached),
     }
 }
@@ -535,63 +505,71 @@ fn draw_horizontal(
 fn draw_mode_at_hand(
     hand: &mut BitsAtHand<'_>,
     row: &mut Vec<u32>,
-    painted: u32,
-    columns: u32,
-    strict: bool,
-    color: Color,
-    places: &[u32],
-    index: usize,
-    own: &[u16],
-    other: &[u16],
+    line: &CodingLine<'_>,
+    stroke: Stroke,
     ticks: &mut Ticks,
-) -> Option<(u32, usize, Color)>
-    requires room { (32 ≤ hand.old.left) × (vec_len row.old + hand.old.left ≤ vec_capacity row.old) }
-    requires own { AreEntries (codes_of color) own.now }
-    requires other { AreEntries (codes_of (opposite color)) other.now }
-    requires open { painted < columns }
-    requires ended { AreEnded columns places.now }
-    requires stroke { IsStroke columns (changes_in places.now) painted index color row.old.items }
-    ensures drawn { IfSome result (λ reached. GoesOn2d strict columns (row_in columns places.now)
-        (pen_at painted row.old.items color hand.old.at)
-        (pen_at reached.0 row.new.items reached.2 hand.new.at) ticks.old ticks.new (index - 1) (reached.1 - 1)) }
-    ensures stroke { IfSome result (λ reached. IsStroke columns (changes_in places.now) reached.0 reached.1 reached.2 row.new.items) }
-    ensures same_bits { hand.new.at.bits ≡ hand.old.at.bits }
-    ensures onward { IfSome result (λ reached. (hand.old.at.place < hand.new.at.place)
-        × (vec_len row.new + hand.new.left ≤ vec_capacity row.new)) }
+) -> Option<Stroke>
+    requires enough { 32 ≤ hand.old.left }
+    requires can { CanDraw line.now stroke hand.old row.old }
+    ensures drawn { IfSome result (λ next. DrawsMode line.now stroke hand.old row.old ticks.old next hand.new row.new ticks.new) }
     ensures there { IfSome result (λ reached. hand.old.at.place < length hand.old.at.bits) }
-    ensures left { IfNone result ((hand.new.at ≡ hand.old.at) × (row.new.items ≡ row.old.items) × (ticks.new ≡ ticks.old)) }
-    ensures space { (vec_capacity row.new ≡ vec_capacity row.old) × (vec_len row.old ≤ vec_len row.new) }
+    ensures left { IfNone result (DrawsNothing hand.old row.old ticks.old hand.new row.new ticks.new) }
+    ensures kept { KeepsRoom hand.old row.old hand.new row.new }
 {
     let (mode, width) = mode_at_hand(hand);
     match mode? {
-        Mode::Vertical(0) => draw_v0(
-            hand, row, painted, columns, strict, color, places, index, ticks,
-        ),
+        Mode::Vertical(0) => Some(draw_v0(hand, row, line, stroke, ticks)),
         Mode::Vertical(1) => draw_right(
-            hand, row, painted, columns, strict, color, places, index, 1, width, ticks,
+            hand,
+            row,
+            line,
+            stroke,
+            VerticalMode { distance: 1, width },
+            ticks,
         ),
         Mode::Vertical(2) => draw_right(
-            hand, row, painted, columns, strict, color, places, index, 2, width, ticks,
+            hand,
+            row,
+            line,
+            stroke,
+            VerticalMode { distance: 2, width },
+            ticks,
         ),
         Mode::Vertical(3) => draw_right(
-            hand, row, painted, columns, strict, color, places, index, 3, width, ticks,
+            hand,
+            row,
+            line,
+            stroke,
+            VerticalMode { distance: 3, width },
+            ticks,
         ),
         Mode::Vertical(-1) => draw_left(
-            hand, row, painted, columns, strict, color, places, index, 1, width, ticks,
+            hand,
+            row,
+            line,
+            stroke,
+            VerticalMode { distance: 1, width },
+            ticks,
         ),
         Mode::Vertical(-2) => draw_left(
-            hand, row, painted, columns, strict, color, places, index, 2, width, ticks,
+            hand,
+            row,
+            line,
+            stroke,
+            VerticalMode { distance: 2, width },
+            ticks,
         ),
         Mode::Vertical(-3) => draw_left(
-            hand, row, painted, columns, strict, color, places, index, 3, width, ticks,
+            hand,
+            row,
+            line,
+            stroke,
+            VerticalMode { distance: 3, width },
+            ticks,
         ),
         Mode::Vertical(_) => None,
-        Mode::Pass => draw_pass(
-            hand, row, painted, columns, strict, color, places, index, ticks,
-        ),
-        Mode::Horizontal => draw_horizontal(
-            hand, row, painted, columns, strict, color, places, index, own, other, ticks,
-        ),
+        Mode::Pass => Some(draw_pass(hand, row, line, stroke, ticks)),
+        Mode::Horizontal => draw_horizontal(hand, row, line, stroke, ticks),
     }
 }
 
@@ -613,129 +591,88 @@ fn is_turned(color: Color, next: Color) -> bool
     }
 }
 
-/// Draws modes in one colour while they are of the usual kind, up to one that changes the colour. Returns how far the row
-/// reaches then, the index of b1, the colour, and whether that is all.
+/// Draws modes in one colour while they are of the usual kind, up to one that changes the colour. Returns the stroke that is
+/// reached then, and whether that is all.
 #[inline(always)]
 fn draw_in_color(
     hand: &mut BitsAtHand<'_>,
     row: &mut Vec<u32>,
-    painted: u32,
-    columns: u32,
-    strict: bool,
-    color: Color,
-    places: &[u32],
-    index: usize,
-    own: &[u16],
-    other: &[u16],
+    line: &CodingLine<'_>,
+    stroke: Stroke,
     ticks: &mut Ticks,
-) -> (u32, usize, Color, bool)
-    requires room { vec_len row.old + hand.old.left ≤ vec_capacity row.old }
-    requires own { AreEntries (codes_of color) own.now }
-    requires other { AreEntries (codes_of (opposite color)) other.now }
-    requires open { painted < columns }
-    requires ended { AreEnded columns places.now }
-    requires stroke { IsStroke columns (changes_in places.now) painted index color row.old.items }
-    ensures drawn { GoesOn2d strict columns (row_in columns places.now) (pen_at painted row.old.items color hand.old.at)
-        (pen_at result.0 row.new.items result.2 hand.new.at) ticks.old ticks.new (index - 1) (result.1 - 1) }
-    ensures stroke { IsStroke columns (changes_in places.now) result.0 result.1 result.2 row.new.items }
+) -> (Stroke, bool)
+    requires can { CanDraw line.now stroke hand.old row.old }
+    ensures drawn { Draws line.now stroke hand.old row.old ticks.old result.0 hand.new row.new ticks.new }
     ensures same_bits { hand.new.at.bits ≡ hand.old.at.bits }
     ensures onward { hand.old.at.place ≤ hand.new.at.place }
-    ensures turned { result.3 ≡ false → (result.0 < columns) × (result.2 ≡ opposite color)
-        × (hand.old.at.place < hand.new.at.place) × (hand.old.at.place < length hand.old.at.bits)
-        × (vec_len row.new + hand.new.left ≤ vec_capacity row.new) }
+    ensures turned { result.1 ≡ false → (result.0.color ≡ opposite stroke.color) × (CanDraw line.now result.0 hand.new row.new)
+        × (hand.old.at.place < hand.new.at.place) × (hand.old.at.place < length hand.old.at.bits) }
     ensures longer { vec_len row.old ≤ vec_len row.new }
     ensures space { vec_capacity row.new ≤ max (vec_capacity row.old) (room_for (vec_len row.new)) }
 {
-    let mut place = painted;
-    let mut at = index;
+    let mut now = stroke;
     'modes: loop {
         if !has_mode(hand, row) {
-            return (place, at, color, true);
+            return (now, true);
         }
-        match draw_mode_at_hand(
-            hand, row, place, columns, strict, color, places, at, own, other, ticks,
-        ) {
-            None => return (place, at, color, true),
-            Some((next, later, turned)) => {
-                if is_turned(color, turned) {
-                    return (next, later, turned, next == columns);
+        match draw_mode_at_hand(hand, row, line, now, ticks) {
+            None => return (now, true),
+            Some(next) => {
+                if is_turned(stroke.color, next.color) {
+                    return (next, next.painted == line.columns);
                 }
-                if next == columns {
-                    return (next, later, turned, true);
+                if next.painted == line.columns {
+                    return (next, true);
                 }
-                place = next;
-                at = later;
+                // The colour is the same, and a value that the compiler knows.
+                now = Stroke {
+                    color: stroke.color,
+                    ..next
+                };
             }
         }
     }
 }
 
-/// Draws modes from a line's start on, while they are of the usual kind. Returns how far the row reaches then, the index of
-/// b1 and the colour.
+/// Draws modes from a line's start on, while they are of the usual kind. Returns the stroke that is reached then.
 #[inline(always)]
 pub(crate) fn draw_modes(
     hand: &mut BitsAtHand<'_>,
     row: &mut Vec<u32>,
-    columns: u32,
-    strict: bool,
-    places: &[u32],
-    white: &[u16],
-    black: &[u16],
+    line: &CodingLine<'_>,
     ticks: &mut Ticks,
-) -> (u32, usize, Color)
-    requires room { vec_len row.old + hand.old.left ≤ vec_capacity row.old }
-    requires some { 0 < columns }
-    requires begins { row.old.items ≡ [] }
-    requires ended { AreEnded columns places.now }
-    requires white { AreEntries (codes_of Color.White) white.now }
-    requires black { AreEntries (codes_of Color.Black) black.now }
-    ensures drawn { GoesOn2d strict columns (row_in columns places.now) (pen_at 0 row.old.items Color.White hand.old.at)
-        (pen_at result.0 row.new.items result.2 hand.new.at) ticks.old ticks.new 0 (result.1 - 1) }
-    ensures stroke { IsStroke columns (changes_in places.now) result.0 result.1 result.2 row.new.items }
+) -> Stroke
+    requires can { CanDraw line.now line_start hand.old row.old }
+    ensures drawn { Draws line.now line_start hand.old row.old ticks.old result hand.new row.new ticks.new }
     ensures same_bits { hand.new.at.bits ≡ hand.old.at.bits }
     ensures space { vec_capacity row.new ≤ max (vec_capacity row.old) (room_for (vec_len row.new)) }
 {
     // A copy of the window, so that its fields are values of this call.
     let mut bits = hand.copy();
-    let mut place: u32 = 0;
-    let mut at: usize = 0;
+    let mut white = Stroke {
+        painted: 0,
+        index: 0,
+        color: Color::White,
+    };
     'turns: loop {
-        let (next, later, color, is_over) = draw_in_color(
-            &mut bits,
-            row,
-            place,
-            columns,
-            strict,
-            Color::White,
-            places,
-            at,
-            white,
-            black,
-            ticks,
-        );
+        let (next, is_over) = draw_in_color(&mut bits, row, line, white, ticks);
         if is_over {
             *hand = bits;
-            return (next, later, color);
+            return next;
         }
-        let (next, later, color, is_over) = draw_in_color(
-            &mut bits,
-            row,
-            next,
-            columns,
-            strict,
-            Color::Black,
-            places,
-            later,
-            black,
-            white,
-            ticks,
-        );
+        let black = Stroke {
+            color: Color::Black,
+            ..next
+        };
+        let (next, is_over) = draw_in_color(&mut bits, row, line, black, ticks);
         if is_over {
             *hand = bits;
-            return (next, later, color);
+            return next;
         }
-        place = next;
-        at = later;
+        white = Stroke {
+            color: Color::White,
+            ..next
+        };
     }
 }
 

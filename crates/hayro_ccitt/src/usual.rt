@@ -6,11 +6,12 @@ ghost use Rattle.std.specs.Prelude.{IfNone};
 ghost use Rattle.std.specs.Prelude.{min, true, false, length, ◌++◌, ◌∷◌, []};
 ghost use Rattle.hayro_ccitt.specs.Bits.{here};
 ghost use Rattle.hayro_ccitt.specs.LookUps.{AreEntries};
+ghost use Rattle.hayro_ccitt.specs.DrawnModes.{DrawsNothing};
 ghost use Rattle.hayro_ccitt.specs.Rows.{AreChanges, pixels, opposite};
 ghost use Rattle.hayro_ccitt.specs.UsualModes.{AreEnded, changes_in, IsNear, IsB1};
 ghost use Rattle.hayro_ccitt.specs.Runs.{codes_of};
 ghost use Rattle.hayro_ccitt.specs.UsualRuns.{IsWordHere, IsRunHere, IsShort, IsOpen, IsReached};
-ghost use Rattle.hayro_ccitt.specs.TwoRunsHere.{AreTwoRunsHere, CanFollow};
+ghost use Rattle.hayro_ccitt.specs.TwoRunsHere.{AreTwoRunsHere, CanFollow, DrawsRuns, MovesOn};
 ghost use Rattle.hayro_ccitt.specs.UsualRuns.{GoesOn, pen_at};
 ghost use Rattle.hayro_ccitt.specs.Window.{moved};
 
@@ -189,9 +190,7 @@ fn draw_both(
     requires within { runs.width ≤ hand.old.left }
     requires follow { CanFollow settings painted row.old.items runs }
     requires room { vec_len row.old + 2 ≤ vec_capacity row.old }
-    ensures drawn { GoesOn settings.strict settings.columns (pen_at painted row.old.items Color.White hand.old.at)
-        (pen_at result.0 row.new.items result.1 hand.new.at) ticks.old ticks.new }
-    ensures taken { IsReached settings.columns result.0 result.1 row.new.items }
+    ensures drawn { DrawsRuns settings painted hand.old row.old ticks.old result.0 result.1 hand.new row.new ticks.new }
     ensures place { result.0 ≡ painted + runs.first + min runs.second (settings.columns - (painted + runs.first)) }
     ensures moved { hand.new.at ≡ moved runs.width hand.old.at }
     ensures space { vec_capacity row.new ≡ vec_capacity row.old }
@@ -223,10 +222,8 @@ fn draw_pair(
         (pen_at place row.new.items Color.White hand.new.at) ticks.old ticks.new) }
     ensures open { IfSome result (λ place. IsOpen settings.columns place row.new.items) }
     ensures forward { IfSome result (λ place. painted < place) }
-    ensures same_bits { hand.new.at.bits ≡ hand.old.at.bits }
-    ensures onward { hand.old.at.place ≤ hand.new.at.place }
-    ensures left { IfNone result ((hand.new.at ≡ hand.old.at) × (row.new.items ≡ row.old.items) × (ticks.new ≡ ticks.old)) }
-    ensures space { vec_capacity row.new ≡ vec_capacity row.old }
+    ensures left { IfNone result (DrawsNothing hand.old row.old ticks.old hand.new row.new ticks.new) }
+    ensures kept { MovesOn hand.old row.old hand.new row.new }
 {
     if !has_pair(hand) {
         return None;
@@ -255,15 +252,11 @@ pub(crate) fn draw_two_runs(
 ) -> Option<(u32, Color)>
     requires within { 26 ≤ hand.old.left }
     requires open { IsOpen settings.columns painted row.old.items }
-    ensures drawn { IfSome result (λ reached. GoesOn settings.strict settings.columns
-        (pen_at painted row.old.items Color.White hand.old.at)
-        (pen_at reached.0 row.new.items reached.1 hand.new.at) ticks.old ticks.new) }
-    ensures taken { IfSome result (λ reached. IsReached settings.columns reached.0 reached.1 row.new.items) }
+    ensures drawn { IfSome result (λ reached. DrawsRuns settings painted hand.old row.old ticks.old reached.0 reached.1
+        hand.new row.new ticks.new) }
     ensures forward { IfSome result (λ reached. painted < reached.0) }
-    ensures same_bits { hand.new.at.bits ≡ hand.old.at.bits }
-    ensures onward { hand.old.at.place ≤ hand.new.at.place }
-    ensures left { IfNone result ((hand.new.at ≡ hand.old.at) × (row.new.items ≡ row.old.items) × (ticks.new ≡ ticks.old)) }
-    ensures space { vec_capacity row.new ≡ vec_capacity row.old }
+    ensures left { IfNone result (DrawsNothing hand.old row.old ticks.old hand.new row.new ticks.new) }
+    ensures kept { MovesOn hand.old row.old hand.new row.new }
 {
     let (first, width, words) = run_at_hand(hand, 0, Color::White, tables.lookup(Color::White))?;
     let room = settings.columns - painted;
@@ -315,13 +308,9 @@ fn draw_pairs(
     ticks: &mut Ticks,
 ) -> (u32, Color)
     requires open { IsOpen settings.columns painted row.old.items }
-    ensures drawn { GoesOn settings.strict settings.columns (pen_at painted row.old.items Color.White hand.old.at)
-        (pen_at result.0 row.new.items result.1 hand.new.at) ticks.old ticks.new }
-    ensures reached { IsReached settings.columns result.0 result.1 row.new.items }
+    ensures drawn { DrawsRuns settings painted hand.old row.old ticks.old result.0 result.1 hand.new row.new ticks.new }
     ensures forward { painted ≤ result.0 }
-    ensures same_bits { hand.new.at.bits ≡ hand.old.at.bits }
-    ensures onward { hand.old.at.place ≤ hand.new.at.place }
-    ensures space { vec_capacity row.new ≡ vec_capacity row.old }
+    ensures kept { MovesOn hand.old row.old hand.new row.new }
 {
     let mut place = painted;
     'runs: loop {
@@ -355,13 +344,9 @@ pub(crate) fn draw_runs(
     ticks: &mut Ticks,
 ) -> (u32, Color)
     requires open { IsOpen settings.columns painted row.old.items }
-    ensures drawn { GoesOn settings.strict settings.columns (pen_at painted row.old.items Color.White hand.old.at)
-        (pen_at result.0 row.new.items result.1 hand.new.at) ticks.old ticks.new }
-    ensures reached { IsReached settings.columns result.0 result.1 row.new.items }
+    ensures drawn { DrawsRuns settings painted hand.old row.old ticks.old result.0 result.1 hand.new row.new ticks.new }
     ensures forward { painted ≤ result.0 }
-    ensures same_bits { hand.new.at.bits ≡ hand.old.at.bits }
-    ensures onward { hand.old.at.place ≤ hand.new.at.place }
-    ensures space { vec_capacity row.new ≡ vec_capacity row.old }
+    ensures kept { MovesOn hand.old row.old hand.new row.new }
 {
     let mut own = Vec::new(*row.allocator());
     mem::swap(row, &mut own);
@@ -435,72 +420,4 @@ pub(crate) fn lay_down(changes: &mut Vec<u32>, painted: u32)
         return;
     }
     changes.push_reserved(last);
-}
-
-/// Returns the change at an index, or the row's end behind the last one.
-#[inline(always)]
-pub(crate) fn change_at(places: &[u32], index: usize, _columns: u32) -> u32
-    requires ended { AreEnded _columns places.now }
-    requires near { index ≤ length (changes_in places.now) + 1 }
-    ensures { result ≡ get_or (changes_in places.now) index _columns }
-{
-    places[index]
-}
-
-/// Returns the index of b1, going up in steps of two from an index near it. Each change that is looked at is a tick.
-#[inline(always)]
-pub(crate) fn seek_b1(
-    places: &[u32],
-    painted: u32,
-    columns: u32,
-    start: usize,
-    ticks: &mut Ticks,
-) -> usize
-    requires ended { AreEnded columns places.now }
-    requires some { 0 < painted }
-    requires inside { painted < columns }
-    requires within { start ≤ length (changes_in places.now) + 1 }
-    requires near { IsNear columns (changes_in places.now) painted start }
-    ensures near { IsNear columns (changes_in places.now) painted result }
-    ensures right { painted < get_or (changes_in places.now) result columns }
-    ensures forward { start ≤ result }
-    ensures parity { result % 2 ≡ start % 2 }
-    ensures work { ticks.new + ticks.new + start ≡ ticks.old + ticks.old + result + 2 }
-{
-    let mut index = start;
-    ticks.tick();
-    'changes: while change_at(places, index, columns) <= painted {
-        ticks.tick();
-        index += 2;
-    }
-    index
-}
-
-/// Returns the index of b1 after a mode that changes the colour left of b1, at a position right of a0.
-#[inline(always)]
-pub(crate) fn b1_after_left(
-    places: &[u32],
-    _painted: u32,
-    columns: u32,
-    _color: Color,
-    index: usize,
-    place: u32,
-) -> usize
-    requires ended { AreEnded columns places.now }
-    requires within { index ≤ length (changes_in places.now) + 1 }
-    requires at { IsB1 columns (changes_in places.now) _painted index _color }
-    requires right { _painted < place }
-    requires left { place < get_or (changes_in places.now) index columns }
-    ensures at { IsB1 columns (changes_in places.now) place result (opposite _color) }
-    ensures near { index ≤ result + 1 }
-{
-    if index == 0 {
-        return 1;
-    }
-    let before = index - 1;
-    if change_at(places, before, columns) > place {
-        before
-    } else {
-        before + 2
-    }
 }

@@ -8,7 +8,9 @@ use Rattle.hayro_ccitt.proofs.Names.{Horizontal, Vertical, Step, pen_of, words_f
 use Rattle.hayro_ccitt.proofs.Names.{Context, ArePassed, redrawn, Pen, start, draw_run, draw_mode, turn_behind, words_behind}
 use Rattle.hayro_ccitt.proofs.Names.{Turn, Row, AreChanges, pixels, is_black, opposite, paint, right_of, b1, b2, changes}
 use Rattle.hayro_ccitt.proofs.Names.{TurnsFrom, IsNear, IsB1, GoesOn2d, IsStroke, TwoRuns, AreTwoRunsHere, IsRunHere, pen_at}
-use Rattle.hayro_ccitt.proofs.Names.{moved}
+use Rattle.hayro_ccitt.proofs.Names.{moved, row_in, changes_in, AtHand, CanDraw, CodingLine, Stroke, Draws}
+use Rattle.std.specs.Prelude.{Vec, vec_len, vec_capacity}
+use Rattle.hayro_ccitt.specs.DrawnModes.{DrawsMode, IsAtStroke, IsNextMode, pen_here}
 use Rattle.hayro_ccitt.proofs.{PixelRows.ReferencePlaces.end_within, Readings.Repeated.after_turn}
 use Rattle.hayro_ccitt.proofs.DrawingLines.CountedLines.{IsCountedSoFar, found_2d_from, found_after, found_2d_on, words_run}
 use Rattle.hayro_ccitt.proofs.DrawingLines.Drawings.{drawn_by, step_2d}
@@ -31,6 +33,27 @@ twice_2d first second = record {
   at_most = omega (arith, first.at_most, second.at_most);
   none = λ e. (let f = first.none e in let s = second.none f.1 in (s.0 ∙ f.0, s.1));
 }
+
+-- from one stroke to another, and on from there
+pub draws_on : {A : Type 0} {line : CodingLine} {a b c : Stroke} {hand hand2 same rest : AtHand} {row row2 even longer : Vec ℕ A}
+    {m n o : ℕ} → Draws line a hand row m b hand2 row2 n → same.at ≡ hand2.at → even.items ≡ row2.items
+    → Draws line b same even n c rest longer o → Draws line a hand row m c rest longer o
+draws_on first at items second =
+    record { drawn = twice_2d first.drawn (rw (at, items) at second.drawn); reached = second.reached }
+
+-- what a mode draws, from its parts
+pub draws_mode : {A : Type 0} {line : CodingLine} {stroke next : Stroke} {hand rest : AtHand} {row longer : Vec ℕ A}
+    {ticks now : ℕ} → GoesOn2d line.strict line.columns (row_in line.columns line.places.now) (pen_here stroke hand row)
+    (pen_here next rest longer) ticks now (stroke.index - 1) (next.index - 1) → IsAtStroke line next longer
+    → hand.at.place < rest.at.place → vec_len longer + rest.left ≤ vec_capacity longer
+    → DrawsMode line stroke hand row ticks next rest longer now
+draws_mode drawn reached onward room =
+    record { drawn = record { drawn = drawn; reached = reached }; onward = onward; room = room }
+
+-- a stroke with its colour by another name
+pub recolored : {color : Color} (stroke : Stroke) (P : Stroke → Type 0) → stroke.color ≡ color → P stroke
+    → P (record stroke { color = color })
+recolored stroke P e p = subst (λ (c : Color). P (record stroke { color = c })) e p
 
 -- a mode that is read and drawn
 mode_on : {strict : Bool} {columns : ℕ} {reference : Row} (pen next : Pen) {mode : Mode} {rest : Bits} (words : ℕ)
@@ -131,7 +154,7 @@ module _ {columns : ℕ} {places : List ℕ} {painted index : ℕ} {color : Colo
 
   -- a vertical mode
   pub vertical_on : {strict : Bool} (at : BitsAt)
-      {place : ℕ} (later : ℕ) {k : ℤ} (width : ℕ) {ticks now : ℕ} → columns ≤ 4294967295 → read_code mode_codes (here at)
+      {place : ℕ} (later : ℕ) {k : ℤ} (width : ℕ) {ticks now : ℕ} → place ≤ 4294967295 → read_code mode_codes (here at)
       ≡ Ok (Vertical k, here (moved width at)) → pos (get_or places index columns) +ℤ k ≡ pos place → painted ≤ place → place
       ≤ columns → ticks + 1 ≤ now → now + (index - 1) ≤ ticks + 4 + (later - 1) → GoesOn2d strict columns (pixels columns places)
       (pen_at painted row color at) (pen_at place row (opposite color) (moved width at)) ticks now (index - 1) (later - 1)
@@ -365,6 +388,18 @@ module _ {columns : ℕ} {places : List ℕ} {painted index : ℕ} {color : Colo
         whole = λ le. absurd (omega (arith, le, inside));
       })
 
+-- a vertical mode of a line
+pub draws_vertical : {A : Type 0} {line : CodingLine} {stroke next : Stroke} {hand rest : AtHand} {row longer : Vec ℕ A} {k : ℤ}
+    {width ticks now : ℕ} → CanDraw line stroke hand row → next.painted ≤ 4294967295 → IsNextMode (Vertical k) width hand
+    → rest.at ≡ moved width hand.at → next.color ≡ opposite stroke.color → pixels next.painted longer.items
+    ≡ pixels next.painted row.items → pos (get_or (changes_in line.places.now) stroke.index line.columns) +ℤ k ≡ pos next.painted
+    → stroke.painted ≤ next.painted → ticks + 1 ≤ now → now + (stroke.index - 1) ≤ ticks + 4 + (next.index - 1)
+    → IsAtStroke line next longer → vec_len longer + rest.left ≤ vec_capacity longer
+    → DrawsMode line stroke hand row ticks next rest longer now
+draws_vertical {next = next} {hand = hand} {width = width} can fits mode moved turned same named forward least most reached room =
+    draws_mode (rw (moved, turned, same) (vertical_on can.ended.lawful can.inside can.reached hand.at next.index width fits
+    mode.read named forward reached.within least most)) reached (rw moved (omega (arith, mode.some))) room
+
 pub named_right : (b1 place more : ℕ) → place ≡ b1 + more → pos b1 +ℤ pos more ≡ pos place
 named_right b1 place more e = ap (λ (n : ℕ). pos n) (sym e)
 
@@ -372,6 +407,16 @@ pub named_left : (b1 place less : ℕ) → place + less ≡ b1 → 0 < less → 
 named_left b1 place less e some = omega (arith, ints, e, some)
 
 -- ---- A line's start, and what is left when drawing by usual modes ends.
+pub start_stroke : (columns : ℕ) (places : List ℕ) → AreChanges columns places → IsStroke columns places 0 0 White []
+start_stroke columns places ascend = record {
+  within = omega arith;
+  near = omega arith;
+  lawful = tt;
+  colored = λ lt. refl;
+  at = λ lt. starts_b1 columns places ascend;
+  whole = λ le. tt;
+}
+
 pub empty_row : (painted : ℕ) (row : List ℕ) → AreChanges painted row → pixels painted row ≡ [] → row ≡ []
 empty_row painted [] lawful none = refl
 empty_row painted (p ∷ row) lawful none = absurd (omega (arith, lawful.1, length-pixels painted (p ∷ row) lawful, ap length none))
@@ -413,19 +458,9 @@ begun_2d before new at next goes held same within = (
 )
 
 -- a white line under a white row: V0 alone
-start_stroke : (columns : ℕ) → IsStroke columns [] 0 0 White []
-start_stroke columns = record {
-  within = omega arith;
-  near = omega arith;
-  lawful = tt;
-  colored = λ lt. refl;
-  at = λ lt. starts_b1 columns [] tt;
-  whole = λ le. tt;
-}
-
 pub white_line : (strict : Bool) (columns : ℕ) (at : BitsAt) (ticks now : ℕ) → 0 < columns
     → columns ≤ 4294967295 → read_code mode_codes (here at) ≡ Ok (Vertical (pos 0), here (moved 1 at)) → now ≡ ticks + 2
     → GoesOn2d strict columns (pixels columns []) (pen_at 0 [] White at) (pen_at columns [] Black (moved 1 at)) ticks now 0 0
 white_line strict columns at ticks now some fits reads counts =
-    vertical_on tt some (start_stroke columns) at 0 1 fits reads (named_right columns columns 0 (omega arith)) (omega arith)
+    vertical_on tt some (start_stroke columns [] tt) at 0 1 fits reads (named_right columns columns 0 (omega arith)) (omega arith)
     (omega arith) (omega (arith, counts)) (omega (arith, counts))

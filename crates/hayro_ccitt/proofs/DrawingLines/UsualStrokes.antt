@@ -180,6 +180,14 @@ reached_open columns place color row reached other =
     let even = reached.even inside in
     (record { inside = inside; lawful = reached.lawful; even = even.0 }, even.1)
 
+pub open_reached : (columns place : ℕ) (row : List ℕ) → IsOpen columns place row → IsReached columns place White row
+open_reached columns place row unfilled = record {
+  within = omega (arith, unfilled.inside);
+  lawful = unfilled.lawful;
+  even = λ lt. (unfilled.even, refl);
+  whole = λ le. absurd (omega (arith, le, unfilled.inside));
+}
+
 pub reached_white : (columns painted : ℕ) (row : List ℕ) → painted < columns → AreChanges (painted + 1) row
     → IsReached columns columns Black row
 reached_white columns painted row open_row lawful = record {

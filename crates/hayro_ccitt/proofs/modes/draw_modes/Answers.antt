@@ -1,29 +1,34 @@
-use Rattle.hayro_ccitt.proofs.Names.{◌∙◌, arith}
-use Rattle.hayro_ccitt.proofs.DrawingLines.UsualModes.{twice_2d}
+use Rattle.hayro_ccitt.proofs.Names.{◌∙◌, refl, ap, arith, opposite, Stroke, Draws, CanDraw, line_start}
+use Rattle.hayro_ccitt.proofs.DrawingLines.UsualModes.{draws_on, recolored}
 use Rattle.hayro_ccitt.proofs.modes.draw_modes.Goals as goal
 
 pub returns-then-is_over-clause-drawn : goal.returns-then-is_over-clause-drawn
-returns-then-is_over-clause-drawn c = twice_2d c.turns.invariant.drawn c.draw_in_color-next.ensures.drawn
+returns-then-is_over-clause-drawn c = draws_on c.turns.invariant.drawn refl refl c.draw_in_color-is_over.ensures.drawn
 
 pub returns-then-is_over-2-clause-drawn : goal.returns-then-is_over-2-clause-drawn
 returns-then-is_over-2-clause-drawn c =
-    let first = c.draw_in_color-next.ensures in
-    let turned = first.turned c.if-is_over.false in
-    let half = twice_2d c.turns.invariant.drawn (rw turned.1 at first.drawn) in
-    twice_2d half c.draw_in_color-next-in-turns.ensures.drawn
+    let a = c.args in
+    let first = c.draw_in_color-is_over in
+    let turned = first.ensures.turned c.if-is_over.false in
+    draws_on (recolored first.result.0 (λ (s : Stroke). Draws a.line.now line_start a.hand.now a.row.now a.ticks.now s
+    first.new.hand first.new.row first.new.ticks) (turned.0 ∙ ap opposite c.turns.invariant.color)
+    (draws_on c.turns.invariant.drawn refl refl first.ensures.drawn)) refl refl c.draw_in_color-is_over-in-turns.ensures.drawn
 
 pub turns-preserved : goal.turns-preserved
 turns-preserved c =
-    let first = c.draw_in_color-next.ensures in
-    let second = c.draw_in_color-next-in-turns.ensures in
-    let turned = first.turned c.if-is_over.false in
-    let turned2 = second.turned c.if-is_over-2.false in
-    let half = twice_2d c.turns.invariant.drawn (rw turned.1 at first.drawn) in
+    let a = c.args in
+    let first = c.draw_in_color-is_over in
+    let second = c.draw_in_color-is_over-in-turns in
+    let turned = first.ensures.turned c.if-is_over.false in
+    let turned2 = second.ensures.turned c.if-is_over-2.false in
+    let half = recolored first.result.0 (λ (s : Stroke). Draws a.line.now line_start a.hand.now a.row.now a.ticks.now s
+    first.new.hand first.new.row first.new.ticks) (turned.0 ∙ ap opposite c.turns.invariant.color)
+    (draws_on c.turns.invariant.drawn refl refl first.ensures.drawn) in
     record {
-      drawn = twice_2d half (rw turned2.1 at second.drawn);
-      stroke = rw turned2.1 at second.stroke;
-      inside = turned2.0;
-      room = turned2.4;
-      same_bits = second.same_bits ∙ first.same_bits ∙ c.turns.invariant.same_bits;
-      space = omega (arith, first.space, second.space, second.longer, c.turns.invariant.space);
+      drawn = recolored second.result.0 (λ (s : Stroke). Draws a.line.now line_start a.hand.now a.row.now a.ticks.now s
+          second.new.hand second.new.row second.new.ticks) turned2.0 (draws_on half refl refl second.ensures.drawn);
+      can = recolored second.result.0 (λ (s : Stroke). CanDraw a.line.now s second.new.hand second.new.row) turned2.0 turned2.1;
+      color = refl;
+      same_bits = second.ensures.same_bits ∙ first.ensures.same_bits ∙ c.turns.invariant.same_bits;
+      space = omega (arith, first.ensures.space, second.ensures.space, second.ensures.longer, c.turns.invariant.space);
     }

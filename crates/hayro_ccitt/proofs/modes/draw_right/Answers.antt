@@ -1,33 +1,31 @@
-use Rattle.hayro_ccitt.proofs.Names.{arith}
-use Rattle.hayro_ccitt.proofs.DrawingLines.UsualModes.{vertical_on, b1_within, b1_onward, right_near, right_stroke, named_right}
+use Rattle.hayro_ccitt.proofs.Names.{refl, arith}
+use Rattle.hayro_ccitt.proofs.DrawingLines.UsualModes.{draws_vertical, b1_within, b1_onward, right_near, right_stroke}
+use Rattle.hayro_ccitt.proofs.DrawingLines.UsualModes.{named_right}
 use Rattle.hayro_ccitt.proofs.DrawingLines.UsualStrokes.{pixels-pending}
 use Rattle.hayro_ccitt.proofs.modes.draw_right.Goals as goal
 
-pub overflow_sub-columns : goal.overflow_sub-columns
-overflow_sub-columns c =
-    omega (arith, b1_within c.requires.ended.lawful c.requires.open c.requires.stroke, c.change_at-b1.ensures)
+pub overflow_sub-line : goal.overflow_sub-line
+overflow_sub-line c =
+    let can = c.requires.can in
+    omega (arith, b1_within can.ended.lawful can.inside can.reached, c.change_at-b1.ensures)
 
-pub seek_b1-next-requires-clause-near : goal.seek_b1-next-requires-clause-near
-seek_b1-next-requires-clause-near c =
-    rw c.change_at-b1.ensures (right_near c.requires.ended.lawful c.requires.open c.requires.stroke c.args.more c.requires.some)
+pub seek_b1-index-requires-clause-near : goal.seek_b1-index-requires-clause-near
+seek_b1-index-requires-clause-near c =
+    let can = c.requires.can in
+    rw c.change_at-b1.ensures (right_near can.ended.lawful can.inside can.reached c.args.mode.distance c.requires.some)
 
 pub returns-clause-drawn : goal.returns-clause-drawn
 returns-clause-drawn c =
-    let a = c.args in
-    let work = c.seek_b1-next.ensures in
-    rw (c.pass.ensures.moved, c.opposite.ensures, c.turn_at.ensures.items, pixels-pending) (vertical_on c.requires.ended.lawful
-    c.requires.open c.requires.stroke a.hand.now.at c.seek_b1-next.result a.width (omega (arith, c.ranges.columns.fits))
-    c.requires.mode (named_right _ _ a.more (omega (arith, c.change_at-b1.ensures))) (omega (
-      arith,
-      b1_onward
-          c.requires.ended.lawful c.requires.open c.requires.stroke,
-      c.change_at-b1.ensures,
-    )) (omega (arith, c.if-columns-b1.false))
-    (omega (arith, c.tick_times.ensures, work.work, work.forward)) (omega (arith, c.tick_times.ensures, work.work, work.forward)))
-
-pub returns-clause-stroke : goal.returns-clause-stroke
-returns-clause-stroke c =
-    let next = c.seek_b1-next in
-    right_stroke c.requires.ended.lawful c.requires.open c.requires.stroke c.args.more
-    (omega (arith, c.change_at-b1.ensures)) c.requires.some (omega (arith, c.if-columns-b1.false)) c.turn_at.ensures.items
-    c.opposite.ensures next.ensures.parity next.ensures.near next.ensures.right
+    let can = c.requires.can in
+    let more = c.args.mode.distance in
+    let b1 = c.change_at-b1.ensures in
+    let turned = c.turn_at.ensures in
+    let next = c.seek_b1-index.ensures in
+    draws_vertical can (omega (arith, c.type_inv.line.0, c.if-line-b1.false)) c.requires.mode c.pass.ensures.moved
+    c.opposite.ensures (rw (turned.items, pixels-pending) refl) (named_right _ _ more (omega (arith, b1)))
+    (omega (arith, b1_onward can.ended.lawful can.inside can.reached, b1))
+    (omega (arith, c.tick_times.ensures, next.work, next.onward.0))
+    (omega (arith, c.tick_times.ensures, next.work, next.onward.0))
+    (right_stroke can.ended.lawful can.inside can.reached more (omega (arith, b1)) c.requires.some
+    (omega (arith, c.if-line-b1.false)) turned.items c.opposite.ensures next.onward.1 next.near next.right)
+    (omega (arith, can.room, c.requires.mode, c.pass.ensures.left, turned.count, turned.room))

@@ -1,58 +1,47 @@
 use Rattle.hayro_ccitt.proofs.Names.{◌≡◌, ◌+◌, refl, arith}
-use Rattle.hayro_ccitt.proofs.DrawingLines.UsualModes.{horizontal_on, horizontal_near, first_stroke, horizontal_stroke}
+use Rattle.hayro_ccitt.proofs.DrawingLines.UsualModes.{draws_mode, horizontal_on, horizontal_near, first_stroke}
+use Rattle.hayro_ccitt.proofs.DrawingLines.UsualModes.{horizontal_stroke}
 use Rattle.hayro_ccitt.proofs.DrawingLines.UsualStrokes.{pixels-pending}
 use Rattle.hayro_ccitt.proofs.modes.draw_runs_of_words.Goals as goal
 
-pub seek_b1-next-requires-clause-near : goal.seek_b1-next-requires-clause-near
-seek_b1-next-requires-clause-near c =
+pub seek_b1-index-requires-clause-near : goal.seek_b1-index-requires-clause-near
+seek_b1-index-requires-clause-near c =
+    let can = c.requires.can in
     let runs = c.in_ok-runs.runs in
-    horizontal_near c.requires.ended.lawful c.requires.open c.requires.stroke (c.args.painted + runs.first + runs.second)
-    (omega arith)
+    horizontal_near can.ended.lawful can.inside can.reached (c.args.stroke.painted + runs.first + runs.second) (omega arith)
 
 pub returns-then-runs-room-2-clause-drawn : goal.returns-then-runs-room-2-clause-drawn
 returns-then-runs-room-2-clause-drawn c =
     let a = c.args in
-    let runs = c.in_ok-runs.runs in
-    let end : a.painted + runs.first + runs.second ≡ a.columns = omega (arith, c.if-runs-room-2.true, c.requires.open) in
-    rw (
-      c.pass-2.ensures.moved,
-      c.pass.ensures.moved,
-      c.runs_at_hand.ensures.same,
-      c.turn_at.ensures.items,
-    ) (rw end at (horizontal_on c.requires.ended.lawful c.requires.open c.requires.stroke {strict = a._strict} a.hand.now.at
-    a.index {ticks = a.ticks.now} {now = c.tick_times.new.ticks} c.requires.mode c.in_ok-runs.ensures.runs
+    let can = c.requires.can in
+    let runs = c.in_ok-runs in
+    let turned = c.turn_at.ensures in
+    let end : a.stroke.painted + runs.runs.first + runs.runs.second ≡ a.line.now.columns =
+    omega (arith, c.if-runs-room-2.true, can.inside) in
+    rw (c.pass-2.ensures.moved, c.pass.ensures.moved, c.runs_at_hand.ensures.same) (draws_mode
+    (rw turned.items (rw end at (horizontal_on can.ended.lawful can.inside can.reached {strict = a.line.now.strict} a.hand.now.at
+    a.stroke.index {ticks = a.ticks.now} {now = c.tick_times.new.ticks} c.requires.mode.read runs.ensures.runs
     (c.if-not-is_next.ensures refl) (omega (arith, end)) (omega (arith, c.tick.ensures, c.tick_times.ensures))
-    (omega (arith, c.tick.ensures, c.tick_times.ensures))))
-
-pub returns-then-runs-room-2-clause-stroke : goal.returns-then-runs-room-2-clause-stroke
-returns-then-runs-room-2-clause-stroke c =
-    let runs = c.in_ok-runs.runs in
-    first_stroke c.requires.ended.lawful c.requires.open c.requires.stroke runs.first runs.second (c.if-not-is_next.ensures refl)
-    (omega (arith, c.if-runs-eq0.false)) (omega (arith, c.if-runs-room-2.true, c.requires.open)) c.turn_at.ensures.items
+    (omega (arith, c.tick.ensures, c.tick_times.ensures)))))
+    (first_stroke can.ended.lawful can.inside can.reached runs.runs.first runs.runs.second (c.if-not-is_next.ensures refl)
+    (omega (arith, c.if-runs-eq0.false)) end turned.items) (omega arith)
+    (omega (arith, runs.ensures, c.pass.ensures.left, c.pass-2.ensures.left, turned.count, turned.room)))
 
 pub returns-clause-drawn : goal.returns-clause-drawn
 returns-clause-drawn c =
     let a = c.args in
-    let runs = c.in_ok-runs.runs in
-    let work = c.seek_b1-next.ensures in
-    rw (
-      c.pass-2.ensures.moved,
-      c.pass.ensures.moved,
-      c.runs_at_hand.ensures.same,
-      c.turn_at-2.ensures.items,
-      pixels-pending,
-      c.turn_at.ensures.items,
-    ) (horizontal_on c.requires.ended.lawful c.requires.open c.requires.stroke a.hand.now.at c.seek_b1-next.result
-    c.requires.mode c.in_ok-runs.ensures.runs (c.if-not-is_next.ensures refl)
-    (omega (arith, c.if-runs-room.false, c.requires.open))
-    (omega (arith, c.tick.ensures, c.tick_times.ensures, work.work, work.forward))
-    (omega (arith, c.tick.ensures, c.tick_times.ensures, work.work, work.forward)))
-
-pub returns-clause-stroke : goal.returns-clause-stroke
-returns-clause-stroke c =
-    let runs = c.in_ok-runs.runs in
-    let next = c.seek_b1-next in
-    horizontal_stroke c.requires.ended.lawful c.requires.open c.requires.stroke runs.first runs.second
-    (c.if-not-is_next.ensures refl)
-    (omega (arith, c.if-runs-eq0.false)) (omega (arith, c.if-runs-room.false, c.if-runs-room-2.false, c.requires.open))
-    c.turn_at.ensures.items c.turn_at-2.ensures.items next.ensures.parity next.ensures.near next.ensures.right
+    let can = c.requires.can in
+    let runs = c.in_ok-runs in
+    let next = c.seek_b1-index.ensures in
+    let one = c.turn_at.ensures in
+    let two = c.turn_at-2.ensures in
+    rw (c.pass-2.ensures.moved, c.pass.ensures.moved, c.runs_at_hand.ensures.same) (draws_mode
+    (rw (two.items, pixels-pending, one.items) (horizontal_on can.ended.lawful can.inside can.reached a.hand.now.at
+    c.seek_b1-index.result c.requires.mode.read runs.ensures.runs (c.if-not-is_next.ensures refl)
+    (omega (arith, c.if-runs-room.false, can.inside))
+    (omega (arith, c.tick.ensures, c.tick_times.ensures, next.work, next.onward.0))
+    (omega (arith, c.tick.ensures, c.tick_times.ensures, next.work, next.onward.0))))
+    (horizontal_stroke can.ended.lawful can.inside can.reached runs.runs.first runs.runs.second (c.if-not-is_next.ensures refl)
+    (omega (arith, c.if-runs-eq0.false)) (omega (arith, c.if-runs-room.false, c.if-runs-room-2.false, can.inside)) one.items
+    two.items next.onward.1 next.near next.right) (omega arith)
+    (omega (arith, runs.ensures, c.pass.ensures.left, c.pass-2.ensures.left, one.count, two.count, one.room, two.room)))

@@ -1,19 +1,17 @@
-use Rattle.hayro_ccitt.proofs.Names.{◌≡◌, ◌+◌, arith, White}
-use Rattle.hayro_ccitt.proofs.DrawingLines.UsualModes.{vertical_on, edge_stroke, named_left}
+use Rattle.hayro_ccitt.proofs.Names.{◌≡◌, refl, arith, White}
+use Rattle.hayro_ccitt.proofs.DrawingLines.UsualModes.{draws_vertical, edge_stroke, named_left}
 use Rattle.hayro_ccitt.proofs.DrawingLines.UsualStrokes.{pixels-pending}
 use Rattle.hayro_ccitt.proofs.modes.draw_to_edge.Goals as goal
 
 pub returns-clause-drawn : goal.returns-clause-drawn
 returns-clause-drawn c =
-    let a = c.args in
-    rw (c.pass.ensures.moved, c.opposite.ensures, c.turn_at.ensures.items, pixels-pending)
-    (vertical_on c.requires.ended.lawful c.requires.open
-    c.requires.stroke a.hand.now.at (a.index + 1) a.width (omega (arith, c.ranges.columns.fits)) c.requires.mode (named_left
-    _ a.painted a.less (omega (arith, c.change_at-b1.ensures, c.if-b1-less.false, c.if-painted-gt0.false)) c.requires.some)
-    (omega arith) (omega (arith, c.requires.open)) (omega (arith, c.tick_times.ensures)) (omega (arith, c.tick_times.ensures)))
-
-pub returns-clause-stroke : goal.returns-clause-stroke
-returns-clause-stroke c =
-    let white : c.args.color ≡ White = c.is_white.ensures.0 c.if-not-is_white.false in
-    edge_stroke c.requires.ended.lawful
-    c.requires.open c.requires.stroke (omega (arith, c.if-painted-gt0.false)) white c.turn_at.ensures.items c.opposite.ensures
+    let can = c.requires.can in
+    let turned = c.turn_at.ensures in
+    let none : c.args.stroke.painted ≡ 0 = omega (arith, c.if-stroke-gt0.false) in
+    let white : c.args.stroke.color ≡ White = c.is_white.ensures.0 c.if-not-is_white.false in
+    draws_vertical can (omega (arith, none)) c.requires.mode c.pass.ensures.moved c.opposite.ensures
+    (rw (turned.items, pixels-pending) refl)
+    (named_left _ _ c.args.mode.distance (omega (arith, c.change_at-b1.ensures, c.if-b1-mode.false, none)) c.requires.some)
+    (omega arith) (omega (arith, c.tick_times.ensures)) (omega (arith, c.tick_times.ensures))
+    (edge_stroke can.ended.lawful can.inside can.reached none white turned.items c.opposite.ensures)
+    (omega (arith, can.room, c.requires.mode, c.pass.ensures.left, turned.count, turned.room))

@@ -1,20 +1,17 @@
-use Rattle.hayro_ccitt.proofs.Names.{◌≡◌, ◌+◌, get_or, arith, changes_in}
-use Rattle.hayro_ccitt.proofs.DrawingLines.UsualModes.{vertical_on, b1_within, full_stroke, named_right}
+use Rattle.hayro_ccitt.proofs.Names.{refl, arith}
+use Rattle.hayro_ccitt.proofs.DrawingLines.UsualModes.{draws_vertical, b1_within, full_stroke, named_right}
 use Rattle.hayro_ccitt.proofs.modes.draw_to_end.Goals as goal
 
-pub overflow_sub-columns : goal.overflow_sub-columns
-overflow_sub-columns c =
-    omega (arith, b1_within c.requires.ended.lawful c.requires.open c.requires.stroke, c.change_at-b1.ensures)
+pub overflow_sub-line : goal.overflow_sub-line
+overflow_sub-line c =
+    let can = c.requires.can in
+    omega (arith, b1_within can.ended.lawful can.inside can.reached, c.change_at-b1.ensures)
 
 pub returns-clause-drawn : goal.returns-clause-drawn
 returns-clause-drawn c =
-    let a = c.args in
-    let end : a.columns ≡ get_or (changes_in a.places.now) a.index a.columns + a.more = omega
-    (arith, b1_within c.requires.ended.lawful c.requires.open c.requires.stroke, c.change_at-b1.ensures, c.if-columns-b1.false) in
-    rw (c.pass.ensures.moved, c.opposite.ensures) (vertical_on c.requires.ended.lawful c.requires.open c.requires.stroke
-    a.hand.now.at a.index a.width (omega (arith, c.ranges.columns.fits)) c.requires.mode (named_right _ a.columns a.more end)
-    (omega (arith, c.requires.open)) (omega arith) (omega (arith, c.tick_times.ensures)) (omega (arith, c.tick_times.ensures)))
-
-pub returns-clause-stroke : goal.returns-clause-stroke
-returns-clause-stroke c =
-    full_stroke c.requires.ended.lawful c.requires.open c.requires.stroke
+    let can = c.requires.can in
+    let within = b1_within can.ended.lawful can.inside can.reached in
+    draws_vertical can (omega (arith, c.type_inv.line.0)) c.requires.mode c.pass.ensures.moved c.opposite.ensures refl
+    (named_right _ c.args.line.now.columns _ (omega (arith, within, c.change_at-b1.ensures, c.if-line-b1.false)))
+    (omega (arith, can.inside)) (omega (arith, c.tick_times.ensures)) (omega (arith, c.tick_times.ensures))
+    (full_stroke can.ended.lawful can.inside can.reached) (omega (arith, can.room, c.pass.ensures.left))

@@ -8,7 +8,8 @@ returns-clause-runs c =
     let second = c.in_ok-second in
     let sum : at.place + (3 + first.width) ≡ at.place + 3 + first.width = omega arith in
     let there : IsRunHere (opposite c.args.color) (moved (3 + first.width) at) second.second second.width2 second.words2 =
-    subst (λ (c : Color). IsRunHere c (moved (3 + first.width) at) second.second second.width2 second.words2) c.opposite.ensures
+    subst (λ (c : Color). IsRunHere c (moved (3 + first.width) at) second.second second.width2 second.words2)
+    c.opposite-other.ensures
     second.ensures.run in
     let on : IsRunHere (opposite c.args.color) (moved first.width (moved 3 at)) second.second second.width2 second.words2 =
     subst (λ (p : ℕ). IsRunHere (opposite c.args.color) (record { bits = at.bits; place = p }) second.second second.width2

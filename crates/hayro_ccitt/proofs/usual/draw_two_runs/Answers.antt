@@ -5,13 +5,13 @@ use Rattle.hayro_ccitt.proofs.usual.draw_two_runs.Goals as goal
 
 pub returns-then-first-room-2-clause-drawn : goal.returns-then-first-room-2-clause-drawn
 returns-then-first-room-2-clause-drawn c =
-    let open_row = c.requires.«open» in
-    white_ends _ _ _ _ _ _ _ _ _ _ _ _ open_row.inside open_row.lawful open_row.even refl c.in_ok-first.ensures.run
-    (omega (arith, c.if-first-room-2.true)) (omega (arith, c.if-first-room-2.true)) c.pass.ensures.moved c.tick_times.ensures
-
-pub returns-then-first-room-2-clause-taken : goal.returns-then-first-room-2-clause-taken
-returns-then-first-room-2-clause-taken c =
-    reached_white c.args.settings.columns c.args.painted _ c.requires.«open».inside c.requires.«open».lawful
+    let unfilled = c.requires.«open» in
+    let full = c.if-first-room-2.true in
+    record {
+      drawn = white_ends _ _ _ _ _ _ _ _ _ _ _ _ unfilled.inside unfilled.lawful unfilled.even refl c.in_ok-first.ensures.run
+          (omega (arith, full)) (omega (arith, full)) c.pass.ensures.moved c.tick_times.ensures;
+      reached = reached_white c.args.settings.columns c.args.painted _ unfilled.inside unfilled.lawful;
+    }
 
 pub draw_both-requires-clause-runs : goal.draw_both-requires-clause-runs
 draw_both-requires-clause-runs c = record {

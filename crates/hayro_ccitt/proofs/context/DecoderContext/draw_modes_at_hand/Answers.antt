@@ -1,22 +1,27 @@
 use Rattle.std.specs.Prelude.{vec_len}
 use Rattle.hayro_ccitt.proofs.Names.{◌≡◌, ◌<◌, [], ap, arith, length, White, pixels}
-use Rattle.hayro_ccitt.proofs.DrawingLines.UsualModes.{empty_row, none_painted_yet, are_passed}
+use Rattle.hayro_ccitt.proofs.DrawingLines.UsualModes.{empty_row, none_painted_yet, are_passed, start_stroke}
 use Rattle.hayro_ccitt.proofs.PixelRows.ChangesAndPixels.{changes-pixels}
 use Rattle.hayro_ccitt.proofs.PixelRows.EndedPlaces.{ends_taken, with_ends}
 use Rattle.hayro_ccitt.proofs.context.DecoderContext.draw_modes_at_hand.Goals.{After-has_mode}
 use Rattle.hayro_ccitt.proofs.context.DecoderContext.draw_modes_at_hand.Goals as goal
 
-pub draw_modes-place-requires-clause-begins : goal.draw_modes-place-requires-clause-begins
-draw_modes-place-requires-clause-begins c =
-    let s = c.self.inside in
-    rw c.has_mode.ensures.same_row
-    (empty_row s.pixels_decoded s.coding_changes.items c.self.invariant.front (rw (← c.self.view_is) at c.requires.begins))
-
-pub draw_modes-place-requires-clause-ended : goal.draw_modes-place-requires-clause-ended
-draw_modes-place-requires-clause-ended c =
+pub draw_modes-reached-requires : goal.draw_modes-reached-requires
+draw_modes-reached-requires c =
     let s = c.self.inside in
     let put = c.put_ends.ensures.ended c.if-not-put_ends.false in
-    rw (c.as_slice.ensures.value, put) (with_ends s.settings.columns s.ref_changes.items c.self.invariant.reference)
+    let empty = empty_row s.pixels_decoded s.coding_changes.items c.self.invariant.front (rw (← c.self.view_is) at
+    c.requires.begins) in
+    let ended = rw (← put, ← c.as_slice.ensures.value) at (with_ends s.settings.columns s.ref_changes.items
+    c.self.invariant.reference) in
+    record {
+      can = record {
+        ended = ended;
+        inside = omega (arith, c.if-self-eq0.false);
+        reached = rw (c.has_mode.ensures.same_row, empty) (start_stroke s.settings.columns _ ended.lawful);
+        room = omega (arith, c.if-not-has_mode.ensures.room);
+      };
+    }
 
 pub invariant_of-self : goal.invariant_of-self
 invariant_of-self c = record {
@@ -40,7 +45,7 @@ pub invariant_of-self-2 : goal.invariant_of-self-2
 invariant_of-self-2 c =
     let s = c.self.inside in
     let same = ends_taken s.ref_changes.items _ s.settings.columns (c.put_ends.ensures.ended c.if-not-put_ends.false) in
-    let stroke = rw (c.as_slice.ensures.value, same) at c.draw_modes-place.ensures.stroke in
+    let stroke = rw (c.as_slice.ensures.value, same) at c.draw_modes-reached.ensures.drawn.reached in
     let some : 0 < s.settings.columns = omega (arith, c.if-self-eq0.false) in
     record {
       reference = rw (c.take_ends.ensures.items, same) c.self.invariant.reference;
@@ -60,13 +65,13 @@ returns-clause-drawn c =
     let white : s.color ≡ White = rw (← c.self.view_is) at c.requires.white in
     let passed : s.passed ≡ 0 = rw (← c.self.view_is) at c.requires.none in
     rw (← c.self.view_is, none, white, passed, c.lay_down_row.ensures.same, c.saturating_sub-self-inside.ensures)
-    (rw (c.as_slice.ensures.value, same, has.same, has.same_row) at c.draw_modes-place.ensures.drawn)
+    (rw (c.as_slice.ensures.value, same, has.same, has.same_row) at c.draw_modes-reached.ensures.drawn.drawn)
 
 pub returns-clause-within : goal.returns-clause-within
 returns-clause-within c =
     let s = c.self.inside in
     let same = ends_taken s.ref_changes.items _ s.settings.columns (c.put_ends.ensures.ended c.if-not-put_ends.false) in
-    let stroke = rw (c.as_slice.ensures.value, same) at c.draw_modes-place.ensures.stroke in
+    let stroke = rw (c.as_slice.ensures.value, same) at c.draw_modes-reached.ensures.drawn.reached in
     let some : 0 < s.settings.columns = omega (arith, c.if-self-eq0.false) in
     let listed = changes-pixels s.settings.columns s.ref_changes.items c.self.invariant.reference in
     rw (← c.self.view_is, listed, c.saturating_sub-self-inside.ensures)
@@ -107,7 +112,7 @@ returns-clause-space c =
       c.put_ends.ensures.space,
       laid.ensures.space,
       laid.ensures.few,
-      c.draw_modes-place.ensures.space,
+      c.draw_modes-reached.ensures.space,
       c.has_mode.ensures.space,
       s.ref_changes.ok.0,
       laid.new.changes.ok.0,

@@ -1,21 +1,20 @@
 use Rattle.hayro_ccitt.proofs.Names.{◌<◌, length, arith, changes_in}
 use Rattle.hayro_ccitt.proofs.PixelRows.B1ByParity.{near_up}
 use Rattle.hayro_ccitt.proofs.PixelRows.EndedPlaces.{among_changes}
-use Rattle.hayro_ccitt.proofs.usual.seek_b1.Goals as goal
+use Rattle.hayro_ccitt.proofs.modes.seek_b1.Goals as goal
 
 pub changes-preserved : goal.changes-preserved
 changes-preserved c =
-    let a = c.args in
+    let line = c.args.line.now in
     let index = c.changes.index in
     let left = c.changes-test.true in
-    let among : index < length (changes_in a.places.now) =
-    among_changes a.columns a.places.now c.requires.ended index (omega (arith, c.change_at.ensures, left, c.requires.inside)) in
+    let among : index < length (changes_in line.places.now) = among_changes line.columns line.places.now c.requires.ended index
+    (omega (arith, c.change_at.ensures, left, c.requires.inside.1)) in
     let inv = c.changes.invariant in
     record {
-      near = near_up a.columns (changes_in a.places.now) c.requires.ended.lawful a.painted index c.requires.some
+      near = near_up line.columns (changes_in line.places.now) c.requires.ended.lawful c.args.painted index c.requires.inside.0
           (omega (arith, left, c.change_at.ensures));
       within = omega (arith, among);
-      forward = omega (arith, inv.forward);
-      parity = omega (arith, inv.parity);
+      onward = (omega (arith, inv.onward.0), omega (arith, inv.onward.1));
       work = omega (arith, inv.work, c.tick-in-changes.ensures);
     }

@@ -1,0 +1,67 @@
+-- Modes that are drawn with bits at hand. This is not part of the trusted specification: no contract of a public call cites it.
+use Rattle.std.specs.Prelude.{◌≡◌, ℕ, ◌+◌, ◌-◌, ◌<◌, ◌≤◌, Ok, Vec, vec_len, vec_capacity}
+use Rattle.fax_bits.specs.declared.codes.Mode.{Mode}
+use Rattle.fax_bits.specs.declared.codes.Color.TheVariants.{White}
+use Rattle.hayro_ccitt.specs.declared.modes.CodingLine.{CodingLine}
+use Rattle.hayro_ccitt.specs.declared.modes.Stroke.{Stroke}
+use Rattle.hayro_ccitt.specs.Bits.{here}
+use Rattle.hayro_ccitt.specs.CodeLists.{mode_codes}
+use Rattle.hayro_ccitt.specs.CodeReading.{read_code}
+use Rattle.hayro_ccitt.specs.Lines.{Pen}
+use Rattle.hayro_ccitt.specs.UsualModes.{AreEnded, changes_in, row_in, IsStroke, GoesOn2d}
+use Rattle.hayro_ccitt.specs.UsualRuns.{pen_at}
+use Rattle.hayro_ccitt.specs.Window.{AtHand, moved}
+
+-- the stroke at a line's start
+abbrev pub line_start : Stroke
+line_start = record { painted = 0; index = 0; color = White }
+
+-- the code word of a mode is next, with this many bits, all of them at hand
+pub record IsNextMode (mode : Mode) (width : ℕ) (hand : AtHand) : Type 0 where
+  pub read : read_code mode_codes (here hand.at) ≡ Ok (mode, here (moved width hand.at))
+  pub some : 0 < width
+  pub few : width < 64
+  pub within : width ≤ hand.left
+
+module _ {A : Type 0} where
+  -- a row of changes reaches the stroke
+  abbrev pub IsAtStroke : CodingLine → Stroke → Vec ℕ A → Type 0
+  IsAtStroke line stroke row =
+      IsStroke line.columns (changes_in line.places.now) stroke.painted stroke.index stroke.color row.items
+
+  -- the pen of a stroke
+  abbrev pub pen_here : Stroke → AtHand → Vec ℕ A → Pen
+  pen_here stroke hand row = pen_at stroke.painted row.items stroke.color hand.at
+
+  -- A mode can be drawn: the row isn't full, and has room for as many changes as bits are at hand.
+  pub record CanDraw (line : CodingLine) (stroke : Stroke) (hand : AtHand) (row : Vec ℕ A) : Type 0 where
+    pub ended : AreEnded line.columns line.places.now
+    pub inside : stroke.painted < line.columns
+    pub reached : IsAtStroke line stroke row
+    pub room : vec_len row + hand.left ≤ vec_capacity row
+
+  -- Drawing goes on from one stroke to another, which the row reaches then.
+  pub record Draws (line : CodingLine) (stroke : Stroke) (hand : AtHand) (row : Vec ℕ A) (ticks : ℕ)
+      (next : Stroke) (rest : AtHand) (longer : Vec ℕ A) (now : ℕ) : Type 0 where
+    pub drawn : GoesOn2d line.strict line.columns (row_in line.columns line.places.now)
+        (pen_here stroke hand row) (pen_here next rest longer) ticks now (stroke.index - 1) (next.index - 1)
+    pub reached : IsAtStroke line next longer
+
+  -- A mode does so. It has bits, and leaves room for as many changes as bits are at hand.
+  pub record DrawsMode (line : CodingLine) (stroke : Stroke) (hand : AtHand) (row : Vec ℕ A) (ticks : ℕ)
+      (next : Stroke) (rest : AtHand) (longer : Vec ℕ A) (now : ℕ) : Type 0 where
+    pub drawn : Draws line stroke hand row ticks next rest longer now
+    pub onward : hand.at.place < rest.at.place
+    pub room : vec_len longer + rest.left ≤ vec_capacity longer
+
+  -- nothing is drawn
+  pub record DrawsNothing (hand : AtHand) (row : Vec ℕ A) (ticks : ℕ) (rest : AtHand) (same : Vec ℕ A) (now : ℕ) : Type 0 where
+    pub at : rest.at ≡ hand.at
+    pub items : same.items ≡ row.items
+    pub count : now ≡ ticks
+
+  -- the bits and the row's room stay, and the row doesn't get shorter
+  pub record KeepsRoom (hand : AtHand) (row : Vec ℕ A) (rest : AtHand) (longer : Vec ℕ A) : Type 0 where
+    pub same_bits : rest.at.bits ≡ hand.at.bits
+    pub capacity : vec_capacity longer ≡ vec_capacity row
+    pub count : vec_len row ≤ vec_len longer
