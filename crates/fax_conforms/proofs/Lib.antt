@@ -9,6 +9,7 @@ pub mod Padded
 pub mod PaintedPixels
 pub mod PensDrawn
 pub mod PicturesConform
+pub mod RoundTrips
 pub mod RunsDrawn
 pub mod RunsLead
 pub mod SpelledRuns

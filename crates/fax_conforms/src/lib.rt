@@ -5,6 +5,7 @@
 #![tactic(auto)]
 
 mod checking;
+pub mod laws;
 mod lines;
 mod pictures;
 mod stops;
