@@ -57,16 +57,6 @@ def build(name, path):
         sys.exit(f"{name} was not built")
 
 
-def build_library():
-    """The library for C, as a static one, whose proof takes as long as those of both programs: it has two jobs."""
-    if is_newest("crates/hayro_ccitt_c/out/libhayro_ccitt_c.a", "hayro_ccitt_c"):
-        return
-    done = subprocess.run(["rt", "lib", "--jobs", "2"], cwd="crates/hayro_ccitt_c", stdout=subprocess.PIPE, stderr=subprocess.STDOUT, text=True, check=False)
-    if done.returncode != 0:
-        print(done.stdout[-2000:])
-        sys.exit("the library for C was not built")
-
-
 FILES = [
     repository, program, built_tests, packing, c_library, row_by_row, encoder, refusals, devices, cuts, damage_by_k, hostile, memory, large, installed, users, files, fax, fax_others, released, clients, cost,
 ]
@@ -136,14 +126,9 @@ def main():
         passed = run_one(words[0])
         summary(int(passed), int(not passed), LEFT_OUT)
     chosen = [it for it in FILES if not words or (it.__name__ in words) != (words[0] == "--without")]
-    builds = []
     if {*chosen} - {repository, built_tests}:
-        builds += [(build, "faxrows", program.PROGRAM), (build, "faxpack", packing.PROGRAM)]
-    if {*chosen} - {*WITHOUT_LIBRARY}:
-        builds.append((build_library,))
-    with ThreadPoolExecutor() as pool:
-        for building in [pool.submit(*it) for it in builds]:
-            building.result()
+        build("faxrows", program.PROGRAM)
+        build("faxpack", packing.PROGRAM)
     passed, failed, left_out = 0, 0, []
     for *lines, last in map(str.splitlines, run_in_parallel(chosen)):
         print(*lines, sep="\n", flush=True)
