@@ -1,0 +1,2 @@
+pub mod LinesContinued
+pub mod WordsContinued
