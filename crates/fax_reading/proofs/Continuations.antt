@@ -1,2 +1,3 @@
 pub mod LinesContinued
+pub mod StrictLines
 pub mod WordsContinued
