@@ -1,5 +1,5 @@
 -- What more bits change of what begins in some: the line there (T.4, 4.1 and 4.2; T.6, 2.2).
-use Rattle.std.specs.Prelude.{◌≡◌, ◌↔◌, Bool, true, false, ◌++◌, Result, Ok, Err}
+use Rattle.std.specs.Prelude.{◌≡◌, ◌↔◌, Bool, true, false, ◌++◌, replicate, Result, Ok, Err}
 use Rattle.fax_bits.specs.Bits.{Bits, AreWholeBytes}
 use Rattle.fax_bits.specs.declared.error.DecodeError.{DecodeError}
 use Rattle.fax_bits.specs.declared.error.DecodeError.TheVariants.{UnexpectedEof, InvalidCode, Overflow, OutOfMemory, Refused}
@@ -48,12 +48,12 @@ pub record StaysAsRead (settings : DecodeSettings) (reference : Row) (here : Bit
       → row_of_line settings has_eols (here ++ more) (line_here settings reference (here ++ more))
       ≡ row_continued more (row_of_line settings has_eols here (line_here settings reference here))
 
--- Exactly the lines that aren't short are settled. The line here that isn't short stays as it was read; with some bytes behind it a
--- short one isn't short (T.4, 4.1 and 4.2; T.6, 2.2).
+-- Exactly the lines that aren't short are settled. A line that isn't short stays as it was read; with two bytes of zeros behind it
+-- no line is short (T.4, 4.1 and 4.2; T.6, 2.2).
 pub record LinesSettle : Type 0 where
   pub exactly : (settings : DecodeSettings) (reference : Row) (here : Bits)
       → (is_short (line_here settings reference here) ≡ false) ↔ LineIsSettled settings reference here
   pub stays : (settings : DecodeSettings) (reference : Row) (here : Bits)
       → is_short (line_here settings reference here) ≡ false → StaysAsRead settings reference here
-  pub ends : (settings : DecodeSettings) (reference : Row) (here : Bits) → is_short (line_here settings reference here) ≡ true
-      → (more : Bits) × AreWholeBytes more × (is_short (line_here settings reference (here ++ more)) ≡ false)
+  pub ends : (settings : DecodeSettings) (reference : Row) (here : Bits)
+      → is_short (line_here settings reference (here ++ replicate 16 false)) ≡ false

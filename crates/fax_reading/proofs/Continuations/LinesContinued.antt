@@ -1,19 +1,18 @@
 -- Lines where more bits follow.
-use Rattle.fax_reading.proofs.Names.{◌≡◌, ◌≢◌, ℕ, suc, ◌-◌, ◌%◌, ◌≤◌, Bool, true, false, cond, ◌&&◌, ◌||◌, not, leb, List, [], ◌∷◌}
+use Rattle.fax_reading.proofs.Names.{◌≡◌, ℕ, suc, ◌-◌, ◌%◌, Bool, true, false, cond, ◌&&◌, ◌||◌, not, leb, List, [], ◌∷◌}
 use Rattle.fax_reading.proofs.Names.{◌++◌, length, drop, Result, Ok, Err, refl, sym, ap, ◌∙◌, arith, false≢true, length-append}
 use Rattle.fax_reading.proofs.Names.{Mode, Pass, Horizontal, Vertical, DecodeError, DecodeSettings, EncodingMode, Group4}
 use Rattle.fax_reading.proofs.Names.{Group3_1D, Group3_2D, UnexpectedEof, Bits, AreWholeBytes, mode_codes, read_code, Turn, Row}
-use Rattle.fax_reading.proofs.Names.{opposite, right_of, b1, b2, paint, run_from, run_found, word_found, Line, Pen, Drawing, start}
-use Rattle.fax_reading.proofs.Names.{draw_1d, draw_2d, draw_mode, draw_run, drawn, words_drawn, finds, go_on, mode_here, run_here}
-use Rattle.fax_reading.proofs.Names.{painted, painted_to, place_by, place_from, unless_fault, unless_full, turn_behind, ◌>>=◌}
+use Rattle.fax_reading.proofs.Names.{opposite, right_of, b2, paint, run_from, run_found, word_found, Line, Pen, Drawing, start}
+use Rattle.fax_reading.proofs.Names.{draw_1d, draw_2d, draw_mode, draw_run, go_on, mode_here, run_here}
+use Rattle.fax_reading.proofs.Names.{painted, painted_to, place_by, unless_fault, unless_full, turn_behind, ◌>>=◌}
 use Rattle.fax_reading.proofs.Names.{words_behind, line_by, line_here, line_found, found_here, line_1d, line_2d, found_1d, found_2d}
-use Rattle.fax_reading.proofs.Names.{behind_row, row_of_line, aligned, LineIsSettled, StaysAsRead, is_short, line_before, misses_end}
+use Rattle.fax_reading.proofs.Names.{behind_row, row_of_line, aligned, LineIsSettled, is_short, line_before}
 use Rattle.fax_reading.proofs.Names.{row_continued}
 use Rattle.std.proofs.lemmas.List.{drop-append-le}
 use Rattle.fax_bits.proofs.BitReading.ZerosInWords.{modes_free}
-use Rattle.fax_reading.proofs.Continuations.WordsContinued.{turn_on, turn_waits, StepGoesOn, repeated_on, rest_on, result_on}
+use Rattle.fax_reading.proofs.Continuations.WordsContinued.{turn_on, turn_waits, repeated_on, rest_on, result_on}
 use Rattle.fax_reading.proofs.Continuations.WordsContinued.{result_waits, code_continues, run_continues}
-use Rattle.fax_reading.proofs.DrawingLines.Drawings.{step_1d, step_2d}
 use Rattle.fax_reading.proofs.DrawingLines.ReadLines.{pen_left, step_1d_shrinks, step_2d_shrinks}
 
 -- ---- Drawing

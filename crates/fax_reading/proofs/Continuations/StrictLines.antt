@@ -1,7 +1,7 @@
 -- The strict reading of a line that isn't short.
-use Rattle.fax_reading.proofs.Names.{◌≡◌, ℕ, zero, suc, ◌-◌, Bool, true, false, cond, ltb, leb, [], ◌∷◌, length, Result, Ok, Err}
-use Rattle.fax_reading.proofs.Names.{refl, ap, ◌∙◌, false≢true, sym, ◌⊎◌, inl, inr, Color, Mode, Pass, Horizontal, Vertical}
-use Rattle.fax_reading.proofs.Names.{DecodeError, DecodeSettings, EncodingMode, Group4, Group3_1D, Group3_2D, UnexpectedEof}
+use Rattle.fax_reading.proofs.Names.{◌≡◌, ℕ, zero, suc, ◌-◌, Bool, true, false, cond, ltb, [], ◌∷◌, length, Ok, Err}
+use Rattle.fax_reading.proofs.Names.{refl, ap, ◌∙◌, ◌⊎◌, inl, inr, Color, Mode, Pass, Horizontal, Vertical}
+use Rattle.fax_reading.proofs.Names.{DecodeSettings, EncodingMode, Group4, Group3_1D, Group3_2D, UnexpectedEof}
 use Rattle.fax_reading.proofs.Names.{InvalidCode, Bits, Turn, repeated, Row, opposite, right_of, b2, paint, Line, Pen, Drawing, start}
 use Rattle.fax_reading.proofs.Names.{draw_1d, draw_2d, draw_mode, draw_run, go_on, mode_here, run_here, painted, painted_to}
 use Rattle.fax_reading.proofs.Names.{place_by, unless_fault, unless_full, turn_behind, ◌>>=◌, line_by, line_here, line_1d, line_2d}

@@ -4,7 +4,7 @@ use Rattle.fax_reading.proofs.Names.{take, Result, Ok, Err, refl, sym, ap, ◌�
 use Rattle.fax_reading.proofs.Names.{false≢true, length-append, Color, DecodeError, UnexpectedEof, InvalidCode, Overflow}
 use Rattle.fax_reading.proofs.Names.{OutOfMemory, Refused, Bits, Code, is_prefix_free, read_code, Turn, repeated, gathered}
 use Rattle.fax_reading.proofs.Names.{codes_of, run_of_word, run_turn, run_from, run_found, run_gives, word_found, misses_end}
-use Rattle.fax_bits.specs.CodeReading.{Stands, NoneStands, IsCut, ReadsCodes}
+use Rattle.fax_bits.specs.CodeReading.{NoneStands, IsCut, ReadsCodes}
 use Rattle.fax_bits.proofs.BitReading.ZerosInWords.{prefix_of_prefix, codes_free}
 use Rattle.fax_bits.proofs.CodeWords.CodeReadings.{reads_codes}
 use Rattle.fax_bits.proofs.CodeWords.ReadCodes.{cases_reading}
