@@ -23,7 +23,8 @@ abbrev pub is_short : Line → Bool
 is_short (Line.whole row rest) = false
 is_short (Line.broken front fault) = misses_end fault
 
--- the same line, where more bits follow: its row, and more bits after it; or its front, and its fault (T.4, 4.1 and 4.2; T.6, 2.2)
+-- the same line, where more bits follow: its row, and more bits after it; or its front and its fault (T.4, 4.1 and 4.2; T.6,
+-- 2.2)
 abbrev pub line_before : Bits → Line → Line
 line_before more (Line.whole row rest) = Line.whole row (rest ++ more)
 line_before more (Line.broken front fault) = Line.broken front fault
@@ -48,8 +49,8 @@ pub record StaysAsRead (settings : DecodeSettings) (reference : Row) (here : Bit
       → row_of_line settings has_eols (here ++ more) (line_here settings reference (here ++ more))
       ≡ row_continued more (row_of_line settings has_eols here (line_here settings reference here))
 
--- Exactly the lines that aren't short are settled. A line that isn't short stays as it was read; with two bytes of zeros behind it
--- no line is short (T.4, 4.1 and 4.2; T.6, 2.2).
+-- Exactly the lines that aren't short are settled. A line that isn't short stays as it was read; with two bytes of zeros behind
+-- it no line is short (T.4, 4.1 and 4.2; T.6, 2.2).
 pub record LinesSettle : Type 0 where
   pub exactly : (settings : DecodeSettings) (reference : Row) (here : Bits)
       → (is_short (line_here settings reference here) ≡ false) ↔ LineIsSettled settings reference here

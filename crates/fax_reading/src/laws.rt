@@ -160,9 +160,9 @@ pub fn every_picture_has_an_encoding()
     ensures bytes { BytesBeginWithAnyBits }
 {}
 
-/// A line is short if the bits end within it before any of its words is wrong. Exactly the lines that aren't short are the same
-/// whatever bits follow. Where one isn't short its strict reading is the same too, and so are its words and, if whole bytes follow,
-/// its row or its fault. No line is short that has two bytes of zeros behind it.
+/// A line is short if the bits end within it before any of its words is wrong. Exactly the lines that aren't short are the
+/// same whatever bits follow; so are the strict reading of such a line, its words and, if whole bytes follow, its row or
+/// its fault. No line is short that has two bytes of zeros behind it.
 pub fn lines_settle()
     ensures { LinesSettle }
 {}

@@ -1,12 +1,16 @@
 -- Lines where more bits follow.
 use Rattle.fax_reading.proofs.Names.{◌≡◌, ℕ, suc, ◌-◌, ◌%◌, Bool, true, false, cond, ◌&&◌, ◌||◌, not, leb, List, [], ◌∷◌}
-use Rattle.fax_reading.proofs.Names.{◌++◌, length, drop, Result, Ok, Err, refl, sym, ap, ◌∙◌, arith, false≢true, length-append}
+use Rattle.fax_reading.proofs.Names.{◌++◌, length, drop, Result, Ok, Err, refl, sym, ap, ◌∙◌, arith}
+use Rattle.fax_reading.proofs.Names.{false≢true, length-append}
 use Rattle.fax_reading.proofs.Names.{Mode, Pass, Horizontal, Vertical, DecodeError, DecodeSettings, EncodingMode, Group4}
-use Rattle.fax_reading.proofs.Names.{Group3_1D, Group3_2D, UnexpectedEof, Bits, AreWholeBytes, mode_codes, read_code, Turn, Row}
-use Rattle.fax_reading.proofs.Names.{opposite, right_of, b2, paint, run_from, run_found, word_found, Line, Pen, Drawing, start}
+use Rattle.fax_reading.proofs.Names.{Group3_1D, Group3_2D, UnexpectedEof, Bits, AreWholeBytes, mode_codes, read_code}
+use Rattle.fax_reading.proofs.Names.{Turn, Row}
+use Rattle.fax_reading.proofs.Names.{opposite, right_of, b2, paint, run_from, run_found, word_found, Line, Pen}
+use Rattle.fax_reading.proofs.Names.{Drawing, start}
 use Rattle.fax_reading.proofs.Names.{draw_1d, draw_2d, draw_mode, draw_run, go_on, mode_here, run_here}
 use Rattle.fax_reading.proofs.Names.{painted, painted_to, place_by, unless_fault, unless_full, turn_behind, ◌>>=◌}
-use Rattle.fax_reading.proofs.Names.{words_behind, line_by, line_here, line_found, found_here, line_1d, line_2d, found_1d, found_2d}
+use Rattle.fax_reading.proofs.Names.{words_behind, line_by, line_here, line_found, found_here, line_1d, line_2d}
+use Rattle.fax_reading.proofs.Names.{found_1d, found_2d}
 use Rattle.fax_reading.proofs.Names.{behind_row, row_of_line, aligned, LineIsSettled, is_short, line_before}
 use Rattle.fax_reading.proofs.Names.{row_continued}
 use Rattle.std.proofs.lemmas.List.{drop-append-le}
@@ -94,7 +98,8 @@ module _ (more : Bits) where
       second : (run : ℕ × Bits) → Continues more pen_on (behind pen run) (behind (pen_on pen) (rest_on more run))
       second run = then_continues (λ front. front) pen_on
           (λ front. go_on (record { front = front; color = opposite pen.color; rest = run.1 }))
-          (λ front. go_on (record { front = front; color = opposite pen.color; rest = run.1 ++ more })) (λ front known. (refl, refl))
+          (λ front. go_on (record { front = front; color = opposite pen.color; rest = run.1 ++ more }))
+          (λ front known. (refl, refl))
           (painted strict columns pen run.0) (painted strict columns (pen_on pen) run.0)
           (same_continues pen.front (paint strict columns pen.front pen.color run.0))
 
@@ -127,7 +132,8 @@ module _ (more : Bits) where
   full_on : (columns : ℕ) (pen : Pen) → Continues more pen_on (unless_full columns pen) (unless_full columns (pen_on pen))
   full_on columns pen = either_way (leb columns (length pen.front))
     where
-      either_way : (full : Bool) → AreContinued more pen_on (cond full (Turn.done (Line.whole pen.front pen.rest)) (Turn.next pen))
+      either_way : (full : Bool)
+          → AreContinued more pen_on (cond full (Turn.done (Line.whole pen.front pen.rest)) (Turn.next pen))
           (cond full (Turn.done (Line.whole pen.front (pen.rest ++ more))) (Turn.next (pen_on pen))) [] []
       either_way true known = (refl, refl)
       either_way false known = (refl, refl)
@@ -167,19 +173,21 @@ module _ (more : Bits) where
       (draw_1d_on strict columns) (suc (length here)) (suc (length (here ++ more))) (start here) (omega arith) (omega arith) known
 
   -- and a two-dimensional one
-  line_2d_on : (strict : Bool) (columns : ℕ) (reference : Row) (here : Bits) → is_short (line_2d strict columns reference here) ≡ false
+  line_2d_on : (strict : Bool) (columns : ℕ) (reference : Row) (here : Bits)
+      → is_short (line_2d strict columns reference here) ≡ false
       → (line_2d strict columns reference (here ++ more) ≡ line_before more (line_2d strict columns reference here))
       × (found_2d strict columns reference (here ++ more) ≡ found_2d strict columns reference here)
   line_2d_on strict columns reference here known =
       repeated_on (λ pen. (draw_2d strict columns reference pen).turn) (λ pen. (draw_2d strict columns reference pen).words)
       (Line.broken [] UnexpectedEof) pen_left (step_2d_shrinks strict columns reference) pen_on (line_before more) is_short
-      (draw_2d_on strict columns reference) (suc (length here)) (suc (length (here ++ more))) (start here) (omega arith) (omega arith)
-      known
+      (draw_2d_on strict columns reference) (suc (length here)) (suc (length (here ++ more))) (start here) (omega arith)
+      (omega arith) known
 
   -- a line of any kind
   line_on : (encoding : EncodingMode) (strict : Bool) (columns : ℕ) (reference : Row) (here : Bits)
       → is_short (line_by encoding strict columns reference here) ≡ false
-      → (line_by encoding strict columns reference (here ++ more) ≡ line_before more (line_by encoding strict columns reference here))
+      → (line_by encoding strict columns reference (here ++ more)
+      ≡ line_before more (line_by encoding strict columns reference here))
       × (line_found encoding strict columns reference (here ++ more) ≡ line_found encoding strict columns reference here)
   line_on Group3_1D strict columns reference here known = line_1d_on strict columns here known
   line_on Group3_2D strict columns reference [] known = absurd (false≢true (sym known))
@@ -221,11 +229,13 @@ row_continues settings reference has_eols here more bytes known =
     ap (row_of_line settings has_eols (here ++ more)) (line_settled settings reference here known more)
     ∙ by_line (line_here settings reference here)
   where
-    repaired_or_not : (front : Row) (fault : DecodeError) (b : Bool) → cond b (Err fault) (Ok (front, behind_row settings has_eols (here ++ more)))
+    repaired_or_not : (front : Row) (fault : DecodeError) (b : Bool)
+        → cond b (Err fault) (Ok (front, behind_row settings has_eols (here ++ more)))
         ≡ row_continued more (cond b (Err fault) (Ok (front, behind_row settings has_eols here)))
     repaired_or_not front fault true = refl
     repaired_or_not front fault false =
-        ap {B = Result (Row × Bits) DecodeError} (λ (b : Bits). Ok (front, b)) (behind_continues settings has_eols here more bytes)
+        ap {B = Result (Row × Bits) DecodeError} (λ (b : Bits). Ok (front, b))
+        (behind_continues settings has_eols here more bytes)
 
     by_line : (line : Line) → row_of_line settings has_eols (here ++ more) (line_before more line)
         ≡ row_continued more (row_of_line settings has_eols here line)

@@ -1,17 +1,22 @@
 -- Lines before zeros: none is short.
-use Rattle.fax_reading.proofs.Names.{◌≡◌, ◌↔◌, ℕ, suc, ◌+◌, ◌-◌, Bool, true, false, cond, ◌&&◌, ltb, leb, List, [], ◌∷◌, ◌++◌}
+use Rattle.fax_reading.proofs.Names.{◌≡◌, ◌↔◌, ℕ, suc, ◌+◌, ◌-◌, Bool, true, false, cond, ◌&&◌, ltb, leb, List, []}
+use Rattle.fax_reading.proofs.Names.{◌∷◌, ◌++◌}
 use Rattle.fax_reading.proofs.Names.{length}
 use Rattle.fax_reading.proofs.Names.{replicate, None, Result, Ok, Err, refl, sym, ap, subst, ◌∙◌, arith}
 use Rattle.fax_reading.proofs.Names.{inl, inr, ℤ, pos, negsuc, Color, Mode, Pass, Horizontal, Vertical, DecodeError}
 use Rattle.fax_reading.proofs.Names.{DecodeSettings, EncodingMode, Group4, Group3_1D, Group3_2D, UnexpectedEof, InvalidCode}
-use Rattle.fax_reading.proofs.Names.{Overflow, OutOfMemory, Refused, Bits, Code, mode_codes, Has, is_prefix_free, read_code, IsWord}
+use Rattle.fax_reading.proofs.Names.{Overflow, OutOfMemory, Refused, Bits, Code, mode_codes, Has, is_prefix_free}
+use Rattle.fax_reading.proofs.Names.{read_code, IsWord}
 use Rattle.fax_reading.proofs.Names.{Turn, Row, opposite, right_of, b2, paint, codes_of, run_turn, run_from}
-use Rattle.fax_reading.proofs.Names.{Line, Pen, Drawing, start, draw_1d, draw_2d, draw_mode, draw_run, go_on, mode_here, run_here}
-use Rattle.fax_reading.proofs.Names.{painted, painted_to, place_by, place_from, unless_fault, unless_full, turn_behind, ◌>>=◌}
+use Rattle.fax_reading.proofs.Names.{Line, Pen, Drawing, start, draw_1d, draw_2d, draw_mode, draw_run, go_on}
+use Rattle.fax_reading.proofs.Names.{mode_here, run_here}
+use Rattle.fax_reading.proofs.Names.{painted, painted_to, place_by, place_from, unless_fault, unless_full}
+use Rattle.fax_reading.proofs.Names.{turn_behind, ◌>>=◌}
 use Rattle.fax_reading.proofs.Names.{line_by, line_here, line_1d, line_2d, LineIsSettled, LinesSettle, is_short, line_before}
 use Rattle.fax_reading.proofs.Names.{misses_end}
 use Rattle.fax_bits.specs.CodeReading.{IsCut}
-use Rattle.fax_bits.proofs.BitReading.ZerosInWords.{scan, scan-append, scan_holds, quiet_is, word_quiet, codes_free, modes_free}
+use Rattle.fax_bits.proofs.BitReading.ZerosInWords.{scan, scan-append, scan_holds, quiet_is, word_quiet}
+use Rattle.fax_bits.proofs.BitReading.ZerosInWords.{codes_free, modes_free}
 use Rattle.fax_bits.proofs.CodeWords.CodeReadings.{reads_codes}
 use Rattle.fax_bits.proofs.CodeWords.ReadCodes.{read_code_found}
 use Rattle.fax_bits.proofs.CodeWords.ReadRuns.{run_shrinks, size}
@@ -142,7 +147,8 @@ module _ (strict : Bool) (columns : ℕ) where
       → GoesOrEnds IsBeforeZeros (draw_mode strict columns reference pen mode).turn
   drew_mode_known reference pen Pass zeros =
       let place : ℕ = b2 reference (right_of pen.front) pen.color in
-      behind_known Anything IsBeforeZeros (painted_to strict columns pen place).turn (λ front. Turn.next (record pen { front = front }))
+      behind_known Anything IsBeforeZeros (painted_to strict columns pen place).turn
+      (λ front. Turn.next (record pen { front = front }))
       (paint_known strict columns pen.front pen.color (place - length pen.front)) (λ front any. zeros)
   drew_mode_known reference pen Horizontal zeros =
       behind_known IsBeforeZeros IsBeforeZeros (draw_run strict columns pen).turn (λ p. (draw_run strict columns p).turn)
@@ -227,8 +233,8 @@ same_shortness more (Line.broken front fault) = refl
 pub settled_not_short : (settings : DecodeSettings) (reference : Row) (here : Bits) → LineIsSettled settings reference here
     → is_short (line_here settings reference here) ≡ false
 settled_not_short settings reference here settled =
-    sym (same_shortness (replicate 16 false) (line_here settings reference here)) ∙ sym (ap is_short (settled (replicate 16 false)))
-    ∙ zeros_end_line settings reference here
+    sym (same_shortness (replicate 16 false) (line_here settings reference here))
+    ∙ sym (ap is_short (settled (replicate 16 false))) ∙ zeros_end_line settings reference here
 
 -- Exactly the lines that aren't short are settled.
 pub line_settled_exactly : (settings : DecodeSettings) (reference : Row) (here : Bits)

@@ -2,9 +2,11 @@
 use Rattle.fax_reading.proofs.Names.{◌≡◌, ℕ, zero, suc, ◌-◌, Bool, true, false, cond, ltb, [], ◌∷◌, length, Ok, Err}
 use Rattle.fax_reading.proofs.Names.{refl, ap, ◌∙◌, ◌⊎◌, inl, inr, Color, Mode, Pass, Horizontal, Vertical}
 use Rattle.fax_reading.proofs.Names.{DecodeSettings, EncodingMode, Group4, Group3_1D, Group3_2D, UnexpectedEof}
-use Rattle.fax_reading.proofs.Names.{InvalidCode, Bits, Turn, repeated, Row, opposite, right_of, b2, paint, Line, Pen, Drawing, start}
+use Rattle.fax_reading.proofs.Names.{InvalidCode, Bits, Turn, repeated, Row, opposite, right_of, b2, paint, Line, Pen}
+use Rattle.fax_reading.proofs.Names.{Drawing, start}
 use Rattle.fax_reading.proofs.Names.{draw_1d, draw_2d, draw_mode, draw_run, go_on, mode_here, run_here, painted, painted_to}
-use Rattle.fax_reading.proofs.Names.{place_by, unless_fault, unless_full, turn_behind, ◌>>=◌, line_by, line_here, line_1d, line_2d}
+use Rattle.fax_reading.proofs.Names.{place_by, unless_fault, unless_full, turn_behind, ◌>>=◌, line_by, line_here}
+use Rattle.fax_reading.proofs.Names.{line_1d, line_2d}
 use Rattle.fax_reading.proofs.Names.{LineIsSettled, is_short}
 use Rattle.fax_reading.specs.Laws.{strictly}
 use Rattle.fax_reading.proofs.Continuations.LinesContinued.{line_settled}
@@ -42,8 +44,9 @@ strict_paint false columns front color n = either_way (ltb (columns - length fro
 
 module _ (strict : Bool) (columns : ℕ) where
   strict_run : (pen : Pen) → IsStricter (draw_run true columns pen).turn (draw_run strict columns pen).turn
-  strict_run pen = strict_behind (run_here pen).turn (run_here pen).turn (λ run. (drew true run).turn) (λ run. (drew strict run).turn)
-      (inl refl) (λ run. strict_behind (painted true columns pen run.0).turn (painted strict columns pen run.0).turn
+  strict_run pen = strict_behind (run_here pen).turn (run_here pen).turn (λ run. (drew true run).turn)
+      (λ run. (drew strict run).turn) (inl refl) (λ run. strict_behind (painted true columns pen run.0).turn
+      (painted strict columns pen run.0).turn
       (λ front. Turn.next (record { front = front; color = opposite pen.color; rest = run.1 }))
       (λ front. Turn.next (record { front = front; color = opposite pen.color; rest = run.1 }))
       (strict_paint strict columns pen.front pen.color run.0) (λ front. inl refl))
@@ -75,14 +78,14 @@ module _ (strict : Bool) (columns : ℕ) where
           >>= (λ front. go_on (record pen { front = front; color = opposite pen.color }))
 
   strict_1d : (pen : Pen) → IsStricter (draw_1d true columns pen).turn (draw_1d strict columns pen).turn
-  strict_1d pen = strict_behind (unless_full columns pen).turn (unless_full columns pen).turn (λ p. (draw_run true columns p).turn)
-      (λ p. (draw_run strict columns p).turn) (inl refl) strict_run
+  strict_1d pen = strict_behind (unless_full columns pen).turn (unless_full columns pen).turn
+      (λ p. (draw_run true columns p).turn) (λ p. (draw_run strict columns p).turn) (inl refl) strict_run
 
   strict_2d : (reference : Row) (pen : Pen)
       → IsStricter (draw_2d true columns reference pen).turn (draw_2d strict columns reference pen).turn
   strict_2d reference pen = strict_behind (unless_full columns pen).turn (unless_full columns pen).turn
-      (λ p. (behind true p).turn) (λ p. (behind strict p).turn) (inl refl) (λ p. strict_behind (mode_here p).turn (mode_here p).turn
-      (λ mode. (drew true p mode).turn) (λ mode. (drew strict p mode).turn) (inl refl)
+      (λ p. (behind true p).turn) (λ p. (behind strict p).turn) (inl refl) (λ p. strict_behind (mode_here p).turn
+      (mode_here p).turn (λ mode. (drew true p mode).turn) (λ mode. (drew strict p mode).turn) (inl refl)
       (λ mode. strict_mode reference (record p { rest = mode.1 }) mode.0))
     where
       drew : Bool → Pen → Mode × Bits → Drawing Pen

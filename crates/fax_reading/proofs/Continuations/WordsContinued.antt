@@ -1,5 +1,6 @@
 -- Code words and runs where more bits follow.
-use Rattle.fax_reading.proofs.Names.{◌≡◌, ℕ, zero, suc, ◌+◌, ◌-◌, ◌<◌, Bool, true, false, cond, ltb, List, [], ◌∷◌, ◌++◌, length}
+use Rattle.fax_reading.proofs.Names.{◌≡◌, ℕ, zero, suc, ◌+◌, ◌-◌, ◌<◌, Bool, true, false, cond, ltb, List, [], ◌∷◌}
+use Rattle.fax_reading.proofs.Names.{◌++◌, length}
 use Rattle.fax_reading.proofs.Names.{take, Result, Ok, Err, refl, sym, ap, ◌∙◌, append_assoc, arith, inl, inr, cases_lt}
 use Rattle.fax_reading.proofs.Names.{false≢true, length-append, Color, DecodeError, UnexpectedEof, InvalidCode, Overflow}
 use Rattle.fax_reading.proofs.Names.{OutOfMemory, Refused, Bits, Code, is_prefix_free, read_code, Turn, repeated, gathered}
@@ -38,7 +39,8 @@ module _ {S R A : Type 0} (step : S → Turn S R) (gives : S → List A) (late :
       → (repeated step late m (on s) ≡ ends (repeated step late n s)) × (gathered step gives m (on s) ≡ gathered step gives n s)
   repeated_on zero m s lt other_lt known = absurd (omega arith)
   repeated_on (suc n) zero s lt other_lt known = absurd (omega arith)
-  repeated_on (suc n) (suc m) s lt other_lt known = by_step (λ t small other k. repeated_on n m t small other k) (step s) refl known
+  repeated_on (suc n) (suc m) s lt other_lt known =
+      by_step (λ t small other k. repeated_on n m t small other k) (step s) refl known
     where
       by_step : ((t : S) → size_of t < n → size_of (on t) < m → waits (repeated step late n t) ≡ false
           → (repeated step late m (on t) ≡ ends (repeated step late n t))
@@ -109,7 +111,8 @@ module _ {V : Type 0} (list : List (Code V)) (free : is_prefix_free list ≡ tru
       × (word_found list (here ++ more) ≡ word_found list here)
   code_continues known = by_read_code (read_code list here) refl known
     where
-      other : (fault : DecodeError) → read_code list here ≡ Err fault → (fault ≡ UnexpectedEof → ⊥) → (fault ≡ InvalidCode → ⊥) → ⊥
+      other : (fault : DecodeError) → read_code list here ≡ Err fault → (fault ≡ UnexpectedEof → ⊥)
+          → (fault ≡ InvalidCode → ⊥) → ⊥
       other fault e not_end not_wrong = elim (cases_reading list here (Err fault) e) [
         | inl a ↦ cc
         | inr b ↦ elim b [ inl c ↦ not_end (let f = c.0 in cc) | inr c ↦ not_wrong (let f = c.0 in cc) ]
@@ -121,7 +124,8 @@ module _ {V : Type 0} (list : List (Code V)) (free : is_prefix_free list ≡ tru
       by_read_code (Ok (v, rest)) e k =
           let again = codes.alone here v rest more e in
           let (w, has, is) = (codes.found here v rest).0 e in
-          let taken : take (length (here ++ more) - length (rest ++ more)) (here ++ more) ≡ take (length here - length rest) here =
+          let taken : take (length (here ++ more) - length (rest ++ more)) (here ++ more)
+          ≡ take (length here - length rest) here =
           word_taken (here ++ more) w (rest ++ more) (ap (λ (b : Bits). b ++ more) is ∙ append_assoc w rest more)
           ∙ sym (word_taken here w rest is) in
           (again, ap (word_of (here ++ more)) again ∙ ap (λ (b : Bits). b ∷ []) taken)
@@ -153,7 +157,8 @@ run_turn_on : (color : Color) (more : Bits)
 run_turn_on color more (total, here) known = by_read_code (read_code (codes_of color) here) refl
   where
     by_read_code : (r : Result (ℕ × Bits) DecodeError) → read_code (codes_of color) here ≡ r
-        → (run_turn color (total, here ++ more) ≡ turn_on (rest_on more) (result_on (rest_on more)) (run_turn color (total, here)))
+        → (run_turn color (total, here ++ more)
+        ≡ turn_on (rest_on more) (result_on (rest_on more)) (run_turn color (total, here)))
         × (word_found (codes_of color) (here ++ more) ≡ word_found (codes_of color) here)
     by_read_code (Ok found) e =
         let a = code_continues (codes_of color) (codes_free color) here more (ap result_waits e) in
@@ -171,5 +176,5 @@ pub run_continues : (color : Color) (total : ℕ) (here more : Bits) → result_
     × (run_found color (total, here ++ more) ≡ run_found color (total, here))
 run_continues color total here more known =
     repeated_on (run_turn color) (run_gives color) (Err UnexpectedEof) size (run_shrinks color) (rest_on more)
-    (result_on (rest_on more)) result_waits (run_turn_on color more) (suc (length here)) (suc (length (here ++ more))) (total, here)
-    (omega arith) (omega arith) known
+    (result_on (rest_on more)) result_waits (run_turn_on color more) (suc (length here)) (suc (length (here ++ more)))
+    (total, here) (omega arith) (omega arith) known
