@@ -1,22 +1,17 @@
 -- Lines before zeros: none is short.
-use Rattle.fax_reading.proofs.Names.{◌≡◌, ◌↔◌, ℕ, suc, ◌+◌, ◌-◌, Bool, true, false, cond, ◌&&◌, ltb, leb, List, []}
-use Rattle.fax_reading.proofs.Names.{◌∷◌, ◌++◌}
-use Rattle.fax_reading.proofs.Names.{length}
-use Rattle.fax_reading.proofs.Names.{replicate, None, Result, Ok, Err, refl, sym, ap, subst, ◌∙◌, arith}
-use Rattle.fax_reading.proofs.Names.{inl, inr, ℤ, pos, negsuc, Color, Mode, Pass, Horizontal, Vertical, DecodeError}
-use Rattle.fax_reading.proofs.Names.{DecodeSettings, EncodingMode, Group4, Group3_1D, Group3_2D, UnexpectedEof, InvalidCode}
-use Rattle.fax_reading.proofs.Names.{Overflow, OutOfMemory, Refused, Bits, Code, mode_codes, Has, is_prefix_free}
-use Rattle.fax_reading.proofs.Names.{read_code, IsWord}
-use Rattle.fax_reading.proofs.Names.{Turn, Row, opposite, right_of, b2, paint, codes_of, run_turn, run_from}
-use Rattle.fax_reading.proofs.Names.{Line, Pen, Drawing, start, draw_1d, draw_2d, draw_mode, draw_run, go_on}
-use Rattle.fax_reading.proofs.Names.{mode_here, run_here}
-use Rattle.fax_reading.proofs.Names.{painted, painted_to, place_by, place_from, unless_fault, unless_full}
-use Rattle.fax_reading.proofs.Names.{turn_behind, ◌>>=◌}
-use Rattle.fax_reading.proofs.Names.{line_by, line_here, line_1d, line_2d, LineIsSettled, LinesSettle, is_short, line_before}
-use Rattle.fax_reading.proofs.Names.{misses_end}
+use Rattle.fax_reading.proofs.Names.{◌≡◌, ◌↔◌, ℕ, suc, ◌+◌, ◌-◌, Bool, true, false, cond, ◌&&◌, ltb, leb, List, [], ◌∷◌, ◌++◌}
+use Rattle.fax_reading.proofs.Names.{length, replicate, None, Result, Ok, Err, refl, sym, ap, subst, ◌∙◌, arith, inl, inr, ℤ}
+use Rattle.fax_reading.proofs.Names.{pos, negsuc, Color, Mode, Pass, Horizontal, Vertical, DecodeError, DecodeSettings}
+use Rattle.fax_reading.proofs.Names.{EncodingMode, Group4, Group3_1D, Group3_2D, UnexpectedEof, InvalidCode, Overflow}
+use Rattle.fax_reading.proofs.Names.{OutOfMemory, Refused, Bits, Code, mode_codes, Has, is_prefix_free, read_code, IsWord}
+use Rattle.fax_reading.proofs.Names.{Turn, Row, opposite, right_of, b2, paint, codes_of, run_turn, run_from, Line, Pen}
+use Rattle.fax_reading.proofs.Names.{Drawing, start, draw_1d, draw_2d, draw_mode, draw_run, go_on, mode_here, run_here}
+use Rattle.fax_reading.proofs.Names.{painted, painted_to, place_by, place_from, unless_fault, unless_full, turn_behind, ◌>>=◌}
+use Rattle.fax_reading.proofs.Names.{line_by, line_here, line_1d, line_2d, LineIsSettled, LinesSettle, StaysAsRead, is_short}
+use Rattle.fax_reading.proofs.Names.{line_before, misses_end}
 use Rattle.fax_bits.specs.CodeReading.{IsCut}
-use Rattle.fax_bits.proofs.BitReading.ZerosInWords.{scan, scan-append, scan_holds, quiet_is, word_quiet}
-use Rattle.fax_bits.proofs.BitReading.ZerosInWords.{codes_free, modes_free}
+use Rattle.fax_bits.proofs.BitReading.ZerosInWords.{scan, scan-append, scan_holds, quiet_is, word_quiet, codes_free}
+use Rattle.fax_bits.proofs.BitReading.ZerosInWords.{modes_free}
 use Rattle.fax_bits.proofs.CodeWords.CodeReadings.{reads_codes}
 use Rattle.fax_bits.proofs.CodeWords.ReadCodes.{read_code_found}
 use Rattle.fax_bits.proofs.CodeWords.ReadRuns.{run_shrinks, size}
@@ -30,7 +25,7 @@ use Rattle.fax_reading.proofs.DrawingLines.ReadLines.{pen_left, step_1d_shrinks,
 abbrev HasZeros : Bits → Type 0
 HasZeros here = scan 3 here ≡ None
 
--- what is read has these bits behind it, or its fault isn't that the end is missing
+-- this is true of what is read, or the fault isn't that the end is missing
 abbrev IsKnown : {A : Type 0} → (A → Type 0) → Result A DecodeError → Type 0
 IsKnown P (Ok x) = P x
 IsKnown P (Err fault) = misses_end fault ≡ false
@@ -242,15 +237,16 @@ pub line_settled_exactly : (settings : DecodeSettings) (reference : Row) (here :
 line_settled_exactly settings reference here =
     (line_settled settings reference here, settled_not_short settings reference here)
 
+-- A line that isn't short stays as it was read.
+pub line_stays : (settings : DecodeSettings) (reference : Row) (here : Bits)
+    → is_short (line_here settings reference here) ≡ false → StaysAsRead settings reference here
+line_stays settings reference here known = record {
+  line = line_settled settings reference here known;
+  strict = strict_settled settings reference here known;
+  found = λ more. found_settled settings reference here more known;
+  row = λ has_eols more bytes. row_continues settings reference has_eols here more bytes known;
+}
+
 -- the law
 pub lines_settle : LinesSettle
-lines_settle = record {
-  exactly = line_settled_exactly;
-  stays = λ settings reference here known. record {
-    line = line_settled settings reference here known;
-    strict = strict_settled settings reference here known;
-    found = λ more. found_settled settings reference here more known;
-    row = λ has_eols more bytes. row_continues settings reference has_eols here more bytes known;
-  };
-  ends = zeros_end_line;
-}
+lines_settle = record { exactly = line_settled_exactly; stays = line_stays; ends = zeros_end_line }

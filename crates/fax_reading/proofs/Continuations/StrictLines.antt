@@ -1,13 +1,11 @@
 -- The strict reading of a line that isn't short.
-use Rattle.fax_reading.proofs.Names.{◌≡◌, ℕ, zero, suc, ◌-◌, Bool, true, false, cond, ltb, [], ◌∷◌, length, Ok, Err}
-use Rattle.fax_reading.proofs.Names.{refl, ap, ◌∙◌, ◌⊎◌, inl, inr, Color, Mode, Pass, Horizontal, Vertical}
-use Rattle.fax_reading.proofs.Names.{DecodeSettings, EncodingMode, Group4, Group3_1D, Group3_2D, UnexpectedEof}
-use Rattle.fax_reading.proofs.Names.{InvalidCode, Bits, Turn, repeated, Row, opposite, right_of, b2, paint, Line, Pen}
-use Rattle.fax_reading.proofs.Names.{Drawing, start}
-use Rattle.fax_reading.proofs.Names.{draw_1d, draw_2d, draw_mode, draw_run, go_on, mode_here, run_here, painted, painted_to}
-use Rattle.fax_reading.proofs.Names.{place_by, unless_fault, unless_full, turn_behind, ◌>>=◌, line_by, line_here}
-use Rattle.fax_reading.proofs.Names.{line_1d, line_2d}
-use Rattle.fax_reading.proofs.Names.{LineIsSettled, is_short}
+use Rattle.fax_reading.proofs.Names.{◌≡◌, ℕ, zero, suc, ◌-◌, Bool, true, false, cond, ltb, [], ◌∷◌, length, Ok, Err, refl, ap}
+use Rattle.fax_reading.proofs.Names.{◌∙◌, ◌⊎◌, inl, inr, Color, Mode, Pass, Horizontal, Vertical, DecodeSettings, EncodingMode}
+use Rattle.fax_reading.proofs.Names.{Group4, Group3_1D, Group3_2D, UnexpectedEof, InvalidCode, Bits, Turn, repeated, Row}
+use Rattle.fax_reading.proofs.Names.{opposite, right_of, b2, paint, Line, Pen, Drawing, start, draw_1d, draw_2d, draw_mode}
+use Rattle.fax_reading.proofs.Names.{draw_run, go_on, mode_here, run_here, painted, painted_to, place_by, unless_fault}
+use Rattle.fax_reading.proofs.Names.{unless_full, turn_behind, ◌>>=◌, line_by, line_here, line_1d, line_2d, LineIsSettled}
+use Rattle.fax_reading.proofs.Names.{is_short}
 use Rattle.fax_reading.specs.Laws.{strictly}
 use Rattle.fax_reading.proofs.Continuations.LinesContinued.{line_settled}
 use Rattle.fax_bits.proofs.Repetition.Repeated.{after_turn}
