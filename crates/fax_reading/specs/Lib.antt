@@ -3,6 +3,7 @@ pub mod Context
 pub mod Damage
 pub mod Decoding
 pub mod Encodings
+pub mod GapsContinued
 pub mod Laws
 pub mod Lines
 pub mod Locality
