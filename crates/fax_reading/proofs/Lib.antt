@@ -2,6 +2,7 @@ pub mod CodeWords
 pub mod DamagedLines
 pub mod DrawingLines
 pub mod EncodedPictures
+pub mod GapsContinued
 pub mod KeptRows
 pub mod Names
 pub mod PixelRows
