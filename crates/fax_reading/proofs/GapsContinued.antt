@@ -1,1 +1,2 @@
 pub mod ContinuedEols
+pub mod ContinuedTags
