@@ -1,5 +1,5 @@
 -- EOLs with tags between them, with more bits behind.
-use Rattle.fax_reading.proofs.Names.{◌≡◌, ℕ, zero, suc, ◌+◌, ◌<◌, ◌≤◌, Bool, true, false, cond, leb, ltb, ◌&&◌, [], ◌∷◌, ◌++◌}
+use Rattle.fax_reading.proofs.Names.{◌≡◌, ℕ, zero, suc, ◌<◌, ◌≤◌, Bool, true, false, cond, leb, ltb, ◌&&◌, [], ◌∷◌, ◌++◌}
 use Rattle.fax_reading.proofs.Names.{length, Option, Some, None, refl, sym, ap, ◌∙◌, inl, inr, cases_lt, arith, length-append}
 use Rattle.fax_reading.proofs.Names.{le-leb, lt-leb, lt-ltb, le-ltb, Bits, after_eol, one_more, past_tag}
 use Rattle.fax_reading.proofs.Names.{eols_with_tags, pass_last_tag, tagged_eols}
@@ -7,7 +7,7 @@ use Rattle.fax_reading.specs.GapsContinued.{holds_one, behind_line_tag}
 use Rattle.fax_bits.proofs.BitReading.ConsecutiveEols.{eols_with_tags-some, eols_with_tags-none, all_tagged, count_same}
 use Rattle.fax_bits.proofs.BitReading.ConsecutiveEols.{counts_tagged, last_tag_count}
 use Rattle.fax_reading.proofs.GapsContinued.ContinuedEols.{then_more, count_then_more, one_then_more, after_eol-more}
-use Rattle.fax_reading.proofs.GapsContinued.ContinuedEols.{eol_holds_one, eol-more, no_one_no_eol, bytes_of_eol, eol_may_come}
+use Rattle.fax_reading.proofs.GapsContinued.ContinuedEols.{eol_holds_one, eol-more, bytes_of_eol, eol_may_come}
 
 -- the bits behind a tag of one
 abbrev pub behind_one : Bits → Bits
@@ -73,19 +73,20 @@ none_behind_past (true ∷ here) f none = by_after_eol (after_eol 0 here) refl
 
 -- ---- The EOLs after an EOL
 -- the EOLs behind a tag
-abbrev behind_tag : ℕ → Bits → ℕ × Bits
-behind_tag most here = eols_with_tags most (past_tag here)
+abbrev tagged_past : ℕ → Bits → ℕ × Bits
+tagged_past most here = eols_with_tags most (past_tag here)
 
 -- where a one is left behind the last tag, more bits make no difference
-behind_tag-more : (more : Bits) (most : ℕ) (here : Bits) → holds_one (behind_one (behind_tag most here).1) ≡ true
-    → behind_tag most (here ++ more) ≡ count_then_more more (behind_tag most here)
-behind_tag-more more zero here one = ap (λ (rest : Bits). (0, rest)) (past_tag-more more here (one_behind_past here one))
-behind_tag-more more (suc most) here one = by_after_eol (λ rest. behind_tag-more more most rest) (after_eol 0 (past_tag here))
+tagged_past-more : (more : Bits) (most : ℕ) (here : Bits) → holds_one (behind_one (tagged_past most here).1) ≡ true
+    → tagged_past most (here ++ more) ≡ count_then_more more (tagged_past most here)
+tagged_past-more more zero here one = ap (λ (rest : Bits). (0, rest)) (past_tag-more more here (one_behind_past here one))
+tagged_past-more more (suc most) here one = by_after_eol (λ rest. tagged_past-more more most rest) (after_eol 0 (past_tag here))
     refl
   where
-    by_after_eol : ((rest : Bits) → holds_one (behind_one (behind_tag most rest).1) ≡ true
-        → behind_tag most (rest ++ more) ≡ count_then_more more (behind_tag most rest)) → (o : Option Bits)
-        → after_eol 0 (past_tag here) ≡ o → behind_tag (suc most) (here ++ more) ≡ count_then_more more (behind_tag (suc most) here)
+    by_after_eol : ((rest : Bits) → holds_one (behind_one (tagged_past most rest).1) ≡ true
+        → tagged_past most (rest ++ more) ≡ count_then_more more (tagged_past most rest)) → (o : Option Bits)
+        → after_eol 0 (past_tag here) ≡ o
+        → tagged_past (suc most) (here ++ more) ≡ count_then_more more (tagged_past (suc most) here)
     by_after_eol on None e =
         let is = eols_with_tags-none (suc most) (past_tag here) e in
         let left : holds_one (behind_one (past_tag here)) ≡ true =
@@ -96,24 +97,24 @@ behind_tag-more more (suc most) here one = by_after_eol (λ rest. behind_tag-mor
         ∙ eols_with_tags-none (suc most) (past_tag here ++ more) none ∙ sym (ap (count_then_more more) is)
     by_after_eol on (Some rest) e =
         let is = eols_with_tags-some most (past_tag here) rest e in
-        let left : holds_one (behind_one (behind_tag most rest).1) ≡ true =
+        let left : holds_one (behind_one (tagged_past most rest).1) ≡ true =
         sym (ap (λ (found : ℕ × Bits). holds_one (behind_one found.1)) is) ∙ one in
         ap (eols_with_tags (suc most)) (past_tag-more more here (one_in_eol here rest e))
         ∙ eols_with_tags-some most (past_tag here ++ more) (rest ++ more) (eol-more more (past_tag here) rest e)
-        ∙ ap one_more (on rest left) ∙ one_then_more more (behind_tag most rest) ∙ sym (ap (count_then_more more) is)
+        ∙ ap one_more (on rest left) ∙ one_then_more more (tagged_past most rest) ∙ sym (ap (count_then_more more) is)
 
 -- where no one is, an EOL more may come
-behind_tag_may_come : (most : ℕ) (here : Bits) → (behind_tag most here).0 < most
-    → holds_one (behind_one (behind_tag most here).1) ≡ false
-    → behind_tag most (here ++ bytes_of_eol) ≡ (suc (behind_tag most here).0, [])
-behind_tag_may_come zero here few none = absurd (omega arith)
-behind_tag_may_come (suc most) here few none = by_after_eol (λ rest. behind_tag_may_come most rest)
+tagged_past_may_come : (most : ℕ) (here : Bits) → (tagged_past most here).0 < most
+    → holds_one (behind_one (tagged_past most here).1) ≡ false
+    → tagged_past most (here ++ bytes_of_eol) ≡ (suc (tagged_past most here).0, [])
+tagged_past_may_come zero here few none = absurd (omega arith)
+tagged_past_may_come (suc most) here few none = by_after_eol (λ rest. tagged_past_may_come most rest)
     (after_eol 0 (past_tag here)) refl
   where
-    by_after_eol : ((rest : Bits) → (behind_tag most rest).0 < most → holds_one (behind_one (behind_tag most rest).1) ≡ false
-        → behind_tag most (rest ++ bytes_of_eol) ≡ (suc (behind_tag most rest).0, [])) → (o : Option Bits)
+    by_after_eol : ((rest : Bits) → (tagged_past most rest).0 < most → holds_one (behind_one (tagged_past most rest).1) ≡ false
+        → tagged_past most (rest ++ bytes_of_eol) ≡ (suc (tagged_past most rest).0, [])) → (o : Option Bits)
         → after_eol 0 (past_tag here) ≡ o
-        → behind_tag (suc most) (here ++ bytes_of_eol) ≡ (suc (behind_tag (suc most) here).0, [])
+        → tagged_past (suc most) (here ++ bytes_of_eol) ≡ (suc (tagged_past (suc most) here).0, [])
     by_after_eol on None e =
         let is = eols_with_tags-none (suc most) (past_tag here) e in
         let left : holds_one (behind_one (past_tag here)) ≡ false =
@@ -122,11 +123,12 @@ behind_tag_may_come (suc most) here few none = by_after_eol (λ rest. behind_tag
         ∙ ap one_more (eols_with_tags-none most [] refl) ∙ ap (λ (found : ℕ × Bits). (suc found.0, [])) (sym is)
     by_after_eol on (Some rest) e =
         let is = eols_with_tags-some most (past_tag here) rest e in
-        let count : (behind_tag (suc most) here).0 ≡ suc (behind_tag most rest).0 = ap (λ (found : ℕ × Bits). found.0) is in
-        let left : holds_one (behind_one (behind_tag most rest).1) ≡ false =
+        let count : (tagged_past (suc most) here).0 ≡ suc (tagged_past most rest).0 = ap (λ (found : ℕ × Bits). found.0) is in
+        let left : holds_one (behind_one (tagged_past most rest).1) ≡ false =
         sym (ap (λ (found : ℕ × Bits). holds_one (behind_one found.1)) is) ∙ none in
         ap (eols_with_tags (suc most)) (past_tag-more bytes_of_eol here (one_in_eol here rest e))
-        ∙ eols_with_tags-some most (past_tag here ++ bytes_of_eol) (rest ++ bytes_of_eol) (eol-more bytes_of_eol (past_tag here) rest e)
+        ∙ eols_with_tags-some most (past_tag here ++ bytes_of_eol) (rest ++ bytes_of_eol)
+        (eol-more bytes_of_eol (past_tag here) rest e)
         ∙ ap one_more (on rest (omega (arith, few, count)) left) ∙ ap (λ (n : ℕ). (suc n, [])) (sym count)
 
 -- ---- The EOLs here
@@ -153,10 +155,10 @@ eols_with_tags-more more (suc most) here some one = by_after_eol (after_eol 0 he
         ∙ sym (ap (count_then_more more) is)
     by_after_eol (Some rest) e =
         let is = eols_with_tags-some most here rest e in
-        let left : holds_one (behind_one (behind_tag most rest).1) ≡ true =
-        sym (inside (behind_tag most rest)) ∙ sym (ap (λ (found : ℕ × Bits). holds_one (behind_first_tag found)) is) ∙ one in
+        let left : holds_one (behind_one (tagged_past most rest).1) ≡ true =
+        sym (inside (tagged_past most rest)) ∙ sym (ap (λ (found : ℕ × Bits). holds_one (behind_first_tag found)) is) ∙ one in
         eols_with_tags-some most (here ++ more) (rest ++ more) (eol-more more here rest e)
-        ∙ ap one_more (behind_tag-more more most rest left) ∙ one_then_more more (behind_tag most rest)
+        ∙ ap one_more (tagged_past-more more most rest left) ∙ one_then_more more (tagged_past most rest)
         ∙ sym (ap (count_then_more more) is)
 
 eols_with_tags_may_come : (most : ℕ) (here : Bits) → (eols_with_tags most here).0 < most
@@ -177,11 +179,11 @@ eols_with_tags_may_come (suc most) here few none = by_after_eol (after_eol 0 her
         ∙ ap one_more (eols_with_tags-none most [] refl) ∙ ap (λ (found : ℕ × Bits). (suc found.0, [])) (sym is)
     by_after_eol (Some rest) e =
         let is = eols_with_tags-some most here rest e in
-        let count : (eols_with_tags (suc most) here).0 ≡ suc (behind_tag most rest).0 = ap (λ (found : ℕ × Bits). found.0) is in
-        let left : holds_one (behind_one (behind_tag most rest).1) ≡ false =
-        sym (outside (behind_tag most rest)) ∙ sym (ap (λ (found : ℕ × Bits). holds_one (behind_first_tag found)) is) ∙ none in
+        let count : (eols_with_tags (suc most) here).0 ≡ suc (tagged_past most rest).0 = ap (λ (found : ℕ × Bits). found.0) is in
+        let left : holds_one (behind_one (tagged_past most rest).1) ≡ false =
+        sym (outside (tagged_past most rest)) ∙ sym (ap (λ (found : ℕ × Bits). holds_one (behind_first_tag found)) is) ∙ none in
         eols_with_tags-some most (here ++ bytes_of_eol) (rest ++ bytes_of_eol) (eol-more bytes_of_eol here rest e)
-        ∙ ap one_more (behind_tag_may_come most rest (omega (arith, few, count)) left) ∙ ap (λ (n : ℕ). (suc n, [])) (sym count)
+        ∙ ap one_more (tagged_past_may_come most rest (omega (arith, few, count)) left) ∙ ap (λ (n : ℕ). (suc n, [])) (sym count)
 
 -- there are at most as many EOLs as were sought
 tagged_at_most : (most : ℕ) (here : Bits) → (eols_with_tags most here).0 ≤ most
@@ -194,7 +196,7 @@ tagged_at_most (suc most) here = by_after_eol (λ rest. tagged_at_most most rest
         let none : (eols_with_tags (suc most) here).0 ≡ 0 =
         ap (λ (found : ℕ × Bits). found.0) (eols_with_tags-none (suc most) here e) in omega (arith, none)
     by_after_eol on (Some rest) e =
-        let count : (eols_with_tags (suc most) here).0 ≡ suc (behind_tag most rest).0 =
+        let count : (eols_with_tags (suc most) here).0 ≡ suc (tagged_past most rest).0 =
         ap (λ (found : ℕ × Bits). found.0) (eols_with_tags-some most here rest e) in
         omega (arith, count, on (past_tag rest))
 
