@@ -239,6 +239,7 @@ fn reads(rt: &(impl Abort + AllocGlobal), call: &str, reader: &mut BitReader) ->
         "at_end" => said(rt, &reader.at_end()),
         "byte_pos" => said(rt, &reader.byte_pos()),
         "bit_pos" => said(rt, &reader.bit_pos()),
+        "holds_one" => said(rt, &reader.holds_one()),
         _ => panic!(rt; "no call: {call}"),
     }
 }

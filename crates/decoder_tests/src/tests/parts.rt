@@ -12,7 +12,10 @@ fn reads_bits(rt: HostRuntime) {
         &rt,
         "Group4 8 columns 0 rows | A580 | read_bit = Ok(1); read_bit = Ok(0); bit_pos = 2; byte_pos = 0; \
          peek_u32 = 2516582400; align = (); bit_pos = 8; byte_pos = 1; consume_7 = Ok(()); at_end = false; \
-         read_bit = Ok(0); at_end = true; read_bit = Err(UnexpectedEof)",
+         read_bit = Ok(0); at_end = true; read_bit = Err(UnexpectedEof)
+        Group4 8 columns 0 rows | 000000000180 | holds_one = true; consume_12 = Ok(()); holds_one = true; bit_pos = 12
+        Group4 8 columns 0 rows | 0000000000 | holds_one = false; bit_pos = 0
+        Group4 8 columns 0 rows | | holds_one = false",
     );
 }
 
