@@ -28,9 +28,9 @@ pub use Rattle.hayro_ccitt.specs.Pictures.{Allows, IsClosedPicture, IsLimitedPic
 pub use Rattle.hayro_ccitt.specs.PlainReading.{Ending, Gap, Move, Progress, Reading, add_row, aligned, at_end, at_front, at_gap}
 pub use Rattle.hayro_ccitt.specs.PlainReading.{behind_eols, end_of, end_of_row, end_of_turn, ending_behind, ending_from}
 pub use Rattle.hayro_ccitt.specs.PlainReading.{ends_with, eols_by, eols_here, failed_at, first_gap, first_line, from_next_eol}
-pub use Rattle.hayro_ccitt.specs.PlainReading.{gap_behind_row, gathered_behind, gathered_from, gathered_of, is_over, limit_met}
+pub use Rattle.hayro_ccitt.specs.PlainReading.{gap_behind_row, is_over, limit_met}
 pub use Rattle.hayro_ccitt.specs.PlainReading.{line_by, line_here, line_of_turn, line_starts, lines_of, misses_eol, move_on}
-pub use Rattle.hayro_ccitt.specs.PlainReading.{one_each, plain, row_before, row_ends, row_of_line, start_of_turn, whole_reading}
+pub use Rattle.hayro_ccitt.specs.PlainReading.{plain, row_before, row_ends, row_of_line, start_of_turn, turns_behind, turns_of, whole_reading}
 pub use Rattle.hayro_ccitt.specs.PlainReading.{with_row}
 pub use Rattle.hayro_ccitt.specs.Repetition.{Reaches, Turn}
 pub use Rattle.hayro_ccitt.specs.RowCursors.{Paused}
