@@ -11,7 +11,7 @@ pub use Rattle.fax_reading.specs.Context.{right_of_painted, with_missed, exceeds
 pub use Rattle.fax_reading.specs.Damage.{Damaged, damage_of, damaged_by_turn, missed_behind, missed_by_turn, misses_by_line}
 pub use Rattle.fax_reading.specs.Damage.{repaired_by_turn, repaired_in, repairs_by_line, cut_by_turn, cut_in, cuts_by_line}
 pub use Rattle.fax_reading.specs.Damage.{cuts_run, start_in}
-pub use Rattle.fax_reading.specs.Decoding.{cuts_with, cut_since, CountsDamage, FailsHere, SinkState, StopsShort, TakesOneRow}
+pub use Rattle.fax_reading.specs.Decoding.{cuts_with, cut_since, FailsHere, SinkState, StopsShort, TakesOneRow}
 pub use Rattle.fax_reading.specs.Decoding.{TakesRows, gap_said, repairs_behind, repairs_with, with_row_taken, context_at}
 pub use Rattle.fax_reading.specs.Decoding.{missed_since}
 pub use Rattle.fax_reading.specs.Encodings.{ClosesWithEols, EncodesLine, EncodesLine1D, EncodesLine2D, EncodesRows}
@@ -41,8 +41,8 @@ pub use Rattle.fax_reading.specs.PlainReading.{at_front, at_gap, behind_eols, be
 pub use Rattle.fax_reading.specs.PlainReading.{ending_from, ends_with, eols_by, eols_here, failed_at, is_end_of_block, first_gap}
 pub use Rattle.fax_reading.specs.PlainReading.{first_line, from_next_eol, gap_behind_row}
 pub use Rattle.fax_reading.specs.PlainReading.{is_over, limit_met, line_by, line_here, line_of_turn, lines_of}
-pub use Rattle.fax_reading.specs.PlainReading.{misses_eol, missing_eol, move_on, nothing_read, pass_gap, plain}
-pub use Rattle.fax_reading.specs.PlainReading.{row_before, row_of_line, turns_behind, turns_from, turns_of, whole_reading, with_row}
+pub use Rattle.fax_reading.specs.PlainReading.{misses_eol, missing_eol, move_on, nothing_read, pass_gap, plain, row_before}
+pub use Rattle.fax_reading.specs.PlainReading.{row_of_line, turns_behind, turns_from, turns_of, whole_reading, with_row}
 pub use Rattle.fax_bits.specs.Repetition.{Reaches, Turn, gathered, repeated}
 pub use Rattle.fax_reading.specs.Rows.{AreChanges, AscendFrom, HaveWidth, Row, a1, a2, b1, b2, changes, is_black, is_change}
 pub use Rattle.fax_reading.specs.Rows.{last_pixel, least_below, opposite, paint, pixel, pixel_before, pixels, pixels_from}
@@ -81,9 +81,10 @@ pub use Rattle.std.proofs.lemmas.Bool.{or_from, or_left, or_parts, or_right}
 pub use Rattle.std.proofs.lemmas.Grind.{common_steps, get_or_default_zero}
 pub use Rattle.std.proofs.lemmas.Int.{ints}
 pub use Rattle.std.proofs.lemmas.List.{append_cancel_left, append_cancel_right, drop-drop, drop-map, drop_at, get_or-append_right}
-pub use Rattle.std.proofs.lemmas.List.{get_or-drop, get_or-replicate, get_or_append_left, get_or_past, length-replicate, length-reverse}
-pub use Rattle.std.proofs.lemmas.List.{length-take-le, replicate-append-replicate, reverse-reverse, set_at, take-append-drop}
-pub use Rattle.std.proofs.lemmas.List.Concat.{flat_map-cons, length-flat_map}
+pub use Rattle.std.proofs.lemmas.List.{get_or-drop, get_or-replicate, get_or_append_left, get_or_past, length-replicate}
+pub use Rattle.std.proofs.lemmas.List.{length-reverse, length-take-le, replicate-append-replicate, reverse-reverse, set_at}
+pub use Rattle.std.proofs.lemmas.List.{take-append-drop}
+pub use Rattle.std.proofs.lemmas.List.Concat.{flat_map-cons}
 pub use Rattle.std.proofs.lemmas.List.Elements.{All-append, All-cons, All-head, All-nil, All-same, All-tail, All-weaker}
 pub use Rattle.std.proofs.lemmas.List.Elements.{Contains-append_cases, Contains-append_left, Contains-append_right}
 pub use Rattle.std.proofs.lemmas.List.Sums.{sum_by-append, sum_by-take-drop, sum_by-take-le, sum_by_more}

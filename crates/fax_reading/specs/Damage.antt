@@ -1,7 +1,7 @@
 -- Damage that a lenient reading passes: runs that it cuts, and in Group 3 data with EOLs rows that it repairs and EOLs that it
 -- misses (T.4, 4.1.1 and 4.1.2).
-use Rattle.std.specs.Prelude.{ℕ, zero, suc, ◌+◌, ◌-◌, Bool, true, false, not, ◌&&◌, ◌||◌, List, [], ◌∷◌, ◌++◌, length, map, flat_map}
-use Rattle.std.specs.Prelude.{Option, Some, None, if◌then◌else◌, get_or}
+use Rattle.std.specs.Prelude.{ℕ, zero, suc, ◌+◌, ◌-◌, Bool, true, false, not, ◌&&◌, ◌||◌, List, [], ◌∷◌, ◌++◌, length, map}
+use Rattle.std.specs.Prelude.{flat_map, Option, Some, None, if◌then◌else◌, get_or}
 use Rattle.fax_bits.specs.declared.error.DecodeError.{DecodeError}
 use Rattle.fax_bits.specs.declared.error.DecodeError.TheVariants.{InvalidCode}
 use Rattle.fax_bits.specs.declared.settings.DecodeSettings.{DecodeSettings}

@@ -22,7 +22,7 @@ slice_get-drop_cons [] (suc k) x more e = absurd cc
 slice_get-drop_cons (y ∷ xs) zero x more e = cc
 slice_get-drop_cons (y ∷ xs) (suc k) x more e = slice_get-drop_cons xs k x more e
 
-pub drop-suc_cons : {A : Type 0} (xs : List A) (k : ℕ) (x : A) (more : List A) → drop k xs ≡ x ∷ more → drop (suc k) xs ≡ more
+drop-suc_cons : {A : Type 0} (xs : List A) (k : ℕ) (x : A) (more : List A) → drop k xs ≡ x ∷ more → drop (suc k) xs ≡ more
 drop-suc_cons [] zero x more e = absurd cc
 drop-suc_cons [] (suc k) x more e = absurd cc
 drop-suc_cons (y ∷ xs) zero x more e = cc

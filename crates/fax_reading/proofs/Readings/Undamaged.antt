@@ -10,8 +10,8 @@ use Rattle.fax_reading.proofs.Names.{whole_reading, sum_by-append}
 use Rattle.fax_reading.proofs.Names.{damage_of, repairs_by_line, misses_by_line, StrictIsUndamaged, PicturesAreUndamaged, Line}
 use Rattle.fax_reading.proofs.Names.{IsClosedPicture, IsLimitedPicture, Progress, Ending, Gap, Move, Reading, row_before}
 use Rattle.fax_reading.proofs.Names.{after_line, line_of_turn, misses_eol, behind_row, gap_behind_row, with_row, at_gap, pass_gap}
-use Rattle.fax_reading.proofs.Names.{at_front, move_on, first_gap, ending_behind, end_of, turns_behind, turns_of, nothing_read, map}
-use Rattle.fax_reading.proofs.Names.{plain, Turn, repeated, gathered, Row}
+use Rattle.fax_reading.proofs.Names.{at_front, move_on, first_gap, ending_behind, end_of, turns_behind, turns_of, map}
+use Rattle.fax_reading.proofs.Names.{nothing_read, plain, Turn, repeated, gathered, Row}
 use Rattle.fax_bits.proofs.Repetition.Gathered.{gathered_after}
 use Rattle.fax_bits.proofs.Repetition.Repeated.{after_turn}
 use Rattle.fax_reading.proofs.EncodedPictures.PicturesOfEachKind.{closed_pictures, limited_pictures}

@@ -101,9 +101,9 @@ module _ (settings : DecodeSettings) (wide : 0 < settings.columns) (bits : Bits)
     whole_behind ends held more rows eols =
         let at = ap (λ (e : Ending). length e.rows) (ends_with_turn ends) in
         let all_given : (gives : Progress → List Damaged) → sum_by length (take held.taken (map gives (turns_of settings bits)))
-        ≡ sum_by length (map gives (turns_of settings bits)) = λ gives. ap
-        (λ (n : ℕ). sum_by length (take n (map gives (turns_of settings bits)))) more ∙ given_more settings wide bits begins
-        reaches gives refl ∙ sym (given_whole settings wide bits begins reaches gives refl ends) in
+        ≡ sum_by length (map gives (turns_of settings bits)) = λ gives.
+        given_more settings wide bits begins reaches gives refl more
+        ∙ sym (given_whole settings wide bits begins reaches gives refl ends) in
         record {
           rows = more ∙ sym (at ∙ rows);
           ends = ap (λ (e : Ending). e.outcome) (ends_with_turn ends);
@@ -277,7 +277,8 @@ is_read {settings} {bits} {held} {here} stands {new} {left_over} takes =
       line_start = ap (λ (x : Bits). length bits - length x) stands.rest_is ∙ sym (ap (λ (n : ℕ). get_or (line_starts settings
           bits) n 0) before ∙ given_is settings stands.wide bits stands.begins stands.reaches (start_of_turn bits) 0);
       row_end = sym (ap (λ (n : ℕ). get_or (row_ends settings bits) n 0) before
-          ∙ given_is settings stands.wide bits stands.begins stands.reaches (end_of_turn settings bits) 0 ∙ ap (end_of_row bits so_far) taken.is);
+          ∙ given_is settings stands.wide bits stands.begins stands.reaches (end_of_turn settings bits) 0
+          ∙ ap (end_of_row bits so_far) taken.is);
       damage = ap (λ (r : Repairs). damage_since r held.repairs.rows) repaired ∙ repaired_told settings so_far.has_eols
           (length so_far.rows) offset so_far.rest line strict taken.taken left_over
           (length so_far.rows) held.repairs taken.is ∙ sym (ap
@@ -308,19 +309,16 @@ is_read {settings} {bits} {held} {here} stands {new} {left_over} takes =
         so,
         one_cut few,
         ap (λ (r : Repairs). r.cut) repaired,
-        given_more settings stands.wide bits stands.begins stands.reaches (cut_by_turn settings bits) before,
-        ap (λ (n : ℕ). sum_by length (take n (cuts_by_line settings bits))) (after ∙ ap (λ (n : ℕ). n + 1) (sym before)),
+        given_more settings stands.wide bits stands.begins stands.reaches (cut_by_turn settings bits) before after,
       );
-      words = ap (λ (n : ℕ). sum_by length (take n (words_of settings bits))) (after ∙ ap (λ (n : ℕ). n + 1) (sym before))
-          ∙ given_more settings stands.wide bits stands.begins stands.reaches (words_of_turn settings) before
+      words = given_more settings stands.wide bits stands.begins stands.reaches (words_of_turn settings) before after
           ∙ ap (λ (n : ℕ). sum_by length (take held.taken (words_of settings bits)) + n) (sym found);
       counted = λ so. omega (
         arith,
         so,
         one,
         ap (λ (r : Repairs). r.rows) repaired,
-        given_more settings stands.wide bits stands.begins stands.reaches (repaired_by_turn settings bits) before,
-        ap (λ (n : ℕ). sum_by length (take n (repairs_by_line settings bits))) (after ∙ ap (λ (n : ℕ). n + 1) (sym before)),
+        given_more settings stands.wide bits stands.begins stands.reaches (repaired_by_turn settings bits) before after,
       );
       misses = λ so.
           let here : new.taken - 1 ≡ length so_far.rows = omega (arith, after) in
@@ -340,7 +338,8 @@ pub reader_fails_at_line : {settings : DecodeSettings} {bits : Bits} {held : Hel
     → StandsAtLine settings bits held here → length bits - length here ≡ failed_at settings bits held.taken
 reader_fails_at_line {settings} {bits} stands =
     ap (λ (x : Bits). length bits - length x) stands.rest_is ∙ sym (ap (λ (n : ℕ). failed_at settings bits n)
-    (ap (λ (h : Held). h.taken) stands.held_is) ∙ given_is settings stands.wide bits stands.begins stands.reaches (start_of_turn bits) _)
+    (ap (λ (h : Held). h.taken) stands.held_is)
+    ∙ given_is settings stands.wide bits stands.begins stands.reaches (start_of_turn bits) _)
 
 -- no row was read there
 pub isnt_read : {settings : DecodeSettings} {bits : Bits} {held : Held} {here : Bits} → StandsAtLine settings bits held here
@@ -623,8 +622,9 @@ module _ (settings : DecodeSettings) (bits : Bits) (held : Held) (here : Bits) (
 
   read_with : held.repairs ≡ repairs_with its_line misses.strict read misses.before
   read_with =
-      let found : ◌≡◌ {A = Option Line} (Some misses.line) (Some its_line) = sym misses.line_is ∙ ap (slice_get
-      (lines_of settings bits)) index ∙ given_there settings stands.wide bits stands.begins stands.reaches (line_of_turn settings) in
+      let found : ◌≡◌ {A = Option Line} (Some misses.line) (Some its_line) =
+      sym misses.line_is ∙ ap (slice_get (lines_of settings bits)) index
+      ∙ given_there settings stands.wide bits stands.begins stands.reaches (line_of_turn settings) in
       let same : misses.line ≡ its_line = cc in
       misses.repairs_are ∙ ap (λ (k : ℕ). repairs_with misses.line misses.strict k misses.before) index
       ∙ ap (λ (l : Line). repairs_with l misses.strict read misses.before) same
@@ -663,8 +663,8 @@ module _ (settings : DecodeSettings) (bits : Bits) (held : Held) (here : Bits) (
           arith,
           one,
           known.counted,
-          given_more settings stands.wide bits stands.begins stands.reaches (missed_by_turn settings bits) refl,
-          ap (λ (k : ℕ). sum_by length (take k (misses_by_line settings bits))) (taken ∙ one_more),
+          given_more settings stands.wide bits stands.begins stands.reaches (missed_by_turn settings bits) refl
+              (taken ∙ one_more),
         );
       }
 
@@ -742,6 +742,12 @@ none_damaged stand settings bits held stands none no_damage =
       });
     }
 
+-- a fact of settings, bits and a number of rows, of others that are equal
+elsewhere : (P : DecodeSettings → Bits → ℕ → Type 0) (s t : DecodeSettings) (b c : Bits) (m n : ℕ) → s ≡ t → b ≡ c → m ≡ n
+    → P s b m → P t c n
+elsewhere P s t b c m n settings bits taken given =
+    subst (λ (k : ℕ). P t c k) taken (subst (λ (x : Bits). P t x m) bits (subst (λ (x : DecodeSettings). P x b m) settings given))
+
 -- what was counted is unchanged where no row is read
 pub damage_stays : (before stand : Stand) (settings given : DecodeSettings) (bits read : Bits) (held last : Held)
     → given ≡ settings → read ≡ bits → last.taken ≡ held.taken → last.repairs.rows ≡ held.repairs.rows
@@ -749,15 +755,12 @@ pub damage_stays : (before stand : Stand) (settings given : DecodeSettings) (bit
     → DamageIsCounted stand given read last
 damage_stays before stand settings given bits read held last same are taken repairs cuts counted misses = record {
   few = omega (arith, counted.few, taken, repairs);
-  counted = repairs ∙ counted.counted ∙ ap (λ (n : ℕ). sum_by length (take n (repairs_by_line settings bits))) (sym taken)
-      ∙ ap (λ (s : DecodeSettings). sum_by length (take last.taken (repairs_by_line s bits))) (sym same)
-      ∙ ap (λ (b : Bits). sum_by length (take last.taken (repairs_by_line given b))) (sym are);
+  counted = elsewhere (λ s b n. last.repairs.rows ≡ sum_by length (take n (repairs_by_line s b))) settings given bits read
+      held.taken last.taken (sym same) (sym are) (sym taken) (repairs ∙ counted.counted);
   few_cut = omega (arith, counted.few_cut, taken, cuts);
-  cut = cuts ∙ counted.cut ∙ ap (λ (n : ℕ). sum_by length (take n (cuts_by_line settings bits))) (sym taken)
-      ∙ ap (λ (s : DecodeSettings). sum_by length (take last.taken (cuts_by_line s bits))) (sym same)
-      ∙ ap (λ (b : Bits). sum_by length (take last.taken (cuts_by_line given b))) (sym are);
-  misses = subst (λ (s : DecodeSettings). Misses stand s read last) (sym same)
-      (subst (λ (b : Bits). Misses stand settings b last) (sym are) misses);
+  cut = elsewhere (λ s b n. last.repairs.cut ≡ sum_by length (take n (cuts_by_line s b))) settings given bits read
+      held.taken last.taken (sym same) (sym are) (sym taken) (cuts ∙ counted.cut);
+  misses = elsewhere (λ s b n. Misses stand s b last) settings given bits read 0 0 (sym same) (sym are) refl misses;
 }
 
 -- the result of a call that passes a gap
@@ -813,12 +816,6 @@ comes_to_line old last ticks space at n damage cut missed (Err error) settings b
       end = λ e. cc;
       error = (refl, stands.0);
     }
-
--- a fact of settings, bits and a number of rows, of others that are equal
-elsewhere : (P : DecodeSettings → Bits → ℕ → Type 0) (s t : DecodeSettings) (b c : Bits) (m n : ℕ) → s ≡ t → b ≡ c → m ≡ n
-    → P s b m → P t c n
-elsewhere P s t b c m n settings bits taken given =
-    subst (λ (k : ℕ). P t c k) taken (subst (λ (x : Bits). P t x m) bits (subst (λ (x : DecodeSettings). P x b m) settings given))
 
 -- the result of a call that passes a gap, and then reads the line there
 pub reads_on : (old mid new : RowsRead) (result : Result Bool DecodeError) → ReachesNextLine old mid (Ok true)
