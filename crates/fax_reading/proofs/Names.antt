@@ -13,7 +13,7 @@ pub use Rattle.fax_reading.specs.Continuations.{row_continued}
 pub use Rattle.fax_reading.specs.Damage.{Damaged, damage_of, damaged_by_turn, missed_behind, missed_by_turn, misses_by_line}
 pub use Rattle.fax_reading.specs.Damage.{repaired_by_turn, repaired_in, repairs_by_line, cut_by_turn, cut_in, cuts_by_line}
 pub use Rattle.fax_reading.specs.Damage.{cuts_run, start_in}
-pub use Rattle.fax_reading.specs.Decoding.{cuts_with, cut_since, CountsDamage, FailsHere, SinkState, StopsShort, TakesOneRow}
+pub use Rattle.fax_reading.specs.Decoding.{cuts_with, cut_since, FailsHere, SinkState, StopsShort, TakesOneRow}
 pub use Rattle.fax_reading.specs.Decoding.{TakesRows, gap_said, repairs_behind, repairs_with, with_row_taken, context_at}
 pub use Rattle.fax_reading.specs.Decoding.{missed_since}
 pub use Rattle.fax_reading.specs.Encodings.{ClosesWithEols, EncodesLine, EncodesLine1D, EncodesLine2D, EncodesRows}
@@ -41,10 +41,10 @@ pub use Rattle.fax_reading.specs.Pictures.{Allows, IsClosedPicture, IsLimitedPic
 pub use Rattle.fax_reading.specs.PlainReading.{Ending, Gap, Move, Progress, Reading, add_row, after_line, aligned, at_end}
 pub use Rattle.fax_reading.specs.PlainReading.{at_front, at_gap, behind_eols, behind_row, bytes_before, end_of, ending_behind}
 pub use Rattle.fax_reading.specs.PlainReading.{ending_from, ends_with, eols_by, eols_here, failed_at, is_end_of_block, first_gap}
-pub use Rattle.fax_reading.specs.PlainReading.{first_line, from_next_eol, gap_behind_row, gathered_behind, gathered_from}
-pub use Rattle.fax_reading.specs.PlainReading.{gathered_of, is_over, limit_met, line_by, line_here, line_of_turn, lines_of}
-pub use Rattle.fax_reading.specs.PlainReading.{misses_eol, missing_eol, move_on, nothing_read, one_each, pass_gap, plain}
-pub use Rattle.fax_reading.specs.PlainReading.{row_before, row_of_line, whole_reading, with_row}
+pub use Rattle.fax_reading.specs.PlainReading.{first_line, from_next_eol, gap_behind_row}
+pub use Rattle.fax_reading.specs.PlainReading.{is_over, limit_met, line_by, line_here, line_of_turn, lines_of}
+pub use Rattle.fax_reading.specs.PlainReading.{misses_eol, missing_eol, move_on, nothing_read, pass_gap, plain, row_before}
+pub use Rattle.fax_reading.specs.PlainReading.{row_of_line, turns_behind, turns_from, turns_of, whole_reading, with_row}
 pub use Rattle.fax_bits.specs.Repetition.{Reaches, Turn, gathered, repeated}
 pub use Rattle.fax_reading.specs.Rows.{AreChanges, AscendFrom, HaveWidth, Row, a1, a2, b1, b2, changes, is_black, is_change}
 pub use Rattle.fax_reading.specs.Rows.{last_pixel, least_below, opposite, paint, pixel, pixel_before, pixels, pixels_from}
@@ -82,15 +82,16 @@ pub use Rattle.std.proofs.lemmas.Bool.{lt-leb, lt-ltb, ltb-true, ne_eqb, not-fal
 pub use Rattle.std.proofs.lemmas.Bool.{or_from, or_left, or_parts, or_right}
 pub use Rattle.std.proofs.lemmas.Grind.{common_steps, get_or_default_zero}
 pub use Rattle.std.proofs.lemmas.Int.{ints}
-pub use Rattle.std.proofs.lemmas.List.{append_cancel_left, append_cancel_right, drop-drop, drop_at, get_or-append_right}
-pub use Rattle.std.proofs.lemmas.List.{get_or-replicate, get_or_append_left, get_or_past, length-replicate, length-reverse}
-pub use Rattle.std.proofs.lemmas.List.{length-take-le, replicate-append-replicate, reverse-reverse, set_at, take-append-drop}
-pub use Rattle.std.proofs.lemmas.List.Concat.{flat_map-cons, length-flat_map}
+pub use Rattle.std.proofs.lemmas.List.{append_cancel_left, append_cancel_right, drop-drop, drop-map, drop_at, get_or-append_right}
+pub use Rattle.std.proofs.lemmas.List.{get_or-drop, get_or-replicate, get_or_append_left, get_or_past, length-replicate}
+pub use Rattle.std.proofs.lemmas.List.{length-reverse, length-take-le, replicate-append-replicate, reverse-reverse, set_at}
+pub use Rattle.std.proofs.lemmas.List.{take-append-drop}
+pub use Rattle.std.proofs.lemmas.List.Concat.{flat_map-cons}
 pub use Rattle.std.proofs.lemmas.List.Elements.{All-append, All-cons, All-head, All-nil, All-same, All-tail, All-weaker}
 pub use Rattle.std.proofs.lemmas.List.Elements.{Contains-append_cases, Contains-append_left, Contains-append_right}
-pub use Rattle.std.proofs.lemmas.List.Sums.{sum_by-append, sum_by-take-le}
+pub use Rattle.std.proofs.lemmas.List.Sums.{sum_by-append, sum_by-take-drop, sum_by-take-le, sum_by_more}
 pub use Rattle.std.proofs.lemmas.Nat.Bits.{bit_at_cat_high}
-pub use Rattle.std.proofs.lemmas.Option.{none-some}
+pub use Rattle.std.proofs.lemmas.Option.{get_or_from_slice_get, none-some, slice_get_within}
 pub use Rattle.std.specs.Int.{FitsUnsigned}
 pub use Rattle.std.specs.List.{filter, find, fold, range_with_len}
 pub use Rattle.std.specs.Option.{unwrap_or}

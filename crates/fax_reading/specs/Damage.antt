@@ -1,15 +1,14 @@
 -- Damage that a lenient reading passes: runs that it cuts, and in Group 3 data with EOLs rows that it repairs and EOLs that it
 -- misses (T.4, 4.1.1 and 4.1.2).
-use Rattle.std.specs.Prelude.{ℕ, zero, suc, ◌+◌, ◌-◌, Bool, true, false, not, ◌&&◌, ◌||◌, List, [], ◌∷◌, ◌++◌, length, flat_map}
-use Rattle.std.specs.Prelude.{◌==◌}
-use Rattle.std.specs.Prelude.{Option, Some, None, if◌then◌else◌, get_or}
+use Rattle.std.specs.Prelude.{ℕ, zero, suc, ◌+◌, ◌-◌, Bool, true, false, not, ◌&&◌, ◌||◌, List, [], ◌∷◌, ◌++◌, length, map}
+use Rattle.std.specs.Prelude.{flat_map, Option, Some, None, if◌then◌else◌, get_or}
 use Rattle.fax_bits.specs.declared.error.DecodeError.{DecodeError}
 use Rattle.fax_bits.specs.declared.error.DecodeError.TheVariants.{InvalidCode}
 use Rattle.fax_bits.specs.declared.settings.DecodeSettings.{DecodeSettings}
 use Rattle.fax_reading.specs.Answers.{is_broken}
 use Rattle.fax_bits.specs.Bits.{Bits}
 use Rattle.fax_reading.specs.Lines.{Line}
-use Rattle.fax_reading.specs.PlainReading.{Progress, gathered_of, line_of_turn, misses_eol, behind_row}
+use Rattle.fax_reading.specs.PlainReading.{Progress, turns_of, line_of_turn, misses_eol, behind_row}
 
 -- damage: the index of the row, an offset in bits, and the fault. It is the offset of the line's first bit, where the line is
 -- repaired or a run of it is cut; or that at which an EOL is missed after a whole line.
@@ -38,7 +37,7 @@ repaired_by_turn settings bits so_far =
 
 -- What is repaired of each line of the plain reading, in the order of `lines_of`: one row or none.
 abbrev pub repairs_by_line : DecodeSettings → Bits → List (List Damaged)
-repairs_by_line settings bits = if settings.columns == 0 then [] else gathered_of settings (repaired_by_turn settings bits) bits
+repairs_by_line settings bits = map (repaired_by_turn settings bits) (turns_of settings bits)
 
 -- The rows that the plain reading repairs, in order (T.4, 4.1.2).
 abbrev pub repairs_of : DecodeSettings → Bits → List Damaged
@@ -65,7 +64,7 @@ cut_by_turn settings bits so_far =
 
 -- What is cut of each line of the plain reading, in the order of `lines_of`: one row or none.
 abbrev pub cuts_by_line : DecodeSettings → Bits → List (List Damaged)
-cuts_by_line settings bits = if settings.columns == 0 then [] else gathered_of settings (cut_by_turn settings bits) bits
+cuts_by_line settings bits = map (cut_by_turn settings bits) (turns_of settings bits)
 
 -- The rows in which the plain reading cuts a run, in order (T.4, 4.1.1 and 4.2.1.3).
 abbrev pub cuts_of : DecodeSettings → Bits → List Damaged
@@ -97,7 +96,7 @@ missed_by_turn settings bits so_far = missed_behind settings bits so_far (line_o
 
 -- What is missed after each line of the plain reading, in the order of `lines_of`: one EOL or none.
 abbrev pub misses_by_line : DecodeSettings → Bits → List (List Damaged)
-misses_by_line settings bits = if settings.columns == 0 then [] else gathered_of settings (missed_by_turn settings bits) bits
+misses_by_line settings bits = map (missed_by_turn settings bits) (turns_of settings bits)
 
 -- The EOLs that the plain reading misses, in order (T.4, 4.1.2).
 abbrev pub misses_of : DecodeSettings → Bits → List Damaged
@@ -123,6 +122,4 @@ damaged_by_turn settings bits so_far =
 -- All damage that the plain reading passes, in order: each row that it repairs, each in which it cuts a run, and each after which
 -- it misses the EOL (T.4, 4.1.1 and 4.1.2).
 abbrev pub damage_of : DecodeSettings → Bits → List Damaged
-damage_of settings bits =
-    if settings.columns == 0 then [] else flat_map (λ damaged. damaged)
-    (gathered_of settings (damaged_by_turn settings bits) bits)
+damage_of settings bits = flat_map (damaged_by_turn settings bits) (turns_of settings bits)

@@ -7,16 +7,16 @@ use Rattle.fax_bits.specs.declared.error.DecodeError.TheVariants.{OutOfMemory, R
 use Rattle.fax_reading.specs.Answers.{IsFault, OnAnswer, DrawsLine, HasBlack, PaintsBlack, front_of, is_broken, meaning_after}
 use Rattle.fax_bits.specs.Bits.{Bits, BitsAt, here}
 use Rattle.fax_reading.specs.Context.{Context, Held, Repairs, redrawn, with_cut, with_missed}
-use Rattle.fax_reading.specs.Damage.{Damaged, repaired_by_turn, cut_by_turn, missed_by_turn}
+use Rattle.fax_reading.specs.Damage.{Damaged, repairs_by_line, cuts_by_line, misses_by_line}
 use Rattle.fax_bits.specs.declared.settings.DecodeSettings.{DecodeSettings}
 use Rattle.fax_bits.specs.declared.settings.EncodingMode.{EncodingMode}
 use Rattle.fax_reading.specs.Lines.{Line, line_found}
-use Rattle.fax_reading.specs.PlainReading.{Ending, Gap, end_of, gathered_of}
-use Rattle.fax_reading.specs.PlainReading.{Progress, row_before, line_of_turn, failed_at}
+use Rattle.fax_reading.specs.PlainReading.{Gap, end_of, lines_of}
+use Rattle.fax_reading.specs.PlainReading.{Progress, row_before, failed_at}
 use Rattle.fax_reading.specs.PlainReading.{misses_eol, line_by}
 use Rattle.fax_reading.specs.Rows.{Row, changes}
 use Rattle.fax_reading.specs.Space.{most_stored, room_for}
-use Rattle.fax_reading.specs.Work.{CountsRun, words_of_turn, most_counted}
+use Rattle.fax_reading.specs.Work.{CountsRun, words_of, most_counted}
 
 -- auxiliary: what a sink means, whether it has refused a row, and which rows it refuses
 pub record SinkState (M : Type 0) : Type 1 where
@@ -56,32 +56,20 @@ pub record CountsDamage {A : Type 0} (by_line : List (List Damaged)) (taken coun
 
 -- ---- All rows of some bits: the contract of the drivers
 
--- What a run over rows leaves, from the end of its reading, its lines, their words, repairs, cut runs and missed EOLs: the
--- accepted rows, why there are fewer if there are, how many were repaired, in how many a run was cut, how many EOLs were missed,
--- and at most this much work.
-pub record TakesAll {M : Type 0} (end : Ending) (lines : List Line) (words : List (List Bits))
-    (repairs cuts misses : List (List Damaged)) (most : ℕ) (step : M → List ℕ → M) (before after : SinkState M)
-    (old new : Context)
+-- What a run over the rows of some bits leaves, read by the settings: the accepted rows, why there are fewer if there are, how
+-- many were repaired, in how many a run was cut, how many EOLs were missed, and at most this much work (T.4, 4.1 and 4.2; T.6,
+-- 2.2 and 2.4.1).
+pub record DecodesRows {M : Type 0} (bits : Bits) (step : M → List ℕ → M) (before after : SinkState M) (old new : Context)
     (answer : Result Bits DecodeError) : Type 0 where
   pub settings : new.held.settings ≡ old.held.settings
-  pub reading : TakesRows end.rows end.outcome end.has_eols step before after new.held answer
-  pub short : StopsShort end.rows lines before after new.held answer
-  pub repaired : CountsDamage repairs new.held.taken new.held.repairs.rows answer
-  pub cut : CountsDamage cuts new.held.taken new.held.repairs.cut answer
-  pub missed : CountsDamage misses new.held.taken new.held.repairs.missed answer
-  pub work : CountsRun words new.held.taken old.ticks new.ticks most
-
--- a run over the rows of some bits, read by the settings (T.4, 4.1 and 4.2; T.6, 2.2 and 2.4.1)
-abbrev pub DecodesRows : {M : Type 0} → Bits → (M → List ℕ → M) → SinkState M → SinkState M → Context → Context
-    → Result Bits DecodeError → Type 0
-DecodesRows bits step before after old new answer =
-    TakesAll (end_of old.held.settings bits) (gathered_of old.held.settings (line_of_turn old.held.settings) bits)
-    (gathered_of old.held.settings (words_of_turn old.held.settings) bits)
-    (gathered_of old.held.settings (repaired_by_turn old.held.settings bits) bits)
-    (gathered_of old.held.settings (cut_by_turn old.held.settings bits) bits)
-    (gathered_of old.held.settings (missed_by_turn old.held.settings bits) bits)
-    (most_counted old.held.settings.encoding (length bits))
-    step before after old new answer
+  pub reading : TakesRows (end_of old.held.settings bits).rows (end_of old.held.settings bits).outcome
+      (end_of old.held.settings bits).has_eols step before after new.held answer
+  pub short : StopsShort (end_of old.held.settings bits).rows (lines_of old.held.settings bits) before after new.held answer
+  pub repaired : CountsDamage (repairs_by_line old.held.settings bits) new.held.taken new.held.repairs.rows answer
+  pub cut : CountsDamage (cuts_by_line old.held.settings bits) new.held.taken new.held.repairs.cut answer
+  pub missed : CountsDamage (misses_by_line old.held.settings bits) new.held.taken new.held.repairs.missed answer
+  pub work : CountsRun (words_of old.held.settings bits) new.held.taken old.ticks new.ticks
+      (most_counted old.held.settings.encoding (length bits))
 
 -- a run over the rows of some bits that took this number of rows and left these bits failed where the reading does (T.4, 4.1.2)
 abbrev pub FailsHere : DecodeSettings → Bits → ℕ → Bits → Type 0

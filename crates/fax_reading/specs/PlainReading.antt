@@ -1,5 +1,5 @@
 -- The plain reading of whole data: rows, and how it ends.
-use Rattle.std.specs.Prelude.{ℕ, suc, ◌+◌, ◌-◌, ◌/◌, Bool, true, false, not, ◌&&◌, ◌||◌, List, [], ◌∷◌, ◌++◌, length}
+use Rattle.std.specs.Prelude.{ℕ, suc, ◌+◌, ◌-◌, ◌/◌, Bool, true, false, not, ◌&&◌, ◌||◌, List, [], ◌∷◌, ◌++◌, length, map}
 use Rattle.std.specs.Prelude.{get_or, nat_le, nat_lt, ◌==◌, Option, Some, None, Result, Ok, Err, if◌then◌else◌}
 pub use Rattle.fax_bits.specs.Bits.{aligned, at_end}
 use Rattle.fax_bits.specs.declared.error.DecodeError.{DecodeError}
@@ -223,24 +223,22 @@ nothing_read = record { rows = []; outcome = Ok 0; has_eols = false }
 abbrev pub plain : DecodeSettings → Bits → Reading
 plain settings bits = if settings.columns == 0 then nothing_read else whole_reading bits (end_of settings bits)
 
--- ---- auxiliary: the lines that are read, one a turn
+-- ---- auxiliary: the turns of a reading, and the lines that they read
 
--- the line of one turn
-abbrev pub one_each : {A : Type 0} → (Progress → A) → Progress → List A
-one_each gives so_far = gives so_far ∷ []
-
--- the lines of the turns from a state on
-abbrev pub gathered_from : {A : Type 0} → (Progress → Move) → (Progress → List A) → Progress → List A
-gathered_from move gives so_far = gathered move gives (suc (suc (length so_far.rest))) so_far
+-- the states before the turns from a state on, in order
+abbrev pub turns_from : (Progress → Move) → Progress → List Progress
+turns_from move so_far = gathered move (λ turn. turn ∷ []) (suc (suc (length so_far.rest))) so_far
 
 -- the same after a gap
-abbrev pub gathered_behind : {A : Type 0} → DecodeSettings → (Progress → A) → Move → List A
-gathered_behind settings gives (Turn.next so_far) = gathered_from (move_on settings) (one_each gives) so_far
-gathered_behind settings gives (Turn.done end) = []
+abbrev pub turns_behind : DecodeSettings → Move → List Progress
+turns_behind settings (Turn.next so_far) = turns_from (move_on settings) so_far
+turns_behind settings (Turn.done end) = []
 
--- the same for the whole reading
-abbrev pub gathered_of : {A : Type 0} → DecodeSettings → (Progress → A) → Bits → List A
-gathered_of settings gives bits = gathered_behind settings gives (first_gap settings.encoding settings bits)
+-- The states before the turns of the plain reading, in order: the one with index n is before the line that is read after n
+-- rows. Without columns there are none.
+abbrev pub turns_of : DecodeSettings → Bits → List Progress
+turns_of settings bits =
+    if settings.columns == 0 then [] else turns_behind settings (first_gap settings.encoding settings bits)
 
 -- the line that a turn reads
 abbrev pub line_of_turn : DecodeSettings → Progress → Line
@@ -248,7 +246,7 @@ line_of_turn settings so_far = line_here settings (row_before settings.columns s
 
 -- The lines that the plain reading reads, in order. The line with index n is read after n rows.
 abbrev pub lines_of : DecodeSettings → Bits → List Line
-lines_of settings bits = if settings.columns == 0 then [] else gathered_of settings (line_of_turn settings) bits
+lines_of settings bits = map (line_of_turn settings) (turns_of settings bits)
 
 -- ---- Where lines begin, and where a reading fails
 
@@ -266,11 +264,11 @@ end_of_turn settings bits so_far =
 
 -- where the lines of the plain reading begin: the offset of each one's first bit (T.4, 4.1.1 and 4.2.2)
 abbrev pub line_starts : DecodeSettings → Bits → List ℕ
-line_starts settings bits = gathered_of settings (start_of_turn bits) bits
+line_starts settings bits = map (start_of_turn bits) (turns_of settings bits)
 
 -- where the gaps after its rows begin: the offset of the first bit after each row (T.4, 4.1.2)
 abbrev pub row_ends : DecodeSettings → Bits → List ℕ
-row_ends settings bits = gathered_of settings (end_of_turn settings bits) bits
+row_ends settings bits = map (end_of_turn settings bits) (turns_of settings bits)
 
 -- auxiliary: where a reading fails after this number of rows, if its lines begin and its rows end here
 abbrev pub failing_at : List ℕ → List ℕ → ℕ → ℕ

@@ -1,5 +1,5 @@
 -- What decoding counts: the words that its lines find, and how much at most.
-use Rattle.std.specs.Prelude.{ℕ, Bool, ◌+◌, ◌-◌, ◌*◌, ◌≤◌, Result, Ok, Err, List, [], ◌++◌, length, take, drop, sum_by, ◌==◌}
+use Rattle.std.specs.Prelude.{ℕ, Bool, ◌+◌, ◌-◌, ◌*◌, ◌≤◌, Result, Ok, Err, List, [], ◌++◌, length, take, drop, map, sum_by}
 use Rattle.std.specs.Prelude.{if◌then◌else◌}
 use Rattle.fax_bits.specs.declared.codes.Color.{Color}
 use Rattle.fax_bits.specs.declared.codes.Mode.{Mode}
@@ -12,7 +12,7 @@ use Rattle.fax_bits.specs.Bits.{Bits}
 use Rattle.fax_bits.specs.CodeLists.{mode_codes}
 use Rattle.fax_bits.specs.CodeReading.{read_code}
 use Rattle.fax_reading.specs.Lines.{found_1d, line_found}
-use Rattle.fax_reading.specs.PlainReading.{Progress, row_before, gathered_of}
+use Rattle.fax_reading.specs.PlainReading.{Progress, row_before, turns_of}
 use Rattle.fax_reading.specs.Rows.{Row, opposite}
 use Rattle.fax_bits.specs.Runs.{read_run}
 use Rattle.fax_bits.specs.Ticks.{looked, looked_ahead, run_found, word_found}
@@ -29,7 +29,7 @@ words_of_turn settings so_far = found_here settings (row_before settings.columns
 
 -- The words that the lines of the plain reading find, in the order of `lines_of`.
 abbrev pub words_of : DecodeSettings → Bits → List (List Bits)
-words_of settings bits = if settings.columns == 0 then [] else gathered_of settings (words_of_turn settings) bits
+words_of settings bits = map (words_of_turn settings) (turns_of settings bits)
 
 -- ---- auxiliary: how much is counted
 

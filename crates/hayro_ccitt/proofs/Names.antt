@@ -25,13 +25,13 @@ pub use Rattle.hayro_ccitt.specs.Locality.{DamageStaysInRow, EndsBefore, IsLocal
 pub use Rattle.hayro_ccitt.specs.LocalityByK.{ComeBefore1D, ComesBefore1D, DamageEndsAt1D, ReadsModes, behind_mode}
 pub use Rattle.hayro_ccitt.specs.LookUps.{is_short, pair_entry, mode_told, padded}
 pub use Rattle.hayro_ccitt.specs.Pictures.{Allows, IsClosedPicture, IsLimitedPicture}
-pub use Rattle.hayro_ccitt.specs.PlainReading.{Ending, Gap, Move, Progress, Reading, add_row, aligned, at_end, at_front, at_gap}
+pub use Rattle.hayro_ccitt.specs.PlainReading.{Ending, Gap, Progress, Reading, add_row, aligned, at_end, at_front, at_gap}
 pub use Rattle.hayro_ccitt.specs.PlainReading.{behind_eols, end_of, end_of_row, end_of_turn, ending_behind, ending_from}
 pub use Rattle.hayro_ccitt.specs.PlainReading.{ends_with, eols_by, eols_here, failed_at, first_gap, first_line, from_next_eol}
-pub use Rattle.hayro_ccitt.specs.PlainReading.{gap_behind_row, gathered_behind, gathered_from, gathered_of, is_over, limit_met}
+pub use Rattle.hayro_ccitt.specs.PlainReading.{gap_behind_row, is_over, limit_met}
 pub use Rattle.hayro_ccitt.specs.PlainReading.{line_by, line_here, line_of_turn, line_starts, lines_of, misses_eol, move_on}
-pub use Rattle.hayro_ccitt.specs.PlainReading.{one_each, plain, row_before, row_ends, row_of_line, start_of_turn, whole_reading}
-pub use Rattle.hayro_ccitt.specs.PlainReading.{with_row}
+pub use Rattle.hayro_ccitt.specs.PlainReading.{plain, row_before, row_ends, row_of_line, start_of_turn, turns_behind}
+pub use Rattle.hayro_ccitt.specs.PlainReading.{turns_of, whole_reading, with_row}
 pub use Rattle.hayro_ccitt.specs.Repetition.{Reaches, Turn}
 pub use Rattle.hayro_ccitt.specs.RowCursors.{Paused}
 pub use Rattle.hayro_ccitt.specs.Rows.{AreChanges, AscendFrom, HaveWidth, Row, a1, a2, b1, b2, changes, is_black, is_change}
@@ -80,7 +80,7 @@ pub use Rattle.std.proofs.lemmas.List.{append_cancel_left, drop-drop, get_or-app
 pub use Rattle.std.proofs.lemmas.List.{length-replicate, map-append}
 pub use Rattle.std.proofs.lemmas.List.Concat.{length-flat_map}
 pub use Rattle.std.proofs.lemmas.List.Elements.{All-cons, All-head, All-tail}
-pub use Rattle.std.proofs.lemmas.List.Sums.{fold-append, sum_by-append, sum_by-take-drop}
+pub use Rattle.std.proofs.lemmas.List.Sums.{fold-append}
 pub use Rattle.std.proofs.lemmas.Nat.{and_mask}
 pub use Rattle.std.proofs.lemmas.Option.{none-some}
 pub use Rattle.std.proofs.lemmas.Result.{IfErr-weaker, IfOk-weaker, err_from_is_err_and, on_err_weaker, on_ok_weaker}

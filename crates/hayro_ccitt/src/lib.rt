@@ -16,10 +16,10 @@ ghost use Rattle.hayro_ccitt.specs.Bits.{AreWholeBytes, BitsFit, bits_in, bits_o
 ghost use Rattle.hayro_ccitt.specs.Context.{fresh};
 ghost use Rattle.hayro_ccitt.specs.Contract.{Decodes};
 ghost use Rattle.hayro_ccitt.specs.Decoding.{DecodesRows, FailsHere, leaving};
-ghost use Rattle.hayro_ccitt.specs.PlainReading.{end_of, gathered_of, plain};
+ghost use Rattle.hayro_ccitt.specs.PlainReading.{end_of, plain};
 ghost use Rattle.hayro_ccitt.specs.Rows.{AreChanges};
 ghost use Rattle.hayro_ccitt.specs.Space.{most_room};
-ghost use Rattle.hayro_ccitt.specs.Work.{CountsRun, CountsWork, words_of_turn, most_counted};
+ghost use Rattle.hayro_ccitt.specs.Work.{CountsRun, CountsWork, words_of, most_counted};
 
 /// The bits of a slice of bytes, read from the start.
 pub mod bit_reader {
@@ -110,7 +110,7 @@ fn decode_rows<D: Decoder>(
     requires width { ctx.old.held.settings.columns ≤ D.width decoder.old }
     ensures width { D.width decoder.new ≡ D.width decoder.old }
     ensures work { CountsRun
-        (gathered_of ctx.old.held.settings (words_of_turn ctx.old.held.settings) reader.old.bits)
+        (words_of ctx.old.held.settings reader.old.bits)
         ctx.new.held.taken ctx.old.ticks ctx.new.ticks
         (most_counted ctx.old.held.settings.encoding (length reader.old.bits)) }
     ensures rest { OnOk result ((end_of ctx.old.held.settings reader.old.bits).outcome ≡ Ok (here reader.new)) }

@@ -1,8 +1,8 @@
 -- A strict reading ends without a fault exactly if a lenient one does, and passes no damage.
-use Rattle.fax_reading.proofs.Names.{◌≡◌, ◌<◌, ◌+◌, ◌-◌, ◌⊎◌, inl, inr, ℕ, zero, suc, Bool, true, false, cond, ◌&&◌, eqb, List}
+use Rattle.fax_reading.proofs.Names.{◌≡◌, ◌+◌, ◌-◌, ◌⊎◌, inl, inr, ℕ, zero, suc, Bool, true, false, cond, ◌&&◌, eqb, List}
 use Rattle.fax_reading.proofs.Names.{[], ◌∷◌, ◌++◌, length, take, Err, refl, sym, ap, subst, arith, IsOk, sum_by, flat_map}
-use Rattle.fax_reading.proofs.Names.{cond-true, cond-false, cases_lt, cases_eq, eq-eqb, ne_eqb, false≢true, length-append}
-use Rattle.fax_reading.proofs.Names.{sum_by-take-le, flat_map-cons, length-flat_map, DecodeError, UnexpectedEof, InvalidCode}
+use Rattle.fax_reading.proofs.Names.{cond-true, cond-false, false≢true, length-append}
+use Rattle.fax_reading.proofs.Names.{sum_by-take-le, flat_map-cons, DecodeError, UnexpectedEof, InvalidCode}
 use Rattle.fax_reading.proofs.Names.{DecodeSettings, EncodingMode, Group4, Group3_1D, Group3_2D, Bits, AreWholeBytes, AreSettings}
 use Rattle.fax_reading.proofs.Names.{Damaged, repaired_in, repaired_by_turn, missed_behind, missed_by_turn, damaged_by_turn}
 use Rattle.fax_reading.proofs.Names.{cut_by_turn, cuts_by_line, cuts_run, is_broken, not, ◌∙◌, add_row, bytes_before, Ok, Result}
@@ -10,28 +10,29 @@ use Rattle.fax_reading.proofs.Names.{whole_reading, sum_by-append}
 use Rattle.fax_reading.proofs.Names.{damage_of, repairs_by_line, misses_by_line, StrictIsUndamaged, PicturesAreUndamaged, Line}
 use Rattle.fax_reading.proofs.Names.{IsClosedPicture, IsLimitedPicture, Progress, Ending, Gap, Move, Reading, row_before}
 use Rattle.fax_reading.proofs.Names.{after_line, line_of_turn, misses_eol, behind_row, gap_behind_row, with_row, at_gap, pass_gap}
-use Rattle.fax_reading.proofs.Names.{at_front, move_on, one_each, first_gap, ending_from, ending_behind, end_of, gathered_from}
-use Rattle.fax_reading.proofs.Names.{gathered_behind, gathered_of, plain, Turn, repeated, gathered, Row}
+use Rattle.fax_reading.proofs.Names.{at_front, move_on, first_gap, ending_behind, end_of, turns_behind, turns_of, map}
+use Rattle.fax_reading.proofs.Names.{nothing_read, plain, Turn, repeated, gathered, Row}
 use Rattle.fax_bits.proofs.Repetition.Gathered.{gathered_after}
 use Rattle.fax_bits.proofs.Repetition.Repeated.{after_turn}
 use Rattle.fax_reading.proofs.EncodedPictures.PicturesOfEachKind.{closed_pictures, limited_pictures}
 use Rattle.fax_reading.proofs.Readings.RowsAndGaps.{unmissed}
 use Rattle.fax_reading.proofs.Readings.Strictness.{Agrees, line_by_agrees, ok_outcome, strict_first}
 
--- ---- Lists of nothing
+-- ---- Turns that give nothing
 
 -- each list of these is empty
 abbrev pub AreEmpty : {A : Type 0} → List (List A) → Type 0
 AreEmpty [] = Unit {0}
 AreEmpty (x ∷ xs) = (x ≡ []) × AreEmpty xs
 
-pub joined_empty : {A : Type 0} (xs : List (List A)) → AreEmpty xs → flat_map (λ x. x) xs ≡ []
-joined_empty [] are = refl
-joined_empty (x ∷ xs) are =
-    flat_map-cons (λ y. y) x xs ∙ ap (λ (y : List _). y ++ flat_map (λ z. z) xs) are.0 ∙ joined_empty xs are.1
+sum_empty : {A : Type 0} (xs : List (List A)) → AreEmpty xs → sum_by length xs ≡ 0
+sum_empty [] are = refl
+sum_empty (x ∷ xs) are = omega (arith, sum_by-append length (x ∷ []) xs, ap length are.0, sum_empty xs are.1)
 
-pub sum_empty : {A : Type 0} (xs : List (List A)) → AreEmpty xs → sum_by length xs ≡ 0
-sum_empty xs are = omega (arith, length-flat_map (λ (x : List _). x) xs, ap length (joined_empty xs are))
+empty_summed : {A : Type 0} (xs : List (List A)) → sum_by length xs ≡ 0 → AreEmpty xs
+empty_summed [] is = tt
+empty_summed ([] ∷ xs) is = (refl, empty_summed xs (omega (arith, is)))
+empty_summed ((x ∷ more) ∷ xs) is = absurd (omega (arith, is, sum_by-append length ((x ∷ more) ∷ []) xs))
 
 front_empty : {A : Type 0} (xs ys : List A) → xs ++ ys ≡ [] → xs ≡ []
 front_empty [] ys is = refl
@@ -41,20 +42,38 @@ back_empty : {A : Type 0} (xs ys : List A) → xs ++ ys ≡ [] → ys ≡ []
 back_empty [] ys is = is
 back_empty (x ∷ xs) ys is = absurd cc
 
+module _ (p : Progress → List Damaged) where
+  joined_empty : (turns : List Progress) → AreEmpty (map p turns) → flat_map p turns ≡ []
+  joined_empty [] are = refl
+  joined_empty (s ∷ turns) are =
+      flat_map-cons p s turns ∙ ap (λ (x : List Damaged). x ++ flat_map p turns) are.0 ∙ joined_empty turns are.1
+
+  empty_joined : (turns : List Progress) → flat_map p turns ≡ [] → AreEmpty (map p turns)
+  empty_joined [] is = tt
+  empty_joined (s ∷ turns) is =
+      let joined = sym (flat_map-cons p s turns) ∙ is in
+      (front_empty (p s) _ joined, empty_joined turns (back_empty (p s) _ joined))
+
+  none_empty : ((s : Progress) → p s ≡ []) → (turns : List Progress) → AreEmpty (map p turns)
+  none_empty none [] = tt
+  none_empty none (s ∷ turns) = (none s, none_empty none turns)
+
+  -- what gives nothing where another does
+  each_empty : (q : Progress → List Damaged) → ((s : Progress) → p s ≡ [] → q s ≡ []) → (turns : List Progress)
+      → AreEmpty (map p turns) → AreEmpty (map q turns)
+  each_empty q none [] are = tt
+  each_empty q none (s ∷ turns) are = (none s are.0, each_empty q none turns are.1)
+
+  -- where nothing of each kind is given, nothing is given
+  all_empty : (q r : Progress → List Damaged) (turns : List Progress) → AreEmpty (map p turns) → AreEmpty (map q turns)
+      → AreEmpty (map r turns) → AreEmpty (map (λ s. p s ++ (q s ++ r s)) turns)
+  all_empty q r [] one two three = tt
+  all_empty q r (s ∷ turns) one two three =
+      (rw (one.0, two.0, three.0) refl, all_empty q r turns one.1 two.1 three.1)
+
 outcome_ok : (bits : Bits) (r : Result Bits DecodeError) → IsOk r → IsOk (bytes_before bits r)
 outcome_ok bits (Ok rest) ok = refl
 outcome_ok bits (Err e) ok = absurd (false≢true ok)
-
-pub empty_joined : {A : Type 0} (xs : List (List A)) → flat_map (λ x. x) xs ≡ [] → AreEmpty xs
-empty_joined [] is = tt
-empty_joined (x ∷ xs) is =
-    let joined = sym (flat_map-cons (λ y. y) x xs) ∙ is in
-    (front_empty x _ joined, empty_joined xs (back_empty x _ joined))
-
-pub empty_summed : {A : Type 0} (xs : List (List A)) → sum_by length xs ≡ 0 → AreEmpty xs
-empty_summed [] is = tt
-empty_summed ([] ∷ xs) is = (refl, empty_summed xs (omega (arith, is)))
-empty_summed ((x ∷ more) ∷ xs) is = absurd (omega (arith, is, sum_by-append length ((x ∷ more) ∷ []) xs))
 
 module _ (settings : DecodeSettings) (bits : Bits) where
   abbrev strictly : DecodeSettings
@@ -122,54 +141,57 @@ module _ (settings : DecodeSettings) (bits : Bits) where
 
   -- ---- All turns
 
-  module _ (gives : Progress → List Damaged) (empty : (s : Progress) → damaged_by_turn leniently bits s ≡ [] → gives s ≡ []) where
-    turns_sound : (late : Ending) → (IsOk late.outcome → ⊥) → (n m : ℕ) (s : Progress)
-        → IsOk (repeated (move_on strictly) late n s).outcome → AreEmpty (gathered (move_on leniently) (one_each gives) m s)
-    turns_sound late never zero m s ok = absurd (never ok)
-    turns_sound late never (suc n) zero s ok = tt
-    turns_sound late never (suc n) (suc m) s ok = elim (turn_sound s) [
-      | inl (fault, end, ends, fails) ↦
-          let at : IsOk end.outcome =
-          subst (λ (turn : Move). IsOk (after_turn (repeated (move_on strictly) late n) turn).outcome) ends ok in
-          absurd (false≢true (subst IsOk fails at))
-      | inr (none, same) ↦
-          by_turn (λ t ok. turns_sound late never n m t ok) (move_on leniently s) (subst
-          (λ (turn : Move). IsOk (after_turn (repeated (move_on strictly) late n) turn).outcome) same ok) (empty s none)
-    ]
-      where
-        by_turn : ((t : Progress) → IsOk (repeated (move_on strictly) late n t).outcome → AreEmpty (gathered (move_on leniently)
-            (one_each gives) m t)) → (turn : Move) → IsOk (after_turn (repeated (move_on strictly) late n) turn).outcome
-            → gives s ≡ [] → AreEmpty (gives s ∷ gathered_after (gathered (move_on leniently) (one_each gives) m) turn)
-        by_turn on (Turn.next t) ok none = (none, on t ok)
-        by_turn on (Turn.done end) ok none = (none, tt)
+  -- what a lenient reading passes
+  abbrev passed : List Progress → List (List Damaged)
+  passed turns = map (damaged_by_turn leniently bits) turns
 
-    from_line : (s : Progress) → IsOk (ending_from (move_on strictly) s).outcome
-        → AreEmpty (gathered_from (move_on leniently) (one_each gives) s)
-    from_line s ok =
-        turns_sound (record { rows = s.rows; has_eols = s.has_eols; outcome = Err UnexpectedEof }) (λ ok. false≢true ok)
-        (suc (suc (length s.rest))) (suc (suc (length s.rest))) s ok
+  turns_sound : (late : Ending) → (IsOk late.outcome → ⊥) → (n m : ℕ) (s : Progress)
+      → IsOk (repeated (move_on strictly) late n s).outcome
+      → AreEmpty (passed (gathered (move_on leniently) (λ turn. turn ∷ []) m s))
+  turns_sound late never zero m s ok = absurd (never ok)
+  turns_sound late never (suc n) zero s ok = tt
+  turns_sound late never (suc n) (suc m) s ok = elim (turn_sound s) [
+    | inl (fault, end, ends, fails) ↦
+        let at : IsOk end.outcome =
+        subst (λ (turn : Move). IsOk (after_turn (repeated (move_on strictly) late n) turn).outcome) ends ok in
+        absurd (false≢true (subst IsOk fails at))
+    | inr (none, same) ↦
+        by_turn (λ t ok. turns_sound late never n m t ok) (move_on leniently s) (subst
+        (λ (turn : Move). IsOk (after_turn (repeated (move_on strictly) late n) turn).outcome) same ok) none
+  ]
+    where
+      by_turn : ((t : Progress) → IsOk (repeated (move_on strictly) late n t).outcome → AreEmpty (passed (gathered (move_on
+          leniently) (λ turn. turn ∷ []) m t))) → (turn : Move)
+          → IsOk (after_turn (repeated (move_on strictly) late n) turn).outcome → damaged_by_turn leniently bits s ≡ []
+          → AreEmpty (passed (s ∷ gathered_after (gathered (move_on leniently) (λ turn. turn ∷ []) m) turn))
+      by_turn on (Turn.next t) ok none = (none, on t ok)
+      by_turn on (Turn.done end) ok none = (none, tt)
 
-    behind : (gap : Move) → IsOk (ending_behind strictly gap).outcome → AreEmpty (gathered_behind leniently gives gap)
-    behind (Turn.next s) ok = from_line s ok
-    behind (Turn.done end) ok = tt
+  behind : (gap : Move) → IsOk (ending_behind strictly gap).outcome → AreEmpty (passed (turns_behind leniently gap))
+  behind (Turn.next s) ok =
+      turns_sound (record { rows = s.rows; has_eols = s.has_eols; outcome = Err UnexpectedEof }) (λ ok. false≢true ok)
+      (suc (suc (length s.rest))) (suc (suc (length s.rest))) s ok
+  behind (Turn.done end) ok = tt
 
-    -- the first gap is the same, or has a fault
-    first : (encoding : EncodingMode) → IsOk (ending_behind strictly (first_gap encoding strictly bits)).outcome
-        → AreEmpty (gathered_behind leniently gives (first_gap encoding leniently bits))
-    first Group3_1D ok = behind (first_gap Group3_1D leniently bits) ok
-    first Group3_2D ok = behind (first_gap Group3_2D leniently bits) ok
-    first Group4 ok = elim (gap_sound 0 false bits) [
-      | inl fails ↦
-          absurd (false≢true (subst (λ (gap : Gap). IsOk (ending_behind strictly (at_gap (at_front bits) gap)).outcome) fails ok))
-      | inr (none, same) ↦ behind (at_gap (at_front bits) (gap_behind_row leniently 0 false bits))
-          (subst (λ (gap : Gap). IsOk (ending_behind strictly (at_gap (at_front bits) gap)).outcome) same ok)
-    ]
+  -- the first gap is the same, or has a fault
+  first : (encoding : EncodingMode) → IsOk (ending_behind strictly (first_gap encoding strictly bits)).outcome
+      → AreEmpty (passed (turns_behind leniently (first_gap encoding leniently bits)))
+  first Group3_1D ok = behind (first_gap Group3_1D leniently bits) ok
+  first Group3_2D ok = behind (first_gap Group3_2D leniently bits) ok
+  first Group4 ok = elim (gap_sound 0 false bits) [
+    | inl fails ↦
+        absurd (false≢true (subst (λ (gap : Gap). IsOk (ending_behind strictly (at_gap (at_front bits) gap)).outcome) fails ok))
+    | inr (none, same) ↦ behind (at_gap (at_front bits) (gap_behind_row leniently 0 false bits))
+        (subst (λ (gap : Gap). IsOk (ending_behind strictly (at_gap (at_front bits) gap)).outcome) same ok)
+  ]
 
-    pub lenient_empty : 0 < settings.columns → IsOk (plain strictly bits).outcome → AreEmpty (gathered_of leniently gives bits)
-    lenient_empty wide ok =
-        let some : eqb settings.columns 0 ≡ false = ne_eqb settings.columns 0 (λ none. absurd (omega (arith, wide, none))) in
-        let read = ap (λ (r : Reading). r.outcome) (cond-false {A = Reading} (eqb settings.columns 0) _ _ some) in
-        first settings.encoding (ok_outcome bits (end_of strictly bits).outcome (subst IsOk read ok))
+  lenient_empty : IsOk (plain strictly bits).outcome → AreEmpty (passed (turns_of leniently bits))
+  lenient_empty = by_width (eqb settings.columns 0)
+    where
+      by_width : (none : Bool) → IsOk (cond none nothing_read (whole_reading bits (end_of strictly bits))).outcome
+          → AreEmpty (passed (cond none [] (turns_behind leniently (first_gap settings.encoding leniently bits))))
+      by_width true ok = tt
+      by_width false ok = first settings.encoding (ok_outcome bits (end_of strictly bits).outcome ok)
 
   -- ---- A lenient reading that passes no damage
 
@@ -232,7 +254,7 @@ module _ (settings : DecodeSettings) (bits : Bits) where
 
   turns_same : (late : Ending) → (IsOk late.outcome → ⊥) → (n : ℕ) (s : Progress)
       → IsOk (repeated (move_on leniently) late n s).outcome
-      → AreEmpty (gathered (move_on leniently) (one_each (damaged_by_turn leniently bits)) n s)
+      → AreEmpty (passed (gathered (move_on leniently) (λ turn. turn ∷ []) n s))
       → IsOk (repeated (move_on strictly) late n s).outcome
   turns_same late never zero s ok none = absurd (never ok)
   turns_same late never (suc n) s ok none = elim (turn_same s none.0) [
@@ -244,28 +266,23 @@ module _ (settings : DecodeSettings) (bits : Bits) where
         (by_turn (λ t ok none. turns_same late never n t ok none) (move_on leniently s) ok none.1)
   ]
     where
-      by_turn : ((t : Progress) → IsOk (repeated (move_on leniently) late n t).outcome → AreEmpty (gathered (move_on leniently)
-          (one_each (damaged_by_turn leniently bits)) n t) → IsOk (repeated (move_on strictly) late n t).outcome) → (turn : Move)
+      by_turn : ((t : Progress) → IsOk (repeated (move_on leniently) late n t).outcome → AreEmpty (passed (gathered (move_on
+          leniently) (λ turn. turn ∷ []) n t)) → IsOk (repeated (move_on strictly) late n t).outcome) → (turn : Move)
           → IsOk (after_turn (repeated (move_on leniently) late n) turn).outcome
-          → AreEmpty (gathered_after (gathered (move_on leniently) (one_each (damaged_by_turn leniently bits)) n) turn)
+          → AreEmpty (passed (gathered_after (gathered (move_on leniently) (λ turn. turn ∷ []) n) turn))
           → IsOk (after_turn (repeated (move_on strictly) late n) turn).outcome
       by_turn on (Turn.next t) ok none = on t ok none
       by_turn on (Turn.done end) ok none = ok
 
-  same_from : (s : Progress) → IsOk (ending_from (move_on leniently) s).outcome
-      → AreEmpty (gathered_from (move_on leniently) (one_each (damaged_by_turn leniently bits)) s)
-      → IsOk (ending_from (move_on strictly) s).outcome
-  same_from s ok none =
+  same_behind : (gap : Move) → IsOk (ending_behind leniently gap).outcome → AreEmpty (passed (turns_behind leniently gap))
+      → IsOk (ending_behind strictly gap).outcome
+  same_behind (Turn.next s) ok none =
       turns_same (record { rows = s.rows; has_eols = s.has_eols; outcome = Err UnexpectedEof }) (λ ok. false≢true ok)
       (suc (suc (length s.rest))) s ok none
-
-  same_behind : (gap : Move) → IsOk (ending_behind leniently gap).outcome
-      → AreEmpty (gathered_behind leniently (damaged_by_turn leniently bits) gap) → IsOk (ending_behind strictly gap).outcome
-  same_behind (Turn.next s) ok none = same_from s ok none
   same_behind (Turn.done end) ok none = ok
 
   same_first : (encoding : EncodingMode) → IsOk (ending_behind leniently (first_gap encoding leniently bits)).outcome
-      → AreEmpty (gathered_behind leniently (damaged_by_turn leniently bits) (first_gap encoding leniently bits))
+      → AreEmpty (passed (turns_behind leniently (first_gap encoding leniently bits)))
       → IsOk (ending_behind strictly (first_gap encoding strictly bits)).outcome
   same_first Group3_1D ok none = same_behind (first_gap Group3_1D leniently bits) ok none
   same_first Group3_2D ok none = same_behind (first_gap Group3_2D leniently bits) ok none
@@ -273,24 +290,16 @@ module _ (settings : DecodeSettings) (bits : Bits) where
       (sym (gap_same 0 false bits (unmissed leniently 0 bits)))
       (same_behind (at_gap (at_front bits) (gap_behind_row leniently 0 false bits)) ok none)
 
-  pub strict_ok : IsOk (plain leniently bits).outcome
-      → AreEmpty (cond (eqb settings.columns 0) [] (gathered_of leniently (damaged_by_turn leniently bits) bits))
+  strict_ok : IsOk (plain leniently bits).outcome → AreEmpty (passed (turns_of leniently bits))
       → IsOk (plain strictly bits).outcome
-  strict_ok = by_width (eqb settings.columns 0) refl
+  strict_ok = by_width (eqb settings.columns 0)
     where
-      by_width : (b : Bool) → eqb settings.columns 0 ≡ b → IsOk (plain leniently bits).outcome
-          → AreEmpty (cond (eqb settings.columns 0) [] (gathered_of leniently (damaged_by_turn leniently bits) bits))
-          → IsOk (plain strictly bits).outcome
-      by_width true e ok none = subst (λ (r : Reading). IsOk r.outcome) (sym (cond-true (eqb settings.columns 0) _ _ e)) refl
-      by_width false e ok none =
-          let read : plain leniently bits ≡ whole_reading bits (end_of leniently bits) =
-          cond-false (eqb settings.columns 0) _ _ e in
-          let given = subst AreEmpty (cond-false (eqb settings.columns 0) _ _ e) none in
-          subst (λ (r : Reading). IsOk r.outcome) (sym (cond-false (eqb settings.columns 0) _ _ e))
-          (outcome_ok bits (end_of strictly bits).outcome (same_first settings.encoding
-          (ok_outcome bits (end_of leniently bits).outcome (subst (λ (r : Reading). IsOk r.outcome) read ok)) given))
-
-  -- ---- Strict readings pass no damage
+      by_width : (none : Bool) → IsOk (cond none nothing_read (whole_reading bits (end_of leniently bits))).outcome
+          → AreEmpty (passed (cond none [] (turns_behind leniently (first_gap settings.encoding leniently bits))))
+          → IsOk (cond none nothing_read (whole_reading bits (end_of strictly bits))).outcome
+      by_width true ok none = ok
+      by_width false ok none = outcome_ok bits (end_of strictly bits).outcome
+          (same_first settings.encoding (ok_outcome bits (end_of leniently bits).outcome ok) none)
 
   -- ---- Strict readings pass no damage
 
@@ -307,86 +316,25 @@ module _ (settings : DecodeSettings) (bits : Bits) where
       by_line (Line.whole row rest) =
           missed (misses_eol strictly (length s.rows + 1) s.has_eols (behind_row strictly s.has_eols rest)) _
 
-  module _ (gives : Progress → List Damaged) (empty : (s : Progress) → damaged_by_turn strictly bits s ≡ [] → gives s ≡ []) where
-    turns_empty : (m : ℕ) (s : Progress) → AreEmpty (gathered (move_on strictly) (one_each gives) m s)
-    turns_empty zero s = tt
-    turns_empty (suc m) s = by_turn (turns_empty m) (move_on strictly s)
-      where
-        by_turn : ((t : Progress) → AreEmpty (gathered (move_on strictly) (one_each gives) m t)) → (turn : Move)
-            → AreEmpty (gives s ∷ gathered_after (gathered (move_on strictly) (one_each gives) m) turn)
-        by_turn on (Turn.next t) = (empty s (strict_turn s), on t)
-        by_turn on (Turn.done end) = (empty s (strict_turn s), tt)
-
-    strict_behind : (gap : Move) → AreEmpty (gathered_behind strictly gives gap)
-    strict_behind (Turn.next s) = turns_empty (suc (suc (length s.rest))) s
-    strict_behind (Turn.done end) = tt
-
-    pub strict_empty : AreEmpty (gathered_of strictly gives bits)
-    strict_empty = strict_behind (first_gap settings.encoding strictly bits)
-
 -- ---- The laws
 
--- a reading whose strict one is Ok gives nothing, where each turn without damage gives nothing
-nothing_given : (settings : DecodeSettings) (bits : Bits) (gives : DecodeSettings → Progress → List Damaged) → ((given :
-    DecodeSettings) (s : Progress) → damaged_by_turn given bits s ≡ [] → gives given s ≡ []) → IsOk (plain (record settings
-    { strict = true }) bits).outcome → AreEmpty (cond (eqb settings.columns 0) [] (gathered_of settings (gives settings) bits))
-nothing_given settings bits gives empty ok = elim (cases_eq settings.columns 0) [
-  | inl none ↦ subst AreEmpty (sym (cond-true (eqb settings.columns 0) [] _ (eq-eqb settings.columns 0 none))) tt
-  | inr some ↦
-      let wide : 0 < settings.columns =
-      elim (cases_lt 0 settings.columns) [ inl lt ↦ lt | inr ge ↦ absurd (some (omega arith)) ] in
-      subst AreEmpty (sym (cond-false (eqb settings.columns 0) [] _ (ne_eqb settings.columns 0 some)))
-      (by_strict wide settings.strict refl)
-]
+-- a reading whose strict one is Ok passes no damage
+undamaged_turns : (settings : DecodeSettings) (bits : Bits) → IsOk (plain (record settings { strict = true }) bits).outcome
+    → AreEmpty (map (damaged_by_turn settings bits) (turns_of settings bits))
+undamaged_turns settings bits ok = by_strict settings.strict refl
   where
     same : (strict : Bool) → settings.strict ≡ strict → record settings { strict = strict } ≡ settings
     same strict is = ap (λ (b : Bool). record settings { strict = b }) (sym is)
 
-    by_strict : 0 < settings.columns → (strict : Bool) → settings.strict ≡ strict
-        → AreEmpty (gathered_of settings (gives settings) bits)
-    by_strict wide true is = subst (λ (given : DecodeSettings). AreEmpty (gathered_of given (gives given) bits)) (same true is)
-        (strict_empty settings bits (gives (record settings { strict = true })) (empty (record settings { strict = true })))
-    by_strict wide false is = subst (λ (given : DecodeSettings). AreEmpty (gathered_of given (gives given) bits))
-        (same false is) (lenient_empty settings bits (gives (record settings { strict = false }))
-        (empty (record settings { strict = false })) wide ok)
-
--- where nothing of each kind is given, nothing is given
-module _ (p q r : Progress → List Damaged) where
-  abbrev all_of : Progress → List Damaged
-  all_of s = p s ++ (q s ++ r s)
-
-  none_of_all : (s : Progress) → p s ≡ [] → q s ≡ [] → r s ≡ [] → all_of s ≡ []
-  none_of_all s first second third = rw (first, second, third) refl
-
-  turns_of_all : (move : Progress → Move) (n : ℕ) (s : Progress) → AreEmpty (gathered move (one_each p) n s)
-      → AreEmpty (gathered move (one_each q) n s) → AreEmpty (gathered move (one_each r) n s)
-      → AreEmpty (gathered move (one_each all_of) n s)
-  turns_of_all move zero s first second third = tt
-  turns_of_all move (suc n) s first second third =
-      (none_of_all s first.0 second.0 third.0, by_turn (λ t a b c. turns_of_all move n t a b c) (move s) first.1 second.1 third.1)
-    where
-      by_turn : ((t : Progress) → AreEmpty (gathered move (one_each p) n t) → AreEmpty (gathered move (one_each q) n t)
-          → AreEmpty (gathered move (one_each r) n t) → AreEmpty (gathered move (one_each all_of) n t)) → (turn : Move)
-          → AreEmpty (gathered_after (gathered move (one_each p) n) turn)
-          → AreEmpty (gathered_after (gathered move (one_each q) n) turn)
-          → AreEmpty (gathered_after (gathered move (one_each r) n) turn)
-          → AreEmpty (gathered_after (gathered move (one_each all_of) n) turn)
-      by_turn on (Turn.next t) first second third = on t first second third
-      by_turn on (Turn.done end) first second third = tt
-
-  behind_of_all : (settings : DecodeSettings) (gap : Move) → AreEmpty (gathered_behind settings p gap)
-      → AreEmpty (gathered_behind settings q gap) → AreEmpty (gathered_behind settings r gap)
-      → AreEmpty (gathered_behind settings all_of gap)
-  behind_of_all settings (Turn.next s) first second third =
-      turns_of_all (move_on settings) (suc (suc (length s.rest))) s first second third
-  behind_of_all settings (Turn.done end) first second third = tt
-
-  lines_of_all : (settings : DecodeSettings) (bits : Bits) (none : Bool) → AreEmpty (cond none [] (gathered_of settings p bits))
-      → AreEmpty (cond none [] (gathered_of settings q bits)) → AreEmpty (cond none [] (gathered_of settings r bits))
-      → AreEmpty (cond none [] (gathered_of settings all_of bits))
-  lines_of_all settings bits true first second third = tt
-  lines_of_all settings bits false first second third =
-      behind_of_all settings (first_gap settings.encoding settings bits) first second third
+    by_strict : (strict : Bool) → settings.strict ≡ strict
+        → AreEmpty (map (damaged_by_turn settings bits) (turns_of settings bits))
+    by_strict true is =
+        subst (λ (given : DecodeSettings). AreEmpty (map (damaged_by_turn given bits) (turns_of given bits))) (same true is)
+        (none_empty (damaged_by_turn (strictly settings bits) bits) (strict_turn settings bits)
+        (turns_of (strictly settings bits) bits))
+    by_strict false is =
+        subst (λ (given : DecodeSettings). AreEmpty (map (damaged_by_turn given bits) (turns_of given bits))) (same false is)
+        (lenient_empty settings bits ok)
 
 -- where the strict reading ends without a fault, a reading does
 pub ok_of_strict : (settings : DecodeSettings) (bits : Bits) → IsOk (plain (record settings { strict = true }) bits).outcome
@@ -409,61 +357,49 @@ strict_if_undamaged settings bits ok repaired cut missed = by_strict settings.st
     same : (strict : Bool) → settings.strict ≡ strict → settings ≡ record settings { strict = strict }
     same strict is = ap (λ (b : Bool). record settings { strict = b }) is
 
-    lines : AreEmpty (cond (eqb settings.columns 0) [] (gathered_of settings (damaged_by_turn settings bits) bits))
-    lines = lines_of_all (repaired_by_turn settings bits) (cut_by_turn settings bits) (missed_by_turn settings bits) settings bits
-        (eqb settings.columns 0) (empty_summed (repairs_by_line settings bits) repaired)
+    damaged : AreEmpty (map (damaged_by_turn settings bits) (turns_of settings bits))
+    damaged = all_empty (repaired_by_turn settings bits) (cut_by_turn settings bits) (missed_by_turn settings bits)
+        (turns_of settings bits) (empty_summed (repairs_by_line settings bits) repaired)
         (empty_summed (cuts_by_line settings bits) cut) (empty_summed (misses_by_line settings bits) missed)
 
     by_strict : (strict : Bool) → settings.strict ≡ strict → IsOk (plain (record settings { strict = true }) bits).outcome
     by_strict true is = subst (λ (given : DecodeSettings). IsOk (plain given bits).outcome) (same true is) ok
     by_strict false is =
         strict_ok settings bits (subst (λ (given : DecodeSettings). IsOk (plain given bits).outcome) (same false is) ok)
-        (subst (λ (given : DecodeSettings). AreEmpty (cond (eqb given.columns 0) [] (gathered_of given
-        (damaged_by_turn given bits) bits))) (same false is) lines)
+        (subst (λ (given : DecodeSettings). AreEmpty (map (damaged_by_turn given bits) (turns_of given bits))) (same false is)
+        damaged)
 
 -- no damage
 pub no_damage : (settings : DecodeSettings) (bits : Bits) → IsOk (plain (record settings { strict = true }) bits).outcome
     → damage_of settings bits ≡ []
 no_damage settings bits ok =
-    flat_cond (eqb settings.columns 0) _
-    (nothing_given settings bits (λ given. damaged_by_turn given bits) (λ given s none. none) ok)
-  where
-    flat_cond : (b : Bool) (xs : List (List Damaged)) → AreEmpty (cond b [] xs)
-        → cond b [] (flat_map (λ damaged. damaged) xs) ≡ []
-    flat_cond true xs are = refl
-    flat_cond false xs are = joined_empty xs are
-
-undamaged_lines : (settings : DecodeSettings) (bits : Bits) → damage_of settings bits ≡ []
-    → AreEmpty (cond (eqb settings.columns 0) [] (gathered_of settings (damaged_by_turn settings bits) bits))
-undamaged_lines settings bits none = by_width (eqb settings.columns 0) _ none
-  where
-    by_width : (b : Bool) (xs : List (List Damaged)) → cond b [] (flat_map (λ damaged. damaged) xs) ≡ []
-        → AreEmpty (cond b [] xs)
-    by_width true xs none = tt
-    by_width false xs none = empty_joined xs none
+    joined_empty (damaged_by_turn settings bits) (turns_of settings bits) (undamaged_turns settings bits ok)
 
 -- and no row that is repaired
 pub no_row_repaired : (settings : DecodeSettings) (bits : Bits) (taken : ℕ) → IsOk
     (plain (record settings { strict = true }) bits).outcome → sum_by length (take taken (repairs_by_line settings bits)) ≡ 0
 no_row_repaired settings bits taken ok =
-    let are = nothing_given settings bits (λ given. repaired_by_turn given bits)
-    (λ given s none. front_empty (repaired_by_turn given bits s) _ none) ok in
+    let are = each_empty (damaged_by_turn settings bits) (repaired_by_turn settings bits)
+    (λ s none. front_empty (repaired_by_turn settings bits s) _ none) (turns_of settings bits)
+    (undamaged_turns settings bits ok) in
     omega (arith, sum_by-take-le length (repairs_by_line settings bits) taken, sum_empty (repairs_by_line settings bits) are)
 
 -- nor one in which a run is cut
 pub no_cuts : (settings : DecodeSettings) (bits : Bits) (taken : ℕ) → IsOk
     (plain (record settings { strict = true }) bits).outcome → sum_by length (take taken (cuts_by_line settings bits)) ≡ 0
 no_cuts settings bits taken ok =
-    let are = nothing_given settings bits (λ given. cut_by_turn given bits) (λ given s none.
-    front_empty (cut_by_turn given bits s) _ (back_empty (repaired_by_turn given bits s) _ none)) ok in
+    let are = each_empty (damaged_by_turn settings bits) (cut_by_turn settings bits) (λ s none.
+    front_empty (cut_by_turn settings bits s) _ (back_empty (repaired_by_turn settings bits s) _ none)) (turns_of settings bits)
+    (undamaged_turns settings bits ok) in
     omega (arith, sum_by-take-le length (cuts_by_line settings bits) taken, sum_empty (cuts_by_line settings bits) are)
 
 -- nor EOL that is missed
 pub no_misses : (settings : DecodeSettings) (bits : Bits) (taken : ℕ) → IsOk
     (plain (record settings { strict = true }) bits).outcome → sum_by length (take taken (misses_by_line settings bits)) ≡ 0
 no_misses settings bits taken ok =
-    let are = nothing_given settings bits (λ given. missed_by_turn given bits)
-    (λ given s none. back_empty (cut_by_turn given bits s) _ (back_empty (repaired_by_turn given bits s) _ none)) ok in
+    let are = each_empty (damaged_by_turn settings bits) (missed_by_turn settings bits)
+    (λ s none. back_empty (cut_by_turn settings bits s) _ (back_empty (repaired_by_turn settings bits s) _ none))
+    (turns_of settings bits) (undamaged_turns settings bits ok) in
     omega (arith, sum_by-take-le length (misses_by_line settings bits) taken, sum_empty (misses_by_line settings bits) are)
 
 -- the law
@@ -474,7 +410,8 @@ strict_is_undamaged settings bits = (
     no_damage
         (record settings { strict = false }) bits ok,
   ),
-  λ (ok, none). strict_ok settings bits ok (undamaged_lines (record settings { strict = false }) bits none),
+  λ (ok, none). strict_ok settings bits ok (empty_joined (damaged_by_turn (record settings { strict = false }) bits)
+      (turns_of (record settings { strict = false }) bits) none),
 )
 
 -- the settings of a strict reading are lawful too

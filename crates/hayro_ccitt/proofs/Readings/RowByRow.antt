@@ -6,46 +6,32 @@ use Rattle.hayro_ccitt.proofs.Names.{Option, OnErr, IfOk, IfErr, sum_by, slice_g
 use Rattle.hayro_ccitt.proofs.Names.{OutOfMemory, Refused, DecodeSettings, Bits, BitsAt, IsPrefix, here, Held}
 use Rattle.hayro_ccitt.proofs.Names.{Repairs, fresh, no_repairs, Damaged, fault_in, repaired_in, repaired_by_turn}
 use Rattle.hayro_ccitt.proofs.Names.{repairs_by_line, missed_by_turn, misses_by_line, TakesOneRow, repairs_with}
-use Rattle.hayro_ccitt.proofs.Names.{repairs_behind, gap_said, Line, Progress, Ending, Reading, Move, row_before, with_row}
+use Rattle.hayro_ccitt.proofs.Names.{repairs_behind, gap_said, Line, Progress, Ending, Reading, row_before, with_row}
 use Rattle.hayro_ccitt.proofs.Names.{at_gap, gap_behind_row, row_of_line, line_here, line_of_turn, move_on, first_gap, first_line}
-use Rattle.hayro_ccitt.proofs.Names.{at_front, ending_from, ending_behind, one_each, gathered_from, gathered_behind, gathered_of}
+use Rattle.hayro_ccitt.proofs.Names.{at_front, ending_from, ending_behind, turns_behind, turns_of, map}
 use Rattle.hayro_ccitt.proofs.Names.{whole_reading, plain, lines_of, line_starts, start_of_turn, Gap, misses_eol}
 use Rattle.hayro_ccitt.proofs.Names.{eols_here, is_over, row_ends, end_of_row, end_of_turn, failed_at, Turn}
 use Rattle.hayro_ccitt.proofs.Names.{Reaches, Row, found_here, words_of, words_of_turn, Stand, AtLine, BehindRow, AtEnd, AtFault}
 use Rattle.hayro_ccitt.proofs.Names.{EncodingMode, Group4, RowsRead, ReadsNext, damage_since, start_after}
 use Rattle.hayro_ccitt.proofs.Names.{ReachesNextLine, read_so_far, line_after, DamageIsCounted, MissesAreCounted, MissesBehindRow}
 use Rattle.hayro_ccitt.proofs.Names.{Misses, ReaderStands, ended, stand_after, is_at_line, StandsAtLine, StandsBehindRow}
-use Rattle.hayro_ccitt.proofs.Names.{zero, redrawn, White, sum_by-append, sum_by-take-drop, end_of, ends_with, add_row}
+use Rattle.hayro_ccitt.proofs.Names.{redrawn, White, end_of, ends_with, add_row}
 use Rattle.hayro_ccitt.proofs.Names.{IsWhole, IsFault, cut_by_turn, cuts_by_line, cut_in, cut_since, cuts_with, is_broken}
 use Rattle.hayro_ccitt.proofs.Names.{cuts_run}
 use Rattle.hayro_ccitt.proofs.Names.{strict_line_of_turn}
 use Rattle.hayro_ccitt.proofs.Names.{HasEnded, HasFailed, MissIsTold, context_at, missed_before, missed_since, start_in}
-use Rattle.hayro_ccitt.proofs.{Readings.GapsAndRows.first_gap_t4, Readings.Gathered.gathered_after}
+use Rattle.hayro_ccitt.proofs.Readings.GapsAndRows.{first_gap_t4}
 use Rattle.hayro_ccitt.proofs.Readings.Repeated.{reaches_on}
 use Rattle.hayro_ccitt.proofs.Readings.DamageCounted.{repaired_counts, repaired_none, missed_counts, missed_none, missed_starts}
 use Rattle.hayro_ccitt.proofs.Readings.DamageCounted.{few_behind, last_behind, cuts_keep, cut_counts, cut_once, cut_is_told}
 use Rattle.hayro_ccitt.proofs.Readings.DamageCounted.{cut_none}
 use Rattle.hayro_ccitt.proofs.Readings.PlainAnswers.{some_columns, bytes_before-place}
 use Rattle.hayro_ccitt.proofs.Readings.RowsAndGaps.{unmissed}
-use Rattle.hayro_ccitt.proofs.Readings.RunsOverRows.{by_rows_left, row_of_turn, row_adds, turn_is, lines, lines_on, Comes}
-use Rattle.hayro_ccitt.proofs.Readings.RunsOverRows.{context_at-more, comes_done, comes_more, comes_line, get_or-behind}
-use Rattle.hayro_ccitt.proofs.Readings.RunsReach.{get_or-there, comes_there, value_is, no_value_behind}
-use Rattle.hayro_ccitt.proofs.Readings.TurnsAddRows.{Keeps, first_gap_keeps}
-use Rattle.hayro_ccitt.proofs.Readings.TurnsMoveOn.{left_to_read, left_below}
-
--- what is counted of one line more
-sum_more : {A : Type 0} (words : List (List A)) (k : ℕ) (line : List A) (more : List (List A)) → drop k words ≡ line ∷ more
-    → sum_by length (take (suc k) words) ≡ sum_by length (take k words) + length line
-sum_more [] zero line more e = absurd cc
-sum_more [] (suc k) line more e = absurd cc
-sum_more (first ∷ words) zero line more e = let same : first ≡ line = cc in omega (arith, ap length same)
-sum_more (first ∷ words) (suc k) line more e =
-    omega (
-      arith,
-      sum_by-append length (first ∷ []) (take (suc k) words),
-      sum_by-append length (first ∷ []) (take k words),
-      sum_more words k line more e,
-    )
+use Rattle.hayro_ccitt.proofs.Readings.RunsOverRows.{row_of_turn, row_adds, turn_is, Comes}
+use Rattle.hayro_ccitt.proofs.Readings.RunsOverRows.{context_at-more, comes_done, comes_more, get_or-behind}
+use Rattle.hayro_ccitt.proofs.Readings.RunsReach.{none_first, comes, given_there, given_is, given_at, given_more, given_whole}
+use Rattle.hayro_ccitt.proofs.Readings.RunsReach.{none_given}
+use Rattle.hayro_ccitt.proofs.Readings.TurnsMoveOn.{left_below}
 
 pub has_columns : (settings : DecodeSettings) → 0 < settings.columns → eqb settings.columns 0 ≡ false
 has_columns settings wide = some_columns settings.columns (λ none. absurd (omega (arith, wide, none)))
@@ -58,10 +44,6 @@ plain_whole settings wide bits is =
 
 module _ (settings : DecodeSettings) (wide : 0 < settings.columns) (bits : Bits) {first : Progress}
     (begins : first_gap settings.encoding settings bits ≡ Turn.next first) where
-  -- no row comes before the first line
-  none_first : first.rows ≡ []
-  none_first = subst (Keeps []) begins (first_gap_keeps settings settings.encoding bits)
-
   -- the reading ends as that from the first line on
   end_is : end_of settings bits ≡ ending_from (move_on settings) first
   end_is = ap (ending_behind settings) begins
@@ -69,64 +51,35 @@ module _ (settings : DecodeSettings) (wide : 0 < settings.columns) (bits : Bits)
   pub plain_is : plain settings bits ≡ whole_reading bits (ending_from (move_on settings) first)
   plain_is = plain_whole settings wide bits end_is
 
-  gathered_is : {A : Type 0} (gives : Progress → A)
-      → gathered_of settings gives bits ≡ gathered_from (move_on settings) (one_each gives) first
-  gathered_is gives = ap (gathered_behind settings gives) begins
-
-  pub lines_are : lines_of settings bits ≡ gathered_from (move_on settings) (one_each (line_of_turn settings)) first
-  lines_are =
-      cond-false (eqb settings.columns 0) _ _ (has_columns settings wide) ∙ gathered_is (line_of_turn settings)
-
   module _ {so_far : Progress} (reaches : Reaches (move_on settings) first so_far) where
-    pub comes : {A : Type 0} (gives : Progress → A) → Comes (move_on settings) (one_each gives) left_to_read first so_far
-    comes gives = comes_there settings wide first none_first reaches gives
+    abbrev come : Comes settings first so_far
+    come = comes settings wide bits begins reaches
+
+    abbrev first_of : first.rows ≡ []
+    first_of = none_first settings wide bits begins
 
     -- there are at most as many rows as bits, and one more
     pub few_rows : length first.rest ≤ length bits → length so_far.rows ≤ length bits + 1
-    few_rows room = omega (arith, (comes (line_of_turn settings)).room, left_below first, room)
+    few_rows room = omega (arith, come.room, left_below first, room)
 
     -- where a turn is the last, it is known how the reading ends
     pub ends_with_turn : {end : Ending} → move_on settings so_far ≡ Turn.done end → end_of settings bits ≡ end
-    ends_with_turn is =
-        end_is ∙ comes_done (by_rows_left settings wide) none_first (comes (line_of_turn settings)) is
-
-    -- its line
-    pub line_is : slice_get (lines_of settings bits) (length so_far.rows) ≡ Some (line_of_turn settings so_far)
-    line_is = ap (λ (xs : List Line). slice_get xs (length so_far.rows)) lines_are
-        ∙ comes_line (by_rows_left settings wide) none_first (comes (line_of_turn settings)) (line_of_turn settings so_far) refl
-
-    -- the offset of its line
-    pub line_start_is : (other : ℕ)
-        → get_or (line_starts settings bits) (length so_far.rows) other ≡ length bits - length so_far.rest
-    line_start_is other = ap (λ (xs : List ℕ). get_or xs (length so_far.rows) other)
-        (gathered_is (start_of_turn bits)) ∙ value_is settings wide first none_first reaches (start_of_turn bits) other
-
-    -- where its turn is the last, no line begins after it
-    pub no_line_behind : {end : Ending} → move_on settings so_far ≡ Turn.done end → (other : ℕ)
-        → get_or (line_starts settings bits) (length so_far.rows + 1) other ≡ other
-    no_line_behind ends other = ap (λ (xs : List ℕ). get_or xs (length so_far.rows + 1) other) (gathered_is (start_of_turn bits))
-        ∙ no_value_behind settings wide first none_first reaches ends (start_of_turn bits) other
-
-    -- the offset of the bits after its row
-    pub row_end_is : (other : ℕ) → get_or (row_ends settings bits) (length so_far.rows) other ≡ end_of_turn settings bits so_far
-    row_end_is other =
-        let gives = end_of_turn settings bits in
-        get_or-there (row_ends settings bits) (length so_far.rows) (gives so_far) other (ap (λ (xs : List ℕ). slice_get xs (length
-        so_far.rows)) (gathered_is gives) ∙ comes_line (by_rows_left settings wide) none_first (comes gives) (gives so_far) refl)
+    ends_with_turn is = end_is ∙ comes_done settings wide first_of come is
 
     -- where its turn is the last, a reading fails there
     pub fails_behind : {end : Ending} → move_on settings so_far ≡ Turn.done end → {row : Row} {rest : Bits} → row_of_turn
         settings so_far ≡ Ok (row, rest) → failed_at settings bits (length so_far.rows + 1) ≡ length bits - length rest
     fails_behind ends is =
         let index : (length so_far.rows + 1) - 1 ≡ length so_far.rows = omega arith in
-        no_line_behind ends (get_or (row_ends settings bits) ((length so_far.rows + 1) - 1) 0)
-        ∙ ap (λ (n : ℕ). get_or (row_ends settings bits) n 0) index ∙ row_end_is 0 ∙ ap (end_of_row bits so_far) is
+        none_given settings wide bits begins reaches (start_of_turn bits) ends _
+        ∙ ap (λ (n : ℕ). get_or (row_ends settings bits) n 0) index
+        ∙ given_is settings wide bits begins reaches (end_of_turn settings bits) 0 ∙ ap (end_of_row bits so_far) is
 
     module _ {row : Row} {rest : Bits} (is : row_of_turn settings so_far ≡ Ok (row, rest)) where
       prefix : IsPrefix (so_far.rows ++ row ∷ []) (plain settings bits).rows
       prefix = subst (λ (rows : List Row). IsPrefix (so_far.rows ++ row ∷ []) rows)
-          (sym (ap (λ (r : Reading). r.rows) plain_is)) (comes_more (by_rows_left settings wide)
-          none_first (comes (line_of_turn settings)) (so_far.rows ++ row ∷ []) (row_adds settings so_far row rest is))
+          (sym (ap (λ (r : Reading). r.rows) plain_is)) (comes_more settings wide first_of come (so_far.rows ++ row ∷ [])
+          (row_adds settings so_far row rest is))
 
       -- the row that is read is the next one of the plain reading
       pub row_is_next : get_or (plain settings bits).rows (length so_far.rows) [] ≡ row
@@ -141,117 +94,23 @@ module _ (settings : DecodeSettings) (wide : 0 < settings.columns) (bits : Bits)
         length-append so_far.rows (row ∷ []),
       )
 
-    -- what is repaired of its line
-    module _ {rows : ℕ} (taken : rows ≡ length so_far.rows) where
-      abbrev repaired : List Damaged
-      repaired = repaired_by_turn settings bits so_far
-
-      abbrev by_line : List (List Damaged)
-      by_line = repairs_by_line settings bits
-
-      repairs_are : by_line ≡ gathered_from (move_on settings) (one_each (repaired_by_turn settings bits)) first
-      repairs_are =
-          cond-false (eqb settings.columns 0) _ _ (has_columns settings wide) ∙ gathered_is (repaired_by_turn settings bits)
-
-      pub repaired_is : get_or by_line rows [] ≡ repaired
-      repaired_is = get_or-there by_line rows repaired
-          [] (ap (λ (n : ℕ). slice_get by_line n) taken ∙ ap (λ (xs : List (List Damaged)). slice_get xs (length so_far.rows))
-          repairs_are ∙ comes_line (by_rows_left settings wide) none_first (comes (repaired_by_turn settings bits)) repaired refl)
-
-      -- what is gathered from its line on
-      gathered_there : {A : Type 0} (counted : List A) (gives : Progress → A)
-          → counted ≡ gathered_from (move_on settings) (one_each gives) first → drop rows counted
-          ≡ gives so_far ∷ gathered_after (lines (move_on settings) (one_each gives) left_to_read) (move_on settings so_far)
-      gathered_there {A = A} counted gives are =
-          ap (λ (n : ℕ). drop n counted) taken ∙ ap (λ (xs : List A). drop (length so_far.rows) xs) are
-          ∙ lines_on (by_rows_left settings wide) none_first (comes gives) (gives so_far) refl
-
-      -- what is counted of each line, with that of its line
-      gathered_more : {A : Type 0} (counted : List (List A)) (gives : Progress → List A)
-          → counted ≡ gathered_from (move_on settings) (one_each gives) first
-          → sum_by length (take (rows + 1) counted) ≡ sum_by length (take rows counted) + length (gives so_far)
-      gathered_more counted gives are =
-          let next : rows + 1 ≡ suc rows = omega arith in
-          ap (λ (n : ℕ). sum_by length (take n counted)) next
-          ∙ sum_more counted rows (gives so_far) _ (gathered_there counted gives are)
-
-      -- that is all of it, where its turn is the last
-      gathered_whole : {A : Type 0} (counted : List (List A)) (gives : Progress → List A)
-          → counted ≡ gathered_from (move_on settings) (one_each gives) first → {end : Ending} → move_on settings so_far
-          ≡ Turn.done end → sum_by length counted ≡ sum_by length (take rows counted) + length (gives so_far)
-      gathered_whole counted gives are ends =
-          let last : drop rows counted ≡ gives so_far ∷ [] = gathered_there counted gives are ∙ ap (λ (turn : Move). gives so_far
-          ∷ gathered_after (lines (move_on settings) (one_each gives) left_to_read) turn) ends in
-          omega (arith, sum_by-take-drop length counted rows, ap (sum_by length) last)
-
-      -- with it one more line is counted
-      pub repaired_more : sum_by length (take (rows + 1) by_line) ≡ sum_by length (take rows by_line) + length repaired
-      repaired_more = gathered_more by_line (repaired_by_turn settings bits) repairs_are
-
-      -- what is cut of it
-      abbrev cut_damage : Damaged
-      cut_damage = record { row = length so_far.rows; start = length bits - length so_far.rest; fault = InvalidCode }
-
-      cuts_are : cuts_by_line settings bits ≡ gathered_from (move_on settings) (one_each (cut_by_turn settings bits)) first
-      cuts_are = cond-false (eqb settings.columns 0) _ _ (has_columns settings wide) ∙ gathered_is (cut_by_turn settings bits)
-
-      pub cut_by_row_is : get_or (cuts_by_line settings bits) rows [] ≡ cut_by_turn settings bits so_far
-      cut_by_row_is =
-          let gives = cut_by_turn settings bits in
-          get_or-there (cuts_by_line settings bits) rows (gives so_far) []
-          (ap (λ (n : ℕ). slice_get (cuts_by_line settings bits) n) taken
-          ∙ ap (λ (xs : List (List Damaged)). slice_get xs (length so_far.rows)) cuts_are
-          ∙ comes_line (by_rows_left settings wide) none_first (comes gives) (gives so_far) refl)
-
-      pub cut_more : sum_by length (take (rows + 1) (cuts_by_line settings bits))
-          ≡ sum_by length (take rows (cuts_by_line settings bits)) + length (cut_by_turn settings bits so_far)
-      cut_more = gathered_more (cuts_by_line settings bits) (cut_by_turn settings bits) cuts_are
-
-      -- so is the gap after it
-      misses_are : misses_by_line settings bits ≡ gathered_from (move_on settings) (one_each (missed_by_turn settings bits)) first
-      misses_are =
-          cond-false (eqb settings.columns 0) _ _ (has_columns settings wide) ∙ gathered_is (missed_by_turn settings bits)
-
-      pub missed_more : sum_by length (take (rows + 1) (misses_by_line settings bits))
-          ≡ sum_by length (take rows (misses_by_line settings bits)) + length (missed_by_turn settings bits so_far)
-      missed_more = gathered_more (misses_by_line settings bits) (missed_by_turn settings bits) misses_are
-
-      -- and it is told where its EOL was missed
-      pub missed_is : get_or (misses_by_line settings bits) rows [] ≡ missed_by_turn settings bits so_far
-      missed_is =
-          let gives = missed_by_turn settings bits in
-          get_or-there (misses_by_line settings bits) rows (gives so_far) []
-          (ap (λ (n : ℕ). slice_get (misses_by_line settings bits) n) taken
-          ∙ ap (λ (xs : List (List Damaged)). slice_get xs (length so_far.rows)) misses_are
-          ∙ comes_line (by_rows_left settings wide) none_first (comes gives) (gives so_far) refl)
-
-      -- its words
-      words_are : words_of settings bits ≡ gathered_from (move_on settings) (one_each (words_of_turn settings)) first
-      words_are = cond-false (eqb settings.columns 0) _ _ (has_columns settings wide) ∙ gathered_is (words_of_turn settings)
-
-      pub words_more : sum_by length (take (rows + 1) (words_of settings bits))
-          ≡ sum_by length (take rows (words_of settings bits)) + length (words_of_turn settings so_far)
-      words_more = gathered_more (words_of settings bits) (words_of_turn settings) words_are
-
     -- where its turn is the last, what is known of the whole reading: with its row
     pub whole_behind : {end : Ending} → move_on settings so_far ≡ Turn.done end → (held : Held)
         → held.taken ≡ length so_far.rows + 1 → length end.rows ≡ length so_far.rows + 1 → held.has_eols ≡ end.has_eols
         → IsWhole settings bits held end.outcome
     whole_behind ends held more rows eols =
         let at = ap (λ (e : Ending). length e.rows) (ends_with_turn ends) in
-        let by_line = repairs_by_line settings bits in
-        let cuts = cuts_by_line settings bits in
-        let misses = misses_by_line settings bits in
+        let all_given : (gives : Progress → List Damaged) → sum_by length (take held.taken (map gives (turns_of settings bits)))
+        ≡ sum_by length (map gives (turns_of settings bits)) = λ gives.
+        given_more settings wide bits begins reaches gives refl more
+        ∙ sym (given_whole settings wide bits begins reaches gives refl ends) in
         record {
           rows = more ∙ sym (at ∙ rows);
           ends = ap (λ (e : Ending). e.outcome) (ends_with_turn ends);
           has_eols = eols ∙ sym (ap (λ (e : Ending). e.has_eols) (ends_with_turn ends));
-          repaired = ap (λ (n : ℕ). sum_by length (take n by_line)) more ∙ repaired_more refl
-              ∙ sym (gathered_whole refl by_line (repaired_by_turn settings bits) (repairs_are refl) ends);
-          cut = ap (λ (n : ℕ). sum_by length (take n cuts)) more ∙ cut_more refl
-              ∙ sym (gathered_whole refl cuts (cut_by_turn settings bits) (cuts_are refl) ends);
-          missed = ap (λ (n : ℕ). sum_by length (take n misses)) more ∙ missed_more refl
-              ∙ sym (gathered_whole refl misses (missed_by_turn settings bits) (misses_are refl) ends);
+          repaired = all_given (repaired_by_turn settings bits);
+          cut = all_given (cut_by_turn settings bits);
+          missed = all_given (missed_by_turn settings bits);
         }
 
     -- and if its line has no row
@@ -267,18 +126,19 @@ module _ (settings : DecodeSettings) (wide : 0 < settings.columns) (bits : Bits)
           has_eols = eols ∙ sym (ap (λ (e : Ending). e.has_eols) (ends_with_turn ends));
           repaired = omega (
             arith,
-            gathered_whole taken (repairs_by_line settings bits) (repaired_by_turn settings bits) (repairs_are taken) ends,
+            given_whole settings wide bits begins reaches (repaired_by_turn settings bits) taken ends,
             ap length (repaired_none settings so_far.has_eols (length so_far.rows) offset so_far.rest line e is),
           );
           cut = omega (
             arith,
-            gathered_whole taken (cuts_by_line settings bits) (cut_by_turn settings bits) (cuts_are taken) ends,
-            ap (λ (b : Bool). length (cond {A = List Damaged} b (cut_damage taken ∷ []) []))
+            given_whole settings wide bits begins reaches (cut_by_turn settings bits) taken ends,
+            ap (λ (b : Bool). length (cond {A = List Damaged} b
+                (record { row = length so_far.rows; start = offset; fault = InvalidCode } ∷ []) []))
                 (cut_none settings so_far.has_eols so_far.rest line (strict_line_of_turn settings so_far) e is),
           );
           missed = omega (
             arith,
-            gathered_whole taken (misses_by_line settings bits) (missed_by_turn settings bits) (misses_are taken) ends,
+            given_whole settings wide bits begins reaches (missed_by_turn settings bits) taken ends,
             ap length (missed_none settings bits so_far line e is),
           );
         }
@@ -415,13 +275,14 @@ is_read {settings} {bits} {held} {here} stands {new} {left_over} takes =
       row = ap (λ (h : Held). h.reference) taken.held ∙ sym (ap (λ (n : ℕ). get_or (plain settings bits).rows n []) before ∙
           row_is_next settings stands.wide bits stands.begins stands.reaches taken.is);
       line_start = ap (λ (x : Bits). length bits - length x) stands.rest_is ∙ sym (ap (λ (n : ℕ). get_or (line_starts settings
-          bits) n 0) before ∙ line_start_is settings stands.wide bits stands.begins stands.reaches 0);
+          bits) n 0) before ∙ given_is settings stands.wide bits stands.begins stands.reaches (start_of_turn bits) 0);
       row_end = sym (ap (λ (n : ℕ). get_or (row_ends settings bits) n 0) before
-          ∙ row_end_is settings stands.wide bits stands.begins stands.reaches 0 ∙ ap (end_of_row bits so_far) taken.is);
+          ∙ given_is settings stands.wide bits stands.begins stands.reaches (end_of_turn settings bits) 0
+          ∙ ap (end_of_row bits so_far) taken.is);
       damage = ap (λ (r : Repairs). damage_since r held.repairs.rows) repaired ∙ repaired_told settings so_far.has_eols
           (length so_far.rows) offset so_far.rest line strict taken.taken left_over
           (length so_far.rows) held.repairs taken.is ∙ sym (ap
-          fault_in (repaired_is settings stands.wide bits stands.begins stands.reaches before));
+          fault_in (given_at settings stands.wide bits stands.begins stands.reaches (repaired_by_turn settings bits) before));
       few = λ so. omega (
         arith,
         so,
@@ -433,7 +294,7 @@ is_read {settings} {bits} {held} {here} stands {new} {left_over} takes =
       );
       cut = λ so. cut_is_told (cuts_run line strict) its new.repairs held.repairs.cut
           (ap (λ (r : Repairs). r.cut) repaired ∙ one_cut so)
-          ∙ sym (ap cut_in (cut_by_row_is settings stands.wide bits stands.begins stands.reaches before));
+          ∙ sym (ap cut_in (given_at settings stands.wide bits stands.begins stands.reaches (cut_by_turn settings bits) before));
       few_cut = λ so. omega (
         arith,
         so,
@@ -448,19 +309,16 @@ is_read {settings} {bits} {held} {here} stands {new} {left_over} takes =
         so,
         one_cut few,
         ap (λ (r : Repairs). r.cut) repaired,
-        cut_more settings stands.wide bits stands.begins stands.reaches before,
-        ap (λ (n : ℕ). sum_by length (take n (cuts_by_line settings bits))) (after ∙ ap (λ (n : ℕ). n + 1) (sym before)),
+        given_more settings stands.wide bits stands.begins stands.reaches (cut_by_turn settings bits) before after,
       );
-      words = ap (λ (n : ℕ). sum_by length (take n (words_of settings bits))) (after ∙ ap (λ (n : ℕ). n + 1) (sym before))
-          ∙ words_more settings stands.wide bits stands.begins stands.reaches before
+      words = given_more settings stands.wide bits stands.begins stands.reaches (words_of_turn settings) before after
           ∙ ap (λ (n : ℕ). sum_by length (take held.taken (words_of settings bits)) + n) (sym found);
       counted = λ so. omega (
         arith,
         so,
         one,
         ap (λ (r : Repairs). r.rows) repaired,
-        repaired_more settings stands.wide bits stands.begins stands.reaches before,
-        ap (λ (n : ℕ). sum_by length (take n (repairs_by_line settings bits))) (after ∙ ap (λ (n : ℕ). n + 1) (sym before)),
+        given_more settings stands.wide bits stands.begins stands.reaches (repaired_by_turn settings bits) before after,
       );
       misses = λ so.
           let here : new.taken - 1 ≡ length so_far.rows = omega (arith, after) in
@@ -469,7 +327,7 @@ is_read {settings} {bits} {held} {here} stands {new} {left_over} takes =
             strict = strict;
             before = held.repairs;
             line_is = ap (slice_get (lines_of settings bits)) here
-                ∙ line_is settings stands.wide bits stands.begins stands.reaches;
+                ∙ given_there settings stands.wide bits stands.begins stands.reaches (line_of_turn settings);
             repairs_are = repaired ∙ ap (λ (n : ℕ). repairs_with line strict n held.repairs) (sym here);
             counted = subst (MissesAreCounted settings bits held.repairs) (before ∙ sym here) so;
           };
@@ -480,7 +338,8 @@ pub reader_fails_at_line : {settings : DecodeSettings} {bits : Bits} {held : Hel
     → StandsAtLine settings bits held here → length bits - length here ≡ failed_at settings bits held.taken
 reader_fails_at_line {settings} {bits} stands =
     ap (λ (x : Bits). length bits - length x) stands.rest_is ∙ sym (ap (λ (n : ℕ). failed_at settings bits n)
-    (ap (λ (h : Held). h.taken) stands.held_is) ∙ line_start_is settings stands.wide bits stands.begins stands.reaches _)
+    (ap (λ (h : Held). h.taken) stands.held_is)
+    ∙ given_is settings stands.wide bits stands.begins stands.reaches (start_of_turn bits) _)
 
 -- no row was read there
 pub isnt_read : {settings : DecodeSettings} {bits : Bits} {held : Held} {here : Bits} → StandsAtLine settings bits held here
@@ -502,7 +361,7 @@ isnt_read {settings} {bits} {held} stands {new} {e = e} takes =
         memory = λ is. (
           line_of_turn settings so_far,
           ap (slice_get (lines_of settings bits)) taken
-              ∙ line_is settings stands.wide bits stands.begins stands.reaches,
+              ∙ given_there settings stands.wide bits stands.begins stands.reaches (line_of_turn settings),
           turn.memory (ap (λ (x : DecodeError). Err x) is),
         );
         not_refused = λ is. turn.not_refused (ap (λ (x : DecodeError). Err x) is);
@@ -661,28 +520,22 @@ module _ (settings : DecodeSettings) (wide : 0 < settings.columns) (bits : Bits)
   none : last.taken ≡ length (at_front bits).rows
   none = ap (λ (h : Held). h.taken) frame
 
-  -- without a line nothing is gathered
-  no_lines : {A : Type 0} {outcome : Result Bits DecodeError} (gives : Progress → List A)
-      → first_gap settings.encoding settings bits ≡ ends_with (at_front bits) outcome
-      → cond (eqb settings.columns 0) [] (gathered_of settings gives bits) ≡ []
-  no_lines gives ends =
-      cond-false (eqb settings.columns 0) _ _ (has_columns settings wide) ∙ ap (gathered_behind settings gives) ends
-
   whole_front : {outcome : Result Bits DecodeError}
       → first_gap settings.encoding settings bits ≡ ends_with (at_front bits) outcome
       → last.has_eols ≡ false → IsWhole settings bits last outcome
   whole_front ends unsought =
-      let repaired : repairs_by_line settings bits ≡ [] = no_lines (repaired_by_turn settings bits) ends in
-      let cut : cuts_by_line settings bits ≡ [] = no_lines (cut_by_turn settings bits) ends in
-      let missed : misses_by_line settings bits ≡ [] = no_lines (missed_by_turn settings bits) ends in
+      let turns : turns_of settings bits ≡ [] =
+      cond-false (eqb settings.columns 0) _ _ (has_columns settings wide) ∙ ap (turns_behind settings) ends in
+      let all_given : (gives : Progress → List Damaged) → sum_by length (take last.taken (map gives (turns_of settings bits)))
+      ≡ sum_by length (map gives (turns_of settings bits)) = λ gives. ap (λ (n : ℕ). sum_by length
+      (take n (map gives (turns_of settings bits)))) none ∙ sym (ap (λ (s : List Progress). sum_by length (map gives s)) turns) in
       record {
         rows = none ∙ sym (ap (λ (e : Ending). length e.rows) (first_ended ends));
         ends = ap (λ (e : Ending). e.outcome) (first_ended ends);
         has_eols = unsought ∙ sym (ap (λ (e : Ending). e.has_eols) (first_ended ends));
-        repaired = ap (λ (n : ℕ). sum_by length (take n (repairs_by_line settings bits))) none
-            ∙ sym (ap (sum_by length) repaired);
-        cut = ap (λ (n : ℕ). sum_by length (take n (cuts_by_line settings bits))) none ∙ sym (ap (sum_by length) cut);
-        missed = ap (λ (n : ℕ). sum_by length (take n (misses_by_line settings bits))) none ∙ sym (ap (sum_by length) missed);
+        repaired = all_given (repaired_by_turn settings bits);
+        cut = all_given (cut_by_turn settings bits);
+        missed = all_given (missed_by_turn settings bits);
       }
 
   pub first_gap_stands : (answer : Result Bool DecodeError) → gap_behind_row settings 0 false bits ≡ gap_said answer last.has_eols
@@ -769,8 +622,9 @@ module _ (settings : DecodeSettings) (bits : Bits) (held : Held) (here : Bits) (
 
   read_with : held.repairs ≡ repairs_with its_line misses.strict read misses.before
   read_with =
-      let found : ◌≡◌ {A = Option Line} (Some misses.line) (Some its_line) = sym misses.line_is ∙ ap (slice_get
-      (lines_of settings bits)) index ∙ line_is settings stands.wide bits stands.begins stands.reaches in
+      let found : ◌≡◌ {A = Option Line} (Some misses.line) (Some its_line) =
+      sym misses.line_is ∙ ap (slice_get (lines_of settings bits)) index
+      ∙ given_there settings stands.wide bits stands.begins stands.reaches (line_of_turn settings) in
       let same : misses.line ≡ its_line = cc in
       misses.repairs_are ∙ ap (λ (k : ℕ). repairs_with misses.line misses.strict k misses.before) index
       ∙ ap (λ (l : Line). repairs_with l misses.strict read misses.before) same
@@ -809,8 +663,8 @@ module _ (settings : DecodeSettings) (bits : Bits) (held : Held) (here : Bits) (
           arith,
           one,
           known.counted,
-          missed_more settings stands.wide bits stands.begins stands.reaches refl,
-          ap (λ (k : ℕ). sum_by length (take k (misses_by_line settings bits))) (taken ∙ one_more),
+          given_more settings stands.wide bits stands.begins stands.reaches (missed_by_turn settings bits) refl
+              (taken ∙ one_more),
         );
       }
 
@@ -824,7 +678,7 @@ module _ (settings : DecodeSettings) (bits : Bits) (held : Held) (here : Bits) (
       ∙ missed_starts settings bits there its_line stands.row here stands.row_is last.repairs held.repairs.missed
       (one ∙ ap (λ (k : ℕ). k + length (missed_by_turn settings bits there)) (sym before))
       ∙ sym (ap (missed_before settings bits) next
-      ∙ ap start_in (missed_is settings stands.wide bits stands.begins stands.reaches refl))
+      ∙ ap start_in (given_at settings stands.wide bits stands.begins stands.reaches (missed_by_turn settings bits) refl))
 
 -- the count of missed EOLs at a line, behind a row, and after a gap
 pub misses_at_line : (stand : Stand) (settings : DecodeSettings) (bits : Bits) (held : Held) → is_at_line stand ≡ true
@@ -888,6 +742,12 @@ none_damaged stand settings bits held stands none no_damage =
       });
     }
 
+-- a fact of settings, bits and a number of rows, of others that are equal
+elsewhere : (P : DecodeSettings → Bits → ℕ → Type 0) (s t : DecodeSettings) (b c : Bits) (m n : ℕ) → s ≡ t → b ≡ c → m ≡ n
+    → P s b m → P t c n
+elsewhere P s t b c m n settings bits taken given =
+    subst (λ (k : ℕ). P t c k) taken (subst (λ (x : Bits). P t x m) bits (subst (λ (x : DecodeSettings). P x b m) settings given))
+
 -- what was counted is unchanged where no row is read
 pub damage_stays : (before stand : Stand) (settings given : DecodeSettings) (bits read : Bits) (held last : Held)
     → given ≡ settings → read ≡ bits → last.taken ≡ held.taken → last.repairs.rows ≡ held.repairs.rows
@@ -895,15 +755,12 @@ pub damage_stays : (before stand : Stand) (settings given : DecodeSettings) (bit
     → DamageIsCounted stand given read last
 damage_stays before stand settings given bits read held last same are taken repairs cuts counted misses = record {
   few = omega (arith, counted.few, taken, repairs);
-  counted = repairs ∙ counted.counted ∙ ap (λ (n : ℕ). sum_by length (take n (repairs_by_line settings bits))) (sym taken)
-      ∙ ap (λ (s : DecodeSettings). sum_by length (take last.taken (repairs_by_line s bits))) (sym same)
-      ∙ ap (λ (b : Bits). sum_by length (take last.taken (repairs_by_line given b))) (sym are);
+  counted = elsewhere (λ s b n. last.repairs.rows ≡ sum_by length (take n (repairs_by_line s b))) settings given bits read
+      held.taken last.taken (sym same) (sym are) (sym taken) (repairs ∙ counted.counted);
   few_cut = omega (arith, counted.few_cut, taken, cuts);
-  cut = cuts ∙ counted.cut ∙ ap (λ (n : ℕ). sum_by length (take n (cuts_by_line settings bits))) (sym taken)
-      ∙ ap (λ (s : DecodeSettings). sum_by length (take last.taken (cuts_by_line s bits))) (sym same)
-      ∙ ap (λ (b : Bits). sum_by length (take last.taken (cuts_by_line given b))) (sym are);
-  misses = subst (λ (s : DecodeSettings). Misses stand s read last) (sym same)
-      (subst (λ (b : Bits). Misses stand settings b last) (sym are) misses);
+  cut = elsewhere (λ s b n. last.repairs.cut ≡ sum_by length (take n (cuts_by_line s b))) settings given bits read
+      held.taken last.taken (sym same) (sym are) (sym taken) (cuts ∙ counted.cut);
+  misses = elsewhere (λ s b n. Misses stand s b last) settings given bits read 0 0 (sym same) (sym are) refl misses;
 }
 
 -- the result of a call that passes a gap
@@ -959,12 +816,6 @@ comes_to_line old last ticks space at n damage cut missed (Err error) settings b
       end = λ e. cc;
       error = (refl, stands.0);
     }
-
--- a fact of settings, bits and a number of rows, of others that are equal
-elsewhere : (P : DecodeSettings → Bits → ℕ → Type 0) (s t : DecodeSettings) (b c : Bits) (m n : ℕ) → s ≡ t → b ≡ c → m ≡ n
-    → P s b m → P t c n
-elsewhere P s t b c m n settings bits taken given =
-    subst (λ (k : ℕ). P t c k) taken (subst (λ (x : Bits). P t x m) bits (subst (λ (x : DecodeSettings). P x b m) settings given))
 
 -- the result of a call that passes a gap, and then reads the line there
 pub reads_on : (old mid new : RowsRead) (result : Result Bool DecodeError) → ReachesNextLine old mid (Ok true)

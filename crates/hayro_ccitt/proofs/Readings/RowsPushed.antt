@@ -1,19 +1,19 @@
 -- A run over rows that are passed to a sink: what it leaves, from where the reading of rows is.
 use Rattle.hayro_ccitt.proofs.Names.{◌≡◌, ◌≢◌, ◌<◌, ◌≤◌, ◌+◌, ◌-◌, ℕ, true, List, [], length, take}
 use Rattle.hayro_ccitt.proofs.Names.{get_or, sum_by, None, Some, Result, Ok, Err, IfOk, IfErr, refl, sym, ap}
-use Rattle.hayro_ccitt.proofs.Names.{◌∙◌, subst, arith, cond-false, DecodeError, OutOfMemory, Refused, DecodeSettings, IsFault}
+use Rattle.hayro_ccitt.proofs.Names.{◌∙◌, subst, arith, DecodeError, OutOfMemory, Refused, DecodeSettings, IsFault}
 use Rattle.hayro_ccitt.proofs.Names.{OnAnswer, meaning_after, Bits, BitsAt, here, Context, Held, Repairs, SinkState, StopsShort}
-use Rattle.hayro_ccitt.proofs.Names.{DecodesRows, leaving, Line, plain, lines_of, line_of_turn, end_of}
-use Rattle.hayro_ccitt.proofs.Names.{cut_by_turn, cuts_by_line}
-use Rattle.hayro_ccitt.proofs.Names.{gathered_of, repaired_by_turn, missed_by_turn, repairs_by_line, misses_by_line, words_of}
-use Rattle.hayro_ccitt.proofs.Names.{words_of_turn, most_counted, Row, changes, is_some, ReadsNext, suc, ◌∷◌, ◌++◌, map, fold}
+use Rattle.hayro_ccitt.proofs.Names.{DecodesRows, leaving, plain, lines_of, end_of}
+use Rattle.hayro_ccitt.proofs.Names.{cuts_by_line}
+use Rattle.hayro_ccitt.proofs.Names.{repairs_by_line, misses_by_line, words_of}
+use Rattle.hayro_ccitt.proofs.Names.{most_counted, Row, changes, is_some, ReadsNext, suc, ◌∷◌, ◌++◌, map, fold}
 use Rattle.hayro_ccitt.proofs.Names.{map-append, fold-append, drop, length-append, ReaderStands, StandsBehindRow}
 use Rattle.std.proofs.Common.{take-suc}
 use Rattle.hayro_ccitt.proofs.Names.{IsStanding, IsWhole, Misses, MissesBehindRow, MissIsTold, Stand, AtLine, BehindRow}
-use Rattle.hayro_ccitt.proofs.Names.{AtEnd, AtFault, ended, missed_before, seen, Reading, Damaged}
+use Rattle.hayro_ccitt.proofs.Names.{AtEnd, AtFault, ended, missed_before, seen, Reading}
 use Rattle.hayro_ccitt.specs.declared.row_reader.RowState.{RowState}
 use Rattle.hayro_ccitt.proofs.DrawingLines.CountedLines.{on_answer_weaker}
-use Rattle.hayro_ccitt.proofs.Readings.RowByRow.{few_rows, has_columns, plain_whole, ended_stands, failed_stands, misses_ended}
+use Rattle.hayro_ccitt.proofs.Readings.RowByRow.{few_rows, plain_whole, ended_stands, failed_stands, misses_ended}
 use Rattle.hayro_ccitt.proofs.Readings.RowByRow.{repairs_with_missed}
 use Rattle.hayro_ccitt.proofs.Work.CallsPaid.{within_most}
 
@@ -50,16 +50,8 @@ pub decodes_rows : {M : Type 0} (bits : Bits) (step : M → List ℕ → M) (bef
 decodes_rows bits step before after old new answer wide same run =
     let settings = old.held.settings in
     let taken = new.held.taken in
-    let some = has_columns settings wide in
     let rows : (plain settings bits).rows ≡ (end_of settings bits).rows =
     ap (λ (r : Reading). r.rows) (plain_whole settings wide bits refl) in
-    let lines : lines_of settings bits ≡ gathered_of settings (line_of_turn settings) bits = cond-false _ _ _ some in
-    let repairs : repairs_by_line settings bits ≡ gathered_of settings (repaired_by_turn settings bits) bits
-    = cond-false _ _ _ some in
-    let cuts : cuts_by_line settings bits ≡ gathered_of settings (cut_by_turn settings bits) bits = cond-false _ _ _ some in
-    let misses : misses_by_line settings bits ≡ gathered_of settings (missed_by_turn settings bits) bits
-    = cond-false _ _ _ some in
-    let words : words_of settings bits ≡ gathered_of settings (words_of_turn settings) bits = cond-false _ _ _ some in
     record {
       settings = same;
       reading = record {
@@ -70,25 +62,11 @@ decodes_rows bits step before after old new answer wide same run =
         fault = (ends_so settings bits new.held answer run.whole).1;
         has_eols = on_answer_weaker answer (λ w. w.has_eols) run.whole;
       };
-      short = subst (λ (r : List Row). StopsShort r (gathered_of settings (line_of_turn settings) bits) before after new.held
-          answer) rows (subst (λ (ls : List Line). StopsShort (plain settings bits).rows ls before after new.held answer) lines
-          run.short);
-      repaired = record {
-        of_taken = run.repaired ∙ ap (λ (xs : List (List Damaged)). sum_by length (take taken xs)) repairs;
-        all = on_answer_weaker answer (λ w. run.repaired ∙ w.repaired ∙ ap (sum_by length) repairs) run.whole;
-      };
-      cut = record {
-        of_taken = run.cut ∙ ap (λ (xs : List (List Damaged)). sum_by length (take taken xs)) cuts;
-        all = on_answer_weaker answer (λ w. run.cut ∙ w.cut ∙ ap (sum_by length) cuts) run.whole;
-      };
-      missed = record {
-        of_taken = run.missed ∙ ap (λ (xs : List (List Damaged)). sum_by length (take taken xs)) misses;
-        all = on_answer_weaker answer (λ w. run.missed ∙ w.missed ∙ ap (sum_by length) misses) run.whole;
-      };
-      work = record {
-        at_least = omega (arith, run.words, ap (λ (xs : List (List Bits)). sum_by length (take taken xs)) words);
-        at_most = run.most;
-      };
+      short = subst (λ (r : List Row). StopsShort r (lines_of settings bits) before after new.held answer) rows run.short;
+      repaired = record { of_taken = run.repaired; all = on_answer_weaker answer (λ w. run.repaired ∙ w.repaired) run.whole };
+      cut = record { of_taken = run.cut; all = on_answer_weaker answer (λ w. run.cut ∙ w.cut) run.whole };
+      missed = record { of_taken = run.missed; all = on_answer_weaker answer (λ w. run.missed ∙ w.missed) run.whole };
+      work = record { at_least = run.words; at_most = run.most };
     }
 
 -- the sink means one more row
