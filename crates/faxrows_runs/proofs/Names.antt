@@ -1,9 +1,10 @@
 -- The names of std and of the definitions that proofs cite.
 pub use Rattle.fax_encode.specs.Laws.{RowsArePacked}
 pub use Rattle.fax_encode.specs.Packed.{Bitmap, packed, with_packed_row}
-pub use Rattle.fax_program.specs.Devices.{AppendsFront}
+pub use Rattle.fax_program.specs.Devices.{AppendsFront, WasRead}
 pub use Rattle.faxrows_runs.specs.Arguments.{arguments_of_words}
 pub use Rattle.fax_program.specs.declared.fault.RunFault.{RunFault}
+pub use Rattle.fax_program.specs.declared.fault.RunFault.TheVariants.{BadArguments, Read, TooLong, Write, Memory as FaultOfMemory}
 pub use Rattle.fax_conforms.specs.Conforming.{Conforms}
 pub use Rattle.fax_conforms.specs.Stops.{IsViolationOf}
 pub use Rattle.fax_conforms.specs.declared.stops.Violation.{Violation}
@@ -12,9 +13,10 @@ pub use Rattle.faxrows_runs.specs.DamageText.{IsDamageText, IsDamageWithoutMemor
 pub use Rattle.faxrows_runs.specs.DamageText.{end_with_fault, last_line_of_damage, line_of_damage, line_of_miss, miss_of_row}
 pub use Rattle.faxrows_runs.specs.DamageText.{line_of_cut}
 pub use Rattle.faxrows_runs.specs.DamageText.{number_and, numbered, repair_of_row, whole_damage}
-pub use Rattle.faxrows_runs.specs.Output.{PassesOn}
-pub use Rattle.faxrows_runs.specs.PackedRuns.{IsPackedOf}
-pub use Rattle.faxrows_runs.specs.Runs.{EndsAfter, IsEndOfRun, IsTextOfWant, OnKnown, Outcome, done_of, outcome_of, rows_of}
+pub use Rattle.faxrows_runs.specs.Output.{PassesOn, Used, WritesText, bytes_after, bytes_before, used}
+pub use Rattle.faxrows_runs.specs.PackedRuns.{IsPackedOf, answer_of}
+pub use Rattle.faxrows_runs.specs.ProgramRuns.{HasInput, LacksInput, RunsProgram}
+pub use Rattle.faxrows_runs.specs.Runs.{EndsAfter, IsRowsText, IsTextOfEnd, IsTextOfWant, OnKnown, Outcome, done_of, outcome_of, rows_of}
 pub use Rattle.faxrows_runs.specs.Runs.{text_after, whole_text}
 pub use Rattle.faxrows_runs.specs.RunsByRow.{EndsByRow, IsTextByRow, IsTextWithoutMemory}
 pub use Rattle.faxrows_runs.specs.Text.{line_of_outcome, line_of_row, lines_of_rows, text_of, text_of_change}
@@ -49,4 +51,4 @@ pub use Rattle.std.specs.Fmt.{decimal}
 pub use Rattle.std.specs.Io.{StartsWith}
 pub use Rattle.std.specs.Io.KnownBytes.{Appends}
 pub use Rattle.std.specs.List.{fold}
-pub use Rattle.std.specs.Prelude.{IsErr, IsOk, codes, flat_map}
+pub use Rattle.std.specs.Prelude.{IfErr, IsErr, IsOk, codes, flat_map}

@@ -62,13 +62,17 @@ IsTextOfWant settings bits text =
     (taken : ℕ) × (outcome : Outcome) × EndsAfter settings bits taken outcome × (done_of outcome ≡ Memory)
     × (text ≡ text_after settings bits taken outcome)
 
--- How a run ended that wrote its text: with all of it, after a reading that ended well or at a fault, or with one that is cut
--- short
+-- What a run wrote that ended like this: all of a text, after a reading that ended well or at a fault, or a text that is cut short
 -- by an allocation failure or a refusal.
-abbrev pub IsEndOfRun : Done → Outcome → List ℕ → (List ℕ → Type 0) → (List ℕ → Type 0) → Type 0
-IsEndOfRun Good outcome whole IsCut Wrote = IsOk outcome × Wrote whole
-IsEndOfRun Faulty outcome whole IsCut Wrote = IsErr outcome × Wrote whole
-IsEndOfRun Memory outcome whole IsCut Wrote = (text : List ℕ) × IsCut text × Wrote text
+abbrev pub IsTextOfEnd : Done → Outcome → List ℕ → (List ℕ → Type 0) → List ℕ → Type 0
+IsTextOfEnd Good outcome whole IsCut text = IsOk outcome × (text ≡ whole)
+IsTextOfEnd Faulty outcome whole IsCut text = IsErr outcome × (text ≡ whole)
+IsTextOfEnd Memory outcome whole IsCut text = IsCut text
+
+-- what a run writes of some data that ends like this
+abbrev pub IsRowsText : DecodeSettings → Bits → Done → List ℕ → Type 0
+IsRowsText settings bits done =
+    IsTextOfEnd done (outcome_of settings bits) (whole_text settings bits) (IsTextOfWant settings bits)
 
 -- a statement about the settings that the arguments mean, and about the bits, in the order that the arguments select, of
 -- the bytes that a reader supplies
