@@ -1,5 +1,5 @@
 -- What holds of an error by its kind.
-use Rattle.fax_bits.proofs.Names.{◌≡◌, refl, subst, DecodeError, UnexpectedEof, InvalidCode, Overflow, OutOfMemory, Refused}
+use Rattle.fax_bits.proofs.Names.{◌≡◌, refl, DecodeError, UnexpectedEof, InvalidCode, Overflow, OutOfMemory, Refused}
 use Rattle.fax_bits.proofs.Names.{ByKind, ErrorKind, IsFault, kind_of}
 
 -- what holds of each fault of the data, of an allocation failure and of a refusal holds of every error
@@ -17,6 +17,12 @@ pub kind_weaker : (kind : ErrorKind) (A B C A2 B2 C2 : Type 0) → (A → A2) �
 kind_weaker ErrorKind.fault A B C A2 B2 C2 a b c p = a p
 kind_weaker ErrorKind.memory A B C A2 B2 C2 a b c p = b p
 kind_weaker ErrorKind.refusal A B C A2 B2 C2 a b c p = c p
+
+-- a fault of the data has that kind
+pub fault_kind : (kind : ErrorKind) → ByKind kind (Unit {0}) ⊥ ⊥ → kind ≡ ErrorKind.fault
+fault_kind ErrorKind.fault is = refl
+fault_kind ErrorKind.memory is = absurd is
+fault_kind ErrorKind.refusal is = absurd is
 
 -- of a fault of the data it is the statement of faults
 pub at_fault_kind : (kind : ErrorKind) (A B C : Type 0) → ByKind kind (Unit {0}) ⊥ ⊥ → ByKind kind A B C → A

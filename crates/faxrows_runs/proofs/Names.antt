@@ -16,8 +16,8 @@ pub use Rattle.faxrows_runs.specs.DamageText.{number_and, numbered, repair_of_ro
 pub use Rattle.faxrows_runs.specs.Output.{PassesOn, Used, WritesText, bytes_after, bytes_before, used}
 pub use Rattle.faxrows_runs.specs.PackedRuns.{IsPackedOf, answer_of}
 pub use Rattle.faxrows_runs.specs.ProgramRuns.{HasInput, LacksInput, RunsProgram}
-pub use Rattle.faxrows_runs.specs.Runs.{EndsAfter, IsRowsText, IsTextOfEnd, IsTextOfWant, OnKnown, Outcome, done_of, outcome_of, rows_of}
-pub use Rattle.faxrows_runs.specs.Runs.{text_after, whole_text}
+pub use Rattle.faxrows_runs.specs.Runs.{EndsAfter, IsRowsText, IsTextOfEnd, IsTextOfWant, OnKnown, Outcome, done_of, done_of_kind, outcome_of}
+pub use Rattle.faxrows_runs.specs.Runs.{rows_of, text_after, whole_text}
 pub use Rattle.faxrows_runs.specs.RunsByRow.{EndsByRow, IsTextByRow, IsTextWithoutMemory}
 pub use Rattle.faxrows_runs.specs.Text.{line_of_outcome, line_of_row, lines_of_rows, text_of, text_of_change}
 pub use Rattle.faxrows_runs.specs.declared.arguments.Arguments.{Arguments}
@@ -26,6 +26,7 @@ pub use Rattle.faxrows_runs.specs.declared.program.Done.TheVariants.{Faulty, Goo
 pub use Rattle.hayro_ccitt.specs.Answers.{IsFault, meaning_after}
 pub use Rattle.hayro_ccitt.specs.Bits.{Bits, BitsFit, bits_in, bits_of}
 pub use Rattle.hayro_ccitt.specs.Context.{Held}
+pub use Rattle.hayro_ccitt.specs.Faults.{kind_of}
 pub use Rattle.hayro_ccitt.specs.Damage.{cut_in, cuts_by_line, fault_in, misses_by_line, missed_before, repairs_by_line, start_in}
 pub use Rattle.hayro_ccitt.specs.Decoding.{SinkState, StopsShort, TakesRows}
 pub use Rattle.hayro_ccitt.specs.PlainReading.{failed_at, line_starts, lines_of, plain}

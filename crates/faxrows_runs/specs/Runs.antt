@@ -1,7 +1,7 @@
 -- What a run writes.
 use Rattle.std.specs.Prelude.{◌≡◌, ◌<◌, ◌≤◌, ℕ, List, length, map, take, Option, IfSome, Result, Ok, Err, IsOk, IsErr}
 use Rattle.hayro_ccitt.specs.DecodeError.{DecodeError}
-use Rattle.hayro_ccitt.specs.DecodeError.TheVariants.{UnexpectedEof, InvalidCode, Overflow, OutOfMemory, Refused}
+use Rattle.hayro_ccitt.specs.Faults.{ByKind, ErrorKind, kind_of}
 use Rattle.hayro_ccitt.specs.DecodeSettings.{DecodeSettings}
 use Rattle.hayro_ccitt.specs.Bits.{Bits, bits_in}
 use Rattle.hayro_ccitt.specs.Rows.{changes}
@@ -28,14 +28,16 @@ outcome_of settings bits = (plain settings bits).outcome
 abbrev pub whole_text : DecodeSettings → Bits → List ℕ
 whole_text settings bits = text_of (rows_of settings bits) (outcome_of settings bits)
 
+-- how a run ends that wrote an error of this kind
+abbrev pub done_of_kind : ErrorKind → Done
+done_of_kind ErrorKind.fault = Faulty
+done_of_kind ErrorKind.memory = Memory
+done_of_kind ErrorKind.refusal = Memory
+
 -- how a run that wrote this result ends
 abbrev pub done_of : Outcome → Done
 done_of (Ok count) = Good
-done_of (Err UnexpectedEof) = Faulty
-done_of (Err InvalidCode) = Faulty
-done_of (Err Overflow) = Faulty
-done_of (Err OutOfMemory) = Memory
-done_of (Err Refused) = Memory
+done_of (Err error) = done_of_kind (kind_of error)
 
 -- what is written of some data of which this number of rows was accepted, and how it ended
 abbrev pub text_after : DecodeSettings → Bits → ℕ → Outcome → List ℕ
@@ -45,15 +47,10 @@ text_after settings bits taken outcome = text_of (take taken (rows_of settings b
 -- failure while a line that paints black is read; or because the next row was refused.
 abbrev pub EndsAfter : DecodeSettings → Bits → ℕ → Outcome → Type 0
 EndsAfter settings bits taken (Ok count) = (taken ≡ length (rows_of settings bits)) × (outcome_of settings bits ≡ Ok count)
-EndsAfter settings bits taken (Err UnexpectedEof) =
-    (taken ≡ length (rows_of settings bits)) × (outcome_of settings bits ≡ Err UnexpectedEof)
-EndsAfter settings bits taken (Err InvalidCode) =
-    (taken ≡ length (rows_of settings bits)) × (outcome_of settings bits ≡ Err InvalidCode)
-EndsAfter settings bits taken (Err Overflow) =
-    (taken ≡ length (rows_of settings bits)) × (outcome_of settings bits ≡ Err Overflow)
-EndsAfter settings bits taken (Err OutOfMemory) =
-    (taken ≤ length (rows_of settings bits)) × PaintsBlack (lines_of settings bits) taken
-EndsAfter settings bits taken (Err Refused) = taken < length (rows_of settings bits)
+EndsAfter settings bits taken (Err error) =
+    ByKind (kind_of error) ((taken ≡ length (rows_of settings bits)) × (outcome_of settings bits ≡ Err error))
+    ((taken ≤ length (rows_of settings bits)) × PaintsBlack (lines_of settings bits) taken)
+    (taken < length (rows_of settings bits))
 
 -- the lines of the accepted rows, then the last line, which says whether an allocation failure or a refusal ended the
 -- decoding there
