@@ -6,6 +6,7 @@ pub use Rattle.fax_bits.specs.CodeReading.{Has, IsCut, NoneStands, PrefixFree, R
 pub use Rattle.fax_bits.specs.CodeReading.{is_cut, is_prefix, is_prefix_free, leading_zeros, read_code, word_at}
 pub use Rattle.fax_bits.specs.EndOfLine.{after_eol, all_eols, eols, eols_with_tags, next_eol, one_more, pass_last_tag}
 pub use Rattle.fax_bits.specs.EndOfLine.{past_tag, tagged_eols}
+pub use Rattle.fax_bits.specs.Faults.{ByKind, ErrorKind, IsFault, kind_of}
 pub use Rattle.fax_bits.specs.LookUps.{AreEntries, ArePairs, ColorEntries, entries_of, entry_of, is_row, longest_agreement}
 pub use Rattle.fax_bits.specs.LookUps.{mode_told, padded, pair_entry, run_or_none, telling_bits, thirteen_bits}
 pub use Rattle.fax_bits.specs.LookUps.{with_table_row, with_table_rows}
@@ -26,7 +27,7 @@ pub use Rattle.fax_bits.specs.declared.codes.Mode.{Mode}
 pub use Rattle.fax_bits.specs.declared.codes.Mode.TheVariants.{Horizontal, Pass, Vertical}
 pub use Rattle.fax_bits.specs.declared.entries.TheConstants.{BLACK_ENTRIES, WHITE_ENTRIES}
 pub use Rattle.fax_bits.specs.declared.error.DecodeError.{DecodeError}
-pub use Rattle.fax_bits.specs.declared.error.DecodeError.TheVariants.{InvalidCode, Overflow, UnexpectedEof}
+pub use Rattle.fax_bits.specs.declared.error.DecodeError.TheVariants.{InvalidCode, OutOfMemory, Overflow, Refused, UnexpectedEof}
 pub use Rattle.fax_bits.specs.declared.pairs.TheConstants.{BLACK_PAIRS, WHITE_PAIRS}
 pub use Rattle.fax_bits.specs.declared.tables.TheConstants.{BLACK_MAKEUP, BLACK_TERMINATING, COMMON_MAKEUP, WHITE_MAKEUP}
 pub use Rattle.fax_bits.specs.declared.tables.TheConstants.{WHITE_TERMINATING}

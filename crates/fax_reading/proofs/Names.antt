@@ -20,6 +20,7 @@ pub use Rattle.fax_reading.specs.Encodings.{ClosesWithEols, EncodesLine, Encodes
 pub use Rattle.fax_reading.specs.Encodings.{EncodesRowsWithEols, IsPicture, PictureT4, PictureT6, Spells, eol, padding, tag_of}
 pub use Rattle.fax_bits.specs.EndOfLine.{after_eol, all_eols, eols, eols_with_tags, next_eol, one_more, pass_last_tag, past_tag}
 pub use Rattle.fax_bits.specs.EndOfLine.{tagged_eols}
+pub use Rattle.fax_bits.specs.Faults.{kind_of}
 pub use Rattle.fax_reading.specs.Laws.{AfterEofb, AreWords, BytesBeginWithAnyBits, ComesToEofb, EndBeforeEol}
 pub use Rattle.fax_reading.specs.Laws.{EveryPictureHasAnEncoding, HoldsZeros, IsWord, OnePictureT4, OnePictureT6}
 pub use Rattle.fax_reading.specs.Laws.{PicturesAreUndamaged, PicturesComeToEofb, ReadsClosedPictures, ReadsLimitedPictureT4}

@@ -2,9 +2,9 @@
 use Rattle.std.specs.Prelude.{◌≡◌, ◌≢◌, ◌<◌, ◌⊎◌, ℕ, Bool, true, false, ◌∷◌, ◌++◌, length, map, slice_get, Some, Result, Ok, Err}
 use Rattle.std.specs.Prelude.{Contains, List}
 use Rattle.std.specs.List.{fold}
+use Rattle.fax_bits.specs.Faults.{ByKind, kind_of}
 pub use Rattle.fax_bits.specs.Faults.{IsFault}
 use Rattle.fax_bits.specs.declared.error.DecodeError.{DecodeError}
-use Rattle.fax_bits.specs.declared.error.DecodeError.TheVariants.{UnexpectedEof, InvalidCode, Overflow, OutOfMemory, Refused}
 use Rattle.fax_bits.specs.declared.codes.Mode.{Mode}
 use Rattle.fax_bits.specs.Bits.{Bits}
 use Rattle.fax_reading.specs.Rows.{Row, is_black, changes, last_pixel}
@@ -35,11 +35,7 @@ StopsAtChange row front = (pixel : Bool) × (after : Row) × (row ≡ front ++ p
 -- 4.1 and 4.2; T.6, 2.2).
 abbrev pub DrawsLine : Line → Result (Unit {0}) DecodeError → Row → Bits → Type 0
 DrawsLine line (Ok x) front rest = line ≡ Line.whole front rest
-DrawsLine line (Err UnexpectedEof) front rest = line ≡ Line.broken front UnexpectedEof
-DrawsLine line (Err InvalidCode) front rest = line ≡ Line.broken front InvalidCode
-DrawsLine line (Err Overflow) front rest = line ≡ Line.broken front Overflow
-DrawsLine line (Err OutOfMemory) front rest = StopsAtChange (front_of line) front
-DrawsLine line (Err Refused) front rest = ⊥
+DrawsLine line (Err e) front rest = ByKind (kind_of e) (line ≡ Line.broken front e) (StopsAtChange (front_of line) front) ⊥
 
 -- the pen of a context, where these bits are left to read (T.4, 4.1.1 and 4.2.1.3)
 abbrev pub pen_of : Held → Bits → Pen
@@ -112,11 +108,8 @@ front_after (Turn.done line) = front_of line
 -- what a call that draws a step of a line returns, and the pen that it leaves (T.4, 4.1.1 and 4.2.1.3; T.6, 2.2)
 abbrev pub DrawsStep : Step → Result (Unit {0}) DecodeError → Pen → Type 0
 DrawsStep step (Ok x) pen = step ≡ Turn.next pen
-DrawsStep step (Err UnexpectedEof) pen = step ≡ Turn.done (Line.broken pen.front UnexpectedEof)
-DrawsStep step (Err InvalidCode) pen = step ≡ Turn.done (Line.broken pen.front InvalidCode)
-DrawsStep step (Err Overflow) pen = step ≡ Turn.done (Line.broken pen.front Overflow)
-DrawsStep step (Err OutOfMemory) pen = StopsAtChange (front_after step) pen.front
-DrawsStep step (Err Refused) pen = ⊥
+DrawsStep step (Err e) pen =
+    ByKind (kind_of e) (step ≡ Turn.done (Line.broken pen.front e)) (StopsAtChange (front_after step) pen.front) ⊥
 
 -- ---- Changes that are stored.
 

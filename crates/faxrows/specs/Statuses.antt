@@ -2,7 +2,8 @@
 -- invalid arguments, and 3 for a failed allocation or device.
 use Rattle.std.specs.Prelude.{◌≡◌, ◌⊎◌, ℕ, Result, Ok, Err}
 use Rattle.hayro_ccitt.specs.DecodeError.{DecodeError}
-use Rattle.hayro_ccitt.specs.DecodeError.TheVariants.{UnexpectedEof, InvalidCode, Overflow, OutOfMemory, Refused}
+use Rattle.hayro_ccitt.specs.Faults.{kind_of}
+use Rattle.faxrows_runs.specs.Runs.{done_of_kind}
 use Rattle.faxrows_runs.specs.declared.program.Done.{Done}
 use Rattle.faxrows_runs.specs.declared.program.Done.TheVariants.{Good, Faulty, Memory}
 
@@ -15,11 +16,7 @@ status_of_done Memory = 3
 -- the status of a run that wrote its bitmap
 abbrev pub status_of_answer : Result (Unit {0}) DecodeError → ℕ
 status_of_answer (Ok x) = 0
-status_of_answer (Err UnexpectedEof) = 1
-status_of_answer (Err InvalidCode) = 1
-status_of_answer (Err Overflow) = 1
-status_of_answer (Err OutOfMemory) = 3
-status_of_answer (Err Refused) = 3
+status_of_answer (Err error) = status_of_done (done_of_kind (kind_of error))
 
 -- the status of a run that wrote its text or its bitmap
 abbrev pub IsStatusOfRun : ℕ → Type 0

@@ -1,16 +1,18 @@
 -- What a run writes of the damage, from how the reading ended.
-use Rattle.faxrows_runs.proofs.Names.{◌≡◌, ◌≢◌, ◌≤◌, ◌+◌, ◌-◌, ℕ, zero, suc, Bool, List, [], ◌++◌, refl, true, inl, inr, sym, ap}
+use Rattle.faxrows_runs.proofs.Names.{◌≡◌, ◌≢◌, ◌≤◌, ◌+◌, ◌-◌, ℕ, zero, suc, Bool, List, [], ◌++◌, refl, true, sym, ap}
 use Rattle.faxrows_runs.proofs.Names.{subst, ◌∙◌, Result, Ok, Err, length, get_or, append_assoc, append-nil, arith, Option}
 use Rattle.faxrows_runs.proofs.Names.{None, Some}
-use Rattle.faxrows_runs.proofs.Names.{DecodeError, UnexpectedEof, InvalidCode, Overflow, OutOfMemory, Refused}
+use Rattle.faxrows_runs.proofs.Names.{DecodeError}
 use Rattle.faxrows_runs.proofs.Names.{DecodeSettings, Bits, line_starts, failed_at, RowsRead, ReadsNext, at_end_of_rows}
 use Rattle.faxrows_runs.proofs.Names.{AppendsFront}
-use Rattle.faxrows_runs.proofs.Names.{Memory, IsDamageText, IsDamageWithoutMemory, damage_after, damage_lines}
+use Rattle.faxrows_runs.proofs.Names.{IsDamageText, IsDamageWithoutMemory, damage_after, damage_lines}
 use Rattle.faxrows_runs.proofs.Names.{damage_of_row, line_of_damage, whole_damage, Outcome, done_of, outcome_of}
 use Rattle.faxrows_runs.proofs.Names.{rows_of}
 use Rattle.faxrows_runs.proofs.Names.{EndsByRow, line_of_miss, miss_of_row, missed_before, misses_by_line, repair_of_row}
 use Rattle.faxrows_runs.proofs.Names.{start_in, fault_in, repairs_by_line}
 use Rattle.faxrows_runs.proofs.Outputs.{front_of_longer, front_of_more}
+use Rattle.faxrows_runs.proofs.RunsByRow.{cut_by_row}
+use Rattle.faxrows_runs.proofs.Texts.{end_of_run}
 
 -- ---- The lines of the rows
 
@@ -125,24 +127,11 @@ all_damage settings bits read outcome all same =
     ap (λ (n : ℕ). damage_after settings bits n outcome) all
     ∙ ap (damage_after settings bits (length (rows_of settings bits))) (sym same)
 
--- the text is the whole damage, or that up to an allocation failure
+-- the text after some rows is one of the end
 pub is_damage_text : (settings : DecodeSettings) (bits : Bits) (read : ℕ) (outcome : Outcome)
-    → EndsByRow settings bits read outcome → IsDamageText settings bits (damage_after settings bits read outcome)
-is_damage_text settings bits read (Ok n) ends = inl (all_damage settings bits read (Ok n) ends.0.0 ends.0.1)
-is_damage_text settings bits read (Err UnexpectedEof) ends = inl (all_damage settings bits read
-    (Err UnexpectedEof) ends.0.0 ends.0.1)
-is_damage_text settings bits read (Err InvalidCode) ends = inl (all_damage settings bits read (Err InvalidCode) ends.0.0 ends.0.1)
-is_damage_text settings bits read (Err Overflow) ends = inl (all_damage settings bits read (Err Overflow) ends.0.0 ends.0.1)
-is_damage_text settings bits read (Err OutOfMemory) ends = inr (read, ends.0, refl)
-is_damage_text settings bits read (Err Refused) ends = absurd (ends.1 refl)
-
--- a run that ended with an allocation failure wrote the damage up to there
-pub damage_without_memory : (settings : DecodeSettings) (bits : Bits) (read : ℕ) (outcome : Outcome)
     → EndsByRow settings bits read outcome
-    → done_of outcome ≡ Memory → IsDamageWithoutMemory settings bits (damage_after settings bits read outcome)
-damage_without_memory settings bits read (Ok n) ends e = cc
-damage_without_memory settings bits read (Err UnexpectedEof) ends e = cc
-damage_without_memory settings bits read (Err InvalidCode) ends e = cc
-damage_without_memory settings bits read (Err Overflow) ends e = cc
-damage_without_memory settings bits read (Err OutOfMemory) ends e = (read, ends.0, refl)
-damage_without_memory settings bits read (Err Refused) ends e = absurd (ends.1 refl)
+    → IsDamageText settings bits (done_of outcome) (damage_after settings bits read outcome)
+is_damage_text settings bits read outcome ends =
+    end_of_run settings bits read (damage_after settings bits read) (whole_damage settings bits)
+    (IsDamageWithoutMemory settings bits) (all_damage settings bits read) outcome ends.0
+    (λ cut. let short = cut_by_row settings bits read (damage_after settings bits read) outcome ends cut in (read, short.0, short.1))

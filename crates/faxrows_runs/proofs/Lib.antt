@@ -4,6 +4,7 @@ pub mod Examples
 pub mod Names
 pub mod Outputs
 pub mod PackedRuns
+pub mod ProgramRuns
 pub mod RowsInTurn
 pub mod RunsByRow
 pub mod Texts

@@ -1,9 +1,10 @@
 -- The names of std and of the definitions that proofs cite.
 pub use Rattle.fax_encode.specs.Laws.{RowsArePacked}
 pub use Rattle.fax_encode.specs.Packed.{Bitmap, packed, with_packed_row}
-pub use Rattle.fax_program.specs.Devices.{AppendsFront}
+pub use Rattle.fax_program.specs.Devices.{AppendsFront, WasRead}
 pub use Rattle.faxrows_runs.specs.Arguments.{arguments_of_words}
 pub use Rattle.fax_program.specs.declared.fault.RunFault.{RunFault}
+pub use Rattle.fax_program.specs.declared.fault.RunFault.TheVariants.{BadArguments, Read, TooLong, Write, Memory as FaultOfMemory}
 pub use Rattle.fax_conforms.specs.Conforming.{Conforms}
 pub use Rattle.fax_conforms.specs.Stops.{IsViolationOf}
 pub use Rattle.fax_conforms.specs.declared.stops.Violation.{Violation}
@@ -12,10 +13,11 @@ pub use Rattle.faxrows_runs.specs.DamageText.{IsDamageText, IsDamageWithoutMemor
 pub use Rattle.faxrows_runs.specs.DamageText.{end_with_fault, last_line_of_damage, line_of_damage, line_of_miss, miss_of_row}
 pub use Rattle.faxrows_runs.specs.DamageText.{line_of_cut}
 pub use Rattle.faxrows_runs.specs.DamageText.{number_and, numbered, repair_of_row, whole_damage}
-pub use Rattle.faxrows_runs.specs.Output.{PassesOn}
-pub use Rattle.faxrows_runs.specs.PackedRuns.{IsPackedOf}
-pub use Rattle.faxrows_runs.specs.Runs.{EndsAfter, IsEndOfRun, IsTextOfWant, OnKnown, Outcome, done_of, outcome_of, rows_of}
-pub use Rattle.faxrows_runs.specs.Runs.{text_after, whole_text}
+pub use Rattle.faxrows_runs.specs.Output.{PassesOn, Used, WritesText, bytes_after, bytes_before, used}
+pub use Rattle.faxrows_runs.specs.PackedRuns.{IsPackedOf, answer_of}
+pub use Rattle.faxrows_runs.specs.ProgramRuns.{HasInput, LacksInput, RunsProgram}
+pub use Rattle.faxrows_runs.specs.Runs.{EndsAfter, IsRowsText, IsTextOfEnd, IsTextOfWant, OnKnown, Outcome, done_of, done_of_kind, outcome_of}
+pub use Rattle.faxrows_runs.specs.Runs.{rows_of, text_after, whole_text}
 pub use Rattle.faxrows_runs.specs.RunsByRow.{EndsByRow, IsTextByRow, IsTextWithoutMemory}
 pub use Rattle.faxrows_runs.specs.Text.{line_of_outcome, line_of_row, lines_of_rows, text_of, text_of_change}
 pub use Rattle.faxrows_runs.specs.declared.arguments.Arguments.{Arguments}
@@ -24,6 +26,7 @@ pub use Rattle.faxrows_runs.specs.declared.program.Done.TheVariants.{Faulty, Goo
 pub use Rattle.hayro_ccitt.specs.Answers.{IsFault, meaning_after}
 pub use Rattle.hayro_ccitt.specs.Bits.{Bits, BitsFit, bits_in, bits_of}
 pub use Rattle.hayro_ccitt.specs.Context.{Held}
+pub use Rattle.hayro_ccitt.specs.Faults.{kind_of}
 pub use Rattle.hayro_ccitt.specs.Damage.{cut_in, cuts_by_line, fault_in, misses_by_line, missed_before, repairs_by_line, start_in}
 pub use Rattle.hayro_ccitt.specs.Decoding.{SinkState, StopsShort, TakesRows}
 pub use Rattle.hayro_ccitt.specs.PlainReading.{failed_at, line_starts, lines_of, plain}
@@ -49,4 +52,4 @@ pub use Rattle.std.specs.Fmt.{decimal}
 pub use Rattle.std.specs.Io.{StartsWith}
 pub use Rattle.std.specs.Io.KnownBytes.{Appends}
 pub use Rattle.std.specs.List.{fold}
-pub use Rattle.std.specs.Prelude.{IsErr, IsOk, codes, flat_map}
+pub use Rattle.std.specs.Prelude.{IfErr, IsErr, IsOk, codes, flat_map}

@@ -2,7 +2,7 @@
 use Rattle.faxrows_runs.proofs.Names.{◌≡◌, ◌<◌, ◌+◌, ℕ, List, [], ◌∷◌, ◌++◌, Option, length, take, drop, get_or, sym, ap, subst}
 use Rattle.faxrows_runs.proofs.Names.{◌∙◌}
 use Rattle.faxrows_runs.proofs.Names.{append_assoc, append-nil, take-append-drop, flat_map, take_more, flat_map-append}
-use Rattle.faxrows_runs.proofs.Names.{Appends-trans, AppendsFront, PassesOn, line_of_row, text_of_change}
+use Rattle.faxrows_runs.proofs.Names.{Appends, Appends-trans, AppendsFront, PassesOn, line_of_row, text_of_change}
 
 -- a text after what was written and what waits
 regrouped : (waited text front waits more : List ℕ) → waited ++ text ≡ front ++ waits → waited ++ (text ++ more) ≡ front
@@ -75,4 +75,14 @@ front_of_waiting a b c waited text waits p q = (
   q.1,
   Appends-trans a b c p.0 q.0 p.1 q.2,
   p.2 ∙ ap (λ l. p.0 ++ l) q.3 ∙ sym (append_assoc p.0 q.0 q.1),
+)
+
+-- after a text that was written a front of the next one was
+pub front_after : (a b c : Option (List ℕ)) (text more : List ℕ) → Appends a b text → AppendsFront b c more
+    → AppendsFront a c (text ++ more)
+front_after a b c text more p q = (
+  text ++ q.0,
+  q.1,
+  Appends-trans a b c text q.0 p q.2,
+  ap (λ l. text ++ l) q.3 ∙ sym (append_assoc text q.0 q.1),
 )

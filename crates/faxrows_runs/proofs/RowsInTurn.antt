@@ -1,11 +1,11 @@
 -- Rows that come one after another, as lines.
 use Rattle.faxrows_runs.proofs.Names.{◌≡◌, ◌<◌, ◌≤◌, ◌+◌, ◌/◌, ℕ, List, [], ◌++◌, refl, true, false, Ok, Err, length, take}
 use Rattle.faxrows_runs.proofs.Names.{get_or, sym}
-use Rattle.faxrows_runs.proofs.Names.{ap, ◌∙◌, subst, rules, arith, get_or-map, length-map, DecodeError, UnexpectedEof}
-use Rattle.faxrows_runs.proofs.Names.{InvalidCode}
-use Rattle.faxrows_runs.proofs.Names.{Overflow, OutOfMemory, Refused, DecodeSettings, Bits, plain, changes, RowsRead, ReadsNext}
+use Rattle.faxrows_runs.proofs.Names.{ap, ◌∙◌, subst, rules, arith, get_or-map, length-map, DecodeError, kind_of}
+use Rattle.faxrows_runs.proofs.Names.{DecodeSettings, Bits, plain, changes, RowsRead, ReadsNext}
 use Rattle.faxrows_runs.proofs.Names.{HasFailed, EndsAfter, EndsByRow, IsFault, outcome_of, rows_of, line_of_row, lines_of_rows}
 use Rattle.faxrows_runs.proofs.{Outputs.pieces_more}
+use Rattle.hayro_ccitt.proofs.ErrorKinds.{by_kind, of_fault_kind}
 
 -- the row of some data with this index came
 pub record Came (settings : DecodeSettings) (bits : Bits) (index : ℕ) (new : RowsRead) : Type 0 where
@@ -69,11 +69,10 @@ ended_by settings bits taken error failed fault =
 -- a reading that has failed, after at most all rows, ends like this
 failed_so : (settings : DecodeSettings) (bits : Bits) (taken : ℕ) (error : DecodeError) → HasFailed settings bits taken error
     → taken ≤ length (rows_of settings bits) → EndsAfter settings bits taken (Err error)
-failed_so settings bits taken UnexpectedEof failed within = ended_by settings bits taken UnexpectedEof failed tt
-failed_so settings bits taken InvalidCode failed within = ended_by settings bits taken InvalidCode failed tt
-failed_so settings bits taken Overflow failed within = ended_by settings bits taken Overflow failed tt
-failed_so settings bits taken OutOfMemory failed within = (within, failed.memory refl)
-failed_so settings bits taken Refused failed within = absurd (failed.not_refused refl)
+failed_so settings bits taken error failed within =
+    by_kind (λ error. HasFailed settings bits taken error → EndsAfter settings bits taken (Err error))
+    (λ error fault failed. of_fault_kind (kind_of error) _ _ _ fault (ended_by settings bits taken error failed fault))
+    (λ failed. (within, failed.memory refl)) (λ failed. absurd (failed.not_refused refl)) error failed
 
 -- after a call that fails the reading has ended with its error
 pub ended_badly : (settings : DecodeSettings) (bits : Bits) (old new : RowsRead) (error : DecodeError) → old.settings ≡ settings

@@ -1,12 +1,13 @@
 -- What a run writes, from what decoding returns.
 use Rattle.faxrows_runs.proofs.Names.{◌≡◌, ℕ, List, [], ◌∷◌, ◌++◌, refl, sym, ap, ◌∙◌, subst, take, length, map, take_all, arith}
 use Rattle.faxrows_runs.proofs.Names.{append_assoc, append-nil, Option, None, Some, Ok, Err, IfSome, fold, take-map}
-use Rattle.faxrows_runs.proofs.Names.{length-map, UnexpectedEof, InvalidCode, Overflow, OutOfMemory, Refused, DecodeSettings}
-use Rattle.faxrows_runs.proofs.Names.{IfOk, Result}
+use Rattle.faxrows_runs.proofs.Names.{length-map, DecodeError, DecodeSettings, IsFault, done_of_kind, kind_of}
+use Rattle.faxrows_runs.proofs.Names.{Done, Faulty, Good, IsRowsText, IsTextOfWant}
 use Rattle.faxrows_runs.proofs.Names.{meaning_after, Bits, bits_in, Held, SinkState, TakesRows, StopsShort, plain, lines_of, Row}
-use Rattle.faxrows_runs.proofs.Names.{changes, Arguments, Memory, Outcome, OnKnown, EndsAfter, IsEndOfRun, rows_of, outcome_of}
+use Rattle.faxrows_runs.proofs.Names.{changes, Arguments, Memory, Outcome, OnKnown, EndsAfter, IsTextOfEnd, rows_of, outcome_of}
 use Rattle.faxrows_runs.proofs.Names.{text_after}
 use Rattle.faxrows_runs.proofs.Names.{whole_text, done_of, line_of_row, lines_of_rows}
+use Rattle.hayro_ccitt.proofs.ErrorKinds.{at_fault_kind, by_kind, fault_kind, of_fault_kind}
 
 -- the lines added one by one are the lines of all
 fold_lines : (text : List ℕ) (rows : List (List ℕ)) → fold (λ t row. t ++ line_of_row row) text rows ≡ text ++ lines_of_rows rows
@@ -43,50 +44,50 @@ pub ends_after : {M : Type 0} (step : M → List ℕ → M) (settings : DecodeSe
     (held : Held) (outcome : Outcome) → Takes step settings bits before after held outcome → StopsShort (plain settings bits).rows
     (lines_of settings bits) before after held outcome → EndsAfter settings bits held.taken outcome
 ends_after step settings bits before after held (Ok n) takes short = (all_changes _ held.taken takes.all, takes.ok)
-ends_after step settings bits before after held (Err UnexpectedEof) takes short =
-    (all_changes _ held.taken (takes.all tt), takes.fault tt)
-ends_after step settings bits before after held (Err InvalidCode) takes short =
-    (all_changes _ held.taken (takes.all tt), takes.fault tt)
-ends_after step settings bits before after held (Err Overflow) takes short =
-    (all_changes _ held.taken (takes.all tt), takes.fault tt)
-ends_after step settings bits before after held (Err OutOfMemory) takes short =
-    (rw (length-map (plain settings bits).rows changes) takes.taken, short.memory refl)
-ends_after step settings bits before after held (Err Refused) takes short =
-    rw (length-map (plain settings bits).rows changes) (short.refused refl)
+ends_after step settings bits before after held (Err e) takes short =
+    by_kind (λ e. Takes step settings bits before after held (Err e) → StopsShort {A = ℕ} (plain settings bits).rows
+    (lines_of settings bits) before after held (Err e) → EndsAfter settings bits held.taken (Err e))
+    (λ e fault takes short. of_fault_kind (kind_of e) _ _ _ fault (all_changes _ held.taken (takes.all fault), takes.fault fault))
+    (λ takes short. (rw (length-map (plain settings bits).rows changes) takes.taken, short.memory refl))
+    (λ takes short. rw (length-map (plain settings bits).rows changes) (short.refused refl)) e takes short
 
 -- with all rows and the result of the plain reading, the whole text is written
 pub all_text : (settings : DecodeSettings) (bits : Bits) (taken : ℕ) (outcome : Outcome) → taken ≡ length (rows_of settings bits)
     → outcome_of settings bits ≡ outcome → text_after settings bits taken outcome ≡ whole_text settings bits
 all_text settings bits taken outcome all same = rw (same, take_all taken (rows_of settings bits) (omega arith)) refl
 
--- How a run ended, from what it wrote after some rows: `after` of the outcome, which is `whole` after all rows and with the
--- result of the plain reading, and a text that is cut after an allocation failure or a refusal.
+-- a run that wrote a fault of the data is faulty
+pub done_at_fault : (e : DecodeError) → IsFault e → done_of (Err e) ≡ Faulty
+done_at_fault e fault = ap done_of_kind (fault_kind (kind_of e) fault)
+
+-- What a run wrote after some rows: `after` of the outcome, which is `whole` after all rows and with the result of the plain
+-- reading, and a text that is cut after an allocation failure or a refusal.
 pub end_of_run : (settings : DecodeSettings) (bits : Bits) (taken : ℕ) (after : Outcome → List ℕ) (whole : List ℕ)
-    (IsCut Wrote : List ℕ → Type 0) → ((outcome : Outcome) → taken ≡ length (rows_of settings bits)
+    (IsCut : List ℕ → Type 0) → ((outcome : Outcome) → taken ≡ length (rows_of settings bits)
     → outcome_of settings bits ≡ outcome → after outcome ≡ whole) → (outcome : Outcome) → EndsAfter settings bits taken outcome
-    → (done_of outcome ≡ Memory → IsCut (after outcome)) → Wrote (after outcome)
-    → IsEndOfRun (done_of outcome) (outcome_of settings bits) whole IsCut Wrote
-end_of_run settings bits taken after whole IsCut Wrote all (Ok n) ends cut wrote =
-    (rw (ends.1) refl, subst Wrote (all (Ok n) ends.0 ends.1) wrote)
-end_of_run settings bits taken after whole IsCut Wrote all (Err UnexpectedEof) ends cut wrote =
-    (rw (ends.1) refl, subst Wrote (all (Err UnexpectedEof) ends.0 ends.1) wrote)
-end_of_run settings bits taken after whole IsCut Wrote all (Err InvalidCode) ends cut wrote =
-    (rw (ends.1) refl, subst Wrote (all (Err InvalidCode) ends.0 ends.1) wrote)
-end_of_run settings bits taken after whole IsCut Wrote all (Err Overflow) ends cut wrote =
-    (rw (ends.1) refl, subst Wrote (all (Err Overflow) ends.0 ends.1) wrote)
-end_of_run settings bits taken after whole IsCut Wrote all (Err OutOfMemory) ends cut wrote = (_, cut refl, wrote)
-end_of_run settings bits taken after whole IsCut Wrote all (Err Refused) ends cut wrote = (_, cut refl, wrote)
+    → (done_of outcome ≡ Memory → IsCut (after outcome))
+    → IsTextOfEnd (done_of outcome) (outcome_of settings bits) whole IsCut (after outcome)
+end_of_run settings bits taken after whole IsCut all (Ok n) ends cut = (rw (ends.1) refl, all (Ok n) ends.0 ends.1)
+end_of_run settings bits taken after whole IsCut all (Err e) ends cut =
+    by_kind (λ e. EndsAfter settings bits taken (Err e) → (done_of (Err e) ≡ Memory → IsCut (after (Err e)))
+    → IsTextOfEnd (done_of (Err e)) (outcome_of settings bits) whole IsCut (after (Err e)))
+    (λ e fault ends cut. let at : (taken ≡ length (rows_of settings bits)) × (outcome_of settings bits ≡ Err e) =
+    at_fault_kind (kind_of e) _ _ _ fault ends in
+    subst (λ (done : Done). IsTextOfEnd done (outcome_of settings bits) whole IsCut (after (Err e))) (sym (done_at_fault e fault))
+    (rw (at.1) refl, all (Err e) at.0 at.1))
+    (λ ends cut. cut refl) (λ ends cut. cut refl) e ends cut
+
+-- the whole text is one of some end
+pub whole_end : (outcome : Outcome) (whole : List ℕ) (IsCut : List ℕ → Type 0)
+    → (done : Done) × IsTextOfEnd done outcome whole IsCut whole
+whole_end (Ok n) whole IsCut = (Good, (refl, refl))
+whole_end (Err e) whole IsCut = (Faulty, (refl, refl))
 
 -- a statement about the bytes that were read is one about the bytes that the reader specifies
 pub on_input : (known : Option (List ℕ)) (input : List ℕ) (P : List ℕ → Type 0) → IfSome known (λ xs. input ≡ xs) → P input
     → IfSome known P
 on_input None input P same p = tt
 on_input (Some xs) input P same p = subst P same p
-
--- a fact holds of each value of a result
-pub if_ok : {A E : Type 0} (r : Result A E) (P : Type 0) → P → IfOk r (λ _. P)
-if_ok (Ok x) P p = p
-if_ok (Err e) P p = tt
 
 -- a statement about the settings and the bits of a run is one about what is known of them
 pub on_known : (meant : Option Arguments) (arguments : Arguments) (settings : DecodeSettings) (known : Option (List ℕ))
@@ -99,3 +100,10 @@ on_known (Some meant) arguments settings known input P e kept same p =
     subst (λ (s : DecodeSettings). P s (bits_in arguments.order input)) kept p in
     on_input known input (λ xs. P meant.settings (bits_in meant.order xs)) same
     (subst (λ (a : Arguments). P a.settings (bits_in a.order input)) same_arguments of_arguments)
+
+-- the text of the accepted rows is one of the end
+pub is_rows_text : (settings : DecodeSettings) (bits : Bits) (taken : ℕ) (outcome : Outcome) → EndsAfter settings bits taken outcome
+    → IsRowsText settings bits (done_of outcome) (text_after settings bits taken outcome)
+is_rows_text settings bits taken outcome ends =
+    end_of_run settings bits taken (text_after settings bits taken) (whole_text settings bits) (IsTextOfWant settings bits)
+    (all_text settings bits taken) outcome ends (λ want. (taken, outcome, ends, want, refl))

@@ -1,5 +1,5 @@
 -- The damage of some data as lines of text.
-use Rattle.std.specs.Prelude.{◌≡◌, ◌⊎◌, ℕ, zero, suc, List, [], ◌∷◌, ◌++◌, length, take, get_or, sum_by, codes, decimal, Option}
+use Rattle.std.specs.Prelude.{◌≡◌, ℕ, zero, suc, List, [], ◌∷◌, ◌++◌, length, take, get_or, sum_by, codes, decimal, Option}
 use Rattle.std.specs.Prelude.{None, Some, Ok, Err, Bool, true, false}
 use Rattle.hayro_ccitt.specs.DecodeError.{DecodeError}
 use Rattle.hayro_ccitt.specs.DecodeError.TheVariants.{OutOfMemory}
@@ -8,7 +8,8 @@ use Rattle.hayro_ccitt.specs.Bits.{Bits}
 use Rattle.hayro_ccitt.specs.Damage.{cut_in, cuts_by_line, fault_in, misses_by_line, repairs_by_line, start_in}
 use Rattle.hayro_ccitt.specs.PlainReading.{line_starts, failed_at}
 use Rattle.hayro_ccitt.specs.Texts as library
-use Rattle.faxrows_runs.specs.Runs.{Outcome, EndsAfter, rows_of, outcome_of}
+use Rattle.faxrows_runs.specs.Runs.{Outcome, EndsAfter, IsTextOfEnd, rows_of, outcome_of}
+use Rattle.faxrows_runs.specs.declared.program.Done.{Done}
 
 -- a number, and a sign after it
 abbrev pub number_and : ℕ → ℕ → List ℕ
@@ -82,6 +83,7 @@ abbrev pub IsDamageWithoutMemory : DecodeSettings → Bits → List ℕ → Type
 IsDamageWithoutMemory settings bits text =
     (read : ℕ) × EndsAfter settings bits read (Err OutOfMemory) × (text ≡ damage_after settings bits read (Err OutOfMemory))
 
--- the whole damage, or that up to an allocation failure
-abbrev pub IsDamageText : DecodeSettings → Bits → List ℕ → Type 0
-IsDamageText settings bits text = (text ≡ whole_damage settings bits) ⊎ IsDamageWithoutMemory settings bits text
+-- what a run writes of the damage of some data that ends like this
+abbrev pub IsDamageText : DecodeSettings → Bits → Done → List ℕ → Type 0
+IsDamageText settings bits done =
+    IsTextOfEnd done (outcome_of settings bits) (whole_damage settings bits) (IsDamageWithoutMemory settings bits)

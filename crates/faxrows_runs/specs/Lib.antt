@@ -3,6 +3,7 @@ pub mod CheckText
 pub mod DamageText
 pub mod Output
 pub mod PackedRuns
+pub mod ProgramRuns
 pub mod Runs
 pub mod RunsByRow
 pub mod Text

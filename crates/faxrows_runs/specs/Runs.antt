@@ -1,7 +1,7 @@
 -- What a run writes.
 use Rattle.std.specs.Prelude.{◌≡◌, ◌<◌, ◌≤◌, ℕ, List, length, map, take, Option, IfSome, Result, Ok, Err, IsOk, IsErr}
 use Rattle.hayro_ccitt.specs.DecodeError.{DecodeError}
-use Rattle.hayro_ccitt.specs.DecodeError.TheVariants.{UnexpectedEof, InvalidCode, Overflow, OutOfMemory, Refused}
+use Rattle.hayro_ccitt.specs.Faults.{ByKind, ErrorKind, kind_of}
 use Rattle.hayro_ccitt.specs.DecodeSettings.{DecodeSettings}
 use Rattle.hayro_ccitt.specs.Bits.{Bits, bits_in}
 use Rattle.hayro_ccitt.specs.Rows.{changes}
@@ -28,14 +28,16 @@ outcome_of settings bits = (plain settings bits).outcome
 abbrev pub whole_text : DecodeSettings → Bits → List ℕ
 whole_text settings bits = text_of (rows_of settings bits) (outcome_of settings bits)
 
+-- how a run ends that wrote an error of this kind
+abbrev pub done_of_kind : ErrorKind → Done
+done_of_kind ErrorKind.fault = Faulty
+done_of_kind ErrorKind.memory = Memory
+done_of_kind ErrorKind.refusal = Memory
+
 -- how a run that wrote this result ends
 abbrev pub done_of : Outcome → Done
 done_of (Ok count) = Good
-done_of (Err UnexpectedEof) = Faulty
-done_of (Err InvalidCode) = Faulty
-done_of (Err Overflow) = Faulty
-done_of (Err OutOfMemory) = Memory
-done_of (Err Refused) = Memory
+done_of (Err error) = done_of_kind (kind_of error)
 
 -- what is written of some data of which this number of rows was accepted, and how it ended
 abbrev pub text_after : DecodeSettings → Bits → ℕ → Outcome → List ℕ
@@ -45,15 +47,10 @@ text_after settings bits taken outcome = text_of (take taken (rows_of settings b
 -- failure while a line that paints black is read; or because the next row was refused.
 abbrev pub EndsAfter : DecodeSettings → Bits → ℕ → Outcome → Type 0
 EndsAfter settings bits taken (Ok count) = (taken ≡ length (rows_of settings bits)) × (outcome_of settings bits ≡ Ok count)
-EndsAfter settings bits taken (Err UnexpectedEof) =
-    (taken ≡ length (rows_of settings bits)) × (outcome_of settings bits ≡ Err UnexpectedEof)
-EndsAfter settings bits taken (Err InvalidCode) =
-    (taken ≡ length (rows_of settings bits)) × (outcome_of settings bits ≡ Err InvalidCode)
-EndsAfter settings bits taken (Err Overflow) =
-    (taken ≡ length (rows_of settings bits)) × (outcome_of settings bits ≡ Err Overflow)
-EndsAfter settings bits taken (Err OutOfMemory) =
-    (taken ≤ length (rows_of settings bits)) × PaintsBlack (lines_of settings bits) taken
-EndsAfter settings bits taken (Err Refused) = taken < length (rows_of settings bits)
+EndsAfter settings bits taken (Err error) =
+    ByKind (kind_of error) ((taken ≡ length (rows_of settings bits)) × (outcome_of settings bits ≡ Err error))
+    ((taken ≤ length (rows_of settings bits)) × PaintsBlack (lines_of settings bits) taken)
+    (taken < length (rows_of settings bits))
 
 -- the lines of the accepted rows, then the last line, which says whether an allocation failure or a refusal ended the
 -- decoding there
@@ -62,13 +59,17 @@ IsTextOfWant settings bits text =
     (taken : ℕ) × (outcome : Outcome) × EndsAfter settings bits taken outcome × (done_of outcome ≡ Memory)
     × (text ≡ text_after settings bits taken outcome)
 
--- How a run ended that wrote its text: with all of it, after a reading that ended well or at a fault, or with one that is cut
--- short
+-- What a run wrote that ended like this: all of a text, after a reading that ended well or at a fault, or a text that is cut short
 -- by an allocation failure or a refusal.
-abbrev pub IsEndOfRun : Done → Outcome → List ℕ → (List ℕ → Type 0) → (List ℕ → Type 0) → Type 0
-IsEndOfRun Good outcome whole IsCut Wrote = IsOk outcome × Wrote whole
-IsEndOfRun Faulty outcome whole IsCut Wrote = IsErr outcome × Wrote whole
-IsEndOfRun Memory outcome whole IsCut Wrote = (text : List ℕ) × IsCut text × Wrote text
+abbrev pub IsTextOfEnd : Done → Outcome → List ℕ → (List ℕ → Type 0) → List ℕ → Type 0
+IsTextOfEnd Good outcome whole IsCut text = IsOk outcome × (text ≡ whole)
+IsTextOfEnd Faulty outcome whole IsCut text = IsErr outcome × (text ≡ whole)
+IsTextOfEnd Memory outcome whole IsCut text = IsCut text
+
+-- what a run writes of some data that ends like this
+abbrev pub IsRowsText : DecodeSettings → Bits → Done → List ℕ → Type 0
+IsRowsText settings bits done =
+    IsTextOfEnd done (outcome_of settings bits) (whole_text settings bits) (IsTextOfWant settings bits)
 
 -- a statement about the settings that the arguments mean, and about the bits, in the order that the arguments select, of
 -- the bytes that a reader supplies

@@ -1,14 +1,11 @@
 //! A run of the program that writes each row as it is read.
 
-ghost use Rattle.std.specs.Prelude.{◌≡◌, ◌≤◌, ◌↔◌, ◌≢◌, [], IfOk, IfErr, OnOk, OnErr, IfSome, IsOk, IsErr, true, false, map};
-ghost use Rattle.std.specs.Prelude.{take, string_bytes, None, Ok, Err, List, ℕ};
-ghost use Rattle.std.specs.Io.KnownBytes.{Appends, IsAtEnd};
-ghost use Rattle.hayro_ccitt.specs.Bits.{BitsFit};
-ghost use Rattle.fax_program.specs.Devices.{AppendsFront, WasRead};
-ghost use Rattle.faxrows_runs.specs.Arguments.{arguments_of_words};
-ghost use Rattle.faxrows_runs.specs.Output.{PassesOn};
-ghost use Rattle.faxrows_runs.specs.Runs.{Outcome, OnKnown, whole_text, rows_of, text_after, outcome_of, done_of, IsEndOfRun};
-ghost use Rattle.faxrows_runs.specs.RunsByRow.{EndsByRow, IsTextByRow, IsTextWithoutMemory};
+ghost use Rattle.std.specs.Prelude.{◌≡◌, [], IfOk, IfErr, OnOk, OnErr, true, map, string_bytes, take};
+ghost use Rattle.fax_program.specs.Devices.{AppendsFront};
+ghost use Rattle.faxrows_runs.specs.Output.{PassesOn, WritesText, used};
+ghost use Rattle.faxrows_runs.specs.ProgramRuns.{RunsProgram};
+ghost use Rattle.faxrows_runs.specs.Runs.{rows_of};
+ghost use Rattle.faxrows_runs.specs.RunsByRow.{EndsByRow, IsTextByRow};
 ghost use Rattle.faxrows_runs.specs.Text.{lines_of_rows};
 
 use crate::input::read_input;
@@ -33,27 +30,8 @@ pub fn run_by_row<R: Read, W: Write>(
     reader: &mut Device<R>,
     writer: &mut Device<W>,
 ) -> std::result::Result<Done, RunFault>
-    ensures bad_arguments { (result ≡ Err RunFault.BadArguments)
-        ↔ (arguments_of_words (map string_bytes words.now) ≡ None) }
-    ensures unread { result ≡ Err RunFault.BadArguments → reader.new ≡ reader.old }
-    ensures unwritten { IfErr result (λ fault. fault ≢ RunFault.Write → writer.new ≡ writer.old) }
-    ensures ended { IfOk result (λ done.
-        OnKnown (arguments_of_words (map string_bytes words.now)) (R.remaining reader.old.0) (λ settings bits.
-        IsEndOfRun done (outcome_of settings bits) (whole_text settings bits) (IsTextWithoutMemory settings bits) (λ text.
-        Appends (W.contents writer.old.0) (W.contents writer.new.0) text))) }
-    ensures front { result ≡ Err RunFault.Write
-        → OnKnown (arguments_of_words (map string_bytes words.now)) (R.remaining reader.old.0) (λ settings bits.
-        (text : List ℕ) × IsTextByRow settings bits text
-        × AppendsFront (W.contents writer.old.0) (W.contents writer.new.0) text) }
-    ensures drained { IfOk result (λ _. IsAtEnd (R.remaining reader.new.0)) }
-    ensures fit { IfOk result (λ _. IfSome (R.remaining reader.old.0) BitsFit) }
-    ensures fit_write { result ≡ Err RunFault.Write → IfSome (R.remaining reader.old.0) BitsFit }
-    ensures fit_so_far { result ≢ Err RunFault.TooLong
-        → WasRead (R.remaining reader.old.0) (R.remaining reader.new.0) BitsFit }
-    ensures too_long { result ≡ Err RunFault.TooLong
-        → IfSome (R.remaining reader.old.0) (λ input. ¬ (BitsFit input)) }
-    ensures read { reader.old.1 ≡ false → ((result ≡ Err RunFault.Read) ↔ (reader.new.1 ≡ true)) }
-    ensures write { writer.old.1 ≡ false → ((result ≡ Err RunFault.Write) ↔ (writer.new.1 ≡ true)) }
+    ensures runs { RunsProgram IsTextByRow (map string_bytes words.now) (used R.remaining reader.old reader.new)
+        (used W.contents writer.old writer.new) result }
 {
     let (arguments, input) = read_input(alloc, words, reader)?;
     let Ok(mut rows) = RowReader::new(alloc, input.as_slice(), arguments.order, arguments.settings)
@@ -71,16 +49,7 @@ fn write_by_row<W: Write>(
     writer: &mut Device<W>,
 ) -> std::result::Result<Done, RunFault>
     requires none_read { rows.old.taken ≡ 0 }
-    ensures written { IfOk result (λ done. (outcome : Outcome)
-        × EndsByRow rows.old.settings rows.old.bits rows.new.taken outcome
-        × (done ≡ done_of outcome)
-        × Appends (W.contents writer.old.0) (W.contents writer.new.0)
-        (text_after rows.old.settings rows.old.bits rows.new.taken outcome)) }
-    ensures front { OnErr result ((text : List ℕ) × IsTextByRow rows.old.settings rows.old.bits text
-        × AppendsFront (W.contents writer.old.0) (W.contents writer.new.0) text) }
-    ensures flag { OnOk result (writer.new.1 ≡ writer.old.1) }
-    ensures failed { OnErr result (writer.new.1 ≡ true) }
-    ensures only { IfErr result (λ fault. fault ≡ RunFault.Write) }
+    ensures writes { WritesText (IsTextByRow rows.old.settings rows.old.bits) (used W.contents writer.old writer.new) result }
 {
     let mut waiting = Vec::new(alloc);
     let outcome = put_rows(rows, &mut waiting, writer)?;

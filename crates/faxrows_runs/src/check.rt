@@ -1,15 +1,11 @@
 //! A run of the program that writes whether the data is an encoding of a picture by every rule, and otherwise where it first
 //! breaks one.
 
-ghost use Rattle.std.specs.Prelude.{◌≡◌, ◌↔◌, ◌≢◌, ◌++◌, IfOk, IfErr, OnOk, OnErr, IfSome, true, false, map, string_bytes};
-ghost use Rattle.std.specs.Prelude.{None, Ok, Err, List, ℕ};
-ghost use Rattle.std.specs.Io.KnownBytes.{Appends, IsAtEnd};
-ghost use Rattle.hayro_ccitt.specs.Bits.{BitsFit};
-ghost use Rattle.fax_program.specs.Devices.{AppendsFront, WasRead};
-ghost use Rattle.faxrows_runs.specs.Arguments.{arguments_of_words};
+ghost use Rattle.std.specs.Prelude.{◌≡◌, ◌++◌, IfErr, OnOk, OnErr, true, map, string_bytes};
+ghost use Rattle.fax_program.specs.Devices.{AppendsFront};
 ghost use Rattle.faxrows_runs.specs.CheckText.{IsCheck, done_of_check, end_with_rule, line_of_check, line_of_violation};
-ghost use Rattle.faxrows_runs.specs.Output.{PassesOn};
-ghost use Rattle.faxrows_runs.specs.Runs.{OnKnown};
+ghost use Rattle.faxrows_runs.specs.Output.{PassesOn, WritesText, used};
+ghost use Rattle.faxrows_runs.specs.ProgramRuns.{RunsProgram};
 
 use crate::damage_lines::put_number;
 use crate::input::read_input;
@@ -33,27 +29,8 @@ pub fn run_check<R: Read, W: Write>(
     reader: &mut Device<R>,
     writer: &mut Device<W>,
 ) -> std::result::Result<Done, RunFault>
-    ensures bad_arguments { (result ≡ Err RunFault.BadArguments)
-        ↔ (arguments_of_words (map string_bytes words.now) ≡ None) }
-    ensures unread { result ≡ Err RunFault.BadArguments → reader.new ≡ reader.old }
-    ensures unwritten { IfErr result (λ fault. fault ≢ RunFault.Write → writer.new ≡ writer.old) }
-    ensures ended { IfOk result (λ done.
-        OnKnown (arguments_of_words (map string_bytes words.now)) (R.remaining reader.old.0) (λ settings bits.
-        (text : List ℕ) × IsCheck settings bits done text
-        × Appends (W.contents writer.old.0) (W.contents writer.new.0) text)) }
-    ensures front { result ≡ Err RunFault.Write
-        → OnKnown (arguments_of_words (map string_bytes words.now)) (R.remaining reader.old.0) (λ settings bits.
-        (done : Done) × (text : List ℕ) × IsCheck settings bits done text
-        × AppendsFront (W.contents writer.old.0) (W.contents writer.new.0) text) }
-    ensures drained { IfOk result (λ _. IsAtEnd (R.remaining reader.new.0)) }
-    ensures fit { IfOk result (λ _. IfSome (R.remaining reader.old.0) BitsFit) }
-    ensures fit_write { result ≡ Err RunFault.Write → IfSome (R.remaining reader.old.0) BitsFit }
-    ensures fit_so_far { result ≢ Err RunFault.TooLong
-        → WasRead (R.remaining reader.old.0) (R.remaining reader.new.0) BitsFit }
-    ensures too_long { result ≡ Err RunFault.TooLong
-        → IfSome (R.remaining reader.old.0) (λ input. ¬ (BitsFit input)) }
-    ensures read { reader.old.1 ≡ false → ((result ≡ Err RunFault.Read) ↔ (reader.new.1 ≡ true)) }
-    ensures write { writer.old.1 ≡ false → ((result ≡ Err RunFault.Write) ↔ (writer.new.1 ≡ true)) }
+    ensures runs { RunsProgram IsCheck (map string_bytes words.now) (used R.remaining reader.old reader.new)
+        (used W.contents writer.old writer.new) result }
 {
     let (arguments, input) = read_input(alloc, words, reader)?;
     let Ok(found) = first_violation(alloc, arguments.settings, arguments.order, input.as_slice())
@@ -69,12 +46,8 @@ fn write_found<W: Write>(
     found: Option<Violation>,
     writer: &mut Device<W>,
 ) -> std::result::Result<Done, RunFault>
-    ensures done { IfOk result (λ done. done ≡ done_of_check found) }
-    ensures written { OnOk result (Appends (W.contents writer.old.0) (W.contents writer.new.0) (line_of_check found)) }
-    ensures front { OnErr result (AppendsFront (W.contents writer.old.0) (W.contents writer.new.0) (line_of_check found)) }
-    ensures flag { OnOk result (writer.new.1 ≡ writer.old.1) }
-    ensures failed { OnErr result (writer.new.1 ≡ true) }
-    ensures only { IfErr result (λ fault. fault ≡ RunFault.Write) }
+    ensures writes { WritesText (λ done text. (done ≡ done_of_check found) × (text ≡ line_of_check found))
+        (used W.contents writer.old writer.new) result }
 {
     let mut waiting = Vec::new(alloc);
     put_found(found, &mut waiting, writer)?;

@@ -1,10 +1,8 @@
 //! What a run is given: what its arguments mean, and all that its reader has.
 
-ghost use Rattle.std.specs.Prelude.{◌≡◌, ◌↔◌, ◌≢◌, IfOk, IfSome, true, false, map, string_bytes, None, Some, Err};
-ghost use Rattle.std.specs.Io.KnownBytes.{IsAtEnd};
-ghost use Rattle.hayro_ccitt.specs.Bits.{BitsFit};
-ghost use Rattle.fax_program.specs.Devices.{WasRead};
-ghost use Rattle.faxrows_runs.specs.Arguments.{arguments_of_words};
+ghost use Rattle.std.specs.Prelude.{IfOk, IfErr, map, string_bytes};
+ghost use Rattle.faxrows_runs.specs.Output.{used};
+ghost use Rattle.faxrows_runs.specs.ProgramRuns.{HasInput, LacksInput};
 
 use crate::arguments::{Arguments, arguments_of};
 use fax_program::{Device, RunFault, read_all};
@@ -21,19 +19,9 @@ pub(crate) fn read_input<R: Read>(
     words: &[String],
     reader: &mut Device<R>,
 ) -> std::result::Result<(Arguments, Vec<u8>), RunFault>
-    ensures bad_arguments { (result ≡ Err RunFault.BadArguments)
-        ↔ (arguments_of_words (map string_bytes words.now) ≡ None) }
-    ensures unread { result ≡ Err RunFault.BadArguments → reader.new ≡ reader.old }
-    ensures arguments { IfOk result (λ input. arguments_of_words (map string_bytes words.now) ≡ Some input.0) }
-    ensures all { IfOk result (λ input. IfSome (R.remaining reader.old.0) (λ known. input.1.items ≡ known)) }
-    ensures drained { IfOk result (λ _. IsAtEnd (R.remaining reader.new.0)) }
-    ensures fit { IfOk result (λ input. BitsFit input.1.items) }
-    ensures fit_so_far { result ≢ Err RunFault.TooLong
-        → WasRead (R.remaining reader.old.0) (R.remaining reader.new.0) BitsFit }
-    ensures too_long { result ≡ Err RunFault.TooLong
-        → IfSome (R.remaining reader.old.0) (λ known. ¬ (BitsFit known)) }
-    ensures read { reader.old.1 ≡ false → ((result ≡ Err RunFault.Read) ↔ (reader.new.1 ≡ true)) }
-    ensures not_write { result ≢ Err RunFault.Write }
+    ensures has { IfOk result (λ input. HasInput (map string_bytes words.now) (used R.remaining reader.old reader.new)
+        input.0 input.1.items) }
+    ensures lacks { IfErr result (LacksInput (map string_bytes words.now) (used R.remaining reader.old reader.new)) }
 {
     let Some(arguments) = arguments_of(words) else {
         return Err(RunFault::BadArguments);

@@ -1,13 +1,10 @@
 //! A run of the program that writes packed rows: decodes all that a reader has, and writes it as a bitmap.
 
-ghost use Rattle.std.specs.Prelude.{◌≡◌, ◌≤◌, ◌↔◌, ◌≢◌, IfOk, IfErr, OnOk, OnErr, IfSome, true, false, map, string_bytes, None};
-ghost use Rattle.std.specs.Prelude.{Ok, Err, List, ℕ};
-ghost use Rattle.std.specs.Io.KnownBytes.{Appends, IsAtEnd};
+ghost use Rattle.std.specs.Prelude.{◌≡◌, map, string_bytes};
 ghost use Rattle.hayro_ccitt.specs.Bits.{BitsFit, bits_in};
-ghost use Rattle.fax_program.specs.Devices.{WasRead};
-ghost use Rattle.faxrows_runs.specs.Arguments.{arguments_of_words};
-ghost use Rattle.faxrows_runs.specs.Runs.{OnKnown};
+ghost use Rattle.faxrows_runs.specs.Output.{WritesText, used};
 ghost use Rattle.faxrows_runs.specs.PackedRuns.{IsPackedOf, answer_of};
+ghost use Rattle.faxrows_runs.specs.ProgramRuns.{RunsProgram};
 
 use crate::input::read_input;
 use fax_encode::BitmapSink;
@@ -32,23 +29,8 @@ pub fn run_packed<R: Read, W: Write>(
     reader: &mut Device<R>,
     writer: &mut Device<W>,
 ) -> std::result::Result<std::result::Result<(), DecodeError>, RunFault>
-    ensures bad_arguments { (result ≡ Err RunFault.BadArguments)
-        ↔ (arguments_of_words (map string_bytes words.now) ≡ None) }
-    ensures unread { result ≡ Err RunFault.BadArguments → reader.new ≡ reader.old }
-    ensures unwritten { IfErr result (λ fault. fault ≢ RunFault.Write → writer.new ≡ writer.old) }
-    ensures packed { IfOk result (λ answer.
-        OnKnown (arguments_of_words (map string_bytes words.now)) (R.remaining reader.old.0) (λ settings bits.
-        (bytes : List ℕ) × IsPackedOf settings bits answer bytes
-        × Appends (W.contents writer.old.0) (W.contents writer.new.0) bytes)) }
-    ensures drained { IfOk result (λ _. IsAtEnd (R.remaining reader.new.0)) }
-    ensures fit { IfOk result (λ _. IfSome (R.remaining reader.old.0) BitsFit) }
-    ensures fit_write { result ≡ Err RunFault.Write → IfSome (R.remaining reader.old.0) BitsFit }
-    ensures fit_so_far { result ≢ Err RunFault.TooLong
-        → WasRead (R.remaining reader.old.0) (R.remaining reader.new.0) BitsFit }
-    ensures too_long { result ≡ Err RunFault.TooLong
-        → IfSome (R.remaining reader.old.0) (λ input. ¬ (BitsFit input)) }
-    ensures read { reader.old.1 ≡ false → ((result ≡ Err RunFault.Read) ↔ (reader.new.1 ≡ true)) }
-    ensures write { writer.old.1 ≡ false → ((result ≡ Err RunFault.Write) ↔ (writer.new.1 ≡ true)) }
+    ensures runs { RunsProgram IsPackedOf (map string_bytes words.now) (used R.remaining reader.old reader.new)
+        (used W.contents writer.old writer.new) result }
 {
     let (arguments, input) = read_input(alloc, words, reader)?;
     let Ok(mut ctx) = DecoderContext::new(alloc, arguments.settings) else {
@@ -67,12 +49,8 @@ fn write_packed<W: Write>(
     writer: &mut Device<W>,
 ) -> std::result::Result<std::result::Result<(), DecodeError>, RunFault>
     requires fit { BitsFit input.now }
-    ensures written { IfOk result (λ answer. (bytes : List ℕ)
-        × IsPackedOf ctx.old.held.settings (bits_in order input.now) answer bytes
-        × Appends (W.contents writer.old.0) (W.contents writer.new.0) bytes) }
-    ensures flag { OnOk result (writer.new.1 ≡ writer.old.1) }
-    ensures failed { OnErr result (writer.new.1 ≡ true) }
-    ensures only { IfErr result (λ fault. fault ≡ RunFault.Write) }
+    ensures writes { WritesText (IsPackedOf ctx.old.held.settings (bits_in order input.now)) (used W.contents writer.old writer.new)
+        result }
 {
     rows_are_packed();
     let mut sink = BitmapSink::new(alloc, ctx.settings().columns);

@@ -1,14 +1,11 @@
 //! A run of the program: decodes all that a reader has, and writes it as text.
 
-ghost use Rattle.std.specs.Prelude.{◌≡◌, ◌≤◌, ◌↔◌, ◌≢◌, IfOk, IfErr, OnOk, OnErr, IfSome, IsOk, IsErr, true, false, map};
-ghost use Rattle.std.specs.Prelude.{string_bytes, None, Ok, Err, List, ℕ};
-ghost use Rattle.std.specs.Io.KnownBytes.{Appends, IsAtEnd};
+ghost use Rattle.std.specs.Prelude.{◌≡◌, ◌≤◌, IfOk, IfErr, OnOk, OnErr, true, false, map, string_bytes};
 ghost use Rattle.hayro_ccitt.specs.Bits.{BitsFit, bits_in};
-ghost use Rattle.fax_program.specs.Devices.{WasRead};
-ghost use Rattle.faxrows_runs.specs.Arguments.{arguments_of_words};
+ghost use Rattle.faxrows_runs.specs.Output.{WritesText, used};
+ghost use Rattle.faxrows_runs.specs.ProgramRuns.{RunsProgram};
+ghost use Rattle.faxrows_runs.specs.Runs.{IsRowsText, done_of};
 ghost use Rattle.faxrows_runs.specs.Text.{line_of_outcome};
-ghost use Rattle.faxrows_runs.specs.Runs.{Outcome, OnKnown, EndsAfter, IsTextOfWant, whole_text, text_after, outcome_of, done_of};
-ghost use Rattle.faxrows_runs.specs.Runs.{IsEndOfRun};
 
 use crate::input::read_input;
 use crate::last_line::{ROOM, error_line, put_ok};
@@ -42,23 +39,8 @@ pub fn run<R: Read, W: Write>(
     reader: &mut Device<R>,
     writer: &mut Device<W>,
 ) -> std::result::Result<Done, RunFault>
-    ensures bad_arguments { (result ≡ Err RunFault.BadArguments)
-        ↔ (arguments_of_words (map string_bytes words.now) ≡ None) }
-    ensures unread { result ≡ Err RunFault.BadArguments → reader.new ≡ reader.old }
-    ensures unwritten { IfErr result (λ fault. fault ≢ RunFault.Write → writer.new ≡ writer.old) }
-    ensures ended { IfOk result (λ done.
-        OnKnown (arguments_of_words (map string_bytes words.now)) (R.remaining reader.old.0) (λ settings bits.
-        IsEndOfRun done (outcome_of settings bits) (whole_text settings bits) (IsTextOfWant settings bits) (λ text.
-        Appends (W.contents writer.old.0) (W.contents writer.new.0) text))) }
-    ensures drained { IfOk result (λ _. IsAtEnd (R.remaining reader.new.0)) }
-    ensures fit { IfOk result (λ _. IfSome (R.remaining reader.old.0) BitsFit) }
-    ensures fit_write { result ≡ Err RunFault.Write → IfSome (R.remaining reader.old.0) BitsFit }
-    ensures fit_so_far { result ≢ Err RunFault.TooLong
-        → WasRead (R.remaining reader.old.0) (R.remaining reader.new.0) BitsFit }
-    ensures too_long { result ≡ Err RunFault.TooLong
-        → IfSome (R.remaining reader.old.0) (λ input. ¬ (BitsFit input)) }
-    ensures read { reader.old.1 ≡ false → ((result ≡ Err RunFault.Read) ↔ (reader.new.1 ≡ true)) }
-    ensures write { writer.old.1 ≡ false → ((result ≡ Err RunFault.Write) ↔ (writer.new.1 ≡ true)) }
+    ensures runs { RunsProgram IsRowsText (map string_bytes words.now) (used R.remaining reader.old reader.new)
+        (used W.contents writer.old writer.new) result }
 {
     let (arguments, input) = read_input(alloc, words, reader)?;
     let Ok(mut ctx) = DecoderContext::new(alloc, arguments.settings) else {
@@ -78,14 +60,8 @@ fn write_decoded<W: Write>(
 ) -> std::result::Result<Done, RunFault>
     requires fit { BitsFit input.now }
     requires columns { ctx.old.held.settings.columns ≤ 4294967295 }
-    ensures written { IfOk result (λ done. (outcome : Outcome)
-        × EndsAfter ctx.old.held.settings (bits_in order input.now) ctx.new.held.taken outcome
-        × (done ≡ done_of outcome)
-        × Appends (W.contents writer.old.0) (W.contents writer.new.0)
-        (text_after ctx.old.held.settings (bits_in order input.now) ctx.new.held.taken outcome)) }
-    ensures flag { OnOk result (writer.new.1 ≡ writer.old.1) }
-    ensures failed { OnErr result (writer.new.1 ≡ true) }
-    ensures only { IfErr result (λ fault. fault ≡ RunFault.Write) }
+    ensures writes { WritesText (IsRowsText ctx.old.held.settings (bits_in order input.now)) (used W.contents writer.old writer.new)
+        result }
 {
     let mut sink = TextSink::new(alloc);
     let outcome = decode_in(order, input, &mut sink, ctx);
@@ -100,11 +76,7 @@ fn write_last_line<W: Write>(
     writer: &mut Device<W>,
     outcome: &hayro_ccitt::Result<usize>,
 ) -> std::result::Result<(), RunFault>
-    ensures ok { OnOk result (Appends (W.contents writer.old.0) (W.contents writer.new.0)
-        (line_of_outcome outcome.now)) }
-    ensures flag { OnOk result (writer.new.1 ≡ writer.old.1) }
-    ensures failed { OnErr result (writer.new.1 ≡ true) }
-    ensures only { IfErr result (λ fault. fault ≡ RunFault.Write) }
+    ensures writes { WritesText (λ _ text. text ≡ line_of_outcome outcome.now) (used W.contents writer.old writer.new) result }
 {
     match outcome {
         Ok(count) => {

@@ -5,6 +5,7 @@ pub mod Names
 pub mod Readings
 pub mod Work
 pub use Rattle.fax_bits.proofs.BitReading
+pub use Rattle.fax_bits.proofs.ErrorKinds
 pub use Rattle.fax_reading.proofs.DamagedLines
 pub use Rattle.fax_reading.proofs.EncodedPictures
 pub use Rattle.fax_reading.proofs.KeptRows

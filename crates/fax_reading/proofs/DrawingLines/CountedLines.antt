@@ -4,9 +4,10 @@ use Rattle.fax_reading.proofs.Names.{Err, refl, sym, ap, subst, ◌∙◌, arith
 use Rattle.fax_reading.proofs.Names.{DecodeError, Bits, Line, Pen, turn_behind, words_behind, unless_fault, painted, draw_run}
 use Rattle.fax_reading.proofs.Names.{draw_mode, draw_1d, draw_2d, words_drawn, IsFault, OnAnswer, Step, DrawsStep, pen_of}
 use Rattle.fax_reading.proofs.Names.{step_of_run, step_of_mode, words_of_run, words_of_mode, Held, redrawn, DecodeSettings}
-use Rattle.fax_reading.proofs.Names.{UnexpectedEof, InvalidCode, Overflow, OutOfMemory, Refused, mode_codes, read_code, Turn, Row}
+use Rattle.fax_reading.proofs.Names.{kind_of, mode_codes, read_code, Turn, Row}
 use Rattle.fax_reading.proofs.Names.{paint, run_from, run_found, word_found}
 use Rattle.fax_bits.proofs.CodeWords.RunWords.{one_word}
+use Rattle.fax_bits.proofs.ErrorKinds.{at_fault_kind}
 use Rattle.fax_bits.proofs.Repetition.Gathered.{gathered_turn}
 use Rattle.fax_reading.proofs.DrawingLines.Drawings.{try, mode_step, step_1d, step_2d}
 use Rattle.fax_reading.proofs.DrawingLines.ReadLines.{pen_left, step_1d_shrinks, step_2d_shrinks}
@@ -138,11 +139,9 @@ counted_by_mode before now at rest mode kept open_row reads =
 -- a step that ends in a fault of the data is the last to find words
 pub none_after_fault : (rest : Pen → List Bits) (step : Step) (fault : DecodeError) (pen : Pen) → IsFault fault
     → DrawsStep step (Err fault) pen → length (found_after rest step) ≡ 0
-none_after_fault rest step UnexpectedEof pen is draws = rw draws refl
-none_after_fault rest step InvalidCode pen is draws = rw draws refl
-none_after_fault rest step Overflow pen is draws = rw draws refl
-none_after_fault rest step OutOfMemory pen is draws = absurd is
-none_after_fault rest step Refused pen is draws = absurd is
+none_after_fault rest step fault pen is draws =
+    let ends : step ≡ Turn.done (Line.broken pen.front fault) = at_fault_kind (kind_of fault) _ _ _ is draws in
+    rw ends refl
 
 -- Between two modes of a line, of whose words some are found and some are still to come: each word found was counted,
 -- as were the changes passed and three more for each word, and nothing if there are no words.

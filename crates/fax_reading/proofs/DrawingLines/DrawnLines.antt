@@ -4,8 +4,8 @@ use Rattle.fax_reading.proofs.Names.{◌++◌, length, replicate, append_assoc, 
 use Rattle.fax_reading.proofs.Names.{subst, ap, ◌∙◌, arith, ◌⊎◌, inl, inr, ◌↔◌, IsTrue, IfErr, OnOk, OnErr, SomeIff, min, ℤ, pos}
 use Rattle.fax_reading.proofs.Names.{negsuc, ◌+ℤ◌, false≢true, cases_lt, le-leb, lt-leb, nat_abs, FitsUnsigned, ints}
 use Rattle.fax_reading.proofs.Names.{length-append, Contains-append_left, Contains-append_right, Color, Mode, Pass, Horizontal}
-use Rattle.fax_reading.proofs.Names.{Vertical, DecodeError, DecodeSettings, UnexpectedEof, InvalidCode, Overflow, OutOfMemory}
-use Rattle.fax_reading.proofs.Names.{Refused, IsFault, front_of, HasBlack, StopsAtChange, DrawsLine, pen_of, front_after}
+use Rattle.fax_reading.proofs.Names.{Vertical, DecodeError, DecodeSettings, UnexpectedEof, InvalidCode, OutOfMemory, kind_of}
+use Rattle.fax_reading.proofs.Names.{IsFault, front_of, HasBlack, StopsAtChange, DrawsLine, pen_of, front_after}
 use Rattle.fax_reading.proofs.Names.{DrawsStep, StoresChange, Step, step_of_run, step_of_mode, Bits, BitsAt, here, mode_codes}
 use Rattle.fax_reading.proofs.Names.{read_code, Context, Held, redrawn, Line, Pen, start, place_from, turn_behind, Turn, repeated}
 use Rattle.fax_reading.proofs.Names.{Row, is_black, opposite, right_of, b1, b2, paint, last_pixel, run_from}
@@ -16,6 +16,7 @@ use Rattle.fax_reading.proofs.DrawingLines.ReadLines.{draw_mode_next, modes_not_
 use Rattle.fax_reading.proofs.DrawingLines.ReadLines.{step_2d_shrinks, pen_left}
 use Rattle.fax_bits.proofs.Repetition.Repeated.{Shrinks, after_turn}
 use Rattle.fax_bits.proofs.CodeWords.ReadRuns.{some_where}
+use Rattle.fax_bits.proofs.ErrorKinds.{kind_weaker, of_fault_kind}
 
 -- ---- What painting yields.
 
@@ -81,11 +82,7 @@ memory_has_black line front rest draws = change_has_black (front_of line) front 
 -- a fault of the data ends the line with the front that is left
 pub fault_ends : (step : Step) (e : DecodeError) (pen : Pen) → IsFault e → step ≡ Turn.done (Line.broken pen.front e)
     → DrawsStep step (Err e) pen
-fault_ends step UnexpectedEof pen fault e = e
-fault_ends step InvalidCode pen fault e = e
-fault_ends step Overflow pen fault e = e
-fault_ends step OutOfMemory pen fault e = absurd fault
-fault_ends step Refused pen fault e = absurd fault
+fault_ends step e pen fault is = of_fault_kind (kind_of e) _ _ _ fault is
 
 -- why painting this many pixels is refused
 pub record IsUnpainted (held : Held) (count : ℕ) (e : DecodeError) : Type 0 where
@@ -307,13 +304,11 @@ line_mode strict columns reference pen mode rest open_row reads = line_open stri
 fails_by : (step : Pen → Step) → Shrinks step pen_left → ((P : Row → Type 0) → Stays P → KeepsFront P step)
     → (line : Line) (turn : Step) (e : DecodeError) (pen : Pen) → line ≡ after_turn (drawn_by step) turn
     → DrawsStep turn (Err e) pen → DrawsLine line (Err e) pen.front pen.rest
-fails_by step shrinks keeps line turn UnexpectedEof pen is draws = is ∙ rw draws refl
-fails_by step shrinks keeps line turn InvalidCode pen is draws = is ∙ rw draws refl
-fails_by step shrinks keeps line turn Overflow pen is draws = is ∙ rw draws refl
-fails_by step shrinks keeps line turn OutOfMemory pen is draws = subst (λ (l : Line). StopsAtChange (front_of l) pen.front)
-    (sym is) (keeps_after (stopping_at pen.front) step shrinks (keeps (stopping_at pen.front)
-    (later_change pen.front)) turn draws)
-fails_by step shrinks keeps line turn Refused pen is draws = absurd draws
+fails_by step shrinks keeps line turn e pen is =
+    kind_weaker (kind_of e) (turn ≡ Turn.done (Line.broken pen.front e)) (StopsAtChange (front_after turn) pen.front) ⊥
+    (line ≡ Line.broken pen.front e) (StopsAtChange (front_of line) pen.front) ⊥ (λ draws. is ∙ rw draws refl)
+    (λ draws. subst (λ (l : Line). StopsAtChange (front_of l) pen.front) (sym is) (keeps_after (stopping_at pen.front) step shrinks
+    (keeps (stopping_at pen.front) (later_change pen.front)) turn draws)) (λ draws. draws)
 
 pub line_1d_fails : (strict : Bool) (columns : ℕ) (line : Line) (step : Step) (e : DecodeError) (pen : Pen) → line
     ≡ after_turn (drawn_by (step_1d strict columns)) step → DrawsStep step (Err e) pen → DrawsLine line (Err e) pen.front pen.rest
@@ -373,12 +368,15 @@ mode_shorter strict columns reference pen t at mode reads draws =
 -- an error of the first step is that of both, if what follows keeps what is painted
 pub behind_fails : (behind : Pen → Step) (step : Step) (e : DecodeError) (pen : Pen) → KeepsFront (stopping_at pen.front) behind
     → DrawsStep step (Err e) pen → DrawsStep (turn_behind step behind) (Err e) pen
-behind_fails behind step UnexpectedEof pen keeps draws = rw draws refl
-behind_fails behind step InvalidCode pen keeps draws = rw draws refl
-behind_fails behind step Overflow pen keeps draws = rw draws refl
-behind_fails behind (Turn.next p) OutOfMemory pen keeps draws = keeps p draws
-behind_fails behind (Turn.done line) OutOfMemory pen keeps draws = draws
-behind_fails behind step Refused pen keeps draws = absurd draws
+behind_fails behind step e pen keeps =
+    kind_weaker (kind_of e) (step ≡ Turn.done (Line.broken pen.front e)) (StopsAtChange (front_after step) pen.front) ⊥
+    (turn_behind step behind ≡ Turn.done (Line.broken pen.front e)) (StopsAtChange (front_after (turn_behind step behind)) pen.front)
+    ⊥ (λ draws. rw draws refl) (stops step) (λ draws. draws)
+  where
+    stops : (step : Step) → StopsAtChange (front_after step) pen.front
+        → StopsAtChange (front_after (turn_behind step behind)) pen.front
+    stops (Turn.next p) draws = keeps p draws
+    stops (Turn.done line) draws = draws
 
 -- two runs, if the first is refused
 pub first_run_fails : (held : Held) (rest : Bits) (left : Pen) (e : DecodeError) → DrawsStep (step_of_run held rest) (Err e) left

@@ -1,19 +1,24 @@
 -- A line that isn't read is no row.
 use Rattle.fax_reading.proofs.Names.{◌≡◌, ◌≢◌, Bool, true, false, not, ◌||◌, Result, Err, refl, sym, ap, subst, ◌∙◌}
-use Rattle.fax_reading.proofs.Names.{cond-true, or_from, or_parts, not-false, not_from_true, DecodeError, UnexpectedEof}
-use Rattle.fax_reading.proofs.Names.{InvalidCode, Overflow, OutOfMemory, Refused, DrawsLine, IsFault, IsRepairable}
+use Rattle.fax_reading.proofs.Names.{cond-true, or_from, or_parts, not-false, not_from_true, DecodeError, kind_of}
+use Rattle.fax_reading.proofs.Names.{OutOfMemory, Refused, DrawsLine, IsFault, IsRepairable}
 use Rattle.fax_reading.proofs.Names.{RepairStoresChange, HasBlack, front_of, Bits, Held, redrawn, TakesOneRow, Line}
 use Rattle.fax_reading.proofs.Names.{Row, row_of_line}
+use Rattle.fax_bits.proofs.ErrorKinds.{at_fault_kind, by_kind}
 use Rattle.fax_reading.proofs.DrawingLines.DrawnLines.{memory_has_black, last_black}
 
 module _ (line strict : Line) (row : Result (Row × Bits) DecodeError) (old new : Held) (held : new
     ≡ redrawn old new.front new.color)
     (rest : Bits) where
   -- a fault of the data is the row's
-  pub at_fault : (e : DecodeError) → row ≡ Err e → ◌≢◌ {A = Result (Unit {0}) DecodeError} (Err e) (Err OutOfMemory)
-      → ◌≢◌ {A = Result (Unit {0}) DecodeError} (Err e) (Err Refused) → TakesOneRow line strict row old new (Err e) rest
-  at_fault e is memory refused =
-      record { taken = tt; fault = λ f. is; held = held; memory = λ k. absurd (memory k); not_refused = refused }
+  pub at_fault : (e : DecodeError) → IsFault e → row ≡ Err e → TakesOneRow line strict row old new (Err e) rest
+  at_fault e fault is = record {
+    taken = tt;
+    fault = λ f. is;
+    held = held;
+    memory = λ k. absurd (let no : e ≡ OutOfMemory = cc in subst IsFault no fault);
+    not_refused = λ k. let no : e ≡ Refused = cc in subst IsFault no fault;
+  }
 
   -- an allocation fails only if the line, or what is repaired of it, paints a black pixel
   wants_rest : HasBlack (front_of line) → TakesOneRow line strict row old new (Err OutOfMemory) rest
@@ -26,11 +31,10 @@ module _ (line strict : Line) (row : Result (Row × Bits) DecodeError) (old new 
   -- a line that isn't read, and whose fault is the row's
   pub is_unread : (e : DecodeError) → ((fault : DecodeError) → line ≡ Line.broken new.front fault → row ≡ Err fault)
       → DrawsLine line (Err e) new.front rest → TakesOneRow line strict row old new (Err e) rest
-  is_unread UnexpectedEof fails draws = at_fault UnexpectedEof (fails UnexpectedEof draws) (λ k. cc) (λ k. cc)
-  is_unread InvalidCode fails draws = at_fault InvalidCode (fails InvalidCode draws) (λ k. cc) (λ k. cc)
-  is_unread Overflow fails draws = at_fault Overflow (fails Overflow draws) (λ k. cc) (λ k. cc)
-  is_unread OutOfMemory fails draws = unread_row_wants_memory draws
-  is_unread Refused fails draws = absurd draws
+  is_unread e fails =
+      by_kind (λ e. DrawsLine line (Err e) new.front rest → TakesOneRow line strict row old new (Err e) rest)
+      (λ e fault draws. at_fault e fault (fails e (at_fault_kind (kind_of e) _ _ _ fault draws)))
+      unread_row_wants_memory (λ draws. absurd draws) e
 
 -- ---- A line of Group 3 that isn't repaired
 
@@ -74,23 +78,21 @@ module _ (line strict : Line) (start : Bits) (old new : Held) (held : new ≡ re
           record { lenient = same_strict ∙ parts.0; has_eols = same_eols ∙ not-false old.has_eols parts.1; fault = fault }
 
       broken : (e : DecodeError) → DrawsLine line (Err e) new.front rest → IsFault e → line ≡ Line.broken new.front e
-      broken UnexpectedEof draws f = draws
-      broken InvalidCode draws f = draws
-      broken Overflow draws f = draws
-      broken OutOfMemory draws f = absurd f
-      broken Refused draws f = absurd f
+      broken e draws fault = at_fault_kind (kind_of e) _ _ _ fault draws
 
       lenient : (e : DecodeError) → DrawsLine line (Err e) new.front rest → (old.settings.strict || not old.has_eols) ≡ false
           → (IsRepairable new e → TakesOneRow line strict row old new (Err answer) rest)
           → ((IsRepairable new e → ⊥) → ◌≡◌ {A = Result (Unit {0}) DecodeError} (Err answer) (Err e))
           → TakesOneRow line strict row old new (Err answer) rest
-      lenient UnexpectedEof draws is one two = one (repairs UnexpectedEof tt is)
-      lenient InvalidCode draws is one two = one (repairs InvalidCode tt is)
-      lenient Overflow draws is one two = one (repairs Overflow tt is)
-      lenient OutOfMemory draws is one two =
-          subst (λ (r : Result (Unit {0}) DecodeError). TakesOneRow line strict row old new r rest)
-          (sym (two (λ r. r.fault))) (unread_row_wants_memory line strict row old new held rest draws)
-      lenient Refused draws is one two = absurd draws
+      lenient e draws is one two =
+          by_kind (λ e. DrawsLine line (Err e) new.front rest
+          → (IsRepairable new e → TakesOneRow line strict row old new (Err answer) rest)
+          → ((IsRepairable new e → ⊥) → ◌≡◌ {A = Result (Unit {0}) DecodeError} (Err answer) (Err e))
+          → TakesOneRow line strict row old new (Err answer) rest)
+          (λ e fault draws one two. one (repairs e fault is))
+          (λ draws one two. subst (λ (r : Result (Unit {0}) DecodeError). TakesOneRow line strict row old new r rest)
+          (sym (two (λ r. r.fault))) (unread_row_wants_memory line strict row old new held rest draws))
+          (λ draws one two. absurd draws) e draws one two
 
       by_strict : (b : Bool) → (old.settings.strict || not old.has_eols) ≡ b
           → TakesOneRow line strict row old new (Err answer) rest
@@ -103,17 +105,9 @@ module _ (line strict : Line) (start : Bits) (old new : Held) (held : new ≡ re
 -- a line that isn't read says nothing of the bits that are left
 pub draws_anywhere : (line : Line) (e : DecodeError) (front : Row) (rest other : Bits) → DrawsLine line (Err e) front rest
     → DrawsLine line (Err e) front other
-draws_anywhere line UnexpectedEof front rest other draws = draws
-draws_anywhere line InvalidCode front rest other draws = draws
-draws_anywhere line Overflow front rest other draws = draws
-draws_anywhere line OutOfMemory front rest other draws = draws
-draws_anywhere line Refused front rest other draws = draws
+draws_anywhere line e front rest other draws = draws
 
 -- a fault of the data breaks the line, with the front that is left
 pub line_breaks : (line : Line) (e : DecodeError) (front : Row) (rest : Bits) → IsFault e → DrawsLine line (Err e) front rest
     → line ≡ Line.broken front e
-line_breaks line UnexpectedEof front rest fault draws = draws
-line_breaks line InvalidCode front rest fault draws = draws
-line_breaks line Overflow front rest fault draws = draws
-line_breaks line OutOfMemory front rest fault draws = absurd fault
-line_breaks line Refused front rest fault draws = absurd fault
+line_breaks line e front rest fault draws = at_fault_kind (kind_of e) _ _ _ fault draws

@@ -1,22 +1,47 @@
-use Rattle.faxrows_runs.proofs.Names.{rules, ◌≡◌, false, [], ap, ◌∙◌, DecodeSettings, Bits, bits_of, bits_in, Bitmap}
-use Rattle.faxrows_runs.proofs.{PackedRuns.sink_bits, Texts.ends_after}
+use Rattle.faxrows_runs.proofs.Names.{rules, ◌≡◌, false, [], List, ℕ, Result, ap, ◌∙◌, AppendsFront, DecodeError, DecodeSettings}
+use Rattle.faxrows_runs.proofs.Names.{Bits, bits_of, bits_in, Bitmap, IsPackedOf, answer_of, refl}
+use Rattle.faxrows_runs.proofs.{PackedRuns.sink_bits, ProgramRuns.wrote, Texts.ends_after, packed.write_packed.Given.Over}
+use Rattle.faxrows_runs.proofs.packed.write_packed.Goals.{After-bytes-bytes}
 use Rattle.faxrows_runs.proofs.packed.write_packed.Goals as goal
 
-pub returns-clause-written : goal.returns-clause-written
-returns-clause-written g c =
-    let settings : DecodeSettings = c.args.ctx.now.held.settings in
-    let bits : Bits = bits_in c.args.order c.args.input.now in
-    let empty : c.new-sink.result ≡ record { bytes = []; columns = settings.columns; has_refused = false } =
-    c.new-sink.ensures ∙ ap {B = Bitmap}
-    (λ (s : DecodeSettings). record { bytes = []; columns = s.columns; has_refused = false }) c.settings.ensures.value in (
-      c.bytes-bytes.result.now,
-      (
+module _ (g : Over) (c : After-bytes-bytes g) where
+  abbrev settings : DecodeSettings
+  settings = c.args.ctx.now.held.settings
+
+  -- the bits of the bytes
+  abbrev bits : Bits
+  bits = bits_in c.args.order c.args.input.now
+
+  -- the sink's bytes are packed of the data, with this result
+  packed_bytes : (answer : Result (Unit {0}) DecodeError) → answer ≡ answer_of c.decode_in-outcome.result
+      → IsPackedOf settings bits answer c.bytes-bytes.result.now
+  packed_bytes answer is =
+      let empty : c.new-sink.result ≡ record { bytes = []; columns = settings.columns; has_refused = false } =
+      c.new-sink.ensures ∙ ap {B = Bitmap}
+      (λ (s : DecodeSettings). record { bytes = []; columns = s.columns; has_refused = false }) c.settings.ensures.value in (
         c.decode_in-outcome.new.ctx.held.taken,
         c.decode_in-outcome.result,
         ends_after _ settings bits _ _ _ _ c.decode_in-outcome.ensures.decodes.reading c.decode_in-outcome.ensures.decodes.short,
-        c.answer_of.ensures,
+        is,
         ap bits_of c.bytes-bytes.ensures ∙ sink_bits c.rows_are_packed.ensures settings bits c.new-sink.result _ _ _ empty
             c.decode_in-outcome.ensures.decodes.widths c.decode_in-outcome.ensures.decodes.reading,
-      ),
-      search rules,
-    )
+      )
+
+pub returns-in_err-write_all : goal.returns-in_err-write_all
+returns-in_err-write_all g c =
+    let at = (goal.at.returns-in_err-write_all g c).After-bytes-bytes in
+    let front : (answer : Result (Unit {0}) DecodeError) × (text : List ℕ) × IsPackedOf (settings g at) (bits g at) answer text
+    × AppendsFront (g.W.Write.contents c.args.writer.now.0) (g.W.Write.contents c.write_all.new.writer.0) text = (
+      answer_of c.decode_in-outcome.result,
+      c.bytes-bytes.result.now,
+      packed_bytes g at _ refl,
+      c.in_err-write_all.ensures.front,
+    ) in
+    search rules
+
+pub returns : goal.returns
+returns g c = record {
+  writes = wrote _ _ c.answer_of.result c.bytes-bytes.result.now
+      (packed_bytes g (goal.at.returns g c).After-bytes-bytes _ c.answer_of.ensures) c.in_ok-write_all.ensures.ok
+      c.in_ok-write_all.ensures.flag;
+}
