@@ -165,10 +165,8 @@ impl Encoder {
         if !is_row(self.columns, changes) {
             return Err(EncodeError::NotARow(self.rows));
         }
-        match self.add(changes) {
-            Ok(()) => Ok(()),
-            Err(_) => Err(EncodeError::OutOfMemory),
-        }
+        self.add(changes)?;
+        Ok(())
     }
 
     /// Adds the first row of a bitmap. Until all of it is added, the encoder is marked as out of memory.
@@ -223,10 +221,8 @@ impl Encoder {
         if row.len() < (self.columns as usize).div_ceil(8) {
             return Err(EncodeError::NotARow(self.rows));
         }
-        match self.add_packed(row) {
-            Ok(()) => Ok(()),
-            Err(_) => Err(EncodeError::OutOfMemory),
-        }
+        self.add_packed(row)?;
+        Ok(())
     }
 
     /// Returns the bytes of all rows, of EOFB or RTC after them, and of zeros up to a whole byte.
@@ -260,9 +256,7 @@ impl Encoder {
         if self.rows == 0 && needs_row(self.settings) {
             return Err(EncodeError::NoRows);
         }
-        match self.bytes() {
-            Ok(bytes) => Ok(bytes),
-            Err(_) => Err(EncodeError::OutOfMemory),
-        }
+        let bytes = self.bytes()?;
+        Ok(bytes)
     }
 }
