@@ -1,5 +1,5 @@
 -- Rows of packed pixels, scanned a word at a time.
-use Rattle.fax_encode.proofs.Names.{◌≡◌, ℕ, zero, suc, ◌+◌, ◌-◌, ◌*◌, ◌/◌, ◌%◌, ◌<◌, ◌≤◌, Bool, true, false, not, List, []}
+use Rattle.fax_encode.proofs.Names.{◌≡◌, ℕ, suc, ◌+◌, ◌-◌, ◌*◌, ◌/◌, ◌%◌, ◌<◌, ◌≤◌, Bool, true, false, not, List, []}
 use Rattle.fax_encode.proofs.Names.{◌∷◌, ◌++◌}
 use Rattle.fax_encode.proofs.Names.{length, take, drop, replicate, refl, sym, ap, subst, ◌∙◌, arith, append_assoc, take_all, map}
 use Rattle.fax_encode.proofs.Names.{add-one, flat_map-append, append-nil, length-append, length-take, length-drop}
@@ -212,14 +212,6 @@ lawful_more list_of columns items items' item more here before =
     let lists : map list_of items' ≡ map list_of items ++ list_of item ∷ [] =
     ap (map list_of) more ∙ map-append list_of items (item ∷ []) in
     subst (AreRows columns) (sym lists) (All-push (AreChanges columns) (map list_of items) (list_of item) before here)
-
--- as many rows as are whole
-pub length-shown : (columns : ℕ) (bytes : List ℕ) → length (shown columns bytes) ≡ length bytes / bytes_of_row columns
-length-shown columns bytes = counted (length bytes / bytes_of_row columns) bytes
-  where
-    counted : (n : ℕ) (rest : List ℕ) → length (rows_shown columns n rest) ≡ n
-    counted zero rest = refl
-    counted (suc n) rest = ap suc (counted n (drop (bytes_of_row columns) rest))
 
 -- a row, and those below it
 pub rows_below : (columns width : ℕ) (rest below : List ℕ) → 0 < columns → width ≡ bytes_of_row columns → width ≤ length rest →

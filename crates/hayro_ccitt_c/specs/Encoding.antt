@@ -33,8 +33,8 @@ encoder_with s encoding = record {
 abbrev pub layout_asked : EncodeSettings → Layout
 layout_asked s = layout_with s.columns s.stride (has_flag s.flags 128)
 
--- the settings of the encoder that C passes, or None if they are invalid: an encoding or a flag that isn't known, or a stride that
--- is less than the bytes of a row. 8 is a flag of decoding alone.
+-- the settings of the encoder that C passes, or None if they are invalid: an encoding or a flag that isn't known, or a stride
+-- that is less than the bytes of a row. 8 is a flag of decoding alone.
 abbrev pub encoder_of : EncodeSettings → Option EncoderSettings
 encoder_of s =
     if nat_lt s.flags 256 && not (has_flag s.flags 8) && nat_le (bytes_of_row s.columns) (layout_asked s).stride

@@ -19,7 +19,8 @@ returns c =
     let bytes : ℕ = length c.args.bitmap.now in
     let width : c.div_ceil-width.result ≡ bytes_of_row columns = omega (arith, c.div_ceil-width.ensures) in
     let some : bytes_of_row columns ≤ bytes = omega (arith, width, c.if-bitmap-width.false) in
-    let one : (bytes - bytes_of_row columns) / layout.stride + 1 ≡ suc ((bytes - bytes_of_row columns) / layout.stride) = omega arith in
+    let one : (bytes - bytes_of_row columns) / layout.stride + 1 ≡ suc ((bytes - bytes_of_row columns) / layout.stride) =
+    omega arith in
     ap (λ (n : ℕ). (bytes - n) / c.layout_asked.result.stride + 1) width
     ∙ ap (λ (l : Layout). (bytes - bytes_of_row columns) / l.stride + 1) c.layout_asked.ensures
     ∙ one ∙ sym (length-rows_read layout columns c.args.bitmap.now ∙ some_within layout.stride columns bytes some)
