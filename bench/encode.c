@@ -51,7 +51,7 @@ int main(int count, char **words)
     if (count != 6)
         return 2;
     int by_tiff = !strcmp(words[1], "tiff");
-    settings = (fax_encode_settings){strtoul(words[3], NULL, 10), strtoul(words[2], NULL, 10), FAX_ENCODE_END_OF_BLOCK, 4};
+    settings = (fax_encode_settings){strtoul(words[3], NULL, 10), strtoul(words[2], NULL, 10), FAX_ENCODE_END_OF_BLOCK, 4, 0};
     if (settings.encoding != FAX_ENCODE_GROUP_4)
         settings.flags += FAX_ENCODE_END_OF_LINE;
     if (!strcmp(words[1], "shortest"))

@@ -14,7 +14,7 @@ static void each_encoding(const uint8_t *bitmap, size_t size, uint32_t columns) 
         {FAX_ENCODE_GROUP_3_1D, FAX_ENCODE_ALIGNED_ROWS}, {FAX_ENCODE_GROUP_3_2D, FAX_ENCODE_LOW_FIRST},
         {FAX_ENCODE_GROUP_3_2D, closed + lined + FAX_ENCODE_EOLS_END_AT_BYTES}};
     for (size_t way = 0; way < sizeof ways / sizeof ways[0]; way++) {
-        fax_encode_settings settings = {columns, ways[way][0], ways[way][1], 4};
+        fax_encode_settings settings = {columns, ways[way][0], ways[way][1], 4, 0};
         fax_encode_outcome wanted, encoded;
         uint8_t *none = lend(0);
         uint32_t status = fax_encode_bitmap(bitmap, size, &settings, none, 0, &wanted);

@@ -37,18 +37,21 @@ KNOWN = [
     (8, "0000", 2, 2, 2, "001cc005"),
     (8, "00", 2, 3, 1, "001cc006003001800c006003"),
     (8, "00", 2, 35, 1, "0001cc00018001800180018001800180"),
+    (9, "18001800", 0, 1, 0, "31f8008008"),
+    (9, "18001800", 1, 0, 0, "8ee3b0"),
 ]
 # columns, bytes of a bitmap, an encoding, flags and K that are invalid
 UNTAKEN = [
-    (0, 0, 0, 1, 0), (0, 4, 0, 0, 0), (8, 0, 1, 3, 0), (8, 0, 0, 0, 0), (8, 0, 2, 0, 1), (8, 1, 3, 0, 1), (8, 1, 0, 8, 0), (8, 1, 0, 128, 0),
+    (0, 0, 0, 1, 0), (0, 4, 0, 0, 0), (8, 0, 1, 3, 0), (8, 0, 0, 0, 0), (8, 0, 2, 0, 1), (8, 1, 3, 0, 1), (8, 1, 0, 8, 0), (8, 1, 0, 256, 0),
     (8, 1, 0, 1 << 31, 0), (8, 1, 0, 2, 0), (8, 1, 0, 32, 0), (8, 1, 1, 1, 0), (8, 1, 1, 6, 0), (8, 1, 1, 32, 0), (8, 1, 2, 0, 0), (9, 3, 0, 1, 0),
     (9, 1, 1, 0, 0),
 ]
 OK, NOT_TAKEN = 0, 6
+BLACK_IS_0 = 128
 
 
 class Settings(ctypes.Structure):
-    _fields_ = [(name, ctypes.c_uint32) for name in ("columns", "encoding", "flags", "k")]
+    _fields_ = [(name, ctypes.c_uint32) for name in ("columns", "encoding", "flags", "k", "stride")]
 
 
 class Outcome(ctypes.Structure):
@@ -119,7 +122,7 @@ def pictures_come_back():
 
 def called(library, columns, bitmap, encoding, flags, k, room):
     """The status and outcome of the call, and its memory with a guard after it."""
-    settings, outcome, memory = Settings(columns, encoding, flags, k), Outcome(7, 7), c_library.bytes_lent(room)
+    settings, outcome, memory = Settings(columns, encoding, flags, k, 0), Outcome(7, 7), c_library.bytes_lent(room)
     source = (ctypes.c_uint8 * (len(bitmap) + 1)).from_buffer_copy(bitmap + b"\0")
     answer = library.fax_encode_bitmap(
         source, ctypes.c_size_t(len(bitmap)), ctypes.byref(settings), memory, ctypes.c_size_t(room), ctypes.byref(outcome)
@@ -131,15 +134,46 @@ def known_cases():
     """Each case as a line that `known_calls.c` reads. The bits after a row are ignored."""
     for columns, text, encoding, flags, k, expected in KNOWN:
         rows = len(text) // 2 // ((columns + 7) // 8)
-        yield f"e {columns} {encoding} {flags} {k} {text or '-'} {OK} {rows} {expected}\n"
+        yield f"e {columns} {encoding} {flags} {k} 0 {text or '-'} {OK} {rows} {expected}\n"
     for columns, size, encoding, flags, k in UNTAKEN:
-        yield f"e {columns} {encoding} {flags} {k} {'00' * size or '-'} {NOT_TAKEN} 0 -\n"
+        yield f"e {columns} {encoding} {flags} {k} 0 {'00' * size or '-'} {NOT_TAKEN} 0 -\n"
+
+
+def spread_cases():
+    """Each case with its rows a stride apart, with 1 or 0 for black, as lines that `known_calls.c` reads: up to the last row's own bytes,
+    up to its whole stride and between; with one byte less the last row isn't whole, and the bitmap isn't taken. And strides that
+    aren't taken."""
+    for columns, text, encoding, flags, k, expected in KNOWN:
+        bitmap, width = bytes.fromhex(text), (columns + 7) // 8
+        rows = [bitmap[at : at + width] for at in range(0, len(bitmap), width)]
+        if not rows:
+            continue
+        for stride in (0, width, width + 1, width + 3, 2 * width + 64):
+            for black_is_0 in (0, BLACK_IS_0):
+                every = stride or width
+                spread = b"".join((bytes(byte ^ 255 for byte in row) if black_is_0 else row).ljust(every, b"\xa5") for row in rows)
+                last = len(spread) - every + width
+                words = f"e {columns} {encoding} {flags + black_is_0} {k} {stride}"
+                for size in sorted({last, (last + len(spread)) // 2, len(spread)}):
+                    yield f"{words} {spread[:size].hex()} {OK} {len(rows)} {expected}\n"
+                if width > 1:
+                    yield f"{words} {spread[: last - 1].hex()} {NOT_TAKEN} 0 -\n"
+                    yield f"{words} {spread.hex()}a5 {NOT_TAKEN} 0 -\n"
+    for columns, stride, flags in ((9, 1, 1), (9, 1, 1 + BLACK_IS_0), (4294967295, 536870911, 1), (17, 2, 1)):
+        yield f"e {columns} 0 {flags} 0 {stride} {'00' * 8} {NOT_TAKEN} 0 -\n"
 
 
 def calls_that_encode():
     """The call on cases with known bytes: with just enough room, with more, and with too little, where nothing is written."""
     c_library.build()
     print(*(f"  {line}" for line in c_library.by_each_library("known_calls", "".join(known_cases()))), sep="", end="")
+
+
+def rows_are_spread():
+    """The same rows a stride apart, with 1 or 0 for black, have the same bytes, by the call of a bitmap and row by row, whatever stands
+    between them; the last row needs no more than its own bytes; a smaller stride than a row's bytes is refused by each call."""
+    c_library.build()
+    print(*(f"  {line}" for line in c_library.by_each_library("known_calls", "".join(spread_cases()))), sep="", end="")
 
 
 def encoding_without_memory():
@@ -240,7 +274,7 @@ def beside_ghostscript():
     print(f"  {len(expected)} strips decoded by Ghostscript")
 
 
-CHECKS = [pictures_come_back, calls_that_encode, encoding_without_memory, beside_libtiff, beside_ghostscript]
+CHECKS = [pictures_come_back, calls_that_encode, rows_are_spread, encoding_without_memory, beside_libtiff, beside_ghostscript]
 
 if __name__ == "__main__":
     for check in CHECKS:

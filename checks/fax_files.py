@@ -11,7 +11,7 @@ MIRRORED = bytes(int(f"{byte:08b}"[::-1], 2) for byte in range(256))
 
 
 class Settings(ctypes.Structure):
-    _fields_ = [(name, ctypes.c_uint32) for name in ("columns", "encoding", "flags", "k")]
+    _fields_ = [(name, ctypes.c_uint32) for name in ("columns", "encoding", "flags", "k", "stride")]
 
 
 class Outcome(ctypes.Structure):

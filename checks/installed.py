@@ -43,7 +43,7 @@ static uint32_t by_rows(const uint8_t *data, size_t length, const hayro_ccitt_se
 static uint32_t strip_by_rows(const fax_encode_settings *settings, const uint8_t *row, const uint32_t *changes, uint8_t *data,
                               fax_encode_outcome *outcome)
 {
-    fax_encode_writer writer = {0, 0, 0};
+    fax_encode_writer writer = {0, 0, 0, 0};
     uint32_t opened = fax_encode_open(settings, &writer);
     uint32_t listed = fax_encode_row_changes(&writer, changes, 0);
     uint32_t packed = fax_encode_row_packed(&writer, row, 0);
@@ -71,6 +71,7 @@ int main(void)
                 settings.encoding = encoded.encoding = encoding;
                 settings.flags = encoded.flags = flags;
                 encoded.k = 2;
+                encoded.stride = 0;
                 one = hayro_ccitt_measure(NULL, 0, &settings, &first);
                 two = hayro_ccitt_measure(&none, 0, &settings, &second);
                 all += !same(one, &first, two, &second);

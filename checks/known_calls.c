@@ -10,9 +10,10 @@
    is data to pack, and the bitmap, whose bytes between the rows are as they were lent: with exactly enough room, with more, with too
    little for each row; and by a reader, row by row. With settings that aren't taken every call says so, and writes nothing.
 
-     e COLUMNS ENCODING FLAGS K BITMAP STATUS ROWS DATA
+     e COLUMNS ENCODING FLAGS K STRIDE BITMAP STATUS ROWS DATA
 
-   is a bitmap to encode: with exactly enough room, with nine bytes more, and with each smaller room. Bytes are in hexadecimal, `-` for
+   is a bitmap to encode: with exactly enough room, with nine bytes more, and with each smaller room; and by a writer, row by row. A
+   writer takes no stride that a bitmap may not have. Bytes are in hexadecimal, `-` for
    none, and numbers as the headers have them. The last line counts calls. */
 #include "lent.h"
 
@@ -183,6 +184,33 @@ static void encode(const uint8_t *bitmap, size_t length, const fax_encode_settin
     }
 }
 
+/* Encodes rows one at a time, each from exactly its own bytes. */
+static void encode_rows(const uint8_t *bitmap, const fax_encode_settings *settings, uint64_t rows, const uint8_t *strip, size_t size) {
+    size_t width = (settings->columns + 7ULL) / 8, stride = settings->stride ? settings->stride : width;
+    fax_encode_writer writer = {0, 0, 0, 0};
+    fax_encode_outcome outcome = {7, 7};
+    uint8_t *data = lend(size), *row = lend(width);
+    must(fax_encode_open(settings, &writer) == FAX_ENCODE_OK, "a writer of packed rows");
+    for (uint64_t index = 0; index < rows; index++) {
+        memcpy(row, bitmap + index * stride, width);
+        must(fax_encode_row_packed(&writer, row, width - 1) == FAX_ENCODE_NOT_TAKEN, "a packed row that is too short");
+        must(fax_encode_row_packed(&writer, row, width) == FAX_ENCODE_OK, "a packed row is added");
+    }
+    must(fax_encode_finish(&writer, data, size, &outcome) == FAX_ENCODE_OK, "the strip of packed rows");
+    must(outcome.rows == rows && outcome.bytes == size && are_same(data, strip, size), "the strip of packed rows is the bitmap's");
+    ended(fax_encode_close(&writer), FAX_ENCODE_OK, "closed");
+    take_back(row);
+    take_back(data);
+}
+
+/* A stride that is less than a row is refused when a writer is opened too. */
+static void refuse_stride(const fax_encode_settings *settings) {
+    fax_encode_writer writer = {0, 0, 0, 0};
+    if (!settings->stride || settings->stride >= (settings->columns + 7ULL) / 8) return;
+    ended(fax_encode_open(settings, &writer), FAX_ENCODE_NOT_TAKEN, "a writer with a short stride");
+    must(!writer.is_open, "a writer that isn't opened");
+}
+
 /* The next number of a line. */
 static uint64_t number(void) {
     char *word = strtok(NULL, " \n"), *end;
@@ -232,13 +260,15 @@ static void encode_line(void) {
     fax_encode_settings settings;
     size_t length, size;
     settings.columns = (uint32_t)number(), settings.encoding = (uint32_t)number();
-    settings.flags = (uint32_t)number(), settings.k = (uint32_t)number();
+    settings.flags = (uint32_t)number(), settings.k = (uint32_t)number(), settings.stride = (uint32_t)number();
     uint8_t *bitmap = lend_bytes(strtok(NULL, " \n"), &length);
     uint32_t status = (uint32_t)number();
     uint64_t rows = number();
     uint8_t *strip = lend_bytes(strtok(NULL, " \n"), &size);
     held = live;
     encode(bitmap, length, &settings, status, rows, strip, size);
+    if (status == FAX_ENCODE_OK && rows > 0) encode_rows(bitmap, &settings, rows, strip, size);
+    if (status != FAX_ENCODE_OK) refuse_stride(&settings);
     take_back(strip);
     take_back(bitmap);
 }

@@ -24,7 +24,7 @@ int main(int count, char **words)
 {
     if (count != 5)
         return 2;
-    settings = (fax_encode_settings){strtoul(words[2], NULL, 10), strtoul(words[1], NULL, 10), FAX_ENCODE_END_OF_BLOCK, 0};
+    settings = (fax_encode_settings){strtoul(words[2], NULL, 10), strtoul(words[1], NULL, 10), FAX_ENCODE_END_OF_BLOCK, 0, 0};
     if (settings.encoding == FAX_ENCODE_GROUP_3_1D)
         settings.flags += FAX_ENCODE_END_OF_LINE;
     if (strchr(words[4], 'm'))

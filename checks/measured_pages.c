@@ -38,7 +38,7 @@ static uint32_t encode_whole(void)
 
 static uint32_t encode_rows(int by_changes)
 {
-    fax_encode_writer writer = {0, 0, 0};
+    fax_encode_writer writer = {0, 0, 0, 0};
     fax_encode_outcome outcome;
     const uint32_t *list = lists;
     uint32_t status = fax_encode_open(&encoded, &writer), row;

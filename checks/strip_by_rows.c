@@ -62,7 +62,7 @@ static void strip_is(fax_encode_writer *writer, const uint8_t *strip, const fax_
 }
 
 static void each_case(const uint8_t *bitmap, size_t length, const fax_encode_settings *settings) {
-    fax_encode_writer first = {0, 0, 0}, second = {0, 0, 0};
+    fax_encode_writer first = {0, 0, 0, 0}, second = {0, 0, 0, 0};
     fax_encode_outcome told, outcome;
     size_t width = (settings->columns + 7ULL) / 8;
     uint8_t none = 0xA5;
@@ -133,7 +133,7 @@ static void each_case(const uint8_t *bitmap, size_t length, const fax_encode_set
 
 int main(void) {
     static char text[1 << 22];
-    fax_encode_settings settings;
+    fax_encode_settings settings = {0, 0, 0, 0, 0};
     while (scanf("%u %u %u %u %4194303s", &settings.columns, &settings.encoding, &settings.flags, &settings.k, text) == 5) {
         size_t length;
         uint8_t *bitmap = lend_bytes(text, &length);

@@ -105,7 +105,7 @@ static int read_words(int count, char **words, fax_encode_settings *settings)
     static const uint8_t white = 0;
     fax_encode_outcome outcome;
     uint8_t none;
-    *settings = (fax_encode_settings){1, 0, 0, 4};
+    *settings = (fax_encode_settings){1, 0, 0, 4, 0};
     while (settings->encoding < 3 && strcmp(words[0], modes[settings->encoding]))
         settings->encoding++;
     return read_flags(words[1], &settings->flags) && (count < 3 || read_k(words[2], &settings->k))

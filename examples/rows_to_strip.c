@@ -23,8 +23,8 @@ static uint32_t write_strip(fax_encode_writer *writer, uint8_t *row, size_t widt
 
 int main(int count, char **words)
 {
-    fax_encode_settings settings = {0, FAX_ENCODE_GROUP_4, FAX_ENCODE_END_OF_BLOCK, 0};
-    fax_encode_writer writer = {0, 0, 0};
+    fax_encode_settings settings = {0, FAX_ENCODE_GROUP_4, FAX_ENCODE_END_OF_BLOCK, 0, 0};
+    fax_encode_writer writer = {0, 0, 0, 0};
     fax_encode_outcome outcome = {0, 0};
     uint8_t *row, *data = NULL;
     uint32_t status;

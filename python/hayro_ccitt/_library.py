@@ -6,8 +6,8 @@ from ctypes import POINTER, c_size_t, c_uint8, c_uint32, c_uint64, c_void_p
 OK, UNEXPECTED_EOF, INVALID_CODE, OVERFLOW, OUT_OF_MEMORY, REFUSED, NOT_TAKEN, NO_ROW = range(8)
 GROUP_4, GROUP_3_1D, GROUP_3_2D = range(3)
 END_OF_BLOCK, END_OF_LINE, ALIGNED_ROWS, STRICT, LOW_FIRST, EOLS_END_AT_BYTES, SHORTEST = (1 << bit for bit in range(7))
-# Flags of decoding have numbers of their own.
-BLACK_IS_0 = 32
+# Flags of decoding have numbers of their own, and that of 0 for black has one of each.
+BLACK_IS_0, ENCODED_BLACK_IS_0 = 32, 128
 # The installed library whose interface this package calls.
 SONAME = "libhayro_ccitt.so.0.6"
 
@@ -35,7 +35,7 @@ class Row(ctypes.Structure):
 
 
 class EncodeSettings(ctypes.Structure):
-    _fields_ = [(name, c_uint32) for name in ("columns", "encoding", "flags", "k")]
+    _fields_ = [(name, c_uint32) for name in ("columns", "encoding", "flags", "k", "stride")]
 
 
 class EncodeOutcome(ctypes.Structure):

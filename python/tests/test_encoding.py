@@ -51,6 +51,21 @@ def test_a_page_is_as_small_as_by_other_encoders():
     assert len(hayro_ccitt.encode(PAGE, 1240, k=-1, black_is_1=True, end_of_block=False)) <= len(strip)
 
 
+def test_rows_may_stand_a_stride_apart():
+    rows = [SMALL[at : at + 5] for at in range(0, len(SMALL), 5)]
+    for black_is_1 in (False, True):
+        whole = hayro_ccitt.encode(SMALL, 33, k=-1, black_is_1=black_is_1)
+        for stride in (5, 6, 64):
+            spread = b"".join(row.ljust(stride, b"\xa5") for row in rows)
+            for size in (len(spread), len(spread) - stride + 5):
+                assert hayro_ccitt.encode(spread[:size], 33, k=-1, black_is_1=black_is_1, stride=stride) == whole
+            with pytest.raises(NotWholeRows):
+                hayro_ccitt.encode(spread[: len(spread) - stride + 4], 33, k=-1, stride=stride)
+    for stride in (4, -1, 1 << 32):
+        with pytest.raises(ValueError):
+            hayro_ccitt.encode(SMALL, 33, k=-1, stride=stride)
+
+
 def test_what_has_no_encoding():
     assert hayro_ccitt.encode(b"", 8, k=-1).hex() == "001001"
     with pytest.raises(NoRows):

@@ -163,7 +163,7 @@ int take_strips(const page *it, enum target target, int is_trusted, allowance *l
 int encode_strip(const page *it, const picture *drawn, const way *how, strips *into)
 {
     size_t size = drawn->width * drawn->rows, room = size / 2 + 64;
-    fax_encode_settings settings = {drawn->columns, how ? how->encoding : ways[0].encoding, how ? how->flags : ways[0].flags, 4};
+    fax_encode_settings settings = {drawn->columns, how ? how->encoding : ways[0].encoding, how ? how->flags : ways[0].flags, 4, 0};
     fax_encode_outcome outcome;
     describe(it, 1, into);
     into->columns = drawn->columns;

@@ -14,6 +14,8 @@ pub(crate) const NO_ROW: u32 = 7;
 
 const LOW_FIRST: u32 = 16;
 const BLACK_IS_0: u32 = 32;
+/// The flag of encoding that stands for the same as [`BLACK_IS_0`].
+const ENCODED_BLACK_IS_0: u32 = 128;
 
 /// `hayro_ccitt_settings`.
 #[repr(C)]
@@ -135,6 +137,7 @@ pub(crate) struct EncodeSettings {
     encoding: u32,
     flags: u32,
     k: u32,
+    stride: u32,
 }
 
 impl From<&crate::EncodeSettings> for EncodeSettings {
@@ -154,6 +157,23 @@ impl From<&crate::EncodeSettings> for EncodeSettings {
             encoding: number_of(settings.encoding),
             flags: sum_of(&flags),
             k: settings.k,
+            stride: 0,
+        }
+    }
+}
+
+impl EncodeSettings {
+    /// Returns the same settings with this layout of packed rows.
+    pub(crate) fn laid_out(self, layout: PackedLayout) -> Self {
+        let black = if layout.black_is_0 {
+            ENCODED_BLACK_IS_0
+        } else {
+            0
+        };
+        Self {
+            flags: self.flags | black,
+            stride: layout.stride,
+            ..self
         }
     }
 }

@@ -1,6 +1,6 @@
 //! The encoder.
 
-use crate::{EncodingMode, c, out_of_memory, zeros};
+use crate::{EncodingMode, PackedLayout, c, out_of_memory, zeros};
 use alloc::vec::Vec;
 use core::fmt;
 
@@ -34,7 +34,9 @@ pub struct EncodeSettings {
 pub enum EncodeError {
     /// The width is 0.
     NoColumns,
-    /// The length of the bitmap isn't a multiple of the length of a row.
+    /// The stride is less than the bytes of a row.
+    ShortStride,
+    /// The bitmap ends inside a row: if its rows follow one another, its length isn't a multiple of the length of a row.
     NotWholeRows,
     /// The bitmap is empty, which only Group 4 with EOFB has an encoding for.
     NoRows,
@@ -49,6 +51,7 @@ impl fmt::Display for EncodeError {
             Self::NoColumns => "no columns",
             Self::NoRows => "no rows",
             Self::NoEncoding => "no encoding",
+            Self::ShortStride => "the stride is less than the bytes of a row",
             Self::NotWholeRows => "the bitmap isn't whole rows",
         })
     }
@@ -90,14 +93,49 @@ pub fn encode_bitmap(
     bitmap: &[u8],
     settings: EncodeSettings,
 ) -> core::result::Result<Vec<u8>, EncodeError> {
+    encode_bitmap_from(bitmap, PackedLayout::default(), settings)
+}
+
+/// Encodes as [`encode_bitmap`] does the rows of a bitmap of this layout. The bytes between the rows are ignored, and the last row
+/// needs only its own bytes.
+///
+/// # Errors
+///
+/// As the variants of [`EncodeError`] say. The first that applies is returned.
+///
+/// # Example
+///
+/// ```
+/// # use hayro_ccitt::{encode_bitmap, encode_bitmap_from, EncodeSettings, EncodingMode, PackedLayout};
+/// # let settings = EncodeSettings {
+/// #     columns: 8, encoding: EncodingMode::Group4, k: 0, end_of_line: false, eols_end_at_bytes: false,
+/// #     rows_are_byte_aligned: false, end_of_block: true, low_first: false, shortest: false,
+/// # };
+/// let layout = PackedLayout { stride: 3, black_is_0: true };
+/// let data = encode_bitmap_from(&[0b11100111, 7, 7, 0b11100111], layout, settings)?;
+/// assert_eq!(Ok(data), encode_bitmap(&[0b00011000, 0b00011000], settings));
+/// # Ok::<(), hayro_ccitt::EncodeError>(())
+/// ```
+pub fn encode_bitmap_from(
+    bitmap: &[u8],
+    layout: PackedLayout,
+    settings: EncodeSettings,
+) -> core::result::Result<Vec<u8>, EncodeError> {
     let width = settings.columns.div_ceil(8) as usize;
     if width == 0 {
         return Err(EncodeError::NoColumns);
     }
-    if bitmap.len() % width != 0 {
+    let stride = match layout.stride {
+        0 => width,
+        stride => stride as usize,
+    };
+    if stride < width {
+        return Err(EncodeError::ShortStride);
+    }
+    if (1..width).contains(&(bitmap.len() % stride)) {
         return Err(EncodeError::NotWholeRows);
     }
-    let settings = c::EncodeSettings::from(&settings);
+    let settings = c::EncodeSettings::from(&settings).laid_out(layout);
     // A first call, without room, returns the number of bytes.
     let (status, outcome) = c::encode_bitmap(bitmap, &settings, &mut []);
     match status {

@@ -43,7 +43,7 @@
 //!
 //! If an allocation fails, the program ends, as with a [`Vec`].
 //! `decode_low_first`, [`decode_packed`], [`decode_packed_into`], [`RowReader`], [`DecoderContext::damaged_rows`], [`DecoderContext::missed_eols`],
-//! [`DecoderContext::cut_rows`], [`DecoderContext::fault_start`] and [`encode_bitmap`] are added. The package is `no_std`, and needs an allocator and a C compiler.
+//! [`DecoderContext::cut_rows`], [`DecoderContext::fault_start`], [`encode_bitmap`] and [`encode_bitmap_from`] are added. The package is `no_std`, and needs an allocator and a C compiler.
 
 #![no_std]
 #![warn(missing_docs)]
@@ -56,7 +56,7 @@ mod encoding;
 mod packed_into;
 mod row_reader;
 
-pub use encoding::{EncodeError, EncodeSettings, encode_bitmap};
+pub use encoding::{EncodeError, EncodeSettings, encode_bitmap, encode_bitmap_from};
 pub use packed_into::{IntoError, PackedLayout, decode_packed_into, decode_packed_into_low_first};
 pub use row_reader::RowReader;
 

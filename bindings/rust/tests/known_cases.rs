@@ -4,9 +4,10 @@ mod common;
 
 use common::settings_of;
 use hayro_ccitt::{
-    DecodeSettings, Decoder, DecoderContext, IntoError, PackedLayout, PackedRows, RowReader,
-    decode, decode_low_first, decode_packed, decode_packed_into, decode_packed_into_low_first,
-    decode_packed_low_first,
+    DecodeSettings, Decoder, DecoderContext, EncodeError, EncodeSettings, EncodingMode, IntoError,
+    PackedLayout, PackedRows, RowReader, decode, decode_low_first, decode_packed,
+    decode_packed_into, decode_packed_into_low_first, decode_packed_low_first, encode_bitmap,
+    encode_bitmap_from,
 };
 use std::fs;
 
@@ -81,7 +82,8 @@ fn compare_spread(bytes: &[u8], settings: DecodeSettings, low_first: bool, packe
     let mut bitmap = vec![7; room];
     let spread = into(bytes, &mut context, layout, &mut bitmap);
     let result = packed.result.map_err(IntoError::Data);
-    assert_eq!((spread, bitmap), ((packed.rows, result), expected));
+    assert_eq!((spread, &bitmap), ((packed.rows, result), &expected));
+    compare_encoded(settings.columns, layout, &bitmap, packed);
     let mut shorter = vec![7; room - 1];
     let refused = into(bytes, &mut context, layout, &mut shorter);
     assert_eq!(refused, (packed.rows - 1, Err(IntoError::NoRoom)));
@@ -101,6 +103,34 @@ fn compare_spread(bytes: &[u8], settings: DecodeSettings, low_first: bool, packe
     for row in packed.bytes.chunks(width) {
         let inverted: Vec<u8> = row.iter().map(|byte| !byte).collect();
         assert_eq!(rows.next_packed().unwrap().unwrap(), inverted);
+    }
+}
+
+/// Rows at a stride, with 0 for black, are encoded as they are without.
+fn compare_encoded(columns: u32, layout: PackedLayout, bitmap: &[u8], packed: &PackedRows) {
+    let settings = EncodeSettings {
+        columns,
+        encoding: EncodingMode::Group4,
+        k: 0,
+        end_of_line: false,
+        eols_end_at_bytes: false,
+        rows_are_byte_aligned: false,
+        end_of_block: true,
+        low_first: false,
+        shortest: false,
+    };
+    let together = encode_bitmap(&packed.bytes, settings);
+    assert_eq!(encode_bitmap_from(bitmap, layout, settings), together);
+    if columns > 8 {
+        let less = &bitmap[..bitmap.len() - 1];
+        let inside = encode_bitmap_from(less, layout, settings);
+        assert_eq!(inside, Err(EncodeError::NotWholeRows));
+        let short = PackedLayout {
+            stride: 1,
+            ..layout
+        };
+        let untaken = encode_bitmap_from(bitmap, short, settings);
+        assert_eq!(untaken, Err(EncodeError::ShortStride));
     }
 }
 

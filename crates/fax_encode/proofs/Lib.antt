@@ -1,6 +1,7 @@
 pub mod BitmapRoundTrip
 pub mod BlackRuns
 pub mod BytesOfBits
+pub mod ChangedBytes
 pub mod ChosenBySettings
 pub mod ChosenLines
 pub mod ChosenWords

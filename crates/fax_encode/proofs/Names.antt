@@ -10,7 +10,7 @@ pub use Rattle.fax_encode.specs.Laws.{GivesAll, NeverLonger, NoLineIsShorter, No
 pub use Rattle.fax_encode.specs.Laws.{EncodesInKinds, EncodesInKindsWithEols, EncodesAlike, ReadToTheEnd}
 pub use Rattle.fax_encode.specs.Laws.{RoundTripT4, RoundTripT6, RowsAreChosen}
 pub use Rattle.fax_encode.specs.Laws.{RowsArePacked, lenient_settings_for, line_end, tag_after}
-pub use Rattle.fax_encode.specs.Packed.{Bitmap, bytes_of_row, packed, rows_shown, shown, with_packed_row}
+pub use Rattle.fax_encode.specs.Packed.{Bitmap, bytes_of_row, in_black, packed, rows_shown, shown, with_packed_row}
 pub use Rattle.fax_encode.specs.Painting.{StandsAt, then_white, under}
 pub use Rattle.fax_encode.specs.Refusals.{AreRows}
 pub use Rattle.fax_encode.specs.RowByRow.{RowsEncoded, no_rows, with_row, with_rows}

@@ -1,5 +1,6 @@
 -- Rows of packed pixels, scanned a word at a time.
-use Rattle.fax_encode.proofs.Names.{◌≡◌, ℕ, zero, suc, ◌+◌, ◌-◌, ◌*◌, ◌/◌, ◌%◌, ◌<◌, ◌≤◌, Bool, false, List, [], ◌∷◌, ◌++◌}
+use Rattle.fax_encode.proofs.Names.{◌≡◌, ℕ, suc, ◌+◌, ◌-◌, ◌*◌, ◌/◌, ◌%◌, ◌<◌, ◌≤◌, Bool, true, false, not, List, []}
+use Rattle.fax_encode.proofs.Names.{◌∷◌, ◌++◌}
 use Rattle.fax_encode.proofs.Names.{length, take, drop, replicate, refl, sym, ap, subst, ◌∙◌, arith, append_assoc, take_all, map}
 use Rattle.fax_encode.proofs.Names.{add-one, flat_map-append, append-nil, length-append, length-take, length-drop}
 use Rattle.fax_encode.proofs.Names.{length-replicate, take-append-drop, take-append-le, take_rest, map-append}
@@ -8,7 +9,9 @@ use Rattle.fax_encode.proofs.Names.{take-add, take-append-add, take-append_seam,
 use Rattle.fax_encode.proofs.Names.{bits_of_byte, low_bits, Row, AreChanges, last_pixel, changes, pixels, length-bits_of}
 use Rattle.fax_encode.proofs.Names.{length-low_bits, last_pixel-same, changes-recursive, pixels-changes, AreChanges-changes}
 use Rattle.fax_encode.proofs.Names.{changes_from, changes_from-append, changes_from-same, padding, rows_of, PackedIsShown}
-use Rattle.fax_encode.proofs.Names.{bytes_of_row, packed, rows_shown, shown, AreRows, differences, ones_from}
+use Rattle.fax_encode.proofs.Names.{bytes_of_row, in_black, length-map, packed, rows_shown, shown, AreRows, differences}
+use Rattle.fax_encode.proofs.Names.{ones_from}
+use mir.Val.{bool_byte}
 use Rattle.fax_encode.proofs.ScannedWords.{changes-ones, differences-take, last_of_word}
 
 -- bytes in two parts
@@ -133,17 +136,42 @@ last_scanned start n before word ones rest few room word-is ones-are =
     ∙ ap (λ (b : Row). ones_from start (differences (bit_of before 0) b)) (sym word_front)
     ∙ ap (ones_from start) (sym (differences-take n (bit_of before 0) (low_bits 64 word)) ∙ ap (take n) (sym ones-are))
 
+-- inverted pixels change where the pixels do
+changes-inverted : (place : ℕ) (before : Bool) (row : Row)
+    → changes_from place (not before) row ≡ changes_from place before (map not row)
+changes-inverted place before [] = refl
+changes-inverted place true (true ∷ row) = ap (λ (l : List ℕ). place ∷ l) (changes-inverted (suc place) false row)
+changes-inverted place true (false ∷ row) = changes-inverted (suc place) true row
+changes-inverted place false (true ∷ row) = changes-inverted (suc place) false row
+changes-inverted place false (false ∷ row) = ap (λ (l : List ℕ). place ∷ l) (changes-inverted (suc place) true row)
+
 -- a row before it is scanned
-pub unscanned : (columns : ℕ) (row : List ℕ)
-    → changes_from 0 false (take (columns - 0) (bits_of row)) ≡ changes (take columns (bits_of row))
-unscanned columns row =
+unscanned_in : (black_is_0 : Bool) (row : Row) → changes_from 0 black_is_0 row ≡ changes (in_black black_is_0 row)
+unscanned_in true row = changes-inverted 0 false row ∙ sym (changes-recursive (map not row))
+unscanned_in false row = sym (changes-recursive row)
+
+last_bit : (black_is_0 : Bool) → bit_of (bool_byte black_is_0) 0 ≡ black_is_0
+last_bit true = refl
+last_bit false = refl
+
+pub unscanned : (columns : ℕ) (row : List ℕ) (black_is_0 : Bool) (before : ℕ) → before ≡ bool_byte black_is_0
+    → changes_from 0 (bit_of before 0) (take (columns - 0) (bits_of row))
+    ≡ changes (in_black black_is_0 (take columns (bits_of row)))
+unscanned columns row black_is_0 before is =
     let e : columns - 0 ≡ columns = omega arith in
-    ap (λ (n : ℕ). changes_from 0 false (take n (bits_of row))) e ∙ sym (changes-recursive (take columns (bits_of row)))
+    ap (λ (n : ℕ). changes_from 0 (bit_of before 0) (take n (bits_of row))) e
+    ∙ ap (λ (b : Bool). changes_from 0 b (take columns (bits_of row))) (ap (λ (n : ℕ). bit_of n 0) is ∙ last_bit black_is_0)
+    ∙ unscanned_in black_is_0 (take columns (bits_of row))
 
 -- ---- the rows of a bitmap
 pub length-row : (columns : ℕ) (bytes : List ℕ) → bytes_of_row columns ≤ length bytes
     → length (take columns (bits_of bytes)) ≡ columns
 length-row columns bytes within = omega (arith, length-take columns (bits_of bytes), length-bits_of bytes)
+
+pub length-row_in : (black_is_0 : Bool) (columns : ℕ) (bytes : List ℕ) → bytes_of_row columns ≤ length bytes
+    → length (in_black black_is_0 (take columns (bits_of bytes))) ≡ columns
+length-row_in true columns bytes within = length-map (take columns (bits_of bytes)) not ∙ length-row columns bytes within
+length-row_in false columns bytes within = length-row columns bytes within
 
 -- a whole row stands before those below it
 pub shown-row : (columns : ℕ) (bytes : List ℕ) → 0 < bytes_of_row columns → bytes_of_row columns ≤ length bytes
@@ -184,14 +212,6 @@ lawful_more list_of columns items items' item more here before =
     let lists : map list_of items' ≡ map list_of items ++ list_of item ∷ [] =
     ap (map list_of) more ∙ map-append list_of items (item ∷ []) in
     subst (AreRows columns) (sym lists) (All-push (AreChanges columns) (map list_of items) (list_of item) before here)
-
--- as many rows as are whole
-pub length-shown : (columns : ℕ) (bytes : List ℕ) → length (shown columns bytes) ≡ length bytes / bytes_of_row columns
-length-shown columns bytes = counted (length bytes / bytes_of_row columns) bytes
-  where
-    counted : (n : ℕ) (rest : List ℕ) → length (rows_shown columns n rest) ≡ n
-    counted zero rest = refl
-    counted (suc n) rest = ap suc (counted n (drop (bytes_of_row columns) rest))
 
 -- a row, and those below it
 pub rows_below : (columns width : ℕ) (rest below : List ℕ) → 0 < columns → width ≡ bytes_of_row columns → width ≤ length rest →

@@ -1,5 +1,6 @@
 -- Packed rows: bitmaps of one bit a pixel.
-use Rattle.std.specs.Prelude.{ℕ, zero, suc, ◌+◌, ◌/◌, Bool, List, [], ◌∷◌, ◌++◌, length, take, drop, flat_map}
+use Rattle.std.specs.Prelude.{ℕ, zero, suc, ◌+◌, ◌/◌, Bool, true, false, not, List, [], ◌∷◌, ◌++◌, length, map, take, drop}
+use Rattle.std.specs.Prelude.{flat_map}
 use Rattle.hayro_ccitt.specs.Bits.{Bits, bits_of}
 use Rattle.hayro_ccitt.specs.Rows.{Row, pixels}
 use Rattle.fax_encode.specs.Chosen.{filled_up}
@@ -11,6 +12,11 @@ packed rows = flat_map filled_up rows
 -- packed rows, and after them the row that turns at these positions
 abbrev pub with_packed_row : ℕ → Bits → List ℕ → Bits
 with_packed_row columns bits places = bits ++ filled_up (pixels columns places)
+
+-- bits in which 0 stands for black, if it does: those in which 1 does, inverted
+abbrev pub in_black : Bool → Bits → Bits
+in_black true bits = map not bits
+in_black false bits = bits
 
 -- how many bytes a row occupies
 abbrev pub bytes_of_row : ℕ → ℕ

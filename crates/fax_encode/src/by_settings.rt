@@ -118,10 +118,8 @@ pub fn encode(
     if let Some(row) = first_unlawful(columns, rows) {
         return Err(EncodeError::NotARow(row));
     }
-    match picture(alloc, columns, rows, settings) {
-        Ok(bytes) => Ok(bytes),
-        Err(_) => Err(EncodeError::OutOfMemory),
-    }
+    let bytes = picture(alloc, columns, rows, settings)?;
+    Ok(bytes)
 }
 
 /// Writes the lines of the rows of a bitmap, each with what belongs to it.
@@ -209,8 +207,6 @@ pub fn encode_bitmap(
     if bitmap.len() < (columns as usize).div_ceil(8) && needs_row(settings) {
         return Err(EncodeError::NoRows);
     }
-    match bitmap_picture(alloc, columns, bitmap, settings) {
-        Ok(bytes) => Ok(bytes),
-        Err(_) => Err(EncodeError::OutOfMemory),
-    }
+    let bytes = bitmap_picture(alloc, columns, bitmap, settings)?;
+    Ok(bytes)
 }

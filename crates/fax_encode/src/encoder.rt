@@ -4,13 +4,13 @@ ghost use Rattle.std.specs.Prelude.{◌≡◌, ◌≢◌, ◌<◌, ◌≤◌, �
 ghost use Rattle.hayro_ccitt.specs.Bits.{bits_in, bits_of};
 ghost use Rattle.hayro_ccitt.specs.Rows.{AreChanges, pixels};
 ghost use Rattle.fax_encode.specs.Chosen.{filled_up};
-ghost use Rattle.fax_encode.specs.Packed.{bytes_of_row};
+ghost use Rattle.fax_encode.specs.Packed.{bytes_of_row, in_black};
 ghost use Rattle.fax_encode.specs.RowByRow.{no_rows, with_row};
 ghost use Rattle.fax_encode.specs.Settings.{names_encoding, needs_row, with_end};
 
 use crate::bit_order::bytes_in_order;
 use crate::bit_writer::BitWriter;
-use crate::bitmap_rows::scan_row;
+use crate::bitmap_rows::scan_row_by_polarity;
 use crate::by_settings::needs_row;
 use crate::encoding::{names_encoding, put_end, put_part};
 use crate::rows::is_row;
@@ -165,23 +165,23 @@ impl Encoder {
         if !is_row(self.columns, changes) {
             return Err(EncodeError::NotARow(self.rows));
         }
-        match self.add(changes) {
-            Ok(()) => Ok(()),
-            Err(_) => Err(EncodeError::OutOfMemory),
-        }
+        self.add(changes)?;
+        Ok(())
     }
 
-    /// Adds the first row of a bitmap. Until all of it is added, the encoder is marked as out of memory.
-    fn add_packed(&mut self, bitmap: &[u8]) -> Result<(), AllocError>
+    /// Adds the first row of a bitmap, in which 0 stands for black if it says so. Until all of it is added, the encoder is marked as
+    /// out of memory.
+    fn add_packed(&mut self, bitmap: &[u8], black_is_0: bool) -> Result<(), AllocError>
         requires whole { bytes_of_row self.old.columns ≤ length bitmap.now }
         requires memory { self.old.wants_memory ≡ false }
-        ensures taken { OnOk result (self.new ≡ with_row self.old (take self.old.columns (bits_of bitmap.now))) }
+        ensures taken { OnOk result (self.new
+            ≡ with_row self.old (in_black black_is_0 (take self.old.columns (bits_of bitmap.now)))) }
         ensures wanted { OnErr result (self.new.wants_memory ≡ true) }
         ensures settings { self.new.settings ≡ self.old.settings }
         ensures columns { self.new.columns ≡ self.old.columns }
     {
         self.wants_memory = true;
-        scan_row(&mut self.row, self.columns, bitmap)?;
+        scan_row_by_polarity(&mut self.row, self.columns, bitmap, black_is_0)?;
         let left = put_part(
             &mut self.writer,
             &mut self.ways,
@@ -217,16 +217,38 @@ impl Encoder {
         ensures settings { self.new.settings ≡ self.old.settings }
         ensures columns { self.new.columns ≡ self.old.columns }
     {
+        self.push_row_by_polarity(row, false)
+    }
+
+    /// Encodes a row of packed pixels as [`push_packed_row`](Encoder::push_packed_row) does, in which 0 stands for black and 1 for
+    /// white if it says so.
+    ///
+    /// # Errors
+    ///
+    /// Those of [`push_packed_row`](Encoder::push_packed_row).
+    pub fn push_row_by_polarity(
+        &mut self,
+        row: &[u8],
+        black_is_0: bool,
+    ) -> std::result::Result<(), EncodeError>
+        ensures taken { OnOk result (self.new ≡ with_row self.old (in_black black_is_0 (take self.old.columns (bits_of row.now)))) }
+        ensures whole { OnOk result (bytes_of_row self.old.columns ≤ length row.now) }
+        ensures not_a_row { (k : ℕ) → (result ≡ Err (EncodeError.NotARow k))
+            ↔ ((self.old.wants_memory ≡ false) × (length row.now < bytes_of_row self.old.columns) × (k ≡ self.old.count)) }
+        ensures kept { (k : ℕ) → result ≡ Err (EncodeError.NotARow k) → self.new ≡ self.old }
+        ensures others { (result ≢ Err EncodeError.NoEncoding) × (result ≢ Err EncodeError.NoColumns) × (result ≢ Err EncodeError.NoRows) }
+        ensures wanted { self.old.wants_memory ≡ true → result ≡ Err EncodeError.OutOfMemory }
+        ensures wants { result ≡ Err EncodeError.OutOfMemory → self.new.wants_memory ≡ true }
+        ensures same { (self.new.settings ≡ self.old.settings) × (self.new.columns ≡ self.old.columns) }
+    {
         if self.wants_memory {
             return Err(EncodeError::OutOfMemory);
         }
         if row.len() < (self.columns as usize).div_ceil(8) {
             return Err(EncodeError::NotARow(self.rows));
         }
-        match self.add_packed(row) {
-            Ok(()) => Ok(()),
-            Err(_) => Err(EncodeError::OutOfMemory),
-        }
+        self.add_packed(row, black_is_0)?;
+        Ok(())
     }
 
     /// Returns the bytes of all rows, of EOFB or RTC after them, and of zeros up to a whole byte.
@@ -260,9 +282,7 @@ impl Encoder {
         if self.rows == 0 && needs_row(self.settings) {
             return Err(EncodeError::NoRows);
         }
-        match self.bytes() {
-            Ok(bytes) => Ok(bytes),
-            Err(_) => Err(EncodeError::OutOfMemory),
-        }
+        let bytes = self.bytes()?;
+        Ok(bytes)
     }
 }

@@ -1,3 +1,4 @@
+use std::alloc::{AllocError, AllocFailed};
 use std::error::Error;
 use std::fmt;
 
@@ -36,3 +37,25 @@ impl fmt::Display for EncodeError {
 }
 
 impl Error for EncodeError {}
+
+impl From<AllocError> for EncodeError {
+    ghost use Rattle.std.specs.Prelude.{◌≡◌};
+    ghost use Rattle.fax_encode.specs.declared.error.EncodeError.TheVariants.{OutOfMemory};
+
+    ghost from_gives = { λ _ error. error ≡ OutOfMemory };
+
+    fn from(_error: AllocError) -> EncodeError {
+        EncodeError::OutOfMemory
+    }
+}
+
+impl<T: Drop> From<AllocFailed<T>> for EncodeError {
+    ghost use Rattle.std.specs.Prelude.{◌≡◌};
+    ghost use Rattle.fax_encode.specs.declared.error.EncodeError.TheVariants.{OutOfMemory};
+
+    ghost from_gives = { λ _ error. error ≡ OutOfMemory };
+
+    fn from(_error: AllocFailed<T>) -> EncodeError {
+        EncodeError::OutOfMemory
+    }
+}

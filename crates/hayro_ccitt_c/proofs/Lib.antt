@@ -5,4 +5,5 @@ pub mod PackedMemory
 pub mod PackedTogether
 pub mod PointersHeld
 pub mod Reporting
+pub mod SpreadRows
 pub mod TakenRows

@@ -1,28 +1,27 @@
 -- Packed rows in the caller's memory.
-use Rattle.std.specs.Prelude.{ℕ, zero, suc, ◌+◌, ◌-◌, ◌*◌, ◌/◌, Bool, true, false, not, List, [], ◌∷◌, ◌++◌, length, map, take}
-use Rattle.std.specs.Prelude.{drop, min}
+use Rattle.std.specs.Prelude.{ℕ, zero, suc, ◌+◌, ◌-◌, ◌*◌, ◌/◌, ◌%◌, ◌==◌, ◌||◌, Bool, false, List, [], ◌∷◌, ◌++◌}
+use Rattle.std.specs.Prelude.{length, map, take, drop, min, nat_le, nat_lt, if◌then◌else◌}
 use Rattle.hayro_ccitt.specs.Bits.{Bits, bits_of}
 use Rattle.hayro_ccitt.specs.Rows.{Row, pixels}
 use Rattle.fax_encode.specs.Chosen.{filled_up}
+pub use Rattle.fax_encode.specs.Packed.{bytes_of_row, in_black}
 use Rattle.hayro_ccitt_c.specs.declared.packed_rows.Layout.{Layout}
-
--- the bytes that a packed row occupies
-abbrev pub bytes_of_row : ℕ → ℕ
-bytes_of_row columns = (columns + 7) / 8
 
 -- the bytes from the start of the first of n packed rows to the end of the last
 abbrev pub bytes_of_rows : ℕ → ℕ → ℕ → ℕ
 bytes_of_rows stride columns zero = 0
 bytes_of_rows stride columns (suc n) = n * stride + bytes_of_row columns
 
+-- the layout of rows of this width: a stride of 0 stands for the bytes of a row
+abbrev pub layout_with : ℕ → ℕ → Bool → Layout
+layout_with columns stride black_is_0 = record {
+  stride = if stride == 0 then bytes_of_row columns else stride;
+  black_is_0 = black_is_0;
+}
+
 -- the layout of rows of this width that follow one another, with 1 for black
 abbrev pub together : ℕ → Layout
 together columns = record { stride = bytes_of_row columns; black_is_0 = false }
-
--- bits in which 0 stands for black, if it does: those in which 1 does, inverted
-abbrev pub in_black : Bool → Bits → Bits
-in_black true bits = map not bits
-in_black false bits = bits
 
 -- the bits of a packed row: its pixels from the left, and white ones up to a whole byte
 abbrev pub packed_row : Bool → Row → Bits
@@ -33,6 +32,25 @@ abbrev pub rows_at : ℕ → ℕ → ℕ → List ℕ → List Bits
 rows_at stride columns zero memory = []
 rows_at stride columns (suc n) memory =
     bits_of (take (bytes_of_row columns) memory) ∷ rows_at stride columns n (drop stride memory)
+
+-- how many packed rows are within this many bytes: the last one needs only its own bytes
+abbrev pub rows_within : ℕ → ℕ → ℕ → ℕ
+rows_within stride columns bytes =
+    if nat_lt bytes (bytes_of_row columns) then 0 else suc ((bytes - bytes_of_row columns) / stride)
+
+-- whether this many bytes end with a packed row, or in what stands between it and the next one
+abbrev pub are_whole_rows : ℕ → ℕ → ℕ → Bool
+are_whole_rows stride columns bytes = (bytes % stride == 0) || nat_le (bytes_of_row columns) (bytes % stride)
+
+-- the row that a packed row's bits show: its pixels, without the bits that fill its last byte
+abbrev pub row_read : Bool → ℕ → Bits → Row
+row_read black_is_0 columns bits = in_black black_is_0 (take columns bits)
+
+-- the rows that memory of this layout shows, as many as are within it
+abbrev pub rows_read : Layout → ℕ → List ℕ → List Row
+rows_read layout columns memory =
+    map (row_read layout.black_is_0 columns)
+    (rows_at layout.stride columns (rows_within layout.stride columns (length memory)) memory)
 
 -- the bytes of memory outside the first n packed rows: those between them, and all after the last
 abbrev pub outside_rows : ℕ → ℕ → ℕ → List ℕ → List ℕ

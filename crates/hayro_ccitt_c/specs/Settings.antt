@@ -5,7 +5,7 @@ use Rattle.hayro_ccitt.specs.BitOrder.TheVariants.{HighestFirst, LowestFirst}
 use Rattle.hayro_ccitt.specs.EncodingMode.{EncodingMode}
 use Rattle.hayro_ccitt.specs.EncodingMode.TheVariants.{Group4, Group3_1D, Group3_2D}
 use Rattle.hayro_ccitt.specs.DecodeSettings.{DecodeSettings}
-use Rattle.hayro_ccitt_c.specs.Packing.{bytes_of_row}
+use Rattle.hayro_ccitt_c.specs.Packing.{bytes_of_row, layout_with}
 use Rattle.hayro_ccitt_c.specs.declared.packed_rows.Layout.{Layout}
 use Rattle.hayro_ccitt_c.specs.declared.settings.Settings.{Settings}
 
@@ -17,7 +17,7 @@ encoding_of n =
     else if n == 2 then Some Group3_2D
     else None
 
--- whether a sum of flags has this one: 1, 2, 4, 8, 16 or 32
+-- whether a sum of flags has this one: 1, 2, 4, 8, 16, 32, 64 or 128
 abbrev pub has_flag : ℕ → ℕ → Bool
 has_flag flags flag = flags / flag % 2 == 1
 
@@ -39,10 +39,7 @@ order_of s = if has_flag s.flags 16 then LowestFirst else HighestFirst
 
 -- the layout of packed rows that C passes: a stride of 0 stands for the bytes of a row
 abbrev pub layout_of : Settings → Layout
-layout_of s = record {
-  stride = if s.stride == 0 then bytes_of_row s.columns else s.stride;
-  black_is_0 = has_flag s.flags 32;
-}
+layout_of s = layout_with s.columns s.stride (has_flag s.flags 32)
 
 -- the settings that C passes, or None if they are invalid: an encoding or a flag that isn't known, or a stride that is less than
 -- the bytes of a row

@@ -1,12 +1,16 @@
 //! Encoding for callers in C: the settings that they pass, and what is returned. `c/fax_encode.h` declares it.
 
-ghost use Rattle.std.specs.Prelude.{◌≡◌, ◌<◌, ◌↔◌, ◌%◌, ◌==◌, ◌&&◌, false, nat_lt, IfOk, IfSome};
+ghost use Rattle.std.specs.Prelude.{◌≡◌, ◌≢◌, ◌<◌, ◌≤◌, ◌↔◌, ◌&&◌, ℕ, false, true, length, nat_le, nat_lt, Err, IfOk, IfSome};
+ghost use Rattle.std.specs.Prelude.{IsOk, IsOkUnless, IsTrue, OnOk};
 ghost use Rattle.hayro_ccitt.specs.Bits.{bits_in};
-ghost use Rattle.fax_encode.specs.Packed.{bytes_of_row};
-ghost use Rattle.hayro_ccitt_c.specs.Encoding.{asked, bits_asked, can_encode, encoder_of, of_rows};
+ghost use Rattle.fax_encode.specs.RowByRow.{with_rows};
+ghost use Rattle.fax_encode.specs.Settings.{names_encoding, needs_row};
+ghost use Rattle.hayro_ccitt_c.specs.Encoding.{asked, bits_asked, can_encode, encoder_of, layout_asked, of_rows, rows_asked};
+ghost use Rattle.hayro_ccitt_c.specs.Packing.{are_whole_rows, bytes_of_row, rows_read, together};
 
-use crate::settings::encoding_of;
-use fax_encode::{Effort, EncodeError, encode_bitmap, names_encoding};
+use crate::packed_rows::Layout;
+use crate::settings::{encoding_of, layout_with};
+use fax_encode::{Effort, EncodeError, Encoder, encode_bitmap, names_encoding};
 use hayro_ccitt::bit_reader::BitOrder;
 use std::alloc::Global;
 
@@ -19,11 +23,14 @@ pub struct EncodeSettings {
     /// 0 for Group 4, 1 for Group 3 in one dimension, 2 for Group 3 in two.
     pub encoding: u32,
     /// A sum: 1 if EOFB or RTC follows the last row, 2 if an EOL precedes each line, 4 if rows are aligned to whole bytes, 16 if
-    /// each byte's lowest bit comes first, 32 if EOLs end at whole bytes, 64 if lines have the fewest bits.
+    /// each byte's lowest bit comes first, 32 if EOLs end at whole bytes, 64 if lines have the fewest bits, 128 if packed rows have
+    /// 0 for black.
     pub flags: u32,
     /// K of Group 3 in two dimensions, at least 1: at most K - 1 two-dimensional lines follow a one-dimensional one (T.4,
     /// 4.2.1). It has no effect in the other encodings.
     pub k: u32,
+    /// The bytes from one packed row's start to the next one's; 0 for the bytes of a row.
+    pub stride: u32,
 }
 
 /// The result of encoding, for C.
@@ -45,11 +52,34 @@ pub(crate) enum Unencoded {
     OutOfMemory,
 }
 
-/// Returns the settings of the encoder that C means, or `None` if they are invalid: an encoding or a flag that isn't known.
+/// Returns the layout of packed rows that C means.
+pub(crate) fn layout_asked(settings: &EncodeSettings) -> Layout
+    ensures { result ≡ layout_asked settings.now }
+{
+    layout_with(
+        settings.columns,
+        settings.stride,
+        settings.flags / 128 % 2 == 1,
+    )
+}
+
+/// Returns whether a stride reaches over the bytes of a row.
+fn reaches(columns: u32, stride: u32) -> bool
+    ensures { result ≡ nat_le (bytes_of_row columns) stride }
+{
+    columns.div_ceil(8) <= stride
+}
+
+/// Returns the settings of the encoder that C means, or `None` if they are invalid: an encoding or a flag that isn't known, or a
+/// stride that is less than the bytes of a row.
 fn encoder_of(settings: &EncodeSettings) -> Option<fax_encode::EncodeSettings>
     ensures meant { result ≡ encoder_of settings.now }
+    ensures reaches { IfSome result (λ _. bytes_of_row settings.now.columns ≤ (layout_asked settings.now).stride) }
 {
-    if settings.flags >= 128 || settings.flags / 8 % 2 == 1 {
+    if settings.flags >= 256
+        || settings.flags / 8 % 2 == 1
+        || !reaches(settings.columns, layout_asked(settings).stride)
+    {
         return None;
     }
     let encoding = encoding_of(settings.encoding)?;
@@ -85,18 +115,101 @@ pub(crate) fn encoder_of_rows(settings: &EncodeSettings) -> Option<fax_encode::E
     }
 }
 
-/// Encodes a bitmap's rows.
+/// Adds the rows of a bitmap to an encoder.
+fn push_rows(
+    encoder: &mut Encoder,
+    columns: u32,
+    bitmap: &[u8],
+    layout: Layout,
+) -> Result<(), EncodeError>
+    requires columns { encoder.old.columns ≡ columns }
+    requires some { 0 < columns }
+    requires reaches { bytes_of_row columns ≤ layout.stride }
+    ensures pushed { OnOk result (encoder.new ≡ with_rows encoder.old (rows_read layout columns bitmap.now)) }
+    ensures memory { IsOkUnless result EncodeError.OutOfMemory }
+    ensures few { length bitmap.now < bytes_of_row columns → IsOk result }
+{
+    let width = (columns as usize).div_ceil(8);
+    let mut rest = bitmap;
+    while rest.len() >= width {
+        let Ok(()) = encoder.push_row_by_polarity(&rest[..width], layout.black_is_0) else {
+            return Err(EncodeError::OutOfMemory);
+        };
+        rest = &rest[(layout.stride as usize).min(rest.len())..];
+    }
+    Ok(())
+}
+
+/// Encodes the rows of a bitmap in any layout. Rows that follow one another, with 1 for black, are encoded faster by
+/// [`encode_bitmap`](fax_encode::encode_bitmap).
+#[inline(never)]
+fn encode_spread(
+    alloc: Global,
+    columns: u32,
+    bitmap: &[u8],
+    settings: fax_encode::EncodeSettings,
+    layout: Layout,
+) -> Result<Vec<u8>, EncodeError>
+    requires some { 0 < columns }
+    requires reaches { bytes_of_row columns ≤ layout.stride }
+    ensures no_encoding { (result ≡ Err EncodeError.NoEncoding) ↔ (names_encoding settings ≡ false) }
+    ensures no_rows { (result ≡ Err EncodeError.NoRows) ↔ ((names_encoding settings ≡ true)
+        × (needs_row settings.encoding settings.end_of_block ≡ true) × (length bitmap.now < bytes_of_row columns)) }
+    ensures others { (result ≢ Err EncodeError.NoColumns) × ((k : ℕ) → result ≢ Err (EncodeError.NotARow k)) }
+    ensures encoded { IfOk result (λ bytes. bits_in settings.order bytes.items
+        ≡ bits_asked settings columns (rows_read layout columns bitmap.now)) }
+{
+    let mut encoder = Encoder::new(alloc, columns, settings)?;
+    push_rows(&mut encoder, columns, bitmap, layout)?;
+    encoder.finish()
+}
+
+/// Returns whether rows of a width follow one another, with 1 for black.
+fn are_together(columns: u32, layout: Layout) -> bool
+    ensures { IsTrue result → layout ≡ together columns }
+{
+    layout.stride == columns.div_ceil(8) && !layout.black_is_0
+}
+
+/// Encodes the rows of a bitmap.
+fn encode_rows(
+    alloc: Global,
+    columns: u32,
+    bitmap: &[u8],
+    settings: fax_encode::EncodeSettings,
+    layout: Layout,
+) -> Result<Vec<u8>, EncodeError>
+    requires some { 0 < columns }
+    requires reaches { bytes_of_row columns ≤ layout.stride }
+    ensures no_encoding { (result ≡ Err EncodeError.NoEncoding) ↔ (names_encoding settings ≡ false) }
+    ensures no_rows { (result ≡ Err EncodeError.NoRows) ↔ ((names_encoding settings ≡ true)
+        × (needs_row settings.encoding settings.end_of_block ≡ true) × (length bitmap.now < bytes_of_row columns)) }
+    ensures others { (result ≢ Err EncodeError.NoColumns) × ((k : ℕ) → result ≢ Err (EncodeError.NotARow k)) }
+    ensures encoded { IfOk result (λ bytes. bits_in settings.order bytes.items
+        ≡ bits_asked settings columns (rows_read layout columns bitmap.now)) }
+{
+    if are_together(columns, layout) {
+        encode_bitmap(alloc, columns, bitmap, settings)
+    } else {
+        encode_spread(alloc, columns, bitmap, settings, layout)
+    }
+}
+
+/// Encodes the rows of a bitmap, and says why not.
 fn bytes_of(
     alloc: Global,
     columns: u32,
     bitmap: &[u8],
     settings: fax_encode::EncodeSettings,
+    layout: Layout,
 ) -> Result<Vec<u8>, Unencoded>
-    requires { 0 < columns }
+    requires some { 0 < columns }
+    requires reaches { bytes_of_row columns ≤ layout.stride }
     ensures not_taken { (result ≡ Err Unencoded.NotTaken) ↔ (can_encode columns bitmap.now settings ≡ false) }
-    ensures encoded { IfOk result (λ bytes. bits_in settings.order bytes.items ≡ bits_asked settings columns bitmap.now) }
+    ensures encoded { IfOk result (λ bytes. bits_in settings.order bytes.items
+        ≡ bits_asked settings columns (rows_read layout columns bitmap.now)) }
 {
-    match encode_bitmap(alloc, columns, bitmap, settings) {
+    match encode_rows(alloc, columns, bitmap, settings, layout) {
         Ok(bytes) => Ok(bytes),
         Err(EncodeError::OutOfMemory) => Err(Unencoded::OutOfMemory),
         Err(_) => Err(Unencoded::NotTaken),
@@ -104,11 +217,28 @@ fn bytes_of(
 }
 
 /// Returns whether this many bytes are whole rows of a width that isn't 0.
-fn is_whole(columns: u32, bytes: usize) -> bool
-    ensures { result ≡ (nat_lt 0 columns && bytes % bytes_of_row columns == 0) }
+fn is_whole(columns: u32, stride: u32, bytes: usize) -> bool
+    requires { bytes_of_row columns ≤ stride }
+    ensures { result ≡ (nat_lt 0 columns && are_whole_rows stride columns bytes) }
 {
-    let width = (columns as usize).div_ceil(8);
-    width > 0 && bytes % width == 0
+    if columns == 0 {
+        return false;
+    }
+    let rest = bytes % stride as usize;
+    rest == 0 || rest >= (columns as usize).div_ceil(8)
+}
+
+/// Returns the number of rows of a bitmap for C.
+pub(crate) fn rows_asked(settings: &EncodeSettings, bitmap: &[u8]) -> u64
+    requires some { 0 < settings.now.columns }
+    requires reaches { bytes_of_row settings.now.columns ≤ (layout_asked settings.now).stride }
+    ensures { result ≡ length (rows_asked settings.now bitmap.now) }
+{
+    let width = (settings.columns as usize).div_ceil(8);
+    if bitmap.len() < width {
+        return 0;
+    }
+    ((bitmap.len() - width) / layout_asked(settings).stride as usize) as u64 + 1
 }
 
 /// Returns the encoded bytes for C.
@@ -119,13 +249,16 @@ pub(crate) fn encoded(
 ) -> Result<Vec<u8>, Unencoded>
     ensures not_taken { (result ≡ Err Unencoded.NotTaken) ↔ (asked settings.now bitmap.now ≡ None) }
     ensures encoded { IfOk result (λ bytes. IfSome (asked settings.now bitmap.now) (λ meant.
-        bits_in meant.order bytes.items ≡ bits_asked meant settings.now.columns bitmap.now)) }
+        bits_in meant.order bytes.items ≡ bits_asked meant settings.now.columns (rows_asked settings.now bitmap.now))) }
+    ensures some { IfOk result (λ _. 0 < settings.now.columns) }
+    ensures reaches { IfOk result (λ _. bytes_of_row settings.now.columns ≤ (layout_asked settings.now).stride) }
 {
     let Some(meant) = encoder_of(settings) else {
         return Err(Unencoded::NotTaken);
     };
-    if !is_whole(settings.columns, bitmap.len()) {
+    let layout = layout_asked(settings);
+    if !is_whole(settings.columns, layout.stride, bitmap.len()) {
         return Err(Unencoded::NotTaken);
     }
-    bytes_of(alloc, settings.columns, bitmap, meant)
+    bytes_of(alloc, settings.columns, bitmap, meant, layout)
 }

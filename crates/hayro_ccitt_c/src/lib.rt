@@ -5,15 +5,16 @@
 //! allocated before it returns, except what an open reader or writer holds.
 #![tactic(auto)]
 
-ghost use Rattle.std.specs.Prelude.{◌≡◌, ◌≢◌, ◌<◌, ◌≤◌, ◌+◌, ◌*◌, ◌⊎◌, ◌↔◌, None, IfSome, length, get_or, take, [], false, true};
+ghost use Rattle.std.specs.Prelude.{◌≡◌, ◌≢◌, ◌<◌, ◌≤◌, ◌+◌, ◌*◌, ◌⊎◌, ◌↔◌, None, IfSome, length, get_or, [], false, true};
 ghost use Rattle.hayro_ccitt.specs.PlainReading.{plain};
 ghost use Rattle.hayro_ccitt.specs.Rows.{AreChanges, changes, pixels};
 ghost use Rattle.hayro_ccitt.specs.Bits.{BitsFit, bits_of};
 ghost use Rattle.fax_encode.specs.Packed.{shown};
 ghost use Rattle.fax_encode.specs.RowByRow.{no_rows};
-ghost use Rattle.hayro_ccitt_c.specs.Encoding.{asked, bits_asked, of_rows, AreEncoded, HaveNoRoom};
+ghost use Rattle.hayro_ccitt_c.specs.Encoding.{asked, bits_asked, layout_asked, of_rows, rows_asked, AreEncoded};
+ghost use Rattle.hayro_ccitt_c.specs.Encoding.{HaveNoRoom};
 ghost use Rattle.hayro_ccitt_c.specs.Owned.{OnReading, OnReadings, OnStrip, OnStrips};
-ghost use Rattle.hayro_ccitt_c.specs.Packing.{bytes_of_row, together};
+ghost use Rattle.hayro_ccitt_c.specs.Packing.{bytes_of_row, row_read, together};
 ghost use Rattle.hayro_ccitt_c.specs.Reports.{OnSettings, IsReport, changes_taken, cut_taken, damaged_taken, missed_taken};
 ghost use Rattle.hayro_ccitt_c.specs.Reports.{outcome_of};
 ghost use Rattle.hayro_ccitt_c.specs.Reports.{ArePacked, AreListed, AreTogether, numbers_taken};
@@ -36,7 +37,7 @@ mod settings;
 mod strip;
 
 use change_count::ChangeCount;
-use encoding::{Unencoded, encoded, encoder_of_rows};
+use encoding::{Unencoded, encoded, encoder_of_rows, layout_asked, rows_asked};
 pub use encoding::{EncodeOutcome, EncodeSettings};
 use hayro_ccitt::bits_fit;
 use listed_rows::ListedRows;
@@ -293,11 +294,13 @@ pub extern "C" fn hayro_ccitt_close(alloc: Global, reader: &mut Reader) -> u32
 }
 
 /// Encodes a bitmap into `data`: a row occupies (columns + 7) / 8 bytes, the leftmost pixel in a byte's highest bit, 1
-/// for black, and bits after the last pixel are ignored. The bytes after the encoded ones keep their values.
+/// for black, or 0 with a flag of 128, and bits after the last pixel are ignored. Each row begins `stride` bytes after the one before,
+/// or right after it if `stride` is 0. The bytes between the rows are ignored, and the last one needs only its own bytes. The bytes
+/// after the encoded ones keep their values.
 ///
 /// `outcome` has the number of rows and of the encoded bytes if the status is 0 or 5, else 0. A status of 4 says that an
-/// allocation failed; 5, that `data` has no room for that many bytes; 6, that the settings name no encoding, or that the
-/// bitmap isn't whole rows, or has none and only Group 4 closed by EOFB has a picture without rows. With all but 0 `data`
+/// allocation failed; 5, that `data` has no room for that many bytes; 6, that the settings name no encoding or are invalid, or that
+/// the bitmap isn't whole rows, or has none and only Group 4 closed by EOFB has a picture without rows. With all but 0 `data`
 /// keeps its values.
 #[unsafe(no_mangle)]
 pub extern "C" fn fax_encode_bitmap(
@@ -309,11 +312,13 @@ pub extern "C" fn fax_encode_bitmap(
 ) -> u32
     ensures statuses { (result ≡ 0) ⊎ (result ≡ 4) ⊎ (result ≡ 5) ⊎ (result ≡ 6) }
     ensures encoded { result ≡ 0 → IfSome (asked settings.now bitmap.now) (λ meant.
-        AreEncoded meant.order (bits_asked meant settings.now.columns bitmap.now) outcome.new.bytes «data».old «data».new) }
+        AreEncoded meant.order (bits_asked meant settings.now.columns (rows_asked settings.now bitmap.now)) outcome.new.bytes «data».old «data».new) }
     ensures refused { result ≡ 5 → IfSome (asked settings.now bitmap.now) (λ meant.
-        HaveNoRoom (bits_asked meant settings.now.columns bitmap.now) outcome.new.bytes (length «data».new)) }
+        HaveNoRoom (bits_asked meant settings.now.columns (rows_asked settings.now bitmap.now)) outcome.new.bytes (length «data».new)) }
     ensures untaken { (result ≡ 6) ↔ (asked settings.now bitmap.now ≡ None) }
-    ensures rows { (result ≡ 0) ⊎ (result ≡ 5) → outcome.new.rows ≡ length (shown settings.now.columns bitmap.now) }
+    ensures rows { (result ≡ 0) ⊎ (result ≡ 5) → outcome.new.rows ≡ length (rows_asked settings.now bitmap.now) }
+    ensures together { layout_asked settings.now ≡ together settings.now.columns → 0 < settings.now.columns
+        → rows_asked settings.now bitmap.now ≡ shown settings.now.columns bitmap.now }
     ensures kept { result ≢ 0 → «data».new ≡ «data».old }
     ensures nothing_told { (result ≡ 4) ⊎ (result ≡ 6) → outcome.new ≡ record { rows = 0; bytes = 0 } }
 {
@@ -325,7 +330,7 @@ pub extern "C" fn fax_encode_bitmap(
     };
     let length = bytes.len();
     *outcome = EncodeOutcome {
-        rows: (bitmap.len() / (settings.columns as usize).div_ceil(8)) as u64,
+        rows: rows_asked(settings, bitmap),
         bytes: length as u64,
     };
     if length > data.len() {
@@ -338,8 +343,8 @@ pub extern "C" fn fax_encode_bitmap(
 /// Opens a writer of rows before the first row. The writer must be closed: all zeros, or as [`fax_encode_close`] left it. The
 /// rows are added by [`fax_encode_row_packed`] and [`fax_encode_row_changes`], and [`fax_encode_finish`] gives the strip.
 ///
-/// A status of 4 says that an allocation failed; 6, that the settings name no encoding, there are no columns or the writer is
-/// open. With all but 0 the writer is unchanged.
+/// A status of 4 says that an allocation failed; 6, that the settings name no encoding or are invalid, there are no columns or the
+/// writer is open. With all but 0 the writer is unchanged.
 #[unsafe(no_mangle)]
 pub extern "C" fn fax_encode_open(
     alloc: Global,
@@ -350,6 +355,7 @@ pub extern "C" fn fax_encode_open(
     ensures opened { result ≡ 0 → IfSome (of_rows settings.now) (λ meant.
         OnStrip writer.new.handle.value (λ strip. strip ≡ Rows (no_rows meant settings.now.columns))) }
     ensures is_open { result ≡ 0 → writer.new.is_open ≡ true }
+    ensures black { result ≡ 0 → writer.new.black_is_0 ≡ (layout_asked settings.now).black_is_0 }
     ensures unchanged { result ≢ 0 → writer.new ≡ writer.old }
     ensures untaken { (result ≡ 6) ↔ ((of_rows settings.now ≡ None) ⊎ (writer.old.is_open ≡ true)) }
 {
@@ -362,7 +368,7 @@ pub extern "C" fn fax_encode_open(
     let Ok(strip) = Owned::strip(alloc, settings.columns, meant) else {
         return 4;
     };
-    writer.hold(strip);
+    writer.hold(strip, layout_asked(settings).black_is_0);
     0
 }
 
@@ -376,6 +382,7 @@ pub extern "C" fn fax_encode_row_changes(alloc: Global, writer: &mut Writer, cha
     ensures takes { writer.old.is_open ≡ true → OnStrips writer.old.handle.value writer.new.handle.value (λ old new.
         TakesRow old new (λ columns. AreChanges columns changes.now) (λ columns. pixels columns changes.now) result) }
     ensures is_open { writer.new.is_open ≡ writer.old.is_open }
+    ensures black { writer.new.black_is_0 ≡ writer.old.black_is_0 }
     ensures untaken { writer.old.is_open ≡ false → (result ≡ 6) × (writer.new ≡ writer.old) }
 {
     if !writer.is_open {
@@ -383,28 +390,30 @@ pub extern "C" fn fax_encode_row_changes(alloc: Global, writer: &mut Writer, cha
     }
     let mut strip = writer.take(alloc);
     let status = strip.add_changes(changes);
-    writer.hold(strip);
+    writer.hold(strip, writer.black_is_0);
     status
 }
 
-/// Adds a row of packed pixels: (columns + 7) / 8 bytes, the leftmost pixel in a byte's highest bit, 1 for black. Bits after
-/// the last pixel, and bytes after the row, are ignored.
+/// Adds a row of packed pixels: (columns + 7) / 8 bytes, the leftmost pixel in a byte's highest bit, 1 for black, or 0 if the
+/// settings had a flag of 128. Bits after the last pixel, and bytes after the row, are ignored.
 ///
 /// A status of 4 says that an allocation failed, and each further call of this writer but [`fax_encode_close`] returns it; 6, that
 /// the writer isn't open, the strip is finished, or there are too few bytes. With 6 nothing is changed.
 #[unsafe(no_mangle)]
 pub extern "C" fn fax_encode_row_packed(alloc: Global, writer: &mut Writer, row: &[u8]) -> u32
     ensures takes { writer.old.is_open ≡ true → OnStrips writer.old.handle.value writer.new.handle.value (λ old new.
-        TakesRow old new (λ columns. bytes_of_row columns ≤ length row.now) (λ columns. take columns (bits_of row.now)) result) }
+        TakesRow old new (λ columns. bytes_of_row columns ≤ length row.now)
+        (λ columns. row_read writer.old.black_is_0 columns (bits_of row.now)) result) }
     ensures is_open { writer.new.is_open ≡ writer.old.is_open }
+    ensures black { writer.new.black_is_0 ≡ writer.old.black_is_0 }
     ensures untaken { writer.old.is_open ≡ false → (result ≡ 6) × (writer.new ≡ writer.old) }
 {
     if !writer.is_open {
         return 6;
     }
     let mut strip = writer.take(alloc);
-    let status = strip.add_packed(row);
-    writer.hold(strip);
+    let status = strip.add_packed(row, writer.black_is_0);
+    writer.hold(strip, writer.black_is_0);
     status
 }
 
@@ -433,6 +442,7 @@ pub extern "C" fn fax_encode_finish(
     ensures told { writer.old.is_open ≡ true
         → OnStrip writer.new.handle.value (λ strip. outcome.new ≡ strip_told strip) }
     ensures is_open { writer.new.is_open ≡ writer.old.is_open }
+    ensures black { writer.new.black_is_0 ≡ writer.old.black_is_0 }
     ensures untaken { writer.old.is_open ≡ false
         → (result ≡ 6) × (writer.new ≡ writer.old) × (outcome.new ≡ record { rows = 0; bytes = 0 }) }
 {
@@ -442,7 +452,7 @@ pub extern "C" fn fax_encode_finish(
     }
     let mut strip = writer.take(alloc);
     let status = strip.give_bytes(data, outcome);
-    writer.hold(strip);
+    writer.hold(strip, writer.black_is_0);
     status
 }
 

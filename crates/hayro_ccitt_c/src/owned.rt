@@ -6,7 +6,7 @@ ghost use Rattle.hayro_ccitt.specs.Rows.{AreChanges, changes, pixels};
 ghost use Rattle.fax_encode.specs.RowByRow.{no_rows};
 ghost use Rattle.hayro_ccitt_c.specs.declared.strip.Strip.TheVariants.{Rows};
 ghost use Rattle.hayro_ccitt_c.specs.Owned.{IfReading, IfReadings, IfStrip, IfStrips, is_reading, is_strip};
-ghost use Rattle.hayro_ccitt_c.specs.Packing.{bytes_of_row};
+ghost use Rattle.hayro_ccitt_c.specs.Packing.{bytes_of_row, row_read};
 ghost use Rattle.hayro_ccitt_c.specs.RowsGiven.{GivesRow, IsListed, IsOpened, IsPacked, TellsOf};
 ghost use Rattle.hayro_ccitt_c.specs.RowsTaken.{Finishes, IfFinished, IsGiven, TakesRow, strip_told};
 
@@ -15,8 +15,8 @@ use crate::reading::Reading;
 use crate::row_outcome::{RowOutcome, told_of};
 use crate::strip::Strip;
 use fax_encode::{EncodeError, EncodeSettings, Encoder};
+use hayro_ccitt::DecodeSettings;
 use hayro_ccitt::bit_reader::BitOrder;
-use hayro_ccitt::{DecodeError, DecodeSettings};
 use std::alloc::Global;
 
 /// What a handle owns: a reading of rows, or a strip to which rows are added.
@@ -41,7 +41,8 @@ impl Owned {
         ensures kind { IfOk result (λ made. is_reading made.value ≡ true) }
     {
         let reading = Reading::new(alloc, data, order, settings, black_is_0)?;
-        Box::new(alloc, Owned::Reading(reading)).map_err(|_| DecodeError::OutOfMemory)
+        let held = Box::new(alloc, Owned::Reading(reading))?;
+        Ok(held)
     }
 
     /// Creates a strip without rows.
@@ -54,7 +55,8 @@ impl Owned {
         ensures kind { IfOk result (λ made. is_strip made.value ≡ true) }
     {
         let encoder = Encoder::new(alloc, columns, settings)?;
-        Box::new(alloc, Owned::Strip(Strip::Rows(encoder))).map_err(|_| EncodeError::OutOfMemory)
+        let held = Box::new(alloc, Owned::Strip(Strip::Rows(encoder)))?;
+        Ok(held)
     }
 
     /// Writes the next row of a reading as a list of its changes, and returns the status.
@@ -126,15 +128,16 @@ impl Owned {
         }
     }
 
-    /// Adds a row of packed pixels to a strip, and returns the status.
-    pub(crate) fn add_packed(&mut self, row: &[u8]) -> u32
+    /// Adds a row of packed pixels to a strip, with 0 for black if it says so, and returns the status.
+    pub(crate) fn add_packed(&mut self, row: &[u8], black_is_0: bool) -> u32
         requires strip { is_strip self.old ≡ true }
         ensures takes { IfStrips self.old self.new (λ old new. TakesRow old new
-            (λ columns. bytes_of_row columns ≤ length row.now) (λ columns. take columns (bits_of row.now)) result) }
+            (λ columns. bytes_of_row columns ≤ length row.now)
+            (λ columns. row_read black_is_0 columns (bits_of row.now)) result) }
         ensures strip { is_strip self.new ≡ true }
     {
         match self {
-            Owned::Strip(strip) => strip.add_packed(row),
+            Owned::Strip(strip) => strip.add_packed(row, black_is_0),
             Owned::Reading(_) => 6,
         }
     }

@@ -57,6 +57,8 @@ pub struct Writer {
     nowhere: *mut u8,
     /// Whether the handle holds a strip.
     pub(crate) is_open: bool,
+    /// Whether 0 stands for black in packed rows.
+    pub(crate) black_is_0: bool,
     pub(crate) ghost tied: { is_open ≡ true → holds_strip handle.value ≡ true },
 }
 
@@ -67,23 +69,26 @@ impl Writer {
         ensures strip { Some result.value ≡ self.old.handle.value }
         ensures kind { is_strip result.value ≡ true }
         ensures closed { self.new.is_open ≡ false }
+        ensures black { self.new.black_is_0 ≡ self.old.black_is_0 }
     {
         self.is_open = false;
         let handle = mem::replace(&mut self.handle, Handle::nowhere(self.nowhere, alloc));
         handle.into_box()
     }
 
-    /// Holds a strip. The writer is open.
-    pub(crate) fn hold(&mut self, strip: Box<Owned>)
+    /// Holds a strip, to which packed rows are added with 0 for black if it says so. The writer is open.
+    pub(crate) fn hold(&mut self, strip: Box<Owned>, black_is_0: bool)
         requires { is_strip strip.value ≡ true }
         ensures strip { self.new.handle.value ≡ Some strip.value }
         ensures open { self.new.is_open ≡ true }
+        ensures black { self.new.black_is_0 ≡ black_is_0 }
     {
         let nowhere = self.nowhere;
         *self = Writer {
             handle: Handle::of(strip),
             nowhere,
             is_open: true,
+            black_is_0,
         };
     }
 }

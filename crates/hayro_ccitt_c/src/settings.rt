@@ -3,7 +3,7 @@
 ghost use Rattle.std.specs.Prelude.{◌≡◌, ◌≤◌, IfSome};
 ghost use Rattle.hayro_ccitt.specs.Bits.{BitsFit};
 ghost use Rattle.hayro_ccitt.specs.Settings.{AreSettings};
-ghost use Rattle.hayro_ccitt_c.specs.Packing.{bytes_of_row};
+ghost use Rattle.hayro_ccitt_c.specs.Packing.{bytes_of_row, layout_with};
 ghost use Rattle.hayro_ccitt_c.specs.Settings.{settings_of, encoding_of, layout_of, order_of};
 
 use crate::packed_rows::Layout;
@@ -50,18 +50,29 @@ pub(crate) fn order_of(settings: &Settings) -> BitOrder
     }
 }
 
+/// Returns a layout of packed rows of a width; a stride of 0 stands for the bytes of a row.
+pub(crate) fn layout_with(columns: u32, stride: u32, black_is_0: bool) -> Layout
+    ensures { result ≡ layout_with columns stride black_is_0 }
+{
+    Layout {
+        stride: if stride == 0 {
+            columns.div_ceil(8)
+        } else {
+            stride
+        },
+        black_is_0,
+    }
+}
+
 /// Returns the layout of packed rows that C means.
 pub(crate) fn layout_of(settings: &Settings) -> Layout
     ensures { result ≡ layout_of settings.now }
 {
-    Layout {
-        stride: if settings.stride == 0 {
-            settings.columns.div_ceil(8)
-        } else {
-            settings.stride
-        },
-        black_is_0: settings.flags / 32 % 2 == 1,
-    }
+    layout_with(
+        settings.columns,
+        settings.stride,
+        settings.flags / 32 % 2 == 1,
+    )
 }
 
 /// Returns the settings that C means, or `None` if they are invalid: an encoding or a flag that isn't known, or a stride that is

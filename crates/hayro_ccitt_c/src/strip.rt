@@ -3,7 +3,7 @@
 ghost use Rattle.std.specs.Prelude.{◌≡◌, ◌≢◌, ◌<◌, ◌≤◌, ◌⊎◌, length, take};
 ghost use Rattle.hayro_ccitt.specs.Bits.{bits_of};
 ghost use Rattle.hayro_ccitt.specs.Rows.{AreChanges, pixels};
-ghost use Rattle.fax_encode.specs.Packed.{bytes_of_row};
+ghost use Rattle.hayro_ccitt_c.specs.Packing.{bytes_of_row, row_read};
 ghost use Rattle.hayro_ccitt_c.specs.RowsTaken.{Finishes, IfFinished, IsGiven, TakesRow, status_of_adding, strip_told};
 
 use crate::encoding::EncodeOutcome;
@@ -74,13 +74,13 @@ impl Strip {
         }
     }
 
-    /// Adds a row of packed pixels, and returns the status.
-    pub(crate) fn add_packed(&mut self, row: &[u8]) -> u32
+    /// Adds a row of packed pixels, with 0 for black if it says so, and returns the status.
+    pub(crate) fn add_packed(&mut self, row: &[u8], black_is_0: bool) -> u32
         ensures { TakesRow self.old self.new (λ columns. bytes_of_row columns ≤ length row.now)
-            (λ columns. take columns (bits_of row.now)) result }
+            (λ columns. row_read black_is_0 columns (bits_of row.now)) result }
     {
         match self {
-            Strip::Rows(encoder) => status_of_adding(encoder.push_packed_row(row)),
+            Strip::Rows(encoder) => status_of_adding(encoder.push_row_by_polarity(row, black_is_0)),
             Strip::Whole(_) => 6,
             Strip::OutOfMemory => 4,
         }

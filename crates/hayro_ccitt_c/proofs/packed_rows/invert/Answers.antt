@@ -1,20 +1,17 @@
-use Rattle.std.proofs.Common.{ℕ, ◌∙◌, arith}
-use Rattle.std.proofs.lemmas.List.{length-set}
-use Rattle.hayro_ccitt_c.proofs.InvertedBits.{inverted_bytes, inverted_more, kept_more}
+use Rattle.std.proofs.Common.{◌∙◌, arith}
+use Rattle.hayro_ccitt.specs.BitOrder.TheVariants.{HighestFirst}
+use Rattle.hayro_ccitt.specs.Bits.{bits_of_byte}
+use Rattle.fax_encode.proofs.ChangedBytes.{none_changed, one_changed, all_changed}
+use Rattle.hayro_ccitt_c.proofs.InvertedBits.{all_inverted, inverted_bits}
 use Rattle.hayro_ccitt_c.proofs.packed_rows.invert.Goals as goal
 
+pub loop-index-init : goal.loop-index-init
+loop-index-init c = none_changed (bits_of_byte HighestFirst) inverted_bits c.args.bytes.now
+
 pub loop-index-preserved : goal.loop-index-preserved
-loop-index-preserved c =
-    let i : ℕ = c.loop-index.index in
-    let byte : ℕ = c.inverted.result in
-    record {
-      same_length = length-set c.loop-index.bytes i byte ∙ c.loop-index.invariant.same_length;
-      inverted = inverted_more c.loop-index.bytes c.args.bytes.now i byte c.loop-index-test.true c.inverted.ensures
-          c.loop-index.invariant.kept c.loop-index.invariant.inverted;
-      kept = kept_more c.loop-index.bytes c.args.bytes.now i byte c.loop-index-test.true c.inverted.ensures
-          c.loop-index.invariant.kept;
-    }
+loop-index-preserved c = one_changed (bits_of_byte HighestFirst) inverted_bits c.loop-index.index c.loop-index.bytes
+    c.args.bytes.now c.inverted.result c.loop-index-test.true c.inverted.ensures c.loop-index.invariant
 
 pub returns : goal.returns
-returns c = inverted_bytes c.loop-index.bytes c.args.bytes.now c.loop-index.invariant.same_length
-    (λ k lt. c.loop-index.invariant.inverted k (omega (arith, c.loop-index-test.false, c.loop-index.invariant.same_length)))
+returns c = all_changed (bits_of_byte HighestFirst) inverted_bits c.loop-index.index c.loop-index.bytes c.args.bytes.now
+    (omega (arith, c.loop-index-test.false)) c.loop-index.invariant ∙ all_inverted c.args.bytes.now

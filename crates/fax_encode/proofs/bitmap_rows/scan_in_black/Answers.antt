@@ -1,18 +1,19 @@
 use Rattle.fax_encode.proofs.Names.{◌≡◌, ◌≤◌, Bool, true, false, cond, eqb, ◌+◌, ◌-◌, ◌*◌, ◌/◌, ◌%◌, ◌^◌, ◌<◌, ◌++◌, nat_eq, List}
 use Rattle.fax_encode.proofs.Names.{ℕ, length, take, drop, sym, ap, subst, ◌∙◌, arith, append_assoc, OnOk, take_rest, length-drop}
 use Rattle.fax_encode.proofs.Names.{on_ok_weaker, bits_of, bit_of, low_bits, Row, AreChanges, changes, pixels, changes_from}
-use Rattle.fax_encode.proofs.Names.{ones_from}
-use Rattle.fax_encode.proofs.ScannedRows.{plain_scanned, word_scanned, last_scanned, unscanned, length-row, lawful_row}
+use Rattle.fax_encode.proofs.Names.{ones_from, in_black}
+use Rattle.fax_encode.proofs.ScannedRows.{plain_scanned, word_scanned, last_scanned, unscanned, length-row_in, lawful_row}
 use Rattle.fax_encode.proofs.ScannedRows.{pixels_of_row}
-use Rattle.fax_encode.proofs.bitmap_rows.scan_row.Goals.{After-push_ones-2}
-use Rattle.fax_encode.proofs.bitmap_rows.scan_row.Goals as goal
+use Rattle.fax_encode.proofs.bitmap_rows.scan_in_black.Goals.{After-push_ones-2}
+use Rattle.fax_encode.proofs.bitmap_rows.scan_in_black.Goals as goal
 
 pub loop-start-init : goal.loop-start-init
 loop-start-init c = record {
   within = omega arith;
   room = omega (arith, c.requires);
-  left = ap (λ (l : List ℕ). l ++ changes_from 0 false (take (c.args.columns - 0) (bits_of c.args.bitmap.now)))
-      c.clear.ensures.items ∙ unscanned c.args.columns c.args.bitmap.now;
+  left = ap (λ (l : List ℕ). l ++ changes_from 0 (bit_of c.from-before.result 0)
+      (take (c.args.columns - 0) (bits_of c.args.bitmap.now)))
+      c.clear.ensures.items ∙ unscanned c.args.columns c.args.bitmap.now c.args.black_is_0 _ c.from-before.ensures;
 }
 
 pub loop-start-preserved-then-is_plain : goal.loop-start-preserved-then-is_plain
@@ -63,7 +64,8 @@ loop-start-preserved c =
 
 -- all changes are found
 found : (c : After-push_ones-2)
-    → OnOk c.push_ones-2.result (c.push_ones-2.new.list.items ≡ changes (take c.args.columns (bits_of c.args.bitmap.now)))
+    → OnOk c.push_ones-2.result (c.push_ones-2.new.list.items
+    ≡ changes (in_black c.args.black_is_0 (take c.args.columns (bits_of c.args.bitmap.now))))
 found c =
     let start : ℕ = c.loop-start.start in
     let n : ℕ = c.args.columns - start in
@@ -75,15 +77,15 @@ found c =
 
 pub returns-clause-lawful : goal.returns-clause-lawful
 returns-clause-lawful c =
-    let row : Row = take c.args.columns (bits_of c.args.bitmap.now) in
-    let lawful = lawful_row c.args.columns row (length-row c.args.columns c.args.bitmap.now c.requires) in
+    let row : Row = in_black c.args.black_is_0 (take c.args.columns (bits_of c.args.bitmap.now)) in
+    let lawful = lawful_row c.args.columns row (length-row_in c.args.black_is_0 c.args.columns c.args.bitmap.now c.requires) in
     on_ok_weaker c.push_ones-2.result (λ same. subst (AreChanges c.args.columns) (sym same) lawful)
     (found (goal.at.returns-clause-lawful c).After-push_ones-2)
 
 pub returns-clause-pixels : goal.returns-clause-pixels
 returns-clause-pixels c =
-    let row : Row = take c.args.columns (bits_of c.args.bitmap.now) in
-    let shows = pixels_of_row c.args.columns row (length-row c.args.columns c.args.bitmap.now c.requires) in
+    let row : Row = in_black c.args.black_is_0 (take c.args.columns (bits_of c.args.bitmap.now)) in
+    let shows = pixels_of_row c.args.columns row (length-row_in c.args.black_is_0 c.args.columns c.args.bitmap.now c.requires) in
     on_ok_weaker c.push_ones-2.result (λ same. ap (pixels c.args.columns) same ∙ shows)
     (found (goal.at.returns-clause-pixels c).After-push_ones-2)
 
