@@ -6,6 +6,7 @@ pub mod Decoding
 pub mod Encodings
 pub mod Laws
 pub mod Lines
+pub mod LinesGoOn
 pub mod Locality
 pub mod LocalityByK
 pub mod Pictures
