@@ -1,4 +1,5 @@
 pub mod LinesContinued
+pub mod LinesGoOn
 pub mod ShortLines
 pub mod StrictLines
 pub mod WordsContinued

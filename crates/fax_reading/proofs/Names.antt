@@ -31,6 +31,10 @@ pub use Rattle.fax_reading.specs.Lines.{Drawing, Line, Pen, draw_1d, draw_2d, dr
 pub use Rattle.fax_reading.specs.Lines.{found_2d, go_on, line_1d, line_2d, line_found, mode_here, painted, painted_to, place_by}
 pub use Rattle.fax_reading.specs.Lines.{place_from, run_here, start, tag_at, turn_behind, unless_fault, unless_full, words_behind}
 pub use Rattle.fax_reading.specs.Lines.{words_drawn, ◌>>=◌}
+pub use Rattle.fax_reading.specs.LinesGoOn.{GoesOnFrom, LacksWord, LinePart, LinesGoOn, OpenRun, begin_line, begin_step}
+pub use Rattle.fax_reading.specs.LinesGoOn.{behind_run, draw_step, finish_run, finish_step, left_of, line_after_turn}
+pub use Rattle.fax_reading.specs.LinesGoOn.{line_from_part, mode_added, part_before, read_on, rest_of_run, run_summed, sum_with}
+pub use Rattle.fax_reading.specs.LinesGoOn.{word_added, word_here}
 pub use Rattle.fax_reading.specs.Locality.{ComesToLine, DamageStaysInRow, Descends, EndAlike, EndsAt, EndsBefore, IsEol, IsEolAt}
 pub use Rattle.fax_reading.specs.Locality.{IsLocal, IsLocalByTests, IsStart, LinesByEols, LocalByTests, Locality, OneRowDiffers}
 pub use Rattle.fax_reading.specs.Locality.{StartsAre, StaysBefore, begins_line, later_starts, row_at, row_of, starts}

@@ -7,6 +7,7 @@ pub mod Encodings
 pub mod GapsContinued
 pub mod Laws
 pub mod Lines
+pub mod LinesGoOn
 pub mod Locality
 pub mod LocalityByK
 pub mod Pictures

@@ -6,6 +6,7 @@ ghost use Rattle.fax_bits.specs.CodeReading.{is_prefix_free, ReadsCodes};
 ghost use Rattle.fax_bits.specs.Runs.{codes_of};
 ghost use Rattle.fax_bits.specs.declared.codes.Color.{Color};
 ghost use Rattle.fax_reading.specs.Continuations.{LinesSettle};
+ghost use Rattle.fax_reading.specs.LinesGoOn.{LinesGoOn};
 ghost use Rattle.fax_reading.specs.Laws.{each_word, has_few_zeros, Synchronised, StrictThenLenient, RowLimit};
 ghost use Rattle.fax_reading.specs.Laws.{ReadsClosedPictures, ReadsLimitedPictures, StrictIsUndamaged, PicturesAreUndamaged};
 ghost use Rattle.fax_reading.specs.Laws.{ReadsPictureT6, ReadsLimitedRowsT6, ReadsPictureT4, ReadsLimitedPictureT4};
@@ -174,4 +175,11 @@ pub fn every_picture_has_an_encoding()
 /// its fault. No line is short that has two bytes of zeros behind it.
 pub fn lines_settle()
     ensures { LinesSettle }
+{}
+
+/// Each short line goes on from a part of it, whatever bits follow: the words that were read are not read again, and fewer than
+/// thirteen bits are left, which are the beginning of the next word. The line from the start on is the line; after one word more it
+/// is the same line, and it ends with that word as it does whatever follows.
+pub fn lines_go_on()
+    ensures { LinesGoOn }
 {}

@@ -47,12 +47,12 @@ module _ (more : Bits) where
         )
 
     -- one step after another
-    then_continues : (drawing other : Drawing A) → Continues more on drawing other
+    pub then_continues : (drawing other : Drawing A) → Continues more on drawing other
         → Continues more further (drawing >>= behind) (other >>= other_behind)
     then_continues drawing other first = turns_continue drawing.turn other.turn drawing.words other.words first
 
   -- what is read or painted
-  finds_continue : {A : Type 0} (on : A → A) (front : Row) (result other : Result A DecodeError) (words others : List Bits)
+  pub finds_continue : {A : Type 0} (on : A → A) (front : Row) (result other : Result A DecodeError) (words others : List Bits)
       → (result_waits result ≡ false → (other ≡ result_on on result) × (others ≡ words))
       → AreContinued more on (unless_fault front result) (unless_fault front other) words others
   finds_continue {A} on front (Ok x) other words others first known =
@@ -61,7 +61,7 @@ module _ (more : Bits) where
       let a = first known in (ap (unless_fault front) a.0, a.1)
 
   -- what needs no bits is the same
-  same_continues : {A : Type 0} (front : Row) (result : Result A DecodeError)
+  pub same_continues : {A : Type 0} (front : Row) (result : Result A DecodeError)
       → AreContinued more (λ x. x) (unless_fault front result) (unless_fault front result) [] []
   same_continues front (Ok x) known = (refl, refl)
   same_continues front (Err fault) known = (refl, refl)
@@ -70,12 +70,12 @@ module _ (more : Bits) where
   abbrev pub pen_on : Pen → Pen
   pen_on pen = record pen { rest = pen.rest ++ more }
 
-  run_goes_on : (pen : Pen) → Continues more (rest_on more) (run_here pen) (run_here (pen_on pen))
+  pub run_goes_on : (pen : Pen) → Continues more (rest_on more) (run_here pen) (run_here (pen_on pen))
   run_goes_on pen = finds_continue (rest_on more) pen.front (run_from pen.color (0, pen.rest))
       (run_from pen.color (0, pen.rest ++ more)) (run_found pen.color (0, pen.rest)) (run_found pen.color (0, pen.rest ++ more))
       (run_continues pen.color 0 pen.rest more)
 
-  mode_goes_on : (pen : Pen) → Continues more (rest_on more) (mode_here pen) (mode_here (pen_on pen))
+  pub mode_goes_on : (pen : Pen) → Continues more (rest_on more) (mode_here pen) (mode_here (pen_on pen))
   mode_goes_on pen = finds_continue (rest_on more) pen.front (read_code mode_codes pen.rest)
       (read_code mode_codes (pen.rest ++ more)) (word_found mode_codes pen.rest) (word_found mode_codes (pen.rest ++ more))
       (code_continues mode_codes modes_free pen.rest more)
@@ -124,7 +124,7 @@ module _ (more : Bits) where
           (painted_to strict columns pen place) (painted_to strict columns (pen_on pen) place)
           (same_continues pen.front (paint strict columns pen.front pen.color (place - length pen.front)))
 
-  full_on : (columns : ℕ) (pen : Pen) → Continues more pen_on (unless_full columns pen) (unless_full columns (pen_on pen))
+  pub full_on : (columns : ℕ) (pen : Pen) → Continues more pen_on (unless_full columns pen) (unless_full columns (pen_on pen))
   full_on columns pen = either_way (leb columns (length pen.front))
     where
       either_way : (full : Bool)

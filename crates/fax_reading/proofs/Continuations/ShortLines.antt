@@ -87,7 +87,7 @@ run_known color here zeros =
 -- ---- Lines
 
 -- a turn goes on with such a value, or its line isn't short
-abbrev GoesOrEnds : {A : Type 0} → (A → Type 0) → Turn A Line → Type 0
+abbrev pub GoesOrEnds : {A : Type 0} → (A → Type 0) → Turn A Line → Type 0
 GoesOrEnds P (Turn.next x) = P x
 GoesOrEnds P (Turn.done line) = is_short line ≡ false
 
@@ -102,10 +102,10 @@ found_known P front (Ok x) known = known
 found_known P front (Err fault) known = known
 
 -- painting needs no bits
-abbrev Anything : {A : Type 0} → A → Type 0
+abbrev pub Anything : {A : Type 0} → A → Type 0
 Anything x = Unit {0}
 
-paint_known : (strict : Bool) (columns : ℕ) (front : Row) (color : Color) (n : ℕ)
+pub paint_known : (strict : Bool) (columns : ℕ) (front : Row) (color : Color) (n : ℕ)
     → GoesOrEnds Anything (unless_fault front (paint strict columns front color n))
 paint_known strict columns front color n = either_way (strict && ltb (columns - length front) n) _
   where
@@ -113,7 +113,7 @@ paint_known strict columns front color n = either_way (strict && ltb (columns - 
     either_way true row = refl
     either_way false row = tt
 
-place_known : (front : Row) (z : ℤ) → GoesOrEnds Anything (unless_fault front (place_from (length front) z))
+pub place_known : (front : Row) (z : ℤ) → GoesOrEnds Anything (unless_fault front (place_from (length front) z))
 place_known front (pos p) = either_way (leb (length front) p && leb p 4294967295)
   where
     either_way : (b : Bool) → GoesOrEnds Anything (unless_fault front (cond b (Ok p) (Err Overflow)))
