@@ -1,6 +1,6 @@
 //! The rows of a bitmap, as lists of changes: found 64 pixels at a time.
 
-ghost use Rattle.std.specs.Prelude.{IsTrue, ◌≡◌, ◌+◌, ◌*◌, ◌^◌, ◌<◌, ◌≤◌, ◌++◌, false, true, map, length, replicate, take};
+ghost use Rattle.std.specs.Prelude.{IsTrue, ◌≡◌, ◌+◌, ◌*◌, ◌^◌, ◌<◌, ◌≤◌, ◌++◌, false, map, length, replicate, take};
 ghost use Rattle.std.specs.Prelude.{IfOk, OnOk, slice_index};
 ghost use Rattle.hayro_ccitt.specs.Bits.{bits_of, bit_of, low_bits};
 ghost use Rattle.hayro_ccitt.specs.Rows.{AreChanges, pixels};
@@ -167,7 +167,7 @@ fn plain_words(bytes: &[u8], most: usize, is_black: bool) -> usize
 /// Replaces a list by the changes of the first row of a bitmap, in which 0 stands for black if it says so. Words of one colour are
 /// skipped at once at the row's start and after each word without a change.
 #[inline(always)]
-fn scan_in_black(
+pub fn scan_in_black(
     list: &mut Vec<u32>,
     columns: u32,
     bitmap: &[u8],
@@ -209,36 +209,6 @@ pub fn scan_row(list: &mut Vec<u32>, columns: u32, bitmap: &[u8]) -> Result<(), 
     ensures pixels { OnOk result (pixels columns list.new.items ≡ take columns (bits_of bitmap.now)) }
 {
     scan_in_black(list, columns, bitmap, false)
-}
-
-/// Replaces a list by the changes of the first row of a bitmap, in which 0 stands for black. It is apart, so that a row in which 1
-/// does costs no more.
-#[inline(never)]
-fn scan_inverted_row(list: &mut Vec<u32>, columns: u32, bitmap: &[u8]) -> Result<(), AllocError>
-    requires { bytes_of_row columns ≤ length bitmap.now }
-    ensures lawful { OnOk result (AreChanges columns list.new.items) }
-    ensures pixels { OnOk result (pixels columns list.new.items ≡ in_black true (take columns (bits_of bitmap.now))) }
-{
-    scan_in_black(list, columns, bitmap, true)
-}
-
-/// Replaces a list by the changes of the first row of a bitmap, in which 0 stands for black if it says so.
-#[inline(always)]
-pub fn scan_row_by_polarity(
-    list: &mut Vec<u32>,
-    columns: u32,
-    bitmap: &[u8],
-    black_is_0: bool,
-) -> Result<(), AllocError>
-    requires { bytes_of_row columns ≤ length bitmap.now }
-    ensures lawful { OnOk result (AreChanges columns list.new.items) }
-    ensures pixels { OnOk result (pixels columns list.new.items ≡ in_black black_is_0 (take columns (bits_of bitmap.now))) }
-{
-    if black_is_0 {
-        scan_inverted_row(list, columns, bitmap)
-    } else {
-        scan_row(list, columns, bitmap)
-    }
 }
 
 /// Returns the rows of a bitmap, as lists of changes. A row occupies (columns + 7) / 8 bytes, one bit a pixel, 1 for black,

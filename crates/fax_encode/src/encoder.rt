@@ -10,7 +10,7 @@ ghost use Rattle.fax_encode.specs.Settings.{names_encoding, needs_row, with_end}
 
 use crate::bit_order::bytes_in_order;
 use crate::bit_writer::BitWriter;
-use crate::bitmap_rows::scan_row_by_polarity;
+use crate::bitmap_rows::scan_in_black;
 use crate::by_settings::needs_row;
 use crate::encoding::{names_encoding, put_end, put_part};
 use crate::rows::is_row;
@@ -171,6 +171,7 @@ impl Encoder {
 
     /// Adds the first row of a bitmap, in which 0 stands for black if it says so. Until all of it is added, the encoder is marked as
     /// out of memory.
+    #[inline(always)]
     fn add_packed(&mut self, bitmap: &[u8], black_is_0: bool) -> Result<(), AllocError>
         requires whole { bytes_of_row self.old.columns ≤ length bitmap.now }
         requires memory { self.old.wants_memory ≡ false }
@@ -181,7 +182,7 @@ impl Encoder {
         ensures columns { self.new.columns ≡ self.old.columns }
     {
         self.wants_memory = true;
-        scan_row_by_polarity(&mut self.row, self.columns, bitmap, black_is_0)?;
+        scan_in_black(&mut self.row, self.columns, bitmap, black_is_0)?;
         let left = put_part(
             &mut self.writer,
             &mut self.ways,
@@ -198,6 +199,20 @@ impl Encoder {
         Ok(())
     }
 
+    /// Adds the first row of a bitmap, in which 0 stands for black. It is apart, so that a row in which 1 does costs no more.
+    #[inline(never)]
+    fn add_inverted(&mut self, bitmap: &[u8]) -> Result<(), AllocError>
+        requires whole { bytes_of_row self.old.columns ≤ length bitmap.now }
+        requires memory { self.old.wants_memory ≡ false }
+        ensures taken { OnOk result (self.new
+            ≡ with_row self.old (in_black true (take self.old.columns (bits_of bitmap.now)))) }
+        ensures wanted { OnErr result (self.new.wants_memory ≡ true) }
+        ensures settings { self.new.settings ≡ self.old.settings }
+        ensures columns { self.new.columns ≡ self.old.columns }
+    {
+        self.add_packed(bitmap, true)
+    }
+
     /// Encodes a row of packed pixels: one bit a pixel, 1 for black, the leftmost pixel in each byte's highest bit. Bits
     /// after the last pixel are ignored.
     ///
@@ -205,6 +220,7 @@ impl Encoder {
     ///
     /// - `OutOfMemory` if an allocation fails, and from then on of each call.
     /// - `NotARow`, with the number of rows before it, if there are fewer than (columns + 7) / 8 bytes; nothing is changed then.
+    #[inline(always)]
     pub fn push_packed_row(&mut self, row: &[u8]) -> std::result::Result<(), EncodeError>
         ensures taken { OnOk result (self.new ≡ with_row self.old (take self.old.columns (bits_of row.now))) }
         ensures whole { OnOk result (bytes_of_row self.old.columns ≤ length row.now) }
@@ -217,7 +233,14 @@ impl Encoder {
         ensures settings { self.new.settings ≡ self.old.settings }
         ensures columns { self.new.columns ≡ self.old.columns }
     {
-        self.push_row_by_polarity(row, false)
+        if self.wants_memory {
+            return Err(EncodeError::OutOfMemory);
+        }
+        if row.len() < (self.columns as usize).div_ceil(8) {
+            return Err(EncodeError::NotARow(self.rows));
+        }
+        self.add_packed(row, false)?;
+        Ok(())
     }
 
     /// Encodes a row of packed pixels as [`push_packed_row`](Encoder::push_packed_row) does, in which 0 stands for black and 1 for
@@ -241,13 +264,14 @@ impl Encoder {
         ensures wants { result ≡ Err EncodeError.OutOfMemory → self.new.wants_memory ≡ true }
         ensures same { (self.new.settings ≡ self.old.settings) × (self.new.columns ≡ self.old.columns) }
     {
-        if self.wants_memory {
-            return Err(EncodeError::OutOfMemory);
+        if !black_is_0 {
+            return self.push_packed_row(row);
         }
-        if row.len() < (self.columns as usize).div_ceil(8) {
-            return Err(EncodeError::NotARow(self.rows));
+        // What refuses a row doesn't depend on its bits.
+        if self.wants_memory || row.len() < (self.columns as usize).div_ceil(8) {
+            return self.push_packed_row(row);
         }
-        self.add_packed(row, black_is_0)?;
+        self.add_inverted(row)?;
         Ok(())
     }
 

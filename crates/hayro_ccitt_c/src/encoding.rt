@@ -2,11 +2,11 @@
 
 ghost use Rattle.std.specs.Prelude.{◌≡◌, ◌≢◌, ◌<◌, ◌≤◌, ◌↔◌, ◌&&◌, ℕ, false, true, length, nat_le, nat_lt, Err, IfOk, IfSome};
 ghost use Rattle.std.specs.Prelude.{IsOk, IsOkUnless, IsTrue, OnOk};
-ghost use Rattle.hayro_ccitt.specs.Bits.{bits_in};
-ghost use Rattle.fax_encode.specs.RowByRow.{with_rows};
+ghost use Rattle.hayro_ccitt.specs.Bits.{bits_in, bits_of};
+ghost use Rattle.fax_encode.specs.RowByRow.{with_row, with_rows};
 ghost use Rattle.fax_encode.specs.Settings.{names_encoding, needs_row};
 ghost use Rattle.hayro_ccitt_c.specs.Encoding.{asked, bits_asked, can_encode, encoder_of, layout_asked, of_rows, rows_asked};
-ghost use Rattle.hayro_ccitt_c.specs.Packing.{are_whole_rows, bytes_of_row, rows_read, together};
+ghost use Rattle.hayro_ccitt_c.specs.Packing.{are_whole_rows, bytes_of_row, row_read, rows_read, together};
 
 use crate::packed_rows::Layout;
 use crate::settings::{encoding_of, layout_with};
@@ -115,6 +115,20 @@ pub(crate) fn encoder_of_rows(settings: &EncodeSettings) -> Option<fax_encode::E
     }
 }
 
+/// Adds a row that is whole to an encoder.
+fn push_row(encoder: &mut Encoder, row: &[u8], black_is_0: bool) -> Result<(), EncodeError>
+    requires { bytes_of_row encoder.old.columns ≤ length row.now }
+    ensures pushed { OnOk result (encoder.new
+        ≡ with_row encoder.old (row_read black_is_0 encoder.old.columns (bits_of row.now))) }
+    ensures memory { IsOkUnless result EncodeError.OutOfMemory }
+    ensures columns { encoder.new.columns ≡ encoder.old.columns }
+{
+    let Ok(()) = encoder.push_row_by_polarity(row, black_is_0) else {
+        return Err(EncodeError::OutOfMemory);
+    };
+    Ok(())
+}
+
 /// Adds the rows of a bitmap to an encoder.
 fn push_rows(
     encoder: &mut Encoder,
@@ -132,9 +146,7 @@ fn push_rows(
     let width = (columns as usize).div_ceil(8);
     let mut rest = bitmap;
     while rest.len() >= width {
-        let Ok(()) = encoder.push_row_by_polarity(&rest[..width], layout.black_is_0) else {
-            return Err(EncodeError::OutOfMemory);
-        };
+        push_row(encoder, &rest[..width], layout.black_is_0)?;
         rest = &rest[(layout.stride as usize).min(rest.len())..];
     }
     Ok(())

@@ -80,7 +80,13 @@ impl Strip {
             (λ columns. row_read black_is_0 columns (bits_of row.now)) result }
     {
         match self {
-            Strip::Rows(encoder) => status_of_adding(encoder.push_row_by_polarity(row, black_is_0)),
+            Strip::Rows(encoder) => {
+                if black_is_0 {
+                    status_of_adding(encoder.push_row_by_polarity(row, true))
+                } else {
+                    status_of_adding(encoder.push_packed_row(row))
+                }
+            }
             Strip::Whole(_) => 6,
             Strip::OutOfMemory => 4,
         }

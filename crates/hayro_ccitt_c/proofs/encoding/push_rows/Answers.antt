@@ -14,7 +14,7 @@ loop-rest-preserved c =
     let stride : ℕ = c.args.layout.stride in
     let rest : List ℕ = c.loop-rest.rest.now in
     let old : RowsEncoded = c.loop-rest.encoder in
-    let new : RowsEncoded = c.push_row_by_polarity.new.self in
+    let new : RowsEncoded = c.push_row.new.encoder in
     let width : c.div_ceil-width.result ≡ bytes_of_row columns = omega (arith, c.div_ceil-width.ensures) in
     let here : List ℕ = take c.div_ceil-width.result rest in
     let behind : take (length rest - c.min.result) (drop c.min.result rest) ≡ drop stride rest =
@@ -26,9 +26,9 @@ loop-rest-preserved c =
     let split = rows_read-row c.args.layout columns rest c.requires.some c.requires.reaches
     (omega (arith, width, c.loop-rest-test.true)) in
     record {
-      columns = c.push_row_by_polarity.ensures.same.1 ∙ c.loop-rest.invariant.columns;
+      columns = c.push_row.ensures.columns ∙ c.loop-rest.invariant.columns;
       shorter = omega (arith, ap length behind, length-drop stride rest, c.loop-rest.invariant.shorter);
       pushed = ap (λ (l : List ℕ). with_rows new (rows_read c.args.layout columns l)) behind
-          ∙ ap (λ (r : RowsEncoded). with_rows r below) (c.in-Ok.ensures.taken ∙ first)
+          ∙ ap (λ (r : RowsEncoded). with_rows r below) (c.in_ok-push_row.ensures.pushed ∙ first)
           ∙ ap (λ (l : List Row). with_rows old l) (sym split) ∙ c.loop-rest.invariant.pushed;
     }
