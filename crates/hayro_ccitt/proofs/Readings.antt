@@ -1,6 +1,7 @@
 pub mod RowByRow
 pub mod RowsAgain
 pub mod RowsPushed
+pub mod RowsTried
 pub use Rattle.fax_bits.proofs.Repetition.Gathered
 pub use Rattle.fax_bits.proofs.Repetition.Repeated
 pub use Rattle.fax_reading.proofs.Readings.DamageCounted
