@@ -1,4 +1,5 @@
 pub mod CodeWords
+pub mod Continuations
 pub mod DamagedLines
 pub mod DrawingLines
 pub mod EncodedPictures

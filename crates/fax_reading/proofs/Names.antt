@@ -8,6 +8,8 @@ pub use Rattle.fax_bits.specs.CodeLists.{Code, mode_codes}
 pub use Rattle.fax_bits.specs.CodeReading.{Has, is_prefix_free, leading_zeros, read_code}
 pub use Rattle.fax_reading.specs.Context.{Context, Held, Repairs, continued, fresh, no_repairs, passed_changes, redrawn}
 pub use Rattle.fax_reading.specs.Context.{right_of_painted, with_missed, exceeds, painted_front}
+pub use Rattle.fax_reading.specs.Continuations.{LineIsSettled, LinesSettle, StaysAsRead, is_short, line_before, misses_end}
+pub use Rattle.fax_reading.specs.Continuations.{row_continued}
 pub use Rattle.fax_reading.specs.Damage.{Damaged, damage_of, damaged_by_turn, missed_behind, missed_by_turn, misses_by_line}
 pub use Rattle.fax_reading.specs.Damage.{repaired_by_turn, repaired_in, repairs_by_line, cut_by_turn, cut_in, cuts_by_line}
 pub use Rattle.fax_reading.specs.Damage.{cuts_run, start_in}

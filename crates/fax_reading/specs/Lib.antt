@@ -1,5 +1,6 @@
 pub mod Answers
 pub mod Context
+pub mod Continuations
 pub mod Damage
 pub mod Decoding
 pub mod Encodings

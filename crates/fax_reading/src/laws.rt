@@ -5,6 +5,7 @@ ghost use Rattle.fax_bits.specs.CodeLists.{white_codes, black_codes, mode_codes}
 ghost use Rattle.fax_bits.specs.CodeReading.{is_prefix_free, ReadsCodes};
 ghost use Rattle.fax_bits.specs.Runs.{codes_of};
 ghost use Rattle.fax_bits.specs.declared.codes.Color.{Color};
+ghost use Rattle.fax_reading.specs.Continuations.{LinesSettle};
 ghost use Rattle.fax_reading.specs.Laws.{each_word, has_few_zeros, Synchronised, StrictThenLenient, RowLimit};
 ghost use Rattle.fax_reading.specs.Laws.{ReadsClosedPictures, ReadsLimitedPictures, StrictIsUndamaged, PicturesAreUndamaged};
 ghost use Rattle.fax_reading.specs.Laws.{ReadsPictureT6, ReadsLimitedRowsT6, ReadsPictureT4, ReadsLimitedPictureT4};
@@ -157,4 +158,11 @@ pub fn bits_of_bytes()
 pub fn every_picture_has_an_encoding()
     ensures bits { EveryPictureHasAnEncoding }
     ensures bytes { BytesBeginWithAnyBits }
+{}
+
+/// A line is short if the bits end within it before any of its words is wrong. Exactly the lines that aren't short are the
+/// same whatever bits follow; so are the strict reading of such a line, its words and, if whole bytes follow, its row or
+/// its fault. No line is short that has two bytes of zeros behind it.
+pub fn lines_settle()
+    ensures { LinesSettle }
 {}

@@ -14,13 +14,13 @@ use Rattle.fax_reading.proofs.DrawingLines.Drawings.{horizontal_is}
 use Rattle.fax_reading.proofs.DrawingLines.ReadLines.{pen_left, step_1d_shrinks, step_2d_shrinks}
 use Rattle.fax_bits.proofs.Repetition.Repeated.{Follows, repeated_follows}
 
-scan_stays : (n : ℕ) (a b : Bits) → scan n a ≡ None → scan n (a ++ b) ≡ None
+pub scan_stays : (n : ℕ) (a b : Bits) → scan n a ≡ None → scan n (a ++ b) ≡ None
 scan_stays n [] b e = absurd cc
 scan_stays n (true ∷ a) b e = scan_stays 0 a b e
 scan_stays n (false ∷ a) b e = grind (arith, common_steps, cases_lt, le-ltb, lt-ltb, scan_stays (suc n) a b)
 
 -- with more zeros before them the bits contain eleven zeros too
-scan_above : (m n : ℕ) (bits : Bits) → m ≤ n → scan m bits ≡ None → scan n bits ≡ None
+pub scan_above : (m n : ℕ) (bits : Bits) → m ≤ n → scan m bits ≡ None → scan n bits ≡ None
 scan_above m n bits le e = by_scan (scan n bits) refl
   where
     by_scan : (o : Option ℕ) → scan n bits ≡ o → scan n bits ≡ None

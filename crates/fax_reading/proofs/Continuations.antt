@@ -1,0 +1,4 @@
+pub mod LinesContinued
+pub mod ShortLines
+pub mod StrictLines
+pub mod WordsContinued

@@ -1,0 +1,252 @@
+-- Lines before zeros: none is short.
+use Rattle.fax_reading.proofs.Names.{◌≡◌, ◌↔◌, ℕ, suc, ◌+◌, ◌-◌, Bool, true, false, cond, ◌&&◌, ltb, leb, List, [], ◌∷◌, ◌++◌}
+use Rattle.fax_reading.proofs.Names.{length, replicate, None, Result, Ok, Err, refl, sym, ap, subst, ◌∙◌, arith, inl, inr, ℤ}
+use Rattle.fax_reading.proofs.Names.{pos, negsuc, Color, Mode, Pass, Horizontal, Vertical, DecodeError, DecodeSettings}
+use Rattle.fax_reading.proofs.Names.{EncodingMode, Group4, Group3_1D, Group3_2D, UnexpectedEof, InvalidCode, Overflow}
+use Rattle.fax_reading.proofs.Names.{OutOfMemory, Refused, Bits, Code, mode_codes, Has, is_prefix_free, read_code, IsWord}
+use Rattle.fax_reading.proofs.Names.{Turn, Row, opposite, right_of, b2, paint, codes_of, run_turn, run_from, Line, Pen}
+use Rattle.fax_reading.proofs.Names.{Drawing, start, draw_1d, draw_2d, draw_mode, draw_run, go_on, mode_here, run_here}
+use Rattle.fax_reading.proofs.Names.{painted, painted_to, place_by, place_from, unless_fault, unless_full, turn_behind, ◌>>=◌}
+use Rattle.fax_reading.proofs.Names.{line_by, line_here, line_1d, line_2d, LineIsSettled, LinesSettle, StaysAsRead, is_short}
+use Rattle.fax_reading.proofs.Names.{line_before, misses_end}
+use Rattle.fax_bits.specs.CodeReading.{IsCut}
+use Rattle.fax_bits.proofs.BitReading.ZerosInWords.{scan, scan-append, scan_holds, quiet_is, word_quiet, codes_free}
+use Rattle.fax_bits.proofs.BitReading.ZerosInWords.{modes_free}
+use Rattle.fax_bits.proofs.CodeWords.CodeReadings.{reads_codes}
+use Rattle.fax_bits.proofs.CodeWords.ReadCodes.{read_code_found}
+use Rattle.fax_bits.proofs.CodeWords.ReadRuns.{run_shrinks, size}
+use Rattle.fax_bits.proofs.Repetition.Repeated.{repeated_induct}
+use Rattle.fax_reading.proofs.Continuations.LinesContinued.{found_settled, line_settled, row_continues}
+use Rattle.fax_reading.proofs.Continuations.StrictLines.{strict_settled}
+use Rattle.fax_reading.proofs.DamagedLines.LinesBeforeEol.{scan_above, scan_stays}
+use Rattle.fax_reading.proofs.DrawingLines.ReadLines.{pen_left, step_1d_shrinks, step_2d_shrinks}
+
+-- eleven zeros are here, of which three may be before
+abbrev HasZeros : Bits → Type 0
+HasZeros here = scan 3 here ≡ None
+
+-- this is true of what is read, or the fault isn't that the end is missing
+abbrev IsKnown : {A : Type 0} → (A → Type 0) → Result A DecodeError → Type 0
+IsKnown P (Ok x) = P x
+IsKnown P (Err fault) = misses_end fault ≡ false
+
+-- ---- Words and runs
+
+zeros_behind : (here word rest : Bits) → IsWord word → HasZeros here → here ≡ word ++ rest → HasZeros rest
+zeros_behind here word rest is_word zeros is =
+    let q = quiet_is (scan 3 word) (word_quiet word is_word) in
+    scan_above q.0 3 rest q.2 (sym (scan-append 3 q.0 word rest q.1) ∙ ap (scan 3) (sym is) ∙ zeros)
+
+module _ {V : Type 0} (list : List (Code V)) (free : is_prefix_free list ≡ true)
+    (words : (v : V) (word : Bits) → Has list v word → IsWord word) where
+  uncut_zeros : (here : Bits) → HasZeros here → IsCut list here → ⊥
+  uncut_zeros here zeros (v, w, has, begins) =
+      let q = quiet_is (scan 3 w) (word_quiet w (words v w has)) in
+      let none : scan 3 w ≡ None = ap (scan 3) begins.1 ∙ scan_stays 3 here begins.0 zeros in
+      let g = q.1 in cc
+
+  code_known : (here : Bits) → HasZeros here → IsKnown (λ found. HasZeros found.1) (read_code list here)
+  code_known here zeros = by_read_code (read_code list here) refl
+    where
+      by_read_code : (r : Result (V × Bits) DecodeError) → read_code list here ≡ r → IsKnown (λ found. HasZeros found.1) r
+      by_read_code (Ok (v, rest)) e =
+          let (w, has, is) = read_code_found list here v rest e in zeros_behind here w rest (words v w has) zeros is
+      by_read_code (Err UnexpectedEof) e = absurd (uncut_zeros here zeros (((reads_codes list free).cut here).0 e).1)
+      by_read_code (Err InvalidCode) e = refl
+      by_read_code (Err Overflow) e = refl
+      by_read_code (Err OutOfMemory) e = refl
+      by_read_code (Err Refused) e = refl
+
+-- a turn of a run
+abbrev TurnIsKnown : Turn (ℕ × Bits) (Result (ℕ × Bits) DecodeError) → Type 0
+TurnIsKnown (Turn.next s) = HasZeros s.1
+TurnIsKnown (Turn.done r) = IsKnown (λ found. HasZeros found.1) r
+
+run_turn_known : (color : Color) (s : ℕ × Bits) → HasZeros s.1 → TurnIsKnown (run_turn color s)
+run_turn_known color (total, here) zeros = by_read_code (read_code (codes_of color) here) refl
+    (code_known (codes_of color) (codes_free color) (λ n word has. inl (color, n, has)) here zeros)
+  where
+    either_way : (n : ℕ) (rest : Bits) → HasZeros rest → (b c : Bool) → TurnIsKnown
+        (cond b (Turn.done (Err Overflow)) (cond c (Turn.done (Ok (total + n, rest))) (Turn.next (total + n, rest))))
+    either_way n rest left true c = refl
+    either_way n rest left false true = left
+    either_way n rest left false false = left
+
+    by_read_code : (r : Result (ℕ × Bits) DecodeError) → read_code (codes_of color) here ≡ r
+        → IsKnown (λ found. HasZeros found.1) r → TurnIsKnown (run_turn color (total, here))
+    by_read_code (Ok (n, rest)) e left = rw (e, run_turn) (either_way n rest left (ltb 4294967295 (total + n)) (ltb n 64))
+    by_read_code (Err fault) e known = rw (e, run_turn) known
+
+run_known : (color : Color) (here : Bits) → HasZeros here → IsKnown (λ found. HasZeros found.1) (run_from color (0, here))
+run_known color here zeros =
+    repeated_induct (run_turn color) (Err UnexpectedEof) size (run_shrinks color)
+    (λ s r. HasZeros s.1 → IsKnown (λ found. HasZeros found.1) r)
+    (λ s r e left. subst TurnIsKnown e (run_turn_known color s left))
+    (λ s t r e on left. on (subst TurnIsKnown e (run_turn_known color s left))) (suc (length here)) (0, here) (omega arith) zeros
+
+-- ---- Lines
+
+-- a turn goes on with such a value, or its line isn't short
+abbrev GoesOrEnds : {A : Type 0} → (A → Type 0) → Turn A Line → Type 0
+GoesOrEnds P (Turn.next x) = P x
+GoesOrEnds P (Turn.done line) = is_short line ≡ false
+
+behind_known : {A B : Type 0} (P : A → Type 0) (Q : B → Type 0) (turn : Turn A Line) (behind : A → Turn B Line)
+    → GoesOrEnds P turn → ((x : A) → P x → GoesOrEnds Q (behind x)) → GoesOrEnds Q (turn_behind turn behind)
+behind_known P Q (Turn.next x) behind first second = second x first
+behind_known P Q (Turn.done line) behind first second = first
+
+found_known : {A : Type 0} (P : A → Type 0) (front : Row) (r : Result A DecodeError) → IsKnown P r
+    → GoesOrEnds P (unless_fault front r)
+found_known P front (Ok x) known = known
+found_known P front (Err fault) known = known
+
+-- painting needs no bits
+abbrev Anything : {A : Type 0} → A → Type 0
+Anything x = Unit {0}
+
+paint_known : (strict : Bool) (columns : ℕ) (front : Row) (color : Color) (n : ℕ)
+    → GoesOrEnds Anything (unless_fault front (paint strict columns front color n))
+paint_known strict columns front color n = either_way (strict && ltb (columns - length front) n) _
+  where
+    either_way : (b : Bool) (row : Row) → GoesOrEnds Anything (unless_fault front (cond b (Err InvalidCode) (Ok row)))
+    either_way true row = refl
+    either_way false row = tt
+
+place_known : (front : Row) (z : ℤ) → GoesOrEnds Anything (unless_fault front (place_from (length front) z))
+place_known front (pos p) = either_way (leb (length front) p && leb p 4294967295)
+  where
+    either_way : (b : Bool) → GoesOrEnds Anything (unless_fault front (cond b (Ok p) (Err Overflow)))
+    either_way true = tt
+    either_way false = refl
+place_known front (negsuc p) = refl
+
+-- a pen before such zeros
+abbrev IsBeforeZeros : Pen → Type 0
+IsBeforeZeros pen = HasZeros pen.rest
+
+module _ (strict : Bool) (columns : ℕ) where
+  drew_run_known : (pen : Pen) → IsBeforeZeros pen → GoesOrEnds IsBeforeZeros (draw_run strict columns pen).turn
+  drew_run_known pen zeros =
+      behind_known (λ run. HasZeros run.1) IsBeforeZeros (run_here pen).turn (λ run. (drew run).turn)
+      (found_known (λ run. HasZeros run.1) pen.front (run_from pen.color (0, pen.rest)) (run_known pen.color pen.rest zeros))
+      (λ run left. behind_known Anything IsBeforeZeros (painted strict columns pen run.0).turn
+      (λ front. Turn.next (record { front = front; color = opposite pen.color; rest = run.1 }))
+      (paint_known strict columns pen.front pen.color run.0) (λ front any. left))
+    where
+      drew : ℕ × Bits → Drawing Pen
+      drew run = painted strict columns pen run.0
+          >>= (λ front. go_on (record { front = front; color = opposite pen.color; rest = run.1 }))
+
+  drew_mode_known : (reference : Row) (pen : Pen) (mode : Mode) → IsBeforeZeros pen
+      → GoesOrEnds IsBeforeZeros (draw_mode strict columns reference pen mode).turn
+  drew_mode_known reference pen Pass zeros =
+      let place : ℕ = b2 reference (right_of pen.front) pen.color in
+      behind_known Anything IsBeforeZeros (painted_to strict columns pen place).turn
+      (λ front. Turn.next (record pen { front = front }))
+      (paint_known strict columns pen.front pen.color (place - length pen.front)) (λ front any. zeros)
+  drew_mode_known reference pen Horizontal zeros =
+      behind_known IsBeforeZeros IsBeforeZeros (draw_run strict columns pen).turn (λ p. (draw_run strict columns p).turn)
+      (drew_run_known pen zeros) drew_run_known
+  drew_mode_known reference pen (Vertical k) zeros =
+      behind_known Anything IsBeforeZeros (place_by reference pen k).turn (λ place. (drew place).turn) (place_known pen.front _)
+      (λ place any. behind_known Anything IsBeforeZeros (painted_to strict columns pen place).turn
+      (λ front. Turn.next (record pen { front = front; color = opposite pen.color }))
+      (paint_known strict columns pen.front pen.color (place - length pen.front)) (λ front too. zeros))
+    where
+      drew : ℕ → Drawing Pen
+      drew place = painted_to strict columns pen place
+          >>= (λ front. go_on (record pen { front = front; color = opposite pen.color }))
+
+  full_known : (pen : Pen) → IsBeforeZeros pen → GoesOrEnds IsBeforeZeros (unless_full columns pen).turn
+  full_known pen zeros = either_way (leb columns (length pen.front))
+    where
+      either_way : (b : Bool) → GoesOrEnds IsBeforeZeros (cond b (Turn.done (Line.whole pen.front pen.rest)) (Turn.next pen))
+      either_way true = refl
+      either_way false = zeros
+
+  drew_1d_known : (pen : Pen) → IsBeforeZeros pen → GoesOrEnds IsBeforeZeros (draw_1d strict columns pen).turn
+  drew_1d_known pen zeros = behind_known IsBeforeZeros IsBeforeZeros (unless_full columns pen).turn
+      (λ p. (draw_run strict columns p).turn) (full_known pen zeros) drew_run_known
+
+  drew_2d_known : (reference : Row) (pen : Pen) → IsBeforeZeros pen
+      → GoesOrEnds IsBeforeZeros (draw_2d strict columns reference pen).turn
+  drew_2d_known reference pen zeros =
+      behind_known IsBeforeZeros IsBeforeZeros (unless_full columns pen).turn (λ p. (behind p).turn) (full_known pen zeros)
+      (λ p left. behind_known (λ mode. HasZeros mode.1) IsBeforeZeros (mode_here p).turn (λ mode. (drew p mode).turn)
+      (found_known (λ mode. HasZeros mode.1) p.front (read_code mode_codes p.rest)
+      (code_known mode_codes modes_free (λ mode word has. inr (mode, has)) p.rest left))
+      (λ mode further. drew_mode_known reference (record p { rest = mode.1 }) mode.0 further))
+    where
+      drew : Pen → Mode × Bits → Drawing Pen
+      drew p mode = draw_mode strict columns reference (record p { rest = mode.1 }) mode.0
+
+      behind : Pen → Drawing Pen
+      behind p = mode_here p >>= drew p
+
+  line_1d_known : (here : Bits) → HasZeros here → is_short (line_1d strict columns here) ≡ false
+  line_1d_known here zeros =
+      repeated_induct (λ pen. (draw_1d strict columns pen).turn) (Line.broken [] UnexpectedEof) pen_left
+      (step_1d_shrinks strict columns) (λ pen line. IsBeforeZeros pen → is_short line ≡ false)
+      (λ pen line e left. subst (GoesOrEnds IsBeforeZeros) e (drew_1d_known pen left))
+      (λ pen p line e on left. on (subst (GoesOrEnds IsBeforeZeros) e (drew_1d_known pen left))) (suc (length here)) (start here)
+      (omega arith) zeros
+
+  line_2d_known : (reference : Row) (here : Bits) → HasZeros here → is_short (line_2d strict columns reference here) ≡ false
+  line_2d_known reference here zeros =
+      repeated_induct (λ pen. (draw_2d strict columns reference pen).turn) (Line.broken [] UnexpectedEof) pen_left
+      (step_2d_shrinks strict columns reference) (λ pen line. IsBeforeZeros pen → is_short line ≡ false)
+      (λ pen line e left. subst (GoesOrEnds IsBeforeZeros) e (drew_2d_known reference pen left))
+      (λ pen p line e on left. on (subst (GoesOrEnds IsBeforeZeros) e (drew_2d_known reference pen left))) (suc (length here))
+      (start here) (omega arith) zeros
+
+-- some bits, and then two bytes of zeros
+zeros_there : (here : Bits) → HasZeros (here ++ replicate 16 false)
+zeros_there here = scan_holds 3 here (replicate 5 false) (omega arith)
+
+-- No line is short that has two bytes of zeros behind it.
+pub zeros_end_line : (settings : DecodeSettings) (reference : Row) (here : Bits)
+    → is_short (line_here settings reference (here ++ replicate 16 false)) ≡ false
+zeros_end_line settings reference here = by_encoding settings.encoding here
+  where
+    by_encoding : (encoding : EncodingMode) (bits : Bits)
+        → is_short (line_by encoding settings.strict settings.columns reference (bits ++ replicate 16 false)) ≡ false
+    by_encoding Group3_1D bits = line_1d_known settings.strict settings.columns (bits ++ replicate 16 false) (zeros_there bits)
+    by_encoding Group3_2D [] = line_2d_known settings.strict settings.columns reference (replicate 15 false) refl
+    by_encoding Group3_2D (true ∷ bits) =
+        line_1d_known settings.strict settings.columns (bits ++ replicate 16 false) (zeros_there bits)
+    by_encoding Group3_2D (false ∷ bits) =
+        line_2d_known settings.strict settings.columns reference (bits ++ replicate 16 false) (zeros_there bits)
+    by_encoding Group4 bits =
+        line_2d_known settings.strict settings.columns reference (bits ++ replicate 16 false) (zeros_there bits)
+
+same_shortness : (more : Bits) (line : Line) → is_short (line_before more line) ≡ is_short line
+same_shortness more (Line.whole row rest) = refl
+same_shortness more (Line.broken front fault) = refl
+
+-- A line that is settled isn't short.
+pub settled_not_short : (settings : DecodeSettings) (reference : Row) (here : Bits) → LineIsSettled settings reference here
+    → is_short (line_here settings reference here) ≡ false
+settled_not_short settings reference here settled =
+    sym (same_shortness (replicate 16 false) (line_here settings reference here))
+    ∙ sym (ap is_short (settled (replicate 16 false))) ∙ zeros_end_line settings reference here
+
+-- Exactly the lines that aren't short are settled.
+pub line_settled_exactly : (settings : DecodeSettings) (reference : Row) (here : Bits)
+    → (is_short (line_here settings reference here) ≡ false) ↔ LineIsSettled settings reference here
+line_settled_exactly settings reference here =
+    (line_settled settings reference here, settled_not_short settings reference here)
+
+-- A line that isn't short stays as it was read.
+pub line_stays : (settings : DecodeSettings) (reference : Row) (here : Bits)
+    → is_short (line_here settings reference here) ≡ false → StaysAsRead settings reference here
+line_stays settings reference here known = record {
+  line = line_settled settings reference here known;
+  strict = strict_settled settings reference here known;
+  found = λ more. found_settled settings reference here more known;
+  row = λ has_eols more bytes. row_continues settings reference has_eols here more bytes known;
+}
+
+-- the law
+pub lines_settle : LinesSettle
+lines_settle = record { exactly = line_settled_exactly; stays = line_stays; ends = zeros_end_line }

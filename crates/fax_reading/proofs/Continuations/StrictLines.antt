@@ -1,0 +1,140 @@
+-- The strict reading of a line that isn't short.
+use Rattle.fax_reading.proofs.Names.{◌≡◌, ℕ, zero, suc, ◌-◌, Bool, true, false, cond, ltb, [], ◌∷◌, length, Ok, Err, refl, ap}
+use Rattle.fax_reading.proofs.Names.{◌∙◌, ◌⊎◌, inl, inr, Color, Mode, Pass, Horizontal, Vertical, DecodeSettings, EncodingMode}
+use Rattle.fax_reading.proofs.Names.{Group4, Group3_1D, Group3_2D, UnexpectedEof, InvalidCode, Bits, Turn, repeated, Row}
+use Rattle.fax_reading.proofs.Names.{opposite, right_of, b2, paint, Line, Pen, Drawing, start, draw_1d, draw_2d, draw_mode}
+use Rattle.fax_reading.proofs.Names.{draw_run, go_on, mode_here, run_here, painted, painted_to, place_by, unless_fault}
+use Rattle.fax_reading.proofs.Names.{unless_full, turn_behind, ◌>>=◌, line_by, line_here, line_1d, line_2d, LineIsSettled}
+use Rattle.fax_reading.proofs.Names.{is_short}
+use Rattle.fax_reading.specs.Laws.{strictly}
+use Rattle.fax_reading.proofs.Continuations.LinesContinued.{line_settled}
+use Rattle.fax_bits.proofs.Repetition.Repeated.{after_turn}
+
+-- a turn of the strict reading is the same, or a run that is too long ends its line
+abbrev pub IsStricter : {A : Type 0} → Turn A Line → Turn A Line → Type 0
+IsStricter turn other = (turn ≡ other) ⊎ ((front : Row) × (turn ≡ Turn.done (Line.broken front InvalidCode)))
+
+-- one step after another
+strict_behind : {A B : Type 0} (turn other : Turn A Line) (behind other_behind : A → Turn B Line) → IsStricter turn other
+    → ((x : A) → IsStricter (behind x) (other_behind x))
+    → IsStricter (turn_behind turn behind) (turn_behind other other_behind)
+strict_behind {A} {B} turn other behind other_behind (inl same) second = by_turn other same
+  where
+    by_turn : (t : Turn A Line) → turn ≡ t → IsStricter (turn_behind turn behind) (turn_behind t other_behind)
+    by_turn (Turn.next x) e = elim (second x) [
+      | inl is ↦ inl (ap (λ (u : Turn A Line). turn_behind u behind) e ∙ is)
+      | inr ends ↦ inr (ends.0, ap (λ (u : Turn A Line). turn_behind u behind) e ∙ ends.1)
+    ]
+    by_turn (Turn.done line) e = inl (ap (λ (u : Turn A Line). turn_behind u behind) e)
+strict_behind {A} turn other behind other_behind (inr ends) second =
+    inr (ends.0, ap (λ (u : Turn A Line). turn_behind u behind) ends.1)
+
+-- painting
+strict_paint : (strict : Bool) (columns : ℕ) (front : Row) (color : Color) (n : ℕ)
+    → IsStricter (unless_fault front (paint true columns front color n)) (unless_fault front (paint strict columns front color n))
+strict_paint true columns front color n = inl refl
+strict_paint false columns front color n = either_way (ltb (columns - length front) n) _
+  where
+    either_way : (beyond : Bool) (row : Row)
+        → IsStricter (unless_fault front (cond beyond (Err InvalidCode) (Ok row))) (unless_fault front (Ok row))
+    either_way true row = inr (front, refl)
+    either_way false row = inl refl
+
+module _ (strict : Bool) (columns : ℕ) where
+  strict_run : (pen : Pen) → IsStricter (draw_run true columns pen).turn (draw_run strict columns pen).turn
+  strict_run pen = strict_behind (run_here pen).turn (run_here pen).turn (λ run. (drew true run).turn)
+      (λ run. (drew strict run).turn) (inl refl) (λ run. strict_behind (painted true columns pen run.0).turn
+      (painted strict columns pen run.0).turn
+      (λ front. Turn.next (record { front = front; color = opposite pen.color; rest = run.1 }))
+      (λ front. Turn.next (record { front = front; color = opposite pen.color; rest = run.1 }))
+      (strict_paint strict columns pen.front pen.color run.0) (λ front. inl refl))
+    where
+      drew : Bool → ℕ × Bits → Drawing Pen
+      drew exact run = painted exact columns pen run.0
+          >>= (λ front. go_on (record { front = front; color = opposite pen.color; rest = run.1 }))
+
+  strict_mode : (reference : Row) (pen : Pen) (mode : Mode)
+      → IsStricter (draw_mode true columns reference pen mode).turn (draw_mode strict columns reference pen mode).turn
+  strict_mode reference pen Pass =
+      let place : ℕ = b2 reference (right_of pen.front) pen.color in
+      strict_behind (painted_to true columns pen place).turn (painted_to strict columns pen place).turn
+      (λ front. Turn.next (record pen { front = front })) (λ front. Turn.next (record pen { front = front }))
+      (strict_paint strict columns pen.front pen.color (place - length pen.front)) (λ front. inl refl)
+  strict_mode reference pen Horizontal =
+      strict_behind (draw_run true columns pen).turn (draw_run strict columns pen).turn (λ p. (draw_run true columns p).turn)
+      (λ p. (draw_run strict columns p).turn) (strict_run pen) strict_run
+  strict_mode reference pen (Vertical k) =
+      strict_behind (place_by reference pen k).turn (place_by reference pen k).turn (λ place. (drew true place).turn)
+      (λ place. (drew strict place).turn) (inl refl) (λ place. strict_behind (painted_to true columns pen place).turn
+      (painted_to strict columns pen place).turn
+      (λ front. Turn.next (record pen { front = front; color = opposite pen.color }))
+      (λ front. Turn.next (record pen { front = front; color = opposite pen.color }))
+      (strict_paint strict columns pen.front pen.color (place - length pen.front)) (λ front. inl refl))
+    where
+      drew : Bool → ℕ → Drawing Pen
+      drew exact place = painted_to exact columns pen place
+          >>= (λ front. go_on (record pen { front = front; color = opposite pen.color }))
+
+  strict_1d : (pen : Pen) → IsStricter (draw_1d true columns pen).turn (draw_1d strict columns pen).turn
+  strict_1d pen = strict_behind (unless_full columns pen).turn (unless_full columns pen).turn
+      (λ p. (draw_run true columns p).turn) (λ p. (draw_run strict columns p).turn) (inl refl) strict_run
+
+  strict_2d : (reference : Row) (pen : Pen)
+      → IsStricter (draw_2d true columns reference pen).turn (draw_2d strict columns reference pen).turn
+  strict_2d reference pen = strict_behind (unless_full columns pen).turn (unless_full columns pen).turn
+      (λ p. (behind true p).turn) (λ p. (behind strict p).turn) (inl refl) (λ p. strict_behind (mode_here p).turn
+      (mode_here p).turn (λ mode. (drew true p mode).turn) (λ mode. (drew strict p mode).turn) (inl refl)
+      (λ mode. strict_mode reference (record p { rest = mode.1 }) mode.0))
+    where
+      drew : Bool → Pen → Mode × Bits → Drawing Pen
+      drew exact p mode = draw_mode exact columns reference (record p { rest = mode.1 }) mode.0
+
+      behind : Bool → Pen → Drawing Pen
+      behind exact p = mode_here p >>= drew exact p
+
+-- a line of steps that are stricter isn't short, if the other isn't
+strict_turns : (step other : Pen → Turn Pen Line) (late : Line) → ((pen : Pen) → IsStricter (step pen) (other pen)) → (n : ℕ)
+    (pen : Pen) → is_short (repeated other late n pen) ≡ false → is_short (repeated step late n pen) ≡ false
+strict_turns step other late stricter zero pen known = known
+strict_turns step other late stricter (suc n) pen known =
+    by_turn (λ p k. strict_turns step other late stricter n p k) (other pen) refl known (stricter pen)
+  where
+    by_turn : ((p : Pen) → is_short (repeated other late n p) ≡ false → is_short (repeated step late n p) ≡ false)
+        → (turn : Turn Pen Line) → other pen ≡ turn → is_short (after_turn (repeated other late n) turn) ≡ false
+        → IsStricter (step pen) (other pen) → is_short (after_turn (repeated step late n) (step pen)) ≡ false
+    by_turn on (Turn.next p) e k (inl same) =
+        ap (λ (t : Turn Pen Line). is_short (after_turn (repeated step late n) t)) (same ∙ e) ∙ on p k
+    by_turn on (Turn.done line) e k (inl same) =
+        ap (λ (t : Turn Pen Line). is_short (after_turn (repeated step late n) t)) (same ∙ e) ∙ k
+    by_turn on turn e k (inr ends) = ap (λ (t : Turn Pen Line). is_short (after_turn (repeated step late n) t)) ends.1
+
+-- A line that isn't short isn't when it is read strictly.
+pub strict_not_short : (encoding : EncodingMode) (strict : Bool) (columns : ℕ) (reference : Row) (here : Bits)
+    → is_short (line_by encoding strict columns reference here) ≡ false
+    → is_short (line_by encoding true columns reference here) ≡ false
+strict_not_short encoding strict columns reference here known = by_encoding encoding here known
+  where
+    runs : (bits : Bits) → is_short (line_1d strict columns bits) ≡ false → is_short (line_1d true columns bits) ≡ false
+    runs bits k = strict_turns (λ pen. (draw_1d true columns pen).turn) (λ pen. (draw_1d strict columns pen).turn)
+        (Line.broken [] UnexpectedEof) (strict_1d strict columns) (suc (length bits)) (start bits) k
+
+    modes : (bits : Bits) → is_short (line_2d strict columns reference bits) ≡ false
+        → is_short (line_2d true columns reference bits) ≡ false
+    modes bits k = strict_turns (λ pen. (draw_2d true columns reference pen).turn)
+        (λ pen. (draw_2d strict columns reference pen).turn) (Line.broken [] UnexpectedEof)
+        (strict_2d strict columns reference) (suc (length bits)) (start bits) k
+
+    by_encoding : (kind : EncodingMode) (bits : Bits) → is_short (line_by kind strict columns reference bits) ≡ false
+        → is_short (line_by kind true columns reference bits) ≡ false
+    by_encoding Group3_1D bits k = runs bits k
+    by_encoding Group3_2D [] k = k
+    by_encoding Group3_2D (true ∷ bits) k = runs bits k
+    by_encoding Group3_2D (false ∷ bits) k = modes bits k
+    by_encoding Group4 bits k = modes bits k
+
+-- The strict reading of a line that isn't short is settled too.
+pub strict_settled : (settings : DecodeSettings) (reference : Row) (here : Bits)
+    → is_short (line_here settings reference here) ≡ false → LineIsSettled (strictly settings) reference here
+strict_settled settings reference here known =
+    line_settled (strictly settings) reference here
+    (strict_not_short settings.encoding settings.strict settings.columns reference here known)

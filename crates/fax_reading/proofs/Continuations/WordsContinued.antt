@@ -1,0 +1,180 @@
+-- Code words and runs where more bits follow.
+use Rattle.fax_reading.proofs.Names.{◌≡◌, ℕ, zero, suc, ◌+◌, ◌-◌, ◌<◌, Bool, true, false, cond, ltb, List, [], ◌∷◌, ◌++◌}
+use Rattle.fax_reading.proofs.Names.{length, take, Result, Ok, Err, refl, sym, ap, ◌∙◌, append_assoc, arith, inl, inr}
+use Rattle.fax_reading.proofs.Names.{cases_lt, false≢true, length-append, Color, DecodeError, UnexpectedEof, InvalidCode}
+use Rattle.fax_reading.proofs.Names.{Overflow, OutOfMemory, Refused, Bits, Code, is_prefix_free, read_code, Turn, repeated}
+use Rattle.fax_reading.proofs.Names.{gathered, codes_of, run_of_word, run_turn, run_from, run_found, run_gives, word_found}
+use Rattle.fax_reading.proofs.Names.{misses_end}
+use Rattle.fax_bits.specs.CodeReading.{NoneStands, IsCut, ReadsCodes}
+use Rattle.fax_bits.proofs.BitReading.ZerosInWords.{prefix_of_prefix, codes_free}
+use Rattle.fax_bits.proofs.CodeWords.CodeReadings.{reads_codes}
+use Rattle.fax_bits.proofs.CodeWords.ReadCodes.{cases_reading}
+use Rattle.fax_bits.proofs.CodeWords.ReadRuns.{run_shrinks, size}
+use Rattle.fax_bits.proofs.Repetition.Gathered.{gathered_after}
+use Rattle.fax_bits.proofs.Repetition.Repeated.{Shrinks, after_turn}
+use Rattle.fax_reading.proofs.DamagedLines.DamageByK.{take_front}
+
+-- ---- Repetitions whose states go on where more follows
+
+-- a turn, with states and results that go on
+abbrev pub turn_on : {S R : Type 0} → (S → S) → (R → R) → Turn S R → Turn S R
+turn_on on ends (Turn.next s) = Turn.next (on s)
+turn_on on ends (Turn.done r) = Turn.done (ends r)
+
+-- a turn is done, and what comes of it isn't known before more follows
+abbrev pub turn_waits : {S R : Type 0} → (R → Bool) → Turn S R → Bool
+turn_waits waits (Turn.next s) = false
+turn_waits waits (Turn.done r) = waits r
+
+-- a step is the same from each state that goes on, unless what comes of it waits for more bits
+abbrev pub StepGoesOn : {S R A : Type 0} → (S → Turn S R) → (S → List A) → (S → S) → (R → R) → (R → Bool) → Type 0
+StepGoesOn {S} step gives on ends waits = (s : S) → turn_waits waits (step s) ≡ false
+    → (step (on s) ≡ turn_on on ends (step s)) × (gives (on s) ≡ gives s)
+
+module _ {S R A : Type 0} (step : S → Turn S R) (gives : S → List A) (late : R) (size_of : S → ℕ)
+    (shrinks : Shrinks step size_of) (on : S → S) (ends : R → R) (waits : R → Bool)
+    (goes : StepGoesOn step gives on ends waits) where
+  -- what comes of the repetition of such a step, and what its turns yield, is the same from a state that goes on
+  pub repeated_on : (n m : ℕ) (s : S) → size_of s < n → size_of (on s) < m → waits (repeated step late n s) ≡ false
+      → (repeated step late m (on s) ≡ ends (repeated step late n s)) × (gathered step gives m (on s) ≡ gathered step gives n s)
+  repeated_on zero m s lt other_lt known = absurd (omega arith)
+  repeated_on (suc n) zero s lt other_lt known = absurd (omega arith)
+  repeated_on (suc n) (suc m) s lt other_lt known =
+      by_step (λ t small other k. repeated_on n m t small other k) (step s) refl known
+    where
+      by_step : ((t : S) → size_of t < n → size_of (on t) < m → waits (repeated step late n t) ≡ false
+          → (repeated step late m (on t) ≡ ends (repeated step late n t))
+          × (gathered step gives m (on t) ≡ gathered step gives n t)) → (turn : Turn S R) → step s ≡ turn
+          → waits (after_turn (repeated step late n) turn) ≡ false
+          → (after_turn (repeated step late m) (step (on s)) ≡ ends (after_turn (repeated step late n) turn))
+          × (gives (on s) ++ gathered_after (gathered step gives m) (step (on s))
+          ≡ gives s ++ gathered_after (gathered step gives n) turn)
+      by_step later (Turn.next t) e k =
+          let a = goes s (ap (turn_waits waits) e) in
+          let there : step (on s) ≡ Turn.next (on t) = a.0 ∙ ap (turn_on on ends) e in
+          let b = later t (omega (arith, shrinks s t e, lt)) (omega (arith, shrinks (on s) (on t) there, other_lt)) k in (
+            ap (after_turn (repeated step late m)) there ∙ b.0,
+            ap (λ (x : Turn S R). gives (on s) ++ gathered_after (gathered step gives m) x) there
+                ∙ ap (λ (x : List A). gives (on s) ++ x) b.1 ∙ ap (λ (x : List A). x ++ gathered step gives n t) a.1,
+          )
+      by_step later (Turn.done r) e k =
+          let a = goes s (ap (turn_waits waits) e ∙ k) in
+          let there : step (on s) ≡ Turn.done (ends r) = a.0 ∙ ap (turn_on on ends) e in (
+            ap (after_turn (repeated step late m)) there,
+            ap (λ (x : Turn S R). gives (on s) ++ gathered_after (gathered step gives m) x) there
+                ∙ ap (λ (x : List A). x ++ []) a.1,
+          )
+
+-- ---- Code words
+
+-- a value, and more bits after it
+abbrev pub rest_on : {V : Type 0} → Bits → V × Bits → V × Bits
+rest_on more (v, rest) = (v, rest ++ more)
+
+-- what is read, where more bits follow
+abbrev pub result_on : {A : Type 0} → (A → A) → Result A DecodeError → Result A DecodeError
+result_on on (Ok x) = Ok (on x)
+result_on on (Err fault) = Err fault
+
+-- it is the end of the data that is missing
+abbrev pub result_waits : {A : Type 0} → Result A DecodeError → Bool
+result_waits (Ok x) = false
+result_waits (Err fault) = misses_end fault
+
+-- the word of a reading
+abbrev word_of : {V : Type 0} → Bits → Result (V × Bits) DecodeError → List Bits
+word_of here (Ok found) = take (length here - length found.1) here ∷ []
+word_of here (Err fault) = []
+
+word_taken : (here word rest : Bits) → here ≡ word ++ rest → take (length here - length rest) here ≡ word
+word_taken here word rest e =
+    let long : length here - length rest ≡ length word = omega (arith, ap length e, length-append word rest) in
+    ap (λ (n : ℕ). take n here) long ∙ ap (take (length word)) e ∙ take_front word rest
+
+module _ {V : Type 0} (list : List (Code V)) (free : is_prefix_free list ≡ true) (here more : Bits) where
+  codes : ReadsCodes list
+  codes = reads_codes list free
+
+  none_further : NoneStands list here → (IsCut list here → ⊥) → NoneStands list (here ++ more)
+  none_further none uncut v rest (w, has, is) = elim (cases_lt (length here) (length w)) [
+    | inl lt ↦ let f = prefix_of_prefix here more w rest (sym is) (omega arith) in uncut (v, w, has, f)
+    | inr ge ↦ let f = prefix_of_prefix w rest here more is ge in none v f.0 (w, has, f.1)
+  ]
+
+  uncut_further : (IsCut list here → ⊥) → IsCut list (here ++ more) → ⊥
+  uncut_further uncut (v, w, has, begins) =
+      uncut (v, w, has, (more ++ begins.0, begins.1 ∙ append_assoc here more begins.0))
+
+  -- A word that is found stays, and a wrong code stays wrong. Only where the end is missing can more bits change what is read.
+  pub code_continues : result_waits (read_code list here) ≡ false
+      → (read_code list (here ++ more) ≡ result_on (rest_on more) (read_code list here))
+      × (word_found list (here ++ more) ≡ word_found list here)
+  code_continues known = by_read_code (read_code list here) refl known
+    where
+      other : (fault : DecodeError) → read_code list here ≡ Err fault → (fault ≡ UnexpectedEof → ⊥)
+          → (fault ≡ InvalidCode → ⊥) → ⊥
+      other fault e not_end not_wrong = elim (cases_reading list here (Err fault) e) [
+        | inl a ↦ cc
+        | inr b ↦ elim b [ inl c ↦ not_end (let f = c.0 in cc) | inr c ↦ not_wrong (let f = c.0 in cc) ]
+      ]
+
+      by_read_code : (r : Result (V × Bits) DecodeError) → read_code list here ≡ r → result_waits r ≡ false
+          → (read_code list (here ++ more) ≡ result_on (rest_on more) r)
+          × (word_of (here ++ more) (read_code list (here ++ more)) ≡ word_of here r)
+      by_read_code (Ok (v, rest)) e k =
+          let again = codes.alone here v rest more e in
+          let (w, has, is) = (codes.found here v rest).0 e in
+          let taken : take (length (here ++ more) - length (rest ++ more)) (here ++ more)
+          ≡ take (length here - length rest) here =
+          word_taken (here ++ more) w (rest ++ more) (ap (λ (b : Bits). b ++ more) is ∙ append_assoc w rest more)
+          ∙ sym (word_taken here w rest is) in
+          (again, ap (word_of (here ++ more)) again ∙ ap (λ (b : Bits). b ∷ []) taken)
+      by_read_code (Err InvalidCode) e k =
+          let wrong = (codes.wrong here).0 e in
+          let again = (codes.wrong (here ++ more)).1 (none_further wrong.0 wrong.1, uncut_further wrong.1) in
+          (again, ap (word_of (here ++ more)) again)
+      by_read_code (Err UnexpectedEof) e k = absurd (false≢true (sym k))
+      by_read_code (Err Overflow) e k = absurd (other Overflow e (λ f. cc) (λ f. cc))
+      by_read_code (Err OutOfMemory) e k = absurd (other OutOfMemory e (λ f. cc) (λ f. cc))
+      by_read_code (Err Refused) e k = absurd (other Refused e (λ f. cc) (λ f. cc))
+
+-- ---- Runs
+
+run_word_on : (total : ℕ) (more : Bits) (found : ℕ × Bits)
+    → run_of_word total (rest_on more found) ≡ turn_on (rest_on more) (result_on (rest_on more)) (run_of_word total found)
+run_word_on total more (n, rest) = either_way (ltb 4294967295 (total + n)) (ltb n 64)
+  where
+    turn : Bits → Bool → Bool → Turn (ℕ × Bits) (Result (ℕ × Bits) DecodeError)
+    turn bits b c = cond b (Turn.done (Err Overflow)) (cond c (Turn.done (Ok (total + n, bits))) (Turn.next (total + n, bits)))
+
+    either_way : (b c : Bool) → turn (rest ++ more) b c ≡ turn_on (rest_on more) (result_on (rest_on more)) (turn rest b c)
+    either_way true c = refl
+    either_way false true = refl
+    either_way false false = refl
+
+run_turn_on : (color : Color) (more : Bits)
+    → StepGoesOn (run_turn color) (run_gives color) (rest_on more) (result_on (rest_on more)) result_waits
+run_turn_on color more (total, here) known = by_read_code (read_code (codes_of color) here) refl
+  where
+    by_read_code : (r : Result (ℕ × Bits) DecodeError) → read_code (codes_of color) here ≡ r
+        → (run_turn color (total, here ++ more)
+        ≡ turn_on (rest_on more) (result_on (rest_on more)) (run_turn color (total, here)))
+        × (word_found (codes_of color) (here ++ more) ≡ word_found (codes_of color) here)
+    by_read_code (Ok found) e =
+        let a = code_continues (codes_of color) (codes_free color) here more (ap result_waits e) in
+        let there : read_code (codes_of color) (here ++ more) ≡ Ok (rest_on more found) = a.0 ∙ ap (result_on (rest_on more)) e in
+        (rw (e, there, run_turn) (run_word_on total more found), a.1)
+    by_read_code (Err fault) e =
+        let waits : result_waits {A = ℕ × Bits} (Err fault) ≡ false = sym (rw (e, run_turn) refl) ∙ known in
+        let a = code_continues (codes_of color) (codes_free color) here more (ap result_waits e ∙ waits) in
+        let there : read_code (codes_of color) (here ++ more) ≡ Err fault = a.0 ∙ ap (result_on (rest_on more)) e in
+        (rw (e, there, run_turn) refl, a.1)
+
+-- A run whose words so far sum to a total stays, with the words that it finds, unless the end is missing.
+pub run_continues : (color : Color) (total : ℕ) (here more : Bits) → result_waits (run_from color (total, here)) ≡ false
+    → (run_from color (total, here ++ more) ≡ result_on (rest_on more) (run_from color (total, here)))
+    × (run_found color (total, here ++ more) ≡ run_found color (total, here))
+run_continues color total here more known =
+    repeated_on (run_turn color) (run_gives color) (Err UnexpectedEof) size (run_shrinks color) (rest_on more)
+    (result_on (rest_on more)) result_waits (run_turn_on color more) (suc (length here)) (suc (length (here ++ more)))
+    (total, here) (omega arith) (omega arith) known
