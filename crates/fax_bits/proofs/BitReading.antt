@@ -4,6 +4,7 @@ pub mod ConsecutiveEols
 pub mod EolCounts
 pub mod FilledWindows
 pub mod LookUpEntries
+pub mod OnesLeft
 pub mod PeekedBits
 pub mod PlainEols
 pub mod SoughtEols

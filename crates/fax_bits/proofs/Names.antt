@@ -9,6 +9,7 @@ pub use Rattle.fax_bits.specs.EndOfLine.{past_tag, tagged_eols}
 pub use Rattle.fax_bits.specs.LookUps.{AreEntries, ArePairs, ColorEntries, entries_of, entry_of, is_row, longest_agreement}
 pub use Rattle.fax_bits.specs.LookUps.{mode_told, padded, pair_entry, run_or_none, telling_bits, thirteen_bits}
 pub use Rattle.fax_bits.specs.LookUps.{with_table_row, with_table_rows}
+pub use Rattle.fax_bits.specs.Ones.{holds_one}
 pub use Rattle.fax_bits.specs.Repetition.{Reaches, Turn, gathered, repeated}
 pub use Rattle.fax_bits.specs.Runs.{codes_of, run_from, run_of_word, run_turn}
 pub use Rattle.fax_bits.specs.Ticks.{looked, looked_at_tag, missed, run_found, run_gives, word_found}

@@ -4,6 +4,7 @@ pub mod CodeReading
 pub mod EndOfLine
 pub mod Faults
 pub mod LookUps
+pub mod Ones
 pub mod Repetition
 pub mod Runs
 pub mod Texts

@@ -10,6 +10,7 @@ ghost use Rattle.fax_bits.specs.CodeLists.{mode_codes};
 ghost use Rattle.fax_bits.specs.CodeReading.{read_code, leading_zeros};
 ghost use Rattle.fax_bits.specs.EndOfLine.{after_eol, eols, all_eols, next_eol, past_tag, eols_with_tags, pass_last_tag};
 ghost use Rattle.fax_bits.specs.EndOfLine.{tagged_eols};
+ghost use Rattle.fax_bits.specs.Ones.{holds_one};
 ghost use Rattle.fax_bits.specs.LookUps.{entry_of, mode_told, padded, seven_bits};
 ghost use Rattle.fax_bits.specs.Runs.{codes_of, opposite, read_run};
 ghost use Rattle.fax_bits.specs.WordsHere.{RunGoesOn};
@@ -301,6 +302,24 @@ impl<'a> BitReader<'a> {
                 Ok(()) => {}
             }
         }
+    }
+
+    /// Returns whether a one is left: whether the bits from the offset on aren't all zeros. Nothing is consumed.
+    #[inline(always)]
+    pub fn holds_one(&self) -> bool
+        ensures { result ≡ holds_one (here self.now) }
+    {
+        self.peek_u32() != 0 || self.holds_far_one()
+    }
+
+    /// The same where the next 32 bits may be zeros.
+    #[cold]
+    #[inline(never)]
+    fn holds_far_one(&self) -> bool
+        ensures { result ≡ holds_one (here self.now) }
+    {
+        let mut reader = copy(self);
+        reader.pass_zeros()
     }
 
     /// Returns the number of zeros up to the next one, and a reader just after that one; or the number up to the end

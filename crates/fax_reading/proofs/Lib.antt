@@ -3,6 +3,7 @@ pub mod Continuations
 pub mod DamagedLines
 pub mod DrawingLines
 pub mod EncodedPictures
+pub mod GapsContinued
 pub mod KeptRows
 pub mod Names
 pub mod PixelRows

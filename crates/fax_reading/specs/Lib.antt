@@ -4,6 +4,7 @@ pub mod Continuations
 pub mod Damage
 pub mod Decoding
 pub mod Encodings
+pub mod GapsContinued
 pub mod Laws
 pub mod Lines
 pub mod Locality
