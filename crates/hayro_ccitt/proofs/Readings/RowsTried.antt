@@ -3,6 +3,7 @@ use Rattle.hayro_ccitt.proofs.Names.{◌≡◌, ◌+◌, ◌*◌, ◌≤◌, ℕ
 use Rattle.hayro_ccitt.proofs.Names.{subst, DecodeError, IsFault, OnAnswer, DrawsLine, Row, Bits, Line, Held, Context, Repairs, AreWholeBytes}
 use Rattle.hayro_ccitt.proofs.Names.{TakesOneRow, repairs_with, with_row_taken, line_here, row_of_line, front_of, found_here, changes}
 use Rattle.hayro_ccitt.proofs.Names.{max, room_for, most_stored, append-nil, List, IfErr, inl, inr, ◌⊎◌, DecodeSettings, BitsAt, here, row_came, ◌≢◌, arith, redrawn, White}
+use Rattle.fax_reading.proofs.Continuations.ShortLines.{line_stays}
 use Rattle.hayro_ccitt.proofs.DrawingLines.FullRows.{IsFull}
 use Rattle.hayro_ccitt.specs.Answers.{HasBlack, is_broken}
 use Rattle.hayro_ccitt.specs.Decoding.{RowIsTaken}
@@ -110,11 +111,6 @@ nothing_follows old new answer start rest more none read =
     (subst (λ (s : Bits). ReadsRow old new answer s (rest ++ [])) (sym (append-nil start))
     (subst (ReadsRow old new answer start) (sym (append-nil rest)) read))
 
--- the line here stays as it was read if it isn't short
-lines_stay : (settings : DecodeSettings) (reference : Row) (here : Bits) → is_short (line_here settings reference here) ≡ false
-    → StaysAsRead settings reference here
-lines_stay settings reference here whole = ?
-
 -- no data that follows changes a line for which none is needed
 pub settled : (is_last : Bool) (line : Line) (answer : Result (Unit {0}) DecodeError) (front : Row) (rest : Bits)
     → DrawsLine line answer front rest → needs_more is_last answer ≡ false
@@ -132,7 +128,7 @@ pub goes_on : (is_last : Bool) (old new : Context) (answer : Result (Unit {0}) D
 goes_on is_last old new answer start rest (inl last) read more come =
     nothing_follows old new answer start rest more (come.none last) read
 goes_on is_last old new answer start rest (inr whole) read more come =
-    row_goes_on old new answer start rest more (lines_stay old.held.settings old.held.reference start whole) come.bytes read
+    row_goes_on old new answer start rest more (line_stays old.held.settings old.held.reference start whole) come.bytes read
 
 -- what a line's result says where its row was taken, or its fault returned
 module _ {P : Type 0} where
