@@ -1,3 +1,5 @@
+pub mod GapsPassed
+pub mod LinesRead
 pub mod RowByRow
 pub mod RowsAgain
 pub mod RowsPushed

@@ -1,14 +1,18 @@
 -- A gap that is passed and a row that is read in data of which more may come: not part of the trusted specification.
-use Rattle.std.specs.Prelude.{◌≡◌, ◌≢◌, ◌≤◌, ◌+◌, ◌*◌, ℕ, Bool, true, false, [], ◌++◌, length, max, not, ◌&&◌, Result, Ok, Err}
+use Rattle.std.specs.Prelude.{◌≡◌, ◌≢◌, ◌≤◌, ◌+◌, ◌*◌, ℕ, Bool, true, false, [], ◌++◌, length, max, not, ◌⊎◌, ◌&&◌, Result, Ok, Err}
 use Rattle.std.specs.Prelude.{OnErr, OnOk, IfErr, IfOk}
 use Rattle.fax_bits.specs.declared.codes.Color.TheVariants.{White}
 use Rattle.fax_bits.specs.declared.error.DecodeError.{DecodeError}
 use Rattle.fax_bits.specs.declared.error.DecodeError.TheVariants.{UnexpectedEof, InvalidCode, Overflow, OutOfMemory, Refused}
 use Rattle.hayro_ccitt.specs.Answers.{HasBlack, IsFault, front_of}
 use Rattle.hayro_ccitt.specs.Bits.{AreWholeBytes, Bits, BitsAt, here}
-use Rattle.hayro_ccitt.specs.Context.{Context, redrawn}
+use Rattle.hayro_ccitt.specs.Context.{Context, Repairs, redrawn}
 use Rattle.hayro_ccitt.specs.Continuations.{is_short, misses_end}
-use Rattle.hayro_ccitt.specs.Decoding.{TakesOneRow, gap_said, repairs_behind}
+use Rattle.hayro_ccitt.specs.GapsContinued.{gap_is_settled}
+use Rattle.hayro_ccitt.specs.declared.row_reader.RowState.{RowState}
+use Rattle.hayro_ccitt.specs.declared.row_reader.Stand.{Stand}
+use Rattle.hayro_ccitt.specs.Decoding.{TakesOneRow, cut_since, damage_since, gap_said, missed_since, repairs_behind}
+use Rattle.hayro_ccitt.specs.RowsRead.{line_after, stand_after, start_after}
 use Rattle.hayro_ccitt.specs.PlainReading.{gap_behind_row, line_here, row_of_line}
 use Rattle.hayro_ccitt.specs.Rows.{changes}
 use Rattle.hayro_ccitt.specs.Space.{most_stored, room_for}
@@ -97,3 +101,49 @@ pub record TriesRow (is_last : Bool) (old new : Context) (answer : Result Bool D
       + length (changes old.held.reference)
   pub space : new.space ≤ max old.space (room_for (most_stored old.held.reference
       (line_here old.held.settings old.held.reference (here before))))
+
+-- ---- What is kept between two rows
+
+-- after a gap that begins at this offset
+abbrev pub rows_behind_gap : RowState → Result Bool DecodeError → ℕ → Context → Context → RowState
+rows_behind_gap rows over place old new = record {
+  started_at = start_after over place rows.started_at;
+  damage = rows.damage;
+  cut = rows.cut;
+  missed = missed_since new.held.repairs old.held.repairs.missed place;
+  stand = stand_after over;
+}
+
+-- after a line that begins at this offset, before which so many rows were damaged, and so many had a cut run: its row, or its
+-- fault
+abbrev pub rows_behind_line : RowState → Result (Unit {0}) DecodeError → ℕ → ℕ → ℕ → Repairs → RowState
+rows_behind_line rows (Ok x) place damaged cut repairs = record {
+  started_at = place;
+  damage = damage_since repairs damaged;
+  cut = cut_since repairs cut;
+  missed = rows.missed;
+  stand = Stand.BehindRow;
+}
+rows_behind_line rows (Err error) place damaged cut repairs = record {
+  started_at = place;
+  damage = rows.damage;
+  cut = rows.cut;
+  missed = rows.missed;
+  stand = Stand.AtFault error;
+}
+
+-- What a call leaves that passes the gap here, which begins at this offset of the data: what is kept after it, and whatever bits
+-- follow, if they change nothing of the gap, that it is passed (T.4, 4.1.2 and 4.1.4; T.6, 2.4.1.1).
+pub record PassesGapHere (gap_start : ℕ) (rows kept : RowState) (old new : Context) (before after : BitsAt)
+    (answer : Result Bool DecodeError) : Type 0 where
+  pub over : Result Bool DecodeError
+  pub said : answer ≡ line_after over
+  pub kept_is : kept ≡ rows_behind_gap rows over gap_start old new
+  pub passes : (more : Bits)
+      → (more ≡ []) ⊎ (gap_is_settled old.held.settings old.held.taken old.held.has_eols (here before) ≡ true)
+      → PassesGap old new over (here before ++ more) (here after ++ more)
+  pub begun : before.place ≤ length before.bits
+  pub within : after.place ≤ length after.bits
+  pub same_bits : after.bits ≡ before.bits
+  pub put_back : OnErr over (here after ≡ here before)
+  pub space : new.space ≡ old.space

@@ -82,7 +82,7 @@ module _ (from : ℕ) (settings : DecodeSettings) (wide : 0 < settings.columns) 
       → IfOk answer (λ over. over ≡ true → last.has_eols ≡ held.has_eols)
       → OnOk answer (last.has_eols ≡ held.has_eols
       → now + 4 * length next ≤ ticks + 4 * length rest + tag_tests settings.encoding + looked_ahead settings.encoding next)
-      → OnOk answer (last.has_eols ≢ held.has_eols → now ≤ ticks + 2 * length rest) → OnErr answer (now ≡ ticks + looked rest)
+      → OnOk answer (last.has_eols ≢ held.has_eols → now ≤ ticks + 2 * length rest) → OnErr answer (now ≤ ticks + looked rest)
       → IsPaid from (stand_after answer) settings bits last place now
   gap_paid (Ok true) said over kept given_up refused =
       let at = behind.at_line in
