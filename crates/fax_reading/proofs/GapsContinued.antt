@@ -1,1 +1,3 @@
 pub mod ContinuedEols
+pub mod ContinuedTags
+pub mod SettledGaps

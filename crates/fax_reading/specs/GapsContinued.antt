@@ -9,7 +9,9 @@ use Rattle.fax_bits.specs.declared.error.DecodeError.{DecodeError}
 use Rattle.fax_bits.specs.declared.settings.DecodeSettings.{DecodeSettings}
 use Rattle.fax_bits.specs.declared.settings.EncodingMode.{EncodingMode}
 use Rattle.fax_bits.specs.declared.settings.EncodingMode.TheVariants.{Group4, Group3_1D, Group3_2D}
-use Rattle.fax_reading.specs.PlainReading.{Gap, Move, Progress, Ending, eols_here, gap_behind_row, misses_eol, first_gap}
+use Rattle.fax_reading.specs.Context.{Held}
+use Rattle.fax_reading.specs.Decoding.{repairs_behind}
+use Rattle.fax_reading.specs.PlainReading.{Gap, Move, eols_here, gap_behind_row, misses_eol, first_gap}
 
 -- ---- The same, with more bits behind (T.4, 4.1.2; T.6, 2.4.1.1)
 
@@ -81,3 +83,26 @@ abbrev pub first_gap_is_settled : EncodingMode → DecodeSettings → Bits → B
 first_gap_is_settled Group4 settings bits = gap_is_settled settings 0 false bits
 first_gap_is_settled Group3_1D settings bits = holds_one (all_eols bits).1
 first_gap_is_settled Group3_2D settings bits = holds_one (all_eols bits).1
+
+-- ---- The law
+
+-- The gap here passes the test exactly if it is the same whatever bits follow. Then whether it misses an EOL is the same
+-- too, and so is what is counted of it. Behind a gap that doesn't pass whole bytes can come that change it. So it is with the
+-- first gap of the data (T.4, 4.1.2 and 4.1.4; T.6, 2.4.1.1).
+pub record GapsSettle : Type 0 where
+  pub gaps : (settings : DecodeSettings) (taken : ℕ) (has_eols : Bool) (here : Bits)
+      → (gap_is_settled settings taken has_eols here ≡ true) ↔ GapIsSettled settings taken has_eols here
+  pub missed : (settings : DecodeSettings) (taken : ℕ) (has_eols : Bool) (here more : Bits)
+      → gap_is_settled settings taken has_eols here ≡ true
+      → misses_eol settings taken has_eols (here ++ more) ≡ misses_eol settings taken has_eols here
+  pub counted : (held : Held) (here more : Bits) → gap_is_settled held.settings held.taken held.has_eols here ≡ true
+      → repairs_behind held (here ++ more) ≡ repairs_behind held here
+  pub bytes : (settings : DecodeSettings) (taken : ℕ) (has_eols : Bool) (here : Bits)
+      → gap_is_settled settings taken has_eols here ≡ false
+      → (more : Bits) × AreWholeBytes more × (gap_behind_row settings taken has_eols (here ++ more)
+      ≢ gap_before more (gap_behind_row settings taken has_eols here))
+  pub first : (settings : DecodeSettings) (bits : Bits)
+      → (first_gap_is_settled settings.encoding settings bits ≡ true) ↔ FirstGapIsSettled settings bits
+  pub first_bytes : (settings : DecodeSettings) (bits : Bits) → first_gap_is_settled settings.encoding settings bits ≡ false
+      → (more : Bits) × AreWholeBytes more × (first_gap settings.encoding settings (bits ++ more)
+      ≢ move_before more (first_gap settings.encoding settings bits))

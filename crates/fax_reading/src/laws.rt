@@ -13,6 +13,7 @@ ghost use Rattle.fax_reading.specs.Laws.{ReadsLimitedRowsT4};
 ghost use Rattle.fax_reading.specs.Laws.{AfterEofb, PicturesComeToEofb, OnePictureT6, OnePictureT4};
 ghost use Rattle.fax_reading.specs.Laws.{EveryPictureHasAnEncoding, BytesBeginWithAnyBits, BitsOfBytesAreWhole, OrdersMirror};
 ghost use Rattle.fax_reading.specs.Laws.{RowsOfChanges, ChangesOfRows};
+ghost use Rattle.fax_reading.specs.GapsContinued.{GapsSettle};
 ghost use Rattle.fax_reading.specs.Locality.{LinesByEols, StartsAre, Locality, LocalByTests};
 ghost use Rattle.fax_reading.specs.LocalityByK.{LocalityByK, EncodedLinesAreBodies};
 ghost use Rattle.fax_reading.specs.RowsKept.{RowsBefore, RowsBehind};
@@ -138,6 +139,14 @@ pub fn rows_before()
 /// `hayro_ccitt::in_step_from` finds where.
 pub fn rows_behind()
     ensures { RowsBehind }
+{}
+
+/// `gap_is_settled` tests the bits that are known behind a row: it says exactly whether the gap there is the same whatever bits
+/// follow. Then whether an EOL is missed is the same too, and so is what is counted of it. Where the test fails, whole bytes
+/// can follow that change the gap. `first_gap_is_settled` says so of the first gap of the data (T.4, 4.1.2 and 4.1.4; T.6,
+/// 2.4.1.1).
+pub fn gaps_settle()
+    ensures { GapsSettle }
 {}
 
 /// Lawful lists of changes and rows of pixels correspond one to one (T.4, 4.2.1.1).

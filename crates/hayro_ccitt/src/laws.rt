@@ -6,7 +6,7 @@ ghost use Rattle.hayro_ccitt.specs.Laws.{StepsOnRows};
 use crate::Decoder;
 pub use fax_reading::laws::{
     after_eofb, bits_of_bytes, changes_are_rows, code_reading, code_words,
-    every_picture_has_an_encoding, lines_by_eols, locality, locality_by_k, no_damage, one_picture,
+    every_picture_has_an_encoding, gaps_settle, lines_by_eols, locality, locality_by_k, no_damage, one_picture,
     pictures, row_limit, rows_before, rows_behind, strict_then_lenient, synchronised, t4_pictures,
     t6_pictures,
 };

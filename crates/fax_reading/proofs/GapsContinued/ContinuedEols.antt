@@ -1,5 +1,5 @@
 -- EOLs with more bits behind.
-use Rattle.fax_reading.proofs.Names.{◌≡◌, ℕ, zero, suc, ◌+◌, ◌<◌, ◌≤◌, Bool, true, false, cond, leb, [], ◌∷◌, ◌++◌, length}
+use Rattle.fax_reading.proofs.Names.{◌≡◌, ℕ, zero, suc, ◌<◌, ◌≤◌, Bool, true, false, cond, leb, [], ◌∷◌, ◌++◌, length}
 use Rattle.fax_reading.proofs.Names.{Option, Some, None, refl, sym, ap, ◌∙◌, ◌⊎◌, inl, inr, arith, length-append, Bits}
 use Rattle.fax_reading.proofs.Names.{after_eol, one_more, eols, all_eols, next_eol}
 use Rattle.fax_reading.specs.GapsContinued.{holds_one}
@@ -13,10 +13,11 @@ then_more more (Some rest) = Some (rest ++ more)
 
 -- a count of EOLs, with more bits behind
 abbrev pub count_then_more : Bits → ℕ × Bits → ℕ × Bits
-count_then_more more (count, rest) = (count, rest ++ more)
+count_then_more more found = (found.0, found.1 ++ more)
 
 -- one EOL more makes no difference to the bits behind
-pub one_then_more : (more : Bits) (found : ℕ × Bits) → one_more (count_then_more more found) ≡ count_then_more more (one_more found)
+pub one_then_more : (more : Bits) (found : ℕ × Bits)
+    → one_more (count_then_more more found) ≡ count_then_more more (one_more found)
 one_then_more more (count, rest) = refl
 
 -- ---- One EOL
@@ -117,17 +118,18 @@ next_eol_may_come (bit ∷ here) e = by_after_eol (next_eol_may_come here) (afte
 -- ---- Consecutive EOLs without tags
 -- as many as were sought are settled, and so are those before a one
 pub eols-more : (more : Bits) (most : ℕ) (here : Bits)
-    → ((eols most here).0 ≡ most) ⊎ (holds_one (eols most here).1 ≡ true)
+    → (most ≤ (eols most here).0) ⊎ (holds_one (eols most here).1 ≡ true)
     → eols most (here ++ more) ≡ count_then_more more (eols most here)
 eols-more more zero here settled = refl
 eols-more more (suc most) here settled = by_after_eol (λ rest. eols-more more most rest) (after_eol 0 here) refl
   where
-    by_after_eol : ((rest : Bits) → ((eols most rest).0 ≡ most) ⊎ (holds_one (eols most rest).1 ≡ true)
+    by_after_eol : ((rest : Bits) → (most ≤ (eols most rest).0) ⊎ (holds_one (eols most rest).1 ≡ true)
         → eols most (rest ++ more) ≡ count_then_more more (eols most rest)) → (o : Option Bits) → after_eol 0 here ≡ o
         → eols (suc most) (here ++ more) ≡ count_then_more more (eols (suc most) here)
     by_after_eol on None e = elim settled [
-      | inl all ↦ absurd
-          (let none : (eols (suc most) here).0 ≡ 0 = ap (λ (found : ℕ × Bits). found.0) (eols-none (suc most) here e) in omega (arith, all, none))
+      | inl all ↦
+          let none : (eols (suc most) here).0 ≡ 0 = ap (λ (found : ℕ × Bits). found.0) (eols-none (suc most) here e) in
+          absurd (omega (arith, all, none))
       | inr one ↦
           let left : holds_one here ≡ true =
           sym (ap (λ (found : ℕ × Bits). holds_one found.1) (eols-none (suc most) here e)) ∙ one in
@@ -136,8 +138,10 @@ eols-more more (suc most) here settled = by_after_eol (λ rest. eols-more more m
     ]
     by_after_eol on (Some rest) e =
         let stepped : eols (suc most) here ≡ one_more (eols most rest) = eols-some most here rest e in
-        let inside : ((eols most rest).0 ≡ most) ⊎ (holds_one (eols most rest).1 ≡ true) = elim settled [
-          | inl all ↦ inl (let fewer : (eols (suc most) here).0 ≡ suc (eols most rest).0 = ap (λ (found : ℕ × Bits). found.0) stepped in omega (arith, all, fewer))
+        let inside : (most ≤ (eols most rest).0) ⊎ (holds_one (eols most rest).1 ≡ true) = elim settled [
+          | inl all ↦
+              let fewer : (eols (suc most) here).0 ≡ suc (eols most rest).0 = ap (λ (found : ℕ × Bits). found.0) stepped in
+              inl (omega (arith, all, fewer))
           | inr one ↦ inr (sym (ap (λ (found : ℕ × Bits). holds_one found.1) stepped) ∙ one)
         ] in
         eols-some most (here ++ more) (rest ++ more) (eol-more more here rest e) ∙ ap one_more (on rest inside)
