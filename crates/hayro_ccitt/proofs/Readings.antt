@@ -1,3 +1,4 @@
+pub mod FirstGaps
 pub mod GapsPassed
 pub mod LinesRead
 pub mod RowByRow

@@ -8,11 +8,11 @@ use Rattle.hayro_ccitt.specs.Answers.{HasBlack, IsFault, front_of}
 use Rattle.hayro_ccitt.specs.Bits.{AreWholeBytes, Bits, BitsAt, here}
 use Rattle.hayro_ccitt.specs.Context.{Context, Repairs, redrawn}
 use Rattle.hayro_ccitt.specs.Continuations.{is_short, misses_end}
-use Rattle.hayro_ccitt.specs.GapsContinued.{gap_is_settled}
+use Rattle.hayro_ccitt.specs.GapsContinued.{first_gap_is_settled, gap_is_settled}
 use Rattle.hayro_ccitt.specs.declared.row_reader.RowState.{RowState}
 use Rattle.hayro_ccitt.specs.declared.row_reader.Stand.{Stand}
 use Rattle.hayro_ccitt.specs.Decoding.{TakesOneRow, cut_since, damage_since, gap_said, missed_since, repairs_behind}
-use Rattle.hayro_ccitt.specs.RowsRead.{line_after, stand_after, start_after}
+use Rattle.hayro_ccitt.specs.RowsRead.{DamageIsCounted, IsPaid, ReaderStands, line_after, stand_after, start_after}
 use Rattle.hayro_ccitt.specs.PlainReading.{gap_behind_row, line_here, row_of_line}
 use Rattle.hayro_ccitt.specs.Rows.{changes}
 use Rattle.hayro_ccitt.specs.Space.{most_stored, room_for}
@@ -147,3 +147,16 @@ pub record PassesGapHere (gap_start : ℕ) (rows kept : RowState) (old new : Con
   pub same_bits : after.bits ≡ before.bits
   pub put_back : OnErr over (here after ≡ here before)
   pub space : new.space ≡ old.space
+
+-- What a call leaves that passes what is before the first line of the data, where these are its bits: where the reading stands,
+-- whatever bits follow, if they change nothing of it (T.4, 4.1.2; T.6, 2.4.1.1).
+pub record StandsFirst (stand : Stand) (old new : Context) (before after : BitsAt) : Type 0 where
+  pub stands : (more : Bits)
+      → (more ≡ []) ⊎ (first_gap_is_settled old.held.settings.encoding old.held.settings before.bits ≡ true)
+      → ReaderStands stand old.held.settings (before.bits ++ more) new.held after.place
+  pub damage : (more : Bits) → DamageIsCounted stand old.held.settings (before.bits ++ more) new.held
+  pub paid : (more : Bits)
+      → (more ≡ []) ⊎ (first_gap_is_settled old.held.settings.encoding old.held.settings before.bits ≡ true)
+      → IsPaid old.ticks stand old.held.settings (before.bits ++ more) new.held after.place new.ticks
+  pub within : after.place ≤ length after.bits
+  pub row : new.held.reference ≡ old.held.reference

@@ -15,7 +15,7 @@ ghost use Rattle.hayro_ccitt.specs.Decoding.{damage_since, cut_since, missed_sin
 ghost use Rattle.hayro_ccitt.specs.RowsRead.{ReachesNextLine};
 ghost use Rattle.hayro_ccitt.specs.RowsRead.{stand_after, line_after, is_at_line, at_end_of_rows, ended, seen, IsStanding};
 ghost use Rattle.hayro_ccitt.specs.PlainReading.{failed_at};
-ghost use Rattle.hayro_ccitt.specs.RowsTried.{PassesGapHere, rows_behind_line};
+ghost use Rattle.hayro_ccitt.specs.RowsTried.{PassesGapHere, StandsFirst, rows_behind_line};
 ghost use Rattle.hayro_ccitt.specs.RowsRead.{RepeatsWhite};
 ghost use Rattle.std.specs.Prelude.{drop, Ok};
 ghost use Rattle.hayro_ccitt.specs.RowsRead.{IsStandingAtLine, DamageIsCounted, ReadsNext, gaps_passed, row_came};
@@ -130,20 +130,23 @@ pub(crate) fn first_stand(ctx: &mut DecoderContext, reader: &mut BitReader<'_>) 
         → IsPaid from result ctx.old.held.settings reader.old.bits ctx.new.held reader.new.place ctx.new.ticks }
     ensures counts { ctx.old.ticks ≤ ctx.new.ticks }
     ensures no_eols { ctx.old.held.settings.encoding ≡ EncodingMode.Group4 → ctx.new.held.has_eols ≡ false }
+    ensures first { StandsFirst result ctx.old ctx.new reader.old reader.new }
     ensures space { ctx.new.space ≡ ctx.old.space }
 {
+    // An offset is known to be within the data once it is read.
+    let _start = reader.bit_pos();
     if ctx.settings().columns == 0 {
         return Stand::AtEnd;
     }
     match ctx.settings().encoding {
         EncodingMode::Group4 => {
             let over = pass_gap(ctx, reader);
-            // An offset is known to be within the data once it is read.
             let _place = reader.bit_pos();
             stand_after_gap(over)
         }
         EncodingMode::Group3_1D | EncodingMode::Group3_2D => {
             read_leading_eols(ctx, reader);
+            let _place = reader.bit_pos();
             Stand::AtLine
         }
     }

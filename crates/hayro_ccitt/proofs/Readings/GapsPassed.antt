@@ -7,6 +7,7 @@ use Rattle.hayro_ccitt.proofs.Names.{StandsBehindRow, DamageIsCounted, MissIsTol
 use Rattle.hayro_ccitt.proofs.Names.{words_of, looked, looked_ahead, ◌++◌, [], ◌∷◌, true, EncodingMode, Group3_1D, Group3_2D, Group4, gap_said}
 use Rattle.hayro_ccitt.proofs.Names.{◌⊎◌, inl, inr, append-nil, length-append, on_ok_weaker, ◌+◌, repairs_behind}
 use Rattle.hayro_ccitt.specs.GapsContinued.{GapIsSettled, gap_before, gap_is_settled}
+use Rattle.fax_reading.proofs.GapsContinued.SettledGaps.{gap_settled, repairs_behind-more}
 use Rattle.hayro_ccitt.proofs.{Readings.DamageCounted.repaired_behind, Work.CallsPaid.behind_row_paid, Work.CallsPaid.gap_paid}
 use Rattle.hayro_ccitt.proofs.Readings.RowByRow.{starts_behind, behind_row_stands, damage_stays, misses_behind_row, misses_passed}
 use Rattle.hayro_ccitt.proofs.Readings.RowByRow.{misses_after, miss_told, told_after, gap_stands, comes_to_line}
@@ -108,7 +109,7 @@ module _ (from : ℕ) (rows : RowState) (old new : Context) (bits : Bits) (place
 -- ---- A gap that no data that follows changes
 
 -- the bits that counting zeros examines are no fewer with more bits behind
-looked-more : (here more : Bits) → looked here ≤ looked (here ++ more)
+pub looked-more : (here more : Bits) → looked here ≤ looked (here ++ more)
 looked-more [] more = omega arith
 looked-more (false ∷ here) more = omega (arith, looked-more here more)
 looked-more (true ∷ here) more = omega arith
@@ -126,14 +127,6 @@ said-more more (Ok true) has_eols rest = refl
 said-more more (Ok false) has_eols rest = refl
 said-more more (Err e) has_eols rest = refl
 
-settled_gap : (settings : DecodeSettings) (taken : ℕ) (has_eols : Bool) (start : Bits)
-    → gap_is_settled settings taken has_eols start ≡ true → GapIsSettled settings taken has_eols start
-settled_gap settings taken has_eols start settled = ?
-
-settled_repairs : (held : Held) (start more : Bits) → gap_is_settled held.settings held.taken held.has_eols start ≡ true
-    → repairs_behind held (start ++ more) ≡ repairs_behind held start
-settled_repairs held start more settled = ?
-
 -- so a gap is passed also where more bits follow, if they change nothing of it
 pub gap_goes_on : (old new : Context) (over : Result Bool DecodeError) (start rest more : Bits)
     → (more ≡ []) ⊎ (gap_is_settled old.held.settings old.held.taken old.held.has_eols start ≡ true)
@@ -145,10 +138,10 @@ gap_goes_on old new over start rest more (inl none) passes =
 gap_goes_on old new over start rest more (inr settled) passes =
     let held = old.held in
     record {
-      gap = settled_gap held.settings held.taken held.has_eols start settled more ∙ ap (gap_before more) passes.gap
+      gap = gap_settled held.settings held.taken held.has_eols start settled more ∙ ap (gap_before more) passes.gap
           ∙ said-more more over new.held.has_eols rest;
       held = passes.held;
-      missed = passes.missed ∙ sym (settled_repairs held start more settled);
+      missed = passes.missed ∙ sym (repairs_behind-more held start more settled);
       given_up = passes.given_up;
       only_code = passes.only_code;
       unchanged = passes.unchanged;
