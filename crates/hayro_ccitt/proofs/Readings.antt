@@ -3,6 +3,7 @@ pub mod GapsPassed
 pub mod LinesRead
 pub mod RowByRow
 pub mod RowsAgain
+pub mod RowsFed
 pub mod RowsPushed
 pub mod RowsTried
 pub use Rattle.fax_bits.proofs.Repetition.Gathered

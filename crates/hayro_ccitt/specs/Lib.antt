@@ -3,6 +3,7 @@ pub mod Contract
 pub mod DrawnModes
 pub mod Lending
 pub mod RowCursors
+pub mod RowFeeds
 pub mod RowsRead
 pub mod RowsTried
 pub mod TwoRunsHere

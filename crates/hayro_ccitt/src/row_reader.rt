@@ -102,7 +102,7 @@ fn missed_since(ctx: &DecoderContext, missed_eols: u64, gap_start: usize) -> Opt
 }
 
 /// Returns whether there is a line here.
-fn is_at_line(stand: Stand) -> bool
+pub(crate) fn is_at_line(stand: Stand) -> bool
     ensures { result ≡ is_at_line stand }
 {
     matches!(&stand, Stand::AtLine)
@@ -235,7 +235,7 @@ impl RowState {
     /// Notes what came of the line that begins at this offset: its row, or its fault. Before it this many rows were damaged, and
     /// this many had a cut run.
     #[inline(always)]
-    fn note_line(
+    pub(crate) fn note_line(
         &mut self,
         ctx: &DecoderContext,
         row: &Result<()>,

@@ -436,7 +436,7 @@ pub(crate) fn try_row(
     reader: &mut BitReader<'_>,
     is_last: bool,
 ) -> Result<bool>
-    requires rows { ctx.old.held.taken ≤ length reader.old.bits + 1 }
+    requires rows { ctx.old.held.taken + 1 < 2 ^ 64 }
     requires damaged { ctx.old.held.repairs.rows ≤ ctx.old.held.taken }
     requires begun { ctx.old.held.front ≡ [] }
     ensures row { TriesRow is_last ctx.old ctx.new result reader.old reader.new }
