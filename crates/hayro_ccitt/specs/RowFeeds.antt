@@ -1,6 +1,7 @@
 -- Rows from data that comes in pieces: what is kept of it, what is seen of a reading, and which data it is a reading of.
-use Rattle.std.specs.Prelude.{◌≡◌, ◌≢◌, ◌≤◌, ◌<◌, ◌+◌, ◌*◌, ◌^◌, ℕ, Bool, true, false, ◌++◌, not, drop, length, Option, None, Some, Result, Ok, Err, IfErr}
+use Rattle.std.specs.Prelude.{◌≡◌, ◌≢◌, ◌≤◌, ◌<◌, ◌+◌, ◌*◌, ◌^◌, ℕ, Bool, true, false, ◌++◌, [], not, max, drop, length, Option, None, Some, Result, Ok, Err, IfErr}
 use Rattle.fax_bits.specs.declared.bit_reader.BitOrder.{BitOrder}
+use Rattle.fax_bits.specs.declared.codes.Color.TheVariants.{White}
 use Rattle.fax_bits.specs.declared.error.DecodeError.{DecodeError}
 use Rattle.fax_bits.specs.declared.error.DecodeError.TheVariants.{OutOfMemory}
 use Rattle.hayro_ccitt.specs.declared.row_feed.Fed.{Fed}
@@ -10,7 +11,7 @@ use Rattle.hayro_ccitt.specs.declared.row_reader.Stand.{Stand}
 use Rattle.hayro_ccitt.specs.declared.row_reader.Stand.TheVariants.{AtLine, BehindRow, AtEnd, AtFault}
 use Rattle.hayro_ccitt.specs.Answers.{HasBlack, IsFault, front_of}
 use Rattle.hayro_ccitt.specs.Bits.{Bits, BitsAt, bits_in, here}
-use Rattle.hayro_ccitt.specs.Context.{Context, fresh}
+use Rattle.hayro_ccitt.specs.Context.{Context, fresh, redrawn}
 use Rattle.hayro_ccitt.specs.Continuations.{is_short}
 use Rattle.hayro_ccitt.specs.GapsContinued.{first_gap_is_settled, gap_is_settled}
 use Rattle.hayro_ccitt.specs.PlainReading.{line_here}
@@ -182,3 +183,60 @@ is_left (Err error) = no_memory error
 abbrev pub line_answer : Result Bool DecodeError → Result (Unit {0}) DecodeError
 line_answer (Ok read) = Ok tt
 line_answer (Err error) = Err error
+
+-- what no step changes: the order and the bits kept, how many came before them, and whether the data is finished
+pub record KeepsBits (old new : Feeding) : Type 0 where
+  pub order : new.order ≡ old.order
+  pub finished : new.finished ≡ old.finished
+  pub kept : new.kept ≡ old.kept
+  pub dropped : new.dropped ≡ old.dropped
+
+-- how a reading goes on behind what is before its first line
+abbrev pub line_first : Stand → Result Bool DecodeError
+line_first AtLine = Ok true
+line_first BehindRow = Ok true
+line_first AtEnd = Ok false
+line_first (AtFault error) = Err error
+
+-- what is before the first line is passed, if no data that follows can change it
+pub record Begins (old new : Feeding) (answer : Bool) : Type 0 where
+  pub extra : ℕ
+  pub keeps : KeepsBits old new
+  pub begun : new.begun ≡ answer
+  pub space : new.ctx.space ≡ old.ctx.space
+  pub waits : answer ≡ false → (new.ctx.held ≡ old.ctx.held) × (new.ctx.ticks ≡ old.ctx.ticks + extra) × (new.rows ≡ old.rows)
+      × (new.place ≡ old.place) × (old.finished ≡ false)
+      × (first_gap_is_settled old.ctx.held.settings.encoding old.ctx.held.settings old.kept ≡ false)
+  pub passes : (whole : Bits) (tried : ℕ) → answer ≡ true → IsFeedOf whole tried old
+      → ReachesNextLine (fed_over whole old) (fed_over whole new) (line_first new.rows.stand)
+  pub stands : (whole : Bits) (tried : ℕ) → answer ≡ true → IsFeedOf whole tried old → IsFeedOf whole (tried + extra) new
+
+-- so is the gap before the next line
+pub record ComesInFeed (old new : Feeding) (answer : Result (Option Bool) DecodeError) : Type 0 where
+  pub extra : ℕ
+  pub keeps : KeepsBits old new
+  pub begun : new.begun ≡ true
+  pub space : new.ctx.space ≡ old.ctx.space
+  pub waits : answer ≡ Ok None → (new.ctx.held ≡ old.ctx.held) × (new.ctx.ticks ≡ old.ctx.ticks + extra) × (new.rows ≡ old.rows)
+      × (new.place ≡ old.place) × (old.finished ≡ false) × (is_at_line old.rows.stand ≡ false)
+      × (gap_is_settled old.ctx.held.settings old.ctx.held.taken old.ctx.held.has_eols (drop old.place old.kept) ≡ false)
+  pub comes : (whole : Bits) (tried : ℕ) → answer ≢ Ok None → IsFeedOf whole tried old
+      → ReachesNextLine (fed_over whole old) (fed_over whole new) (came answer)
+  pub stands : (whole : Bits) (tried : ℕ) → answer ≢ Ok None → IsFeedOf whole tried old → IsFeedOf whole (tried + extra) new
+  pub line : answer ≡ Ok (Some true) → is_at_line new.rows.stand ≡ true
+
+-- and the line here is read
+pub record ReadsInFeed (old new : Feeding) (answer : Result Bool DecodeError) : Type 0 where
+  pub extra : ℕ
+  pub keeps : KeepsBits old new
+  pub begun : new.begun ≡ true
+  pub left : IsLeft answer → (new.rows ≡ old.rows) × (new.place ≡ old.place) × (new.ctx.held ≡ redrawn old.ctx.held [] White)
+      × (new.ctx.ticks ≡ old.ctx.ticks + extra)
+  pub unsettled : answer ≡ Ok false → (old.finished ≡ false)
+      × (is_short (line_here new.ctx.held.settings new.ctx.held.reference (drop old.place old.kept)) ≡ true)
+  pub memory : answer ≡ Err OutOfMemory
+      → HasBlack (front_of (line_here new.ctx.held.settings new.ctx.held.reference (drop old.place old.kept)))
+  pub reads : (whole : Bits) (tried : ℕ) → (IsLeft answer → ⊥) → IsFeedOf whole tried old
+      → ReadsNext (fed_over whole old) (fed_over whole new) answer
+  pub stands : (whole : Bits) (tried : ℕ) → IsFeedOf whole tried old → IsFeedOf whole (tried + extra) new
+  pub most : new.ctx.space ≤ max old.ctx.space (2 * old.ctx.held.settings.columns + 66)

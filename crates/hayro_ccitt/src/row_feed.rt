@@ -5,9 +5,9 @@ ghost use Rattle.std.specs.Prelude.{IfOk, IfErr, OnErr, OnOk, IsOkUnless, Result
 ghost use Rattle.hayro_ccitt.specs.Bits.{AreWholeBytes, Bits, bits_in, here};
 ghost use Rattle.hayro_ccitt.specs.Context.{fresh};
 ghost use Rattle.hayro_ccitt.specs.GapsContinued.{first_gap_is_settled, gap_is_settled};
-ghost use Rattle.hayro_ccitt.specs.RowsRead.{at_end_of_rows, ended};
+ghost use Rattle.hayro_ccitt.specs.RowsRead.{at_end_of_rows, ended, is_at_line};
 ghost use Rattle.hayro_ccitt.specs.RowsTried.{IsLeft};
-ghost use Rattle.hayro_ccitt.specs.RowFeeds.{ComesOn, FeedsNext, IsFeedOf, TriesLine, is_left, line_answer, some_line};
+ghost use Rattle.hayro_ccitt.specs.RowFeeds.{Begins, ComesInFeed, ReadsInFeed, ComesOn, FeedsNext, IsFeedOf, TriesLine, is_left, line_answer, some_line};
 ghost use Rattle.hayro_ccitt.specs.Rows.{changes};
 
 use crate::context::DecoderContext;
@@ -199,5 +199,54 @@ impl RowFeed {
             dropped: 0,
             place: 0,
         })
+    }
+
+    /// Passes what is before the first line, if no data that follows can change it, and returns whether it was passed.
+    fn begin(&mut self) -> bool
+        requires { self.old.begun ≡ false }
+        ensures { Begins self.old self.new result }
+    {
+        let mut reader = placed_at(&self.data, self.order, self.place);
+        if front_waits(&mut self.ctx, &reader, self.is_last) {
+            return false;
+        }
+        self.rows.stand = first_stand(&mut self.ctx, &mut reader);
+        self.place = reader.bit_pos();
+        self.begun = true;
+        true
+    }
+
+    /// Passes the gap before the next line, if no data that follows can change it. Returns whether there is a line after it,
+    /// or `None` if more data is needed.
+    fn come_to_line(&mut self) -> Result<Option<bool>>
+        requires begun { self.old.begun ≡ true }
+        requires unended { ended self.old.rows.stand ≡ None }
+        ensures { ComesInFeed self.old self.new result }
+    {
+        let mut reader = placed_at(&self.data, self.order, self.place);
+        let gap_start = self.dropped + self.place;
+        let line = self
+            .rows
+            .come_to_settled_line(&mut self.ctx, &mut reader, self.is_last, gap_start);
+        self.place = reader.bit_pos();
+        line
+    }
+
+    /// Reads the line here, if no data that follows can change it, and returns whether it was read.
+    fn read_line(&mut self) -> Result<bool>
+        requires begun { self.old.begun ≡ true }
+        requires rows { self.old.ctx.held.taken + 1 < 2 ^ 64 }
+        requires damaged { self.old.ctx.held.repairs.rows ≤ self.old.ctx.held.taken }
+        requires line { is_at_line self.old.rows.stand ≡ true }
+        ensures { ReadsInFeed self.old self.new result }
+    {
+        let mut reader = placed_at(&self.data, self.order, self.place);
+        let line_start = self.dropped + self.place;
+        self.ctx.begin_line();
+        let row = self
+            .rows
+            .try_line(&mut self.ctx, &mut reader, self.is_last, line_start);
+        self.place = reader.bit_pos();
+        row
     }
 }

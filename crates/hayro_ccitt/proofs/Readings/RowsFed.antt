@@ -281,3 +281,8 @@ module _ (is_last : Bool) (line_start : ℕ) (rows kept : RowState) (old new : C
       (seen r new (record { bits = whole; place = dropped + after.place })) (row_came (line_answer answer))) (sym kept_is)
       (line_is_next from rows old new whole line_start (dropped + after.place) line_begins line_within at (line_answer answer)
       line_reads))
+
+pub none_read : (r : Result Bool DecodeError) → IsLeft r → r ≢ Ok true
+none_read (Ok true) left e = absurd cc
+none_read (Ok false) left e = cc
+none_read (Err error) left e = cc
