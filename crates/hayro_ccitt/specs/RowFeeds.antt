@@ -230,8 +230,8 @@ pub record ReadsInFeed (old new : Feeding) (answer : Result Bool DecodeError) : 
   pub extra : ℕ
   pub keeps : KeepsBits old new
   pub begun : new.begun ≡ true
+  pub counts : old.ctx.ticks ≤ new.ctx.ticks
   pub left : IsLeft answer → (new.rows ≡ old.rows) × (new.place ≡ old.place) × (new.ctx.held ≡ redrawn old.ctx.held [] White)
-      × (new.ctx.ticks ≡ old.ctx.ticks + extra)
   pub unsettled : answer ≡ Ok false → (old.finished ≡ false)
       × (is_short (line_here new.ctx.held.settings new.ctx.held.reference (drop old.place old.kept)) ≡ true)
   pub memory : answer ≡ Err OutOfMemory
