@@ -3,7 +3,7 @@ use Rattle.std.specs.Prelude.{◌≡◌, ◌≢◌, ◌≤◌, ◌<◌, ◌+◌,
 use Rattle.fax_bits.specs.declared.bit_reader.BitOrder.{BitOrder}
 use Rattle.fax_bits.specs.declared.codes.Color.TheVariants.{White}
 use Rattle.fax_bits.specs.declared.error.DecodeError.{DecodeError}
-use Rattle.fax_bits.specs.declared.error.DecodeError.TheVariants.{OutOfMemory}
+use Rattle.fax_bits.specs.declared.error.DecodeError.TheVariants.{InvalidCode, OutOfMemory}
 use Rattle.hayro_ccitt.specs.declared.row_feed.Fed.{Fed}
 use Rattle.hayro_ccitt.specs.declared.row_feed.RowFeed.TheInside.{Inside}
 use Rattle.hayro_ccitt.specs.declared.row_reader.RowState.{RowState}
@@ -154,6 +154,7 @@ pub record ComesOn (is_last : Bool) (gap_start : ℕ) (rows kept : RowState) (ol
       → gap_start ≡ dropped + before.place → IsStanding from rows old (record { bits = whole; place = gap_start })
       → IsStanding (from + extra) kept new (record { bits = whole; place = dropped + after.place })
   pub line : answer ≡ Ok (Some true) → is_at_line kept.stand ≡ true
+  pub only_code : IfErr answer (λ e. e ≡ InvalidCode)
 
 -- the line here is read, unless data that follows can change it
 pub record TriesLine (is_last : Bool) (line_start : ℕ) (rows kept : RowState) (old new : Context) (before after : BitsAt)
@@ -209,7 +210,7 @@ pub record Begins (old new : Feeding) (answer : Bool) : Type 0 where
       × (first_gap_is_settled old.ctx.held.settings.encoding old.ctx.held.settings old.kept ≡ false)
   pub passes : (whole : Bits) (tried : ℕ) → answer ≡ true → IsFeedOf whole tried old
       → ReachesNextLine (fed_over whole old) (fed_over whole new) (line_first new.rows.stand)
-  pub stands : (whole : Bits) (tried : ℕ) → answer ≡ true → IsFeedOf whole tried old → IsFeedOf whole (tried + extra) new
+  pub stands : (whole : Bits) (tried : ℕ) → IsFeedOf whole tried old → IsFeedOf whole (tried + extra) new
 
 -- so is the gap before the next line
 pub record ComesInFeed (old new : Feeding) (answer : Result (Option Bool) DecodeError) : Type 0 where
@@ -224,6 +225,8 @@ pub record ComesInFeed (old new : Feeding) (answer : Result (Option Bool) Decode
       → ReachesNextLine (fed_over whole old) (fed_over whole new) (came answer)
   pub stands : (whole : Bits) (tried : ℕ) → answer ≢ Ok None → IsFeedOf whole tried old → IsFeedOf whole (tried + extra) new
   pub line : answer ≡ Ok (Some true) → is_at_line new.rows.stand ≡ true
+  pub only_code : IfErr answer (λ e. e ≡ InvalidCode)
+  pub waiting : (whole : Bits) (tried : ℕ) → answer ≡ Ok None → IsFeedOf whole tried old → IsFeedOf whole (tried + extra) new
 
 -- and the line here is read
 pub record ReadsInFeed (old new : Feeding) (answer : Result Bool DecodeError) : Type 0 where
@@ -240,3 +243,15 @@ pub record ReadsInFeed (old new : Feeding) (answer : Result Bool DecodeError) : 
       → ReadsNext (fed_over whole old) (fed_over whole new) answer
   pub stands : (whole : Bits) (tried : ℕ) → IsFeedOf whole tried old → IsFeedOf whole (tried + extra) new
   pub most : new.ctx.space ≤ max old.ctx.space (2 * old.ctx.held.settings.columns + 66)
+
+-- what a call answers where a line was tried
+abbrev pub fed_row : Result Bool DecodeError → Result Fed DecodeError
+fed_row (Ok true) = Ok Fed.Row
+fed_row (Ok false) = Ok Fed.NeedsMore
+fed_row (Err error) = Err error
+
+-- what it answers where no line was reached
+abbrev pub fed_none : Result (Option Bool) DecodeError → Result Fed DecodeError
+fed_none (Ok None) = Ok Fed.NeedsMore
+fed_none (Ok (Some line)) = Ok Fed.End
+fed_none (Err error) = Err error

@@ -2,17 +2,20 @@
 use Rattle.hayro_ccitt.proofs.Names.{◌≡◌, ◌≢◌, ◌∙◌, ◌+◌, ◌-◌, ◌*◌, ◌≤◌, [], ℕ, Bool, true, false, Result, Ok, Err, None, Some, Option, refl, sym, ap, max}
 use Rattle.hayro_ccitt.proofs.Names.{subst, arith, length, drop, cond, Bits, BitsAt, Held, Context, DecodeError, White, redrawn, Line, front_of, here}
 use Rattle.hayro_ccitt.proofs.Names.{IsStanding, IsStandingAtLine, ReachesNextLine, ReadsNext, is_at_line, seen, line_here, most_stored, room_for}
-use Rattle.hayro_ccitt.proofs.Names.{DecodeSettings}
-use Rattle.hayro_ccitt.proofs.Readings.RowByRow.{at_line_stands, begun_is}
+use Rattle.hayro_ccitt.proofs.Names.{DecodeSettings, Stand, AtLine, BehindRow, AtEnd, AtFault, MissIsTold, missed_before, ended, is_some, ◌++◌, ◌⊎◌, inl, inr}
+use Rattle.hayro_ccitt.proofs.Names.{ReaderStands, DamageIsCounted, WorkIsPaid, IsPaid, HasEnded, HasFailed, sum_by, take, words_of, IfErr, IfOk, OnErr, failed_at, IfErr-weaker, RowsRead, IsFault, false≢true}
+use Rattle.hayro_ccitt.proofs.Readings.RowByRow.{at_line_stands, begun_is, reads_on}
 use Rattle.hayro_ccitt.proofs.Readings.RowsFed.{stands_later, left_is, left_not}
 use Rattle.hayro_ccitt.proofs.Work.RoomTaken.{row_enough}
 use Rattle.hayro_ccitt.specs.declared.row_reader.RowState.{RowState}
 use Rattle.hayro_ccitt.specs.Answers.{HasBlack}
 use Rattle.hayro_ccitt.specs.Continuations.{is_short}
-use Rattle.hayro_ccitt.specs.GapsContinued.{gap_is_settled}
-use Rattle.hayro_ccitt.specs.RowsTried.{IsLeft}
+use Rattle.hayro_ccitt.specs.GapsContinued.{first_gap_is_settled, gap_is_settled}
+use Rattle.hayro_ccitt.specs.RowsTried.{IsLeft, StandsFirst}
 use Rattle.hayro_ccitt.specs.RowFeeds.{ComesInFeed, ComesOn, Feeding, IsFeedOf, KeepsBits, LieIn, ReadsInFeed, StandsIn, TriesLine, came, fed_over}
-use Rattle.hayro_ccitt.specs.RowFeeds.{is_left}
+use Rattle.hayro_ccitt.specs.RowFeeds.{FeedsNext, IsAtFront, IsOpenAt, StaysThere, fed_none, fed_row, is_left, line_first}
+use Rattle.fax_bits.specs.declared.error.DecodeError.TheVariants.{InvalidCode, OutOfMemory}
+use Rattle.hayro_ccitt.specs.declared.row_feed.Fed.{Fed}
 
 module _ (old new : Feeding) (before after : BitsAt) (before_is : before ≡ record { bits = old.kept; place = old.place })
     (keeps : KeepsBits old new) (ends : new.place ≡ after.place) (begun : old.begun ≡ true) (still : new.begun ≡ true) where
@@ -74,6 +77,14 @@ module _ (old new : Feeding) (before after : BitsAt) (before_is : before ≡ rec
     stands = λ whole tried passed feed. stays_fed feed on.extra (on.stands tried whole old.dropped passed (lies feed) starts
         (stood feed));
     line = on.line;
+    only_code = on.only_code;
+    waiting = λ whole tried e feed.
+        let w = on.waits e in
+        stays_fed feed on.extra (subst (λ (b : BitsAt). IsStanding (tried + on.extra) new.rows new.ctx
+            (record { bits = whole; place = old.dropped + b.place })) (sym w.3)
+            (subst (λ (n : ℕ). IsStanding (tried + on.extra) new.rows new.ctx (record { bits = whole; place = n })) starts
+            (subst (λ (r : RowState). IsStanding (tried + on.extra) r new.ctx (record { bits = whole; place = at })) (sym w.2)
+            (stands_later tried on.extra old.rows old.ctx new.ctx (record { bits = whole; place = at }) w.0 w.1 (stood feed)))));
   }
 
   -- the line is read, or left
@@ -161,3 +172,375 @@ module _ (old new : Feeding) (before after : BitsAt) (before_is : before ≡ rec
       );
       counts = counted;
     }
+
+-- ---- What is before the first line
+
+-- nothing was missed before the first row
+none_missed : (stand : Stand) (settings : DecodeSettings) (bits : Bits) (taken : ℕ) → taken ≡ 0
+    → MissIsTold stand settings bits taken None
+none_missed AtLine settings bits taken none = sym (ap (missed_before settings bits) none)
+none_missed BehindRow settings bits taken none = tt
+none_missed AtEnd settings bits taken none = sym (ap (missed_before settings bits) none)
+none_missed (AtFault error) settings bits taken none = sym (ap (missed_before settings bits) none)
+
+module _ (old new : Feeding) (mid : Context) (before after : BitsAt) (stand : Stand) (more : ℕ)
+    (before_is : before ≡ record { bits = old.kept; place = old.place }) (keeps : KeepsBits old new)
+    (ends : new.place ≡ after.place) (still : new.begun ≡ true) (rows_are : new.rows ≡ record old.rows { stand = stand })
+    (same : mid.held ≡ old.ctx.held) (ticks : mid.ticks ≡ old.ctx.ticks + more)
+    (first : StandsFirst stand mid new.ctx before after) (none_taken : new.ctx.held.taken ≡ 0)
+    (settings_are : new.ctx.held.settings ≡ mid.held.settings) (counts : mid.ticks ≤ new.ctx.ticks)
+    (unfailed : (error : DecodeError) → ended stand ≢ Some (Err error))
+    (at_line : is_some (ended stand) ≡ false → is_at_line stand ≡ true)
+    (settled : (old.finished ≡ true)
+    ⊎ (first_gap_is_settled mid.held.settings.encoding mid.held.settings before.bits ≡ true))
+    {whole : Bits} {tried : ℕ} (feed : IsFeedOf whole tried old) (front : IsAtFront tried old.rows old.ctx (old.dropped + old.place)) where
+  abbrev lie : LieIn whole old.dropped old.finished old.kept
+  lie = feed.lie
+
+  none_dropped : old.dropped ≡ 0
+  none_dropped = omega (arith, front.start)
+
+  whole_is : whole ≡ before.bits ++ lie.more
+  whole_is = sym (ap (λ (n : ℕ). drop n whole) none_dropped) ∙ lie.bits
+      ∙ ap (λ (b : Bits). b ++ lie.more) (sym (ap (λ (b : BitsAt). b.bits) before_is))
+
+  changes_nothing : (old.finished ≡ true) ⊎ (first_gap_is_settled mid.held.settings.encoding mid.held.settings before.bits ≡ true)
+      → (lie.more ≡ []) ⊎ (first_gap_is_settled mid.held.settings.encoding mid.held.settings before.bits ≡ true)
+  changes_nothing (inl last) = inl (lie.can_come.none last)
+  changes_nothing (inr is) = inr is
+
+  front_ticks : mid.ticks ≡ tried + more
+  front_ticks = omega (arith, ticks, front.ticks)
+
+  front_standing : IsStanding (tried + more) (record { started_at = 0; damage = None; cut = false; missed = None; stand = stand })
+      new.ctx (record { bits = before.bits ++ lie.more; place = after.place })
+  front_standing = (
+    subst (λ (s : DecodeSettings). ReaderStands stand s (before.bits ++ lie.more) new.ctx.held after.place) (sym settings_are)
+        (first.stands lie.more (changes_nothing settled)),
+    subst (λ (s : DecodeSettings). DamageIsCounted stand s (before.bits ++ lie.more) new.ctx.held) (sym settings_are)
+        (first.damage lie.more),
+    subst (λ (n : ℕ). WorkIsPaid n stand new.ctx.held.settings (before.bits ++ lie.more) new.ctx.held after.place new.ctx.ticks)
+        front_ticks (record {
+          words = omega (arith, counts,
+              ap (λ (n : ℕ). sum_by length (take n (words_of new.ctx.held.settings (before.bits ++ lie.more)))) none_taken);
+          paid = subst (λ (s : DecodeSettings). IsPaid mid.ticks stand s (before.bits ++ lie.more) new.ctx.held after.place
+              new.ctx.ticks) (sym settings_are) (first.paid lie.more (changes_nothing settled));
+        }),
+    none_missed stand new.ctx.held.settings (before.bits ++ lie.more) new.ctx.held.taken none_taken,
+  )
+
+  rows_now : new.rows ≡ record { started_at = 0; damage = None; cut = false; missed = None; stand = stand }
+  rows_now = rows_are ∙ ap (λ (r : RowState). record r { stand = stand }) front.state
+
+  place_now : after.place ≡ new.dropped + new.place
+  place_now = omega (arith, none_dropped, keeps.dropped, ends)
+
+  front_stood : IsStanding (tried + more) new.rows new.ctx (record { bits = whole; place = new.dropped + new.place })
+  front_stood = subst (λ (r : RowState). IsStanding (tried + more) r new.ctx
+      (record { bits = whole; place = new.dropped + new.place })) (sym rows_now)
+      (subst (λ (n : ℕ). IsStanding (tried + more) (record { started_at = 0; damage = None; cut = false; missed = None; stand = stand })
+      new.ctx (record { bits = whole; place = n })) place_now
+      (subst (λ (b : Bits). IsStanding (tried + more) (record
+      { started_at = 0; damage = None; cut = false; missed = None; stand = stand }) new.ctx
+      (record { bits = b; place = after.place })) (sym whole_is) front_standing))
+
+  pub front_fed : IsFeedOf whole (tried + more) new
+  front_fed = record {
+    fit = feed.fit;
+    lie = subst (λ (n : ℕ). LieIn whole n new.finished new.kept) (sym keeps.dropped)
+        (subst (λ (b : Bool). LieIn whole old.dropped b new.kept) (sym keeps.finished)
+        (subst (λ (b : Bits). LieIn whole old.dropped old.finished b) (sym keeps.kept) feed.lie));
+    stands = subst (λ (b : Bool). StandsIn b (tried + more) new.rows new.ctx
+        (record { bits = whole; place = new.dropped + new.place })) (sym still) front_stood;
+  }
+
+  none_before : old.ctx.held.taken ≡ 0
+  none_before = ap (λ (h : Held). h.taken) front.fresh
+
+  same_settings : new.ctx.held.settings ≡ old.ctx.held.settings
+  same_settings = settings_are ∙ ap (λ (h : Held). h.settings) same
+
+  pub front_reaches : ReachesNextLine (fed_over whole old) (fed_over whole new) (line_first new.rows.stand)
+  front_reaches = subst (λ (r : RowState). ReachesNextLine (fed_over whole old)
+      (seen r new.ctx (record { bits = whole; place = new.dropped + new.place })) (line_first r.stand)) (sym rows_now)
+      (by_stand stand refl)
+    where
+      ended_there : (s : Stand) → stand ≡ s → line_first s ≡ Ok false → (ended s ≡ Some (Ok tt))
+          × HasEnded old.ctx.held.settings whole new.ctx.held.taken (new.dropped + new.place)
+      ended_there AtLine is e = absurd cc
+      ended_there BehindRow is e = absurd cc
+      ended_there AtEnd is e = (
+        refl,
+        subst (λ (s : DecodeSettings). HasEnded s whole new.ctx.held.taken (new.dropped + new.place)) same_settings
+            (subst (λ (s : Stand). ReaderStands s new.ctx.held.settings whole new.ctx.held (new.dropped + new.place))
+            (ap (λ (r : RowState). r.stand) rows_now ∙ is) front_stood.0).0,
+      )
+      ended_there (AtFault error) is e = absurd cc
+
+      line_there : (s : Stand) → stand ≡ s → line_first s ≡ Ok true → is_at_line s ≡ true
+      line_there AtLine is e = refl
+      line_there BehindRow is e = subst (λ (s : Stand). is_at_line s ≡ true) is (at_line (ap (λ (s : Stand). is_some (ended s)) is))
+      line_there AtEnd is e = absurd cc
+      line_there (AtFault error) is e = absurd cc
+
+      unended_there : (s : Stand) → line_first s ≡ Ok true → ended s ≡ None
+      unended_there AtLine e = refl
+      unended_there BehindRow e = refl
+      unended_there AtEnd e = absurd cc
+      unended_there (AtFault error) e = absurd cc
+
+      no_error : (s : Stand) → stand ≡ s → IfErr (line_first s)
+          (λ e. (ended stand ≡ Some (Err e)) × HasFailed old.ctx.held.settings whole new.ctx.held.taken e)
+      no_error AtLine is = tt
+      no_error BehindRow is = tt
+      no_error AtEnd is = tt
+      no_error (AtFault error) is = absurd (unfailed error (ap ended is))
+
+      no_fault_start : (s : Stand) → stand ≡ s
+          → OnErr (line_first s) (0 ≡ failed_at old.ctx.held.settings whole old.ctx.held.taken)
+      no_fault_start AtLine is = tt
+      no_fault_start BehindRow is = tt
+      no_fault_start AtEnd is = tt
+      no_fault_start (AtFault error) is = absurd (unfailed error (ap ended is))
+
+      in_either : (s : Stand) → IfOk (line_first s) (λ line. 0 ≡ old.rows.started_at)
+      in_either AtLine = sym (ap (λ (r : RowState). r.started_at) front.state)
+      in_either BehindRow = sym (ap (λ (r : RowState). r.started_at) front.state)
+      in_either AtEnd = sym (ap (λ (r : RowState). r.started_at) front.state)
+      in_either (AtFault error) = tt
+
+      by_stand : (s : Stand) → stand ≡ s → ReachesNextLine (fed_over whole old)
+          (seen (record { started_at = 0; damage = None; cut = false; missed = None; stand = stand }) new.ctx
+          (record { bits = whole; place = new.dropped + new.place })) (line_first stand)
+      by_stand s is = record {
+        settings = same_settings;
+        bits = refl;
+        counts = omega (arith, counts, ticks);
+        taken = none_taken ∙ sym none_before;
+        line = λ e. line_there stand refl e;
+        unended = λ e. unended_there stand e;
+        end = λ e. ended_there stand refl e;
+        error = no_error stand refl;
+        fault_start = no_fault_start stand refl;
+        missed = sym (ap (missed_before old.ctx.held.settings whole) none_before);
+        last = (first.row ∙ ap (λ (h : Held). h.reference) same, sym (ap (λ (r : RowState). r.damage) front.state),
+            sym (ap (λ (r : RowState). r.cut) front.state));
+        last_start = in_either stand;
+      }
+
+-- before the first line nothing has begun
+pub at_front : (begun : Bool) (tried : ℕ) (rows : RowState) (ctx : Context) (at : BitsAt) → begun ≡ false
+    → StandsIn begun tried rows ctx at → IsAtFront tried rows ctx at.place
+at_front begun tried rows ctx at none stands = subst (λ (b : Bool). StandsIn b tried rows ctx at) none stands
+
+-- ---- The steps of a call, one after the other
+
+-- where a gap leads to no line, no row is read
+pub none_behind : {old new : RowsRead} (answer : Result Bool DecodeError) → answer ≢ Ok true → ReachesNextLine old new answer
+    → ReadsNext old new answer
+none_behind (Ok true) other reached = absurd (other refl)
+none_behind (Ok false) other reached = record {
+  settings = reached.settings;
+  bits = reached.bits;
+  counts = reached.counts;
+  more = λ e. cc;
+  row = λ e. cc;
+  line_start = λ e. cc;
+  place = λ e. cc;
+  damage = λ e. cc;
+  cut = λ e. cc;
+  end = λ e. ((reached.end refl).0, reached.taken, (reached.end refl).1);
+  error = tt;
+  fault_start = λ unended. tt;
+  missed = reached.missed;
+  last = λ e. reached.last;
+  last_start = λ e. reached.last_start;
+}
+none_behind (Err error) other reached = record {
+  settings = reached.settings;
+  bits = reached.bits;
+  counts = reached.counts;
+  more = λ e. cc;
+  row = λ e. cc;
+  line_start = λ e. cc;
+  place = λ e. cc;
+  damage = λ e. cc;
+  cut = λ e. cc;
+  end = λ e. cc;
+  error = (reached.error.0, reached.taken, reached.error.1);
+  fault_start = λ unended. reached.fault_start;
+  missed = reached.missed;
+  last = λ e. reached.last;
+  last_start = λ e. cc;
+}
+
+-- a line was reached, and the call went on from there
+pub feeds_on : {whole : Bits} {tried : ℕ} (more : ℕ) {old mid new : Feeding} {answer : Result Fed DecodeError}
+    → ReachesNextLine (fed_over whole old) (fed_over whole mid) (Ok true) → FeedsNext whole (tried + more) mid new answer
+    → FeedsNext whole tried old new answer
+feeds_on {whole} {tried} more {old} {mid} {new} {answer} reached next = record {
+  row = λ e. reads_on (fed_over whole old) (fed_over whole mid) (fed_over whole new) (Ok true) reached (next.row e);
+  end = λ e. reads_on (fed_over whole old) (fed_over whole mid) (fed_over whole new) (Ok false) reached (next.end e);
+  fault = IfErr-weaker answer _ _ (λ e known fault.
+      reads_on (fed_over whole old) (fed_over whole mid) (fed_over whole new) (Err e) reached (known fault)) next.fault;
+  none = λ left.
+      let stays = next.none left in
+      record {
+        settings = stays.settings ∙ reached.settings;
+        bits = refl;
+        counts = omega (arith, stays.counts, reached.counts);
+        taken = stays.taken ∙ reached.taken;
+        row = stays.row ∙ reached.last.0;
+        damage = stays.damage ∙ reached.last.1;
+        cut = stays.cut ∙ reached.last.2;
+        line_start = stays.line_start ∙ reached.last_start;
+        unended = stays.unended;
+      };
+  unsettled = next.unsettled;
+  memory = next.memory;
+  extra = more + next.extra;
+  stands = let same : (tried + more) + next.extra ≡ tried + (more + next.extra) = omega arith in
+      subst (λ (n : ℕ). IsFeedOf whole n new) same next.stands;
+}
+
+-- at a line, and behind a row, nothing has ended
+at_line_unended : (stand : Stand) → is_at_line stand ≡ true → ended stand ≡ None
+at_line_unended AtLine is = refl
+at_line_unended BehindRow is = refl
+at_line_unended AtEnd is = absurd (false≢true is)
+at_line_unended (AtFault error) is = absurd (false≢true is)
+
+open_line : (begun : Bool) (stand : Stand) (ctx : Context) (next : Bits) → begun ≡ true → is_at_line stand ≡ true
+    → is_short (line_here ctx.held.settings ctx.held.reference next) ≡ true → IsOpenAt begun stand ctx next
+open_line false stand ctx next begun line short = absurd (false≢true begun)
+open_line true AtLine ctx next begun line short = short
+open_line true BehindRow ctx next begun line short = absurd (false≢true line)
+open_line true AtEnd ctx next begun line short = absurd (false≢true line)
+open_line true (AtFault error) ctx next begun line short = absurd (false≢true line)
+
+open_gap : (begun : Bool) (stand : Stand) (ctx : Context) (next : Bits) → begun ≡ true → is_at_line stand ≡ false → ended stand ≡ None
+    → gap_is_settled ctx.held.settings ctx.held.taken ctx.held.has_eols next ≡ false → IsOpenAt begun stand ctx next
+open_gap false stand ctx next begun line unended gap = absurd (false≢true begun)
+open_gap true AtLine ctx next begun line unended gap = absurd (false≢true (sym line))
+open_gap true BehindRow ctx next begun line unended gap = gap
+open_gap true AtEnd ctx next begun line unended gap = absurd cc
+open_gap true (AtFault error) ctx next begun line unended gap = absurd cc
+
+-- a line that is left changes nothing
+line_left : {whole : Bits} {old new : Feeding} (answer : Result Bool DecodeError) → ReadsInFeed old new answer → IsLeft answer
+    → is_at_line old.rows.stand ≡ true → StaysThere (fed_over whole old) (fed_over whole new)
+line_left {whole} {old} {new} answer reads left line =
+    let stays = reads.left left in
+    record {
+      settings = ap (λ (h : Held). h.settings) stays.2;
+      bits = refl;
+      counts = reads.counts;
+      taken = ap (λ (h : Held). h.taken) stays.2;
+      row = ap (λ (h : Held). h.reference) stays.2;
+      damage = ap (λ (r : RowState). r.damage) stays.0;
+      cut = ap (λ (r : RowState). r.cut) stays.0;
+      line_start = ap (λ (r : RowState). r.started_at) stays.0;
+      unended = ap (λ (r : RowState). ended r.stand) stays.0 ∙ at_line_unended old.rows.stand line;
+    }
+
+next_is : {old new : Feeding} → KeepsBits old new → new.place ≡ old.place → drop old.place old.kept ≡ drop new.place new.kept
+next_is {old} {new} keeps place = ap (λ (n : ℕ). drop n old.kept) (sym place) ∙ ap (drop new.place) (sym keeps.kept)
+
+-- the line is read, or left
+pub line_feeds : {whole : Bits} {tried : ℕ} {old new : Feeding} (answer : Result Bool DecodeError) → ReadsInFeed old new answer
+    → old.begun ≡ true → is_at_line old.rows.stand ≡ true → IsFeedOf whole tried old → FeedsNext whole tried old new (fed_row answer)
+line_feeds {whole} {tried} {old} {new} (Ok true) reads begun line feed = record {
+  row = λ e. reads.reads whole tried (λ left. cc) feed;
+  end = λ e. cc;
+  fault = tt;
+  none = λ left. cc;
+  unsettled = λ e. cc;
+  memory = λ e. cc;
+  extra = reads.extra;
+  stands = reads.stands whole tried feed;
+}
+line_feeds {whole} {tried} {old} {new} (Ok false) reads begun line feed = record {
+  row = λ e. cc;
+  end = λ e. cc;
+  fault = tt;
+  none = λ left. line_left (Ok false) reads refl line;
+  unsettled = λ e. (
+    reads.keeps.finished ∙ (reads.unsettled refl).0,
+    open_line new.begun new.rows.stand new.ctx (drop new.place new.kept) reads.begun
+        (ap (λ (r : RowState). is_at_line r.stand) (reads.left refl).0 ∙ line)
+        (ap (λ (b : Bits). is_short (line_here new.ctx.held.settings new.ctx.held.reference b))
+        (sym (next_is reads.keeps (reads.left refl).1)) ∙ (reads.unsettled refl).1),
+  );
+  memory = λ e. cc;
+  extra = reads.extra;
+  stands = reads.stands whole tried feed;
+}
+line_feeds {whole} {tried} {old} {new} (Err error) reads begun line feed = record {
+  row = λ e. cc;
+  end = λ e. cc;
+  fault = λ fault. reads.reads whole tried (λ left. subst IsFault left fault) feed;
+  none = λ left. line_left (Err error) reads left line;
+  unsettled = λ e. cc;
+  memory = λ e.
+      let is : error ≡ OutOfMemory = cc in
+      subst (λ (b : Bits). HasBlack (front_of (line_here new.ctx.held.settings new.ctx.held.reference b)))
+      (next_is reads.keeps (reads.left is).1) (reads.memory (ap (λ (x : DecodeError). Err x) is));
+  extra = reads.extra;
+  stands = reads.stands whole tried feed;
+}
+
+-- no line is reached: more data is needed, or it is the end
+pub gap_feeds : {whole : Bits} {tried : ℕ} {old new : Feeding} (answer : Result (Option Bool) DecodeError) → ComesInFeed old new answer
+    → answer ≢ Ok (Some true) → old.begun ≡ true → ended old.rows.stand ≡ None → IsFeedOf whole tried old
+    → FeedsNext whole tried old new (fed_none answer)
+gap_feeds {whole} {tried} {old} {new} (Ok None) comes other begun unended feed =
+    let w = comes.waits refl in
+    record {
+      row = λ e. cc;
+      end = λ e. cc;
+      fault = tt;
+      none = λ left. record {
+        settings = ap (λ (h : Held). h.settings) w.0;
+        bits = refl;
+        counts = omega (arith, w.1);
+        taken = ap (λ (h : Held). h.taken) w.0;
+        row = ap (λ (h : Held). h.reference) w.0;
+        damage = ap (λ (r : RowState). r.damage) w.2;
+        cut = ap (λ (r : RowState). r.cut) w.2;
+        line_start = ap (λ (r : RowState). r.started_at) w.2;
+        unended = ap (λ (r : RowState). ended r.stand) w.2 ∙ unended;
+      };
+      unsettled = λ e. (
+        comes.keeps.finished ∙ w.4,
+        open_gap new.begun new.rows.stand new.ctx (drop new.place new.kept) comes.begun
+            (ap (λ (r : RowState). is_at_line r.stand) w.2 ∙ w.5) (ap (λ (r : RowState). ended r.stand) w.2 ∙ unended)
+            (ap (λ (h : Held). gap_is_settled h.settings h.taken h.has_eols (drop new.place new.kept)) w.0
+            ∙ ap (gap_is_settled old.ctx.held.settings old.ctx.held.taken old.ctx.held.has_eols)
+            (sym (next_is comes.keeps w.3)) ∙ w.6),
+      );
+      memory = λ e. cc;
+      extra = comes.extra;
+      stands = comes.waiting whole tried refl feed;
+    }
+gap_feeds {whole} {tried} {old} {new} (Ok (Some true)) comes other begun unended feed = absurd (other refl)
+gap_feeds {whole} {tried} {old} {new} (Ok (Some false)) comes other begun unended feed = record {
+  row = λ e. cc;
+  end = λ e. none_behind (Ok false) (λ is. cc) (comes.comes whole tried (λ is. cc) feed);
+  fault = tt;
+  none = λ left. cc;
+  unsettled = λ e. cc;
+  memory = λ e. cc;
+  extra = comes.extra;
+  stands = comes.stands whole tried (λ is. cc) feed;
+}
+gap_feeds {whole} {tried} {old} {new} (Err error) comes other begun unended feed = record {
+  row = λ e. cc;
+  end = λ e. cc;
+  fault = λ fault. none_behind (Err error) (λ is. cc) (comes.comes whole tried (λ is. cc) feed);
+  none = λ left. let never : InvalidCode ≡ OutOfMemory = sym comes.only_code ∙ left in absurd cc;
+  unsettled = λ e. cc;
+  memory = λ e. let is : error ≡ OutOfMemory = cc in
+      let never : InvalidCode ≡ OutOfMemory = sym comes.only_code ∙ is in absurd cc;
+  extra = comes.extra;
+  stands = comes.stands whole tried (λ is. cc) feed;
+}

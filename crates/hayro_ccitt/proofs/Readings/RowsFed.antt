@@ -201,6 +201,12 @@ said_line (Ok false) r is e = refl
 said_line (Err error) r is e =
     let never : some_line (line_after (Err error)) ≡ Ok (Some true) = ap some_line (sym is) ∙ e in absurd cc
 
+-- its only fault is a missing EOL
+pub said_code : (over r : Result Bool DecodeError) → r ≡ line_after over → IfErr over (λ e. e ≡ InvalidCode)
+    → IfErr (some_line r) (λ e. e ≡ InvalidCode)
+said_code (Ok over) r is code = subst (λ (r : Result Bool DecodeError). IfErr (some_line r) (λ e. e ≡ InvalidCode)) (sym is) tt
+said_code (Err error) r is code = subst (λ (r : Result Bool DecodeError). IfErr (some_line r) (λ e. e ≡ InvalidCode)) (sym is) code
+
 -- ---- The line here
 
 pub left_is : (r : Result Bool DecodeError) → is_left r ≡ true → IsLeft r

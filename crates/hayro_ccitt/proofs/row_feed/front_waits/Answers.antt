@@ -1,6 +1,7 @@
 use Rattle.hayro_ccitt.proofs.Names.{◌≡◌, ◌∙◌, ◌&&◌, not, ap, sym, refl, arith, true, false, Bool, ℕ, Bits, BitsAt, here, EncodingMode, Group3_1D, Group3_2D, Group4}
 use Rattle.hayro_ccitt.proofs.Names.{DecodeSettings, all_eols, ◌⊎◌, inl, inr, length}
 use Rattle.fax_bits.specs.Ones.{holds_one}
+use Rattle.hayro_ccitt.proofs.BitReading.EolCounts.{all_eols_leave}
 use Rattle.hayro_ccitt.specs.GapsContinued.{first_gap_is_settled}
 use Rattle.hayro_ccitt.proofs.row_feed.front_waits.Goals as goal
 
@@ -29,7 +30,7 @@ returns-in-Group3_1D c =
       waits = ap not (c.holds_one.ensures ∙ ap holds_one (sym eols) ∙ sym front)
           ∙ sym (ap (λ (b : Bool). not b && not (first_gap_is_settled settings.encoding settings start)) c.if-is_last.false);
       held = refl;
-      counts = omega (arith, c.ticks.ensures.value, c.read_eol_if_available.ensures.ticks, all_eols_shorter start,
-          ap (λ (b : BitsAt). length (here b)) c.copy-ahead.ensures.value, ap length eols);
+      counts = omega (arith, c.ticks.ensures.value, c.read_eol_if_available.ensures.ticks,
+          all_eols_leave c.read_eol_if_available.result (here c.copy-ahead.result) rest c.read_eol_if_available.ensures.eols);
       space = refl;
     }

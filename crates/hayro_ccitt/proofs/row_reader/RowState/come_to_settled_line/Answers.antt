@@ -1,6 +1,6 @@
 use Rattle.hayro_ccitt.proofs.Names.{◌≡◌, ◌≢◌, ◌∙◌, ◌+◌, ◌-◌, ◌⊎◌, ◌&&◌, ap, sym, subst, refl, not, true, false, inl, inr, Bool, ℕ, Result, DecodeError, Option}
-use Rattle.hayro_ccitt.proofs.Names.{arith, Ok, None, Some, length, here, Bits, BitsAt, Held, IsStanding, ReachesNextLine, is_at_line, seen}
-use Rattle.hayro_ccitt.proofs.Readings.RowsFed.{gap_step_stands, gap_step_reaches, stays_at_line, stands_later, waits_for, waits_not, passed_some, said_line}
+use Rattle.hayro_ccitt.proofs.Names.{arith, [], Ok, None, Some, length, here, Bits, BitsAt, Held, IsStanding, ReachesNextLine, is_at_line, seen}
+use Rattle.hayro_ccitt.proofs.Readings.RowsFed.{gap_step_stands, gap_step_reaches, stays_at_line, stands_later, waits_for, waits_not, passed_some, said_code, said_line}
 use Rattle.hayro_ccitt.specs.declared.row_reader.RowState.{RowState}
 use Rattle.hayro_ccitt.specs.GapsContinued.{gap_is_settled}
 use Rattle.hayro_ccitt.specs.RowFeeds.{came, some_line}
@@ -24,6 +24,7 @@ returns-then-is_at_line c =
           (stands_later from 0 c.args.self.now c.args.ctx.now c.args.ctx.now (record { bits = whole; place = c.args.gap_start })
           refl (omega arith) stands);
       line = λ e. line;
+      only_code = tt;
     }
 
 pub returns-then-gap_waits : goal.returns-then-gap_waits
@@ -48,6 +49,7 @@ returns-then-gap_waits c =
       comes = λ from whole dropped passed lie starts stands. absurd (passed refl);
       stands = λ from whole dropped passed lie starts stands. absurd (passed refl);
       line = λ e. cc;
+      only_code = tt;
     }
 
 pub returns : goal.returns
@@ -80,4 +82,5 @@ returns c =
           answer more same ticks gap settled c.requires no_line from whole dropped lie starts stands;
       line = λ e. ap (λ (r : RowState). is_at_line r.stand) gap.kept_is
           ∙ said_line gap.over answer gap.said (sym c.some_line.ensures ∙ e);
+      only_code = rw c.some_line.ensures (said_code gap.over answer gap.said (gap.passes [] (inl refl)).only_code);
     }
