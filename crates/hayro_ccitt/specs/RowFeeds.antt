@@ -10,7 +10,7 @@ use Rattle.hayro_ccitt.specs.declared.row_reader.RowState.{RowState}
 use Rattle.hayro_ccitt.specs.declared.row_reader.Stand.{Stand}
 use Rattle.hayro_ccitt.specs.declared.row_reader.Stand.TheVariants.{AtLine, BehindRow, AtEnd, AtFault}
 use Rattle.hayro_ccitt.specs.Answers.{HasBlack, IsFault, front_of}
-use Rattle.hayro_ccitt.specs.Bits.{Bits, BitsAt, bits_in, here}
+use Rattle.hayro_ccitt.specs.Bits.{AreWholeBytes, Bits, BitsAt, bits_in, here}
 use Rattle.hayro_ccitt.specs.Context.{Context, fresh, redrawn}
 use Rattle.hayro_ccitt.specs.Continuations.{is_short}
 use Rattle.hayro_ccitt.specs.GapsContinued.{first_gap_is_settled, gap_is_settled}
@@ -208,6 +208,7 @@ pub record Begins (old new : Feeding) (answer : Bool) : Type 0 where
   pub waits : answer ≡ false → (new.ctx.held ≡ old.ctx.held) × (new.ctx.ticks ≡ old.ctx.ticks + extra) × (new.rows ≡ old.rows)
       × (new.place ≡ old.place) × (old.finished ≡ false)
       × (first_gap_is_settled old.ctx.held.settings.encoding old.ctx.held.settings old.kept ≡ false)
+  pub unfailed : answer ≡ true → (error : DecodeError) → ended new.rows.stand ≢ Some (Err error)
   pub passes : (whole : Bits) (tried : ℕ) → answer ≡ true → IsFeedOf whole tried old
       → ReachesNextLine (fed_over whole old) (fed_over whole new) (line_first new.rows.stand)
   pub stands : (whole : Bits) (tried : ℕ) → IsFeedOf whole tried old → IsFeedOf whole (tried + extra) new
@@ -255,3 +256,30 @@ abbrev pub fed_none : Result (Option Bool) DecodeError → Result Fed DecodeErro
 fed_none (Ok None) = Ok Fed.NeedsMore
 fed_none (Ok (Some line)) = Ok Fed.End
 fed_none (Err error) = Err error
+
+-- what a call answers once the reading has ended
+abbrev pub fed_end : Result (Unit {0}) DecodeError → Result Fed DecodeError
+fed_end (Ok x) = Ok Fed.End
+fed_end (Err error) = Err error
+
+-- ---- More data
+
+-- these bits are those of the whole data that come next, and whole bytes follow them
+pub record ComeNext (whole : Bits) (feed : Feeding) (next : Bits) : Type 0 where
+  pub rest : Bits
+  pub bits : drop (feed.dropped + length feed.kept) whole ≡ next ++ rest
+  pub bytes : AreWholeBytes rest
+
+-- whole bytes before the next bit are dropped
+pub record DropsRead (old new : Feeding) : Type 0 where
+  pub bytes : ℕ
+  pub read : 8 * bytes ≤ old.place
+  pub kept : new.kept ≡ drop (8 * bytes) old.kept
+  pub dropped : new.dropped ≡ old.dropped + 8 * bytes
+  pub place : new.place + 8 * bytes ≡ old.place
+  pub within : old.place ≤ length old.kept
+  pub ctx : new.ctx ≡ old.ctx
+  pub rows : new.rows ≡ old.rows
+  pub order : new.order ≡ old.order
+  pub begun : new.begun ≡ old.begun
+  pub finished : new.finished ≡ old.finished

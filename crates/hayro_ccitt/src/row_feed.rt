@@ -7,7 +7,7 @@ ghost use Rattle.hayro_ccitt.specs.Context.{fresh};
 ghost use Rattle.hayro_ccitt.specs.GapsContinued.{first_gap_is_settled, gap_is_settled};
 ghost use Rattle.hayro_ccitt.specs.RowsRead.{at_end_of_rows, ended, is_at_line};
 ghost use Rattle.hayro_ccitt.specs.RowsTried.{IsLeft};
-ghost use Rattle.hayro_ccitt.specs.RowFeeds.{Begins, ComesInFeed, ReadsInFeed, ComesOn, FeedsNext, IsFeedOf, TriesLine, is_left, line_answer, some_line};
+ghost use Rattle.hayro_ccitt.specs.RowFeeds.{Begins, ComeNext, ComesInFeed, DropsRead, ReadsInFeed, ComesOn, FeedsNext, IsFeedOf, KeepsBits, TriesLine, fed_end, fed_none, fed_row, is_left, line_answer, some_line};
 ghost use Rattle.hayro_ccitt.specs.Rows.{changes};
 
 use crate::context::DecoderContext;
@@ -29,6 +29,9 @@ pub enum Fed {
     /// The image has ended.
     End,
 }
+
+/// The most bytes whose bits have offsets that fit, with 64 bits more.
+const MOST_BYTES: usize = (usize::MAX - 64) / 8;
 
 /// Returns whether the gap here must wait for more data.
 fn gap_waits(ctx: &mut DecoderContext, reader: &BitReader<'_>, is_last: bool) -> bool
@@ -90,6 +93,36 @@ fn line_answer(row: &Result<bool>) -> Result<()>
     match row {
         Ok(_) => Ok(()),
         Err(error) => Err(*error),
+    }
+}
+
+/// Returns whether a line is here.
+fn is_some_line(line: &Result<Option<bool>>) -> bool
+    ensures here { result ≡ true → line.now ≡ Ok (Some true) }
+    ensures none { result ≡ false → line.now ≢ Ok (Some true) }
+{
+    matches!(line, Ok(Some(true)))
+}
+
+/// Returns what a call comes to that reaches no line.
+fn fed_none(line: Result<Option<bool>>) -> Result<Fed>
+    ensures { result ≡ fed_none line }
+{
+    match line {
+        Ok(None) => Ok(Fed::NeedsMore),
+        Ok(Some(_)) => Ok(Fed::End),
+        Err(error) => Err(error),
+    }
+}
+
+/// Returns what a call comes to that tries a line.
+fn fed_row(row: Result<bool>) -> Result<Fed>
+    ensures { result ≡ fed_row row }
+{
+    match row {
+        Ok(true) => Ok(Fed::Row),
+        Ok(false) => Ok(Fed::NeedsMore),
+        Err(error) => Err(error),
     }
 }
 
@@ -248,5 +281,204 @@ impl RowFeed {
             .try_line(&mut self.ctx, &mut reader, self.is_last, line_start);
         self.place = reader.bit_pos();
         row
+    }
+
+    /// Returns whether one more row can be counted.
+    fn can_take_row(&self) -> bool
+        ensures rows { result ≡ true → self.now.ctx.held.taken + 1 < 2 ^ 64 }
+        ensures damaged { result ≡ true → self.now.ctx.held.repairs.rows ≤ self.now.ctx.held.taken }
+        ensures room { self.now.ctx.held.taken + 1 < 2 ^ 64 → self.now.ctx.held.repairs.rows ≤ self.now.ctx.held.taken
+            → result ≡ true }
+    {
+        let rows = self.ctx.decoded_rows();
+        rows < u64::MAX && self.ctx.damaged_rows() <= rows
+    }
+
+    /// Reads the next row behind the first line's start.
+    fn read_on(&mut self) -> Result<Fed>
+        requires begun { self.old.begun ≡ true }
+        requires unended { ended self.old.rows.stand ≡ None }
+        ensures reads { (whole : Bits) (tried : ℕ) → IsFeedOf whole tried self.old → FeedsNext whole tried self.old self.new result }
+        ensures keeps { KeepsBits self.old self.new }
+    {
+        let line = self.come_to_line();
+        if !is_some_line(&line) {
+            return fed_none(line);
+        }
+        if !self.can_take_row() {
+            return Err(DecodeError::UnexpectedEof);
+        }
+        let row = self.read_line();
+        fed_row(row)
+    }
+
+    /// Reads the first row, behind what is before it.
+    fn read_first(&mut self) -> Result<Fed>
+        requires unbegun { self.old.begun ≡ false }
+        ensures reads { (whole : Bits) (tried : ℕ) → IsFeedOf whole tried self.old → FeedsNext whole tried self.old self.new result }
+        ensures keeps { KeepsBits self.old self.new }
+    {
+        if !self.begin() {
+            return Ok(Fed::NeedsMore);
+        }
+        if has_ended(self.rows.stand) {
+            return Ok(Fed::End);
+        }
+        self.read_on()
+    }
+
+    /// Reads the next row, if no data that follows can change it. After [`Fed::NeedsMore`] feed more, or finish the data. At the
+    /// end of the image each further call returns [`Fed::End`].
+    ///
+    /// # Errors
+    ///
+    /// Those of [`decode`](crate::decode), except `Refused`. After an error each further call returns the same error, except
+    /// after `OutOfMemory`: then nothing was read, and the call can be made again.
+    pub fn next_row(&mut self) -> Result<Fed>
+        ensures reads { (whole : Bits) (tried : ℕ) → ended self.old.rows.stand ≡ None → IsFeedOf whole tried self.old
+            → FeedsNext whole tried self.old self.new result }
+        ensures keeps { KeepsBits self.old self.new }
+        ensures ended { (end : Result (Unit {0}) DecodeError) → ended self.old.rows.stand ≡ Some end
+            → (self.new ≡ self.old) × (result ≡ fed_end end) }
+    {
+        match self.rows.stand {
+            Stand::AtEnd => Ok(Fed::End),
+            Stand::AtFault(error) => Err(error),
+            Stand::AtLine | Stand::BehindRow => {
+                if self.begun {
+                    self.read_on()
+                } else {
+                    self.read_first()
+                }
+            }
+        }
+    }
+
+    /// Drops the bytes that were read.
+    fn drop_read(&mut self)
+        ensures { DropsRead self.old self.new }
+    {
+        let bytes = self.place / 8;
+        self.data.rotate_left(bytes);
+        let left = self.data.len() - bytes;
+        self.data.truncate(left);
+        self.dropped += bytes * 8;
+        self.place -= bytes * 8;
+    }
+
+    /// Feeds the bytes that come next in the data. Those that were read are dropped first.
+    ///
+    /// # Errors
+    ///
+    /// `OutOfMemory` if the bytes can't be stored, or if all bytes fed would have more than 2^64 - 65 bits. No byte is fed then,
+    /// and the reading is the same.
+    pub fn feed(&mut self, bytes: &[u8]) -> Result<()>
+        requires unfinished { self.old.finished ≡ false }
+        ensures fed { OnOk result ((whole : Bits) (tried : ℕ) → IsFeedOf whole tried self.old
+            → ComeNext whole self.old (bits_in self.old.order bytes.now) → IsFeedOf whole tried self.new) }
+        ensures refused { OnErr result ((whole : Bits) (tried : ℕ) → IsFeedOf whole tried self.old → IsFeedOf whole tried self.new) }
+        ensures same { (self.new.ctx ≡ self.old.ctx) × (self.new.rows ≡ self.old.rows) × (self.new.order ≡ self.old.order)
+            × (self.new.finished ≡ self.old.finished) }
+        ensures only_memory { IsOkUnless result DecodeError.OutOfMemory }
+    {
+        self.drop_read();
+        let kept = self.data.len();
+        if bytes.len() > MOST_BYTES - kept || self.dropped > (MOST_BYTES - kept - bytes.len()) * 8 {
+            return Err(DecodeError::OutOfMemory);
+        }
+        self.data.extend_from_slice(bytes)?;
+        Ok(())
+    }
+
+    /// Finishes the data: no bytes follow those that were fed.
+    pub fn finish(&mut self)
+        ensures finished { (whole : Bits) (tried : ℕ) → IsFeedOf whole tried self.old
+            → length whole ≡ self.old.dropped + length self.old.kept → IsFeedOf whole tried self.new }
+        ensures same { self.new ≡ record self.old { finished = true } }
+    {
+        self.is_last = true;
+    }
+
+    /// Returns whether the data is finished.
+    pub fn is_finished(&self) -> bool
+        ensures { result ≡ self.now.finished }
+    {
+        self.is_last
+    }
+
+    /// Returns the changes of the last row that was read, in ascending order: the pixels at which its colour changes. There
+    /// are none before the first row.
+    pub fn row(&self) -> &[u32]
+        ensures changes { result.now ≡ changes self.now.ctx.held.reference }
+    {
+        self.ctx.reference_row()
+    }
+
+    /// Returns the number of rows that were read.
+    pub fn rows_read(&self) -> u64
+        ensures { result ≡ self.now.ctx.held.taken }
+    {
+        self.ctx.decoded_rows()
+    }
+
+    /// Returns the offset in bits at which the line of the last row begins, as
+    /// [`RowReader::line_start`](crate::RowReader::line_start) does.
+    pub fn line_start(&self) -> usize
+        ensures { result ≡ self.now.rows.started_at }
+    {
+        self.rows.started_at
+    }
+
+    /// Returns the fault of the last row if its line was damaged and repaired, as in a lenient reading of Group 3 with EOLs
+    /// (T.4, 4.1.2); `None` if the line was whole, and before the first row.
+    pub fn damage(&self) -> Option<DecodeError>
+        ensures { result ≡ self.now.rows.damage }
+    {
+        self.rows.damage
+    }
+
+    /// Returns whether a run of the last row, or a vertical mode, goes beyond the row's end and was cut there, where a strict
+    /// reading fails (T.4, 4.1.1); false before the first row, and for a row that was repaired.
+    pub fn is_cut(&self) -> bool
+        ensures { result ≡ self.now.rows.cut }
+    {
+        self.rows.cut
+    }
+
+    /// Returns the offset in bits at which an EOL was missed before the last row, as
+    /// [`RowReader::missed_eol`](crate::RowReader::missed_eol) does.
+    pub fn missed_eol(&self) -> Option<usize>
+        ensures { result ≡ self.now.rows.missed }
+    {
+        self.rows.missed
+    }
+
+    /// Returns the number of rows read whose line was damaged and repaired.
+    pub fn damaged_rows(&self) -> u64
+        ensures { result ≡ self.now.ctx.held.repairs.rows }
+    {
+        self.ctx.damaged_rows()
+    }
+
+    /// Returns the number of rows read in which a run was cut.
+    pub fn cut_rows(&self) -> u64
+        ensures { result ≡ self.now.ctx.held.repairs.cut }
+    {
+        self.ctx.cut_rows()
+    }
+
+    /// Returns the number of rows read after which the EOL was missed (T.4, 4.1.2).
+    pub fn missed_eols(&self) -> u64
+        ensures { result ≡ self.now.ctx.held.repairs.missed }
+    {
+        self.ctx.missed_eols()
+    }
+
+    /// Returns the number of bytes consumed so far, the last one rounded up: at the end of the image those that
+    /// [`decode`](crate::decode) returns.
+    pub fn bytes_read(&self) -> usize
+        ensures { result ≡ (self.now.dropped + self.now.place + 7) / 8 }
+    {
+        (self.dropped + self.place).div_ceil(8)
     }
 }

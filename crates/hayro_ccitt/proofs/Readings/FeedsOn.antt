@@ -3,17 +3,22 @@ use Rattle.hayro_ccitt.proofs.Names.{◌≡◌, ◌≢◌, ◌∙◌, ◌+◌, �
 use Rattle.hayro_ccitt.proofs.Names.{subst, arith, length, drop, cond, Bits, BitsAt, Held, Context, DecodeError, White, redrawn, Line, front_of, here}
 use Rattle.hayro_ccitt.proofs.Names.{IsStanding, IsStandingAtLine, ReachesNextLine, ReadsNext, is_at_line, seen, line_here, most_stored, room_for}
 use Rattle.hayro_ccitt.proofs.Names.{DecodeSettings, Stand, AtLine, BehindRow, AtEnd, AtFault, MissIsTold, missed_before, ended, is_some, ◌++◌, ◌⊎◌, inl, inr}
-use Rattle.hayro_ccitt.proofs.Names.{ReaderStands, DamageIsCounted, WorkIsPaid, IsPaid, HasEnded, HasFailed, sum_by, take, words_of, IfErr, IfOk, OnErr, failed_at, IfErr-weaker, RowsRead, IsFault, false≢true}
-use Rattle.hayro_ccitt.proofs.Readings.RowByRow.{at_line_stands, begun_is, reads_on}
-use Rattle.hayro_ccitt.proofs.Readings.RowsFed.{stands_later, left_is, left_not}
+use Rattle.hayro_ccitt.proofs.Names.{ReaderStands, DamageIsCounted, WorkIsPaid, IsPaid, HasEnded, HasFailed, sum_by, take, words_of, IfErr, IfOk, OnErr, failed_at, IfErr-weaker, RowsRead, IsFault, false≢true, ◌<◌}
+use Rattle.hayro_ccitt.proofs.Names.{List, zero, suc, ◌∷◌, append_assoc, bits_in, length-append, length-drop, HighestFirst, LowestFirst}
+use Rattle.std.proofs.Math.Seq.{drop-append-add}
+use Rattle.fax_bits.specs.declared.bit_reader.BitOrder.{BitOrder}
+use Rattle.hayro_ccitt.specs.Bits.{bits_of_byte}
+use Rattle.std.specs.Prelude.{◌^◌}
+use Rattle.hayro_ccitt.proofs.Readings.RowByRow.{at_line_stands, begun_is, few, reads_on}
+use Rattle.hayro_ccitt.proofs.Readings.RowsFed.{stands_later, left_is, left_not, from_place, place_within}
 use Rattle.hayro_ccitt.proofs.Work.RoomTaken.{row_enough}
 use Rattle.hayro_ccitt.specs.declared.row_reader.RowState.{RowState}
 use Rattle.hayro_ccitt.specs.Answers.{HasBlack}
 use Rattle.hayro_ccitt.specs.Continuations.{is_short}
 use Rattle.hayro_ccitt.specs.GapsContinued.{first_gap_is_settled, gap_is_settled}
-use Rattle.hayro_ccitt.specs.RowsTried.{IsLeft, StandsFirst}
+use Rattle.hayro_ccitt.specs.RowsTried.{CanCome, IsLeft, StandsFirst}
 use Rattle.hayro_ccitt.specs.RowFeeds.{ComesInFeed, ComesOn, Feeding, IsFeedOf, KeepsBits, LieIn, ReadsInFeed, StandsIn, TriesLine, came, fed_over}
-use Rattle.hayro_ccitt.specs.RowFeeds.{FeedsNext, IsAtFront, IsOpenAt, StaysThere, fed_none, fed_row, is_left, line_first}
+use Rattle.hayro_ccitt.specs.RowFeeds.{Begins, ComeNext, DropsRead, FeedsNext, IsAtFront, IsOpenAt, StaysThere, fed_none, fed_row, is_left, line_first}
 use Rattle.fax_bits.specs.declared.error.DecodeError.TheVariants.{InvalidCode, OutOfMemory}
 use Rattle.hayro_ccitt.specs.declared.row_feed.Fed.{Fed}
 
@@ -544,3 +549,186 @@ gap_feeds {whole} {tried} {old} {new} (Err error) comes other begun unended feed
   extra = comes.extra;
   stands = comes.stands whole tried (λ is. cc) feed;
 }
+
+-- there is room for the row of a line
+pub row_fits : {whole : Bits} {tried : ℕ} {feed : Feeding} → feed.begun ≡ true → is_at_line feed.rows.stand ≡ true
+    → IsFeedOf whole tried feed → (feed.ctx.held.taken + 1 < 2 ^ 64) × (feed.ctx.held.repairs.rows ≤ feed.ctx.held.taken)
+row_fits {whole} {tried} {feed} begun line is =
+    let stands = subst (λ (b : Bool). StandsIn b tried feed.rows feed.ctx (record
+    { bits = whole; place = feed.dropped + feed.place })) begun is.stands in
+    (
+      omega (arith, is.fit, few (at_line_stands feed.rows.stand feed.ctx.held.settings whole feed.ctx.held
+          (feed.dropped + feed.place) line stands.0)),
+      stands.1.few,
+    )
+
+-- what is before the first line leads to it, or to the end
+pub first_ends : (stand : Stand) {old new : RowsRead} → ((error : DecodeError) → ended stand ≢ Some (Err error))
+    → is_some (ended stand) ≡ true → ReachesNextLine old new (line_first stand) → ReachesNextLine old new (Ok false)
+first_ends AtLine unfailed is reached = absurd cc
+first_ends BehindRow unfailed is reached = absurd cc
+first_ends AtEnd unfailed is reached = reached
+first_ends (AtFault error) unfailed is reached = absurd (unfailed error refl)
+
+pub first_line_is : (stand : Stand) {old new : RowsRead} → is_some (ended stand) ≡ false → ReachesNextLine old new (line_first stand)
+    → ReachesNextLine old new (Ok true)
+first_line_is AtLine is reached = reached
+first_line_is BehindRow is reached = reached
+first_line_is AtEnd is reached = absurd cc
+first_line_is (AtFault error) is reached = absurd cc
+
+pub unended_is : (stand : Stand) → is_some (ended stand) ≡ false → ended stand ≡ None
+unended_is AtLine is = refl
+unended_is BehindRow is = refl
+unended_is AtEnd is = absurd cc
+unended_is (AtFault error) is = absurd cc
+
+open_front : (begun : Bool) (stand : Stand) (ctx : Context) (next : Bits) → begun ≡ false
+    → first_gap_is_settled ctx.held.settings.encoding ctx.held.settings next ≡ false → IsOpenAt begun stand ctx next
+open_front false stand ctx next none known = known
+open_front true stand ctx next none known = absurd (false≢true (sym none))
+
+-- nothing is before the first line yet
+pub front_feeds : {whole : Bits} {tried : ℕ} {old new : Feeding} → Begins old new false → ended old.rows.stand ≡ None
+    → old.place ≡ 0 → IsFeedOf whole tried old → FeedsNext whole tried old new (Ok Fed.NeedsMore)
+front_feeds {whole} {tried} {old} {new} begins unended start feed =
+    let w = begins.waits refl in
+    let whole_kept : new.place ≡ old.place → drop new.place new.kept ≡ old.kept
+    = λ same. ap (λ (n : ℕ). drop n new.kept) (same ∙ start) ∙ begins.keeps.kept in
+    record {
+      row = λ e. cc;
+      end = λ e. cc;
+      fault = tt;
+      none = λ left. record {
+        settings = ap (λ (h : Held). h.settings) w.0;
+        bits = refl;
+        counts = omega (arith, w.1);
+        taken = ap (λ (h : Held). h.taken) w.0;
+        row = ap (λ (h : Held). h.reference) w.0;
+        damage = ap (λ (r : RowState). r.damage) w.2;
+        cut = ap (λ (r : RowState). r.cut) w.2;
+        line_start = ap (λ (r : RowState). r.started_at) w.2;
+        unended = ap (λ (r : RowState). ended r.stand) w.2 ∙ unended;
+      };
+      unsettled = λ e. (
+        begins.keeps.finished ∙ w.4,
+        open_front new.begun new.rows.stand new.ctx (drop new.place new.kept) begins.begun
+            (ap (λ (h : Held). first_gap_is_settled h.settings.encoding h.settings (drop new.place new.kept)) w.0
+            ∙ ap (first_gap_is_settled old.ctx.held.settings.encoding old.ctx.held.settings) (whole_kept w.3) ∙ w.5),
+      );
+      memory = λ e. cc;
+      extra = begins.extra;
+      stands = begins.stands whole tried feed;
+    }
+
+-- a line was reached, and there is room for its row
+pub reached_fits : {whole : Bits} {tried : ℕ} {old new : Feeding} (answer : Result (Option Bool) DecodeError)
+    → (comes : ComesInFeed old new answer) → answer ≡ Ok (Some true) → IsFeedOf whole tried old
+    → (new.ctx.held.taken + 1 < 2 ^ 64) × (new.ctx.held.repairs.rows ≤ new.ctx.held.taken)
+reached_fits {whole} {tried} {old} {new} answer comes is feed =
+    row_fits comes.begun (comes.line is) (comes.stands whole tried (λ none. let never = sym is ∙ none in absurd cc) feed)
+
+pub reached_on : {whole : Bits} {tried : ℕ} {old mid new : Feeding} (line : Result (Option Bool) DecodeError)
+    (row : Result Bool DecodeError) → (comes : ComesInFeed old mid line) → line ≡ Ok (Some true) → ReadsInFeed mid new row
+    → IsFeedOf whole tried old → FeedsNext whole tried old new (fed_row row)
+reached_on {whole} {tried} {old} {mid} {new} line row comes is reads feed =
+    let some : line ≢ Ok None = λ none. let never = sym is ∙ none in absurd cc in
+    let reached = subst (λ (r : Result (Option Bool) DecodeError). ReachesNextLine (fed_over whole old) (fed_over whole mid) (came r))
+    is (comes.comes whole tried some feed) in
+    feeds_on comes.extra reached (line_feeds row reads comes.begun (comes.line is) (comes.stands whole tried some feed))
+
+-- ---- More data
+
+none_left : (n : ℕ) → drop {A = Bool} n [] ≡ []
+none_left zero = refl
+none_left (suc n) = refl
+
+eight : (order : BitOrder) (byte : ℕ) → length (bits_of_byte order byte) ≡ 8
+eight HighestFirst byte = refl
+eight LowestFirst byte = refl
+
+drop-all : (bits : Bits) → drop (length bits) bits ≡ []
+drop-all [] = refl
+drop-all (bit ∷ bits) = drop-all bits
+
+-- the bits of bytes, without those of the first ones
+pub bits-dropped : (order : BitOrder) (bytes : ℕ) (items : List ℕ) → bits_in order (drop bytes items) ≡ drop (8 * bytes) (bits_in order items)
+bits-dropped order zero items = refl
+bits-dropped order (suc bytes) [] = sym (none_left (8 * suc bytes))
+bits-dropped order (suc bytes) (byte ∷ items) =
+    let next : 8 * suc bytes ≡ length (bits_of_byte order byte) + 8 * bytes = omega (arith, eight order byte) in
+    bits-dropped order bytes items ∙ sym (drop-append-add (bits_of_byte order byte) (bits_in order items) (8 * bytes))
+    ∙ ap (λ (n : ℕ). drop n (bits_in order (byte ∷ items))) (sym next)
+
+-- the reading is the same without the bytes that were read
+pub drops_read : {whole : Bits} {tried : ℕ} {old new : Feeding} → DropsRead old new → IsFeedOf whole tried old
+    → IsFeedOf whole tried new
+drops_read {whole} {tried} {old} {new} drops feed =
+    let lie = feed.lie in
+    let enough : 8 * drops.bytes ≤ length old.kept = omega (arith, drops.read, drops.within) in
+    let place : old.dropped + old.place ≡ new.dropped + new.place = omega (arith, drops.dropped, drops.place) in
+    record {
+      fit = feed.fit;
+      lie = record {
+        within = omega (arith, drops.dropped, place_within lie (8 * drops.bytes) enough);
+        more = lie.more;
+        bits = ap (λ (n : ℕ). drop n whole) drops.dropped ∙ from_place lie (8 * drops.bytes) enough
+            ∙ ap (λ (b : Bits). b ++ lie.more) (sym drops.kept);
+        can_come = subst (λ (b : Bool). CanCome b lie.more) (sym drops.finished) lie.can_come;
+      };
+      stands = subst (λ (b : Bool). StandsIn b tried new.rows new.ctx (record { bits = whole; place = new.dropped + new.place }))
+          (sym drops.begun) (subst (λ (r : RowState). StandsIn old.begun tried r new.ctx
+          (record { bits = whole; place = new.dropped + new.place })) (sym drops.rows)
+          (subst (λ (x : Context). StandsIn old.begun tried old.rows x (record { bits = whole; place = new.dropped + new.place }))
+          (sym drops.ctx) (subst (λ (n : ℕ). StandsIn old.begun tried old.rows old.ctx (record { bits = whole; place = n })) place
+          feed.stands)));
+    }
+
+-- more bits are kept
+pub feeds_more : {whole : Bits} {tried : ℕ} {old new : Feeding} (next : Bits)
+    → new ≡ record old { kept = old.kept ++ next } → old.finished ≡ false → IsFeedOf whole tried old → ComeNext whole old next
+    → IsFeedOf whole tried new
+feeds_more {whole} {tried} {old} {new} next is unfinished feed come = subst (IsFeedOf whole tried) (sym is) (record {
+  fit = feed.fit;
+  lie = record {
+    within = feed.lie.within;
+    more = come.rest;
+    bits = feed.lie.bits ∙ ap (λ (b : Bits). old.kept ++ b) (sym rest_is ∙ come.bits) ∙ sym (append_assoc old.kept next come.rest);
+    can_come = record { bytes = come.bytes; none = λ last. absurd (false≢true (sym unfinished ∙ last)) };
+  };
+  stands = feed.stands;
+})
+  where
+    rest_is : drop (old.dropped + length old.kept) whole ≡ feed.lie.more
+    rest_is = from_place feed.lie (length old.kept) (omega arith) ∙ ap (λ (b : Bits). b ++ feed.lie.more) (drop-all old.kept)
+-- they come next also once bytes are dropped
+pub come_next : {whole : Bits} {old new : Feeding} {next : Bits} → DropsRead old new → ComeNext whole old next → ComeNext whole new next
+come_next {whole} {old} {new} drops come = record {
+  rest = come.rest;
+  bits = ap (λ (n : ℕ). drop n whole) same ∙ come.bits;
+  bytes = come.bytes;
+}
+  where
+    same : new.dropped + length new.kept ≡ old.dropped + length old.kept
+    same = omega (arith, drops.dropped, drops.read, drops.within, ap length drops.kept, length-drop (8 * drops.bytes) old.kept)
+
+-- the data is finished
+pub feed_finished : {whole : Bits} {tried : ℕ} {old new : Feeding} → new ≡ record old { finished = true } → IsFeedOf whole tried old
+    → length whole ≡ old.dropped + length old.kept → IsFeedOf whole tried new
+feed_finished {whole} {tried} {old} {new} is feed all = subst (IsFeedOf whole tried) (sym is) (record {
+  fit = feed.fit;
+  lie = record {
+    within = feed.lie.within;
+    more = feed.lie.more;
+    bits = feed.lie.bits;
+    can_come = record { bytes = feed.lie.can_come.bytes; none = λ last. no_bits feed.lie.more none };
+  };
+  stands = feed.stands;
+})
+  where
+    none : length feed.lie.more ≡ 0
+    none = omega (arith, all, feed.lie.within, ap length feed.lie.bits, length-drop old.dropped whole, length-append old.kept feed.lie.more)
+
+    no_bits : (bits : Bits) → length bits ≡ 0 → bits ≡ []
+    no_bits [] e = refl
+    no_bits (bit ∷ bits) e = absurd (omega (arith, e))

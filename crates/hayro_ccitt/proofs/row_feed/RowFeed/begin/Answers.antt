@@ -41,6 +41,7 @@ returns-then-front_waits c =
         ap (first_gap_is_settled held.settings.encoding held.settings) (sym (starts at
             ∙ ap (λ (b : BitsAt). b.bits) (before_is at))) ∙ waits.1,
       );
+      unfailed = λ e. cc;
       passes = λ whole tried e. cc;
       stands = λ whole tried feed.
           let front = at_front c.self.inside.begun tried c.self.inside.rows c.self.inside.ctx
@@ -100,6 +101,7 @@ returns c =
       begun = refl;
       space = stood.ensures.space ∙ c.front_waits.ensures.space;
       waits = λ e. cc;
+      unfailed = λ e. stood.ensures.unfailed;
       passes = λ whole tried e feed. front_reaches _ _ mid c.placed_at-reader.result stood.new.reader stood.result more
           (before_is at) (record { order = refl; finished = refl; kept = refl; dropped = refl }) c.bit_pos-self-inside.ensures.place
           refl refl same ticks stood.ensures.first stood.ensures.none_taken settings_are stood.ensures.counts stood.ensures.unfailed
