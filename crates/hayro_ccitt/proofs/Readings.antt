@@ -1,6 +1,12 @@
+pub mod FeedsOn
+pub mod FirstGaps
+pub mod GapsPassed
+pub mod LinesRead
 pub mod RowByRow
 pub mod RowsAgain
+pub mod RowsFed
 pub mod RowsPushed
+pub mod RowsTried
 pub use Rattle.fax_bits.proofs.Repetition.Gathered
 pub use Rattle.fax_bits.proofs.Repetition.Repeated
 pub use Rattle.fax_reading.proofs.Readings.DamageCounted

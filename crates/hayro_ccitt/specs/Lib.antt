@@ -3,7 +3,9 @@ pub mod Contract
 pub mod DrawnModes
 pub mod Lending
 pub mod RowCursors
+pub mod RowFeeds
 pub mod RowsRead
+pub mod RowsTried
 pub mod TwoRunsHere
 pub use Rattle.fax_bits.specs.Bits
 pub use Rattle.fax_bits.specs.CodeLists
@@ -11,6 +13,7 @@ pub use Rattle.fax_bits.specs.CodeReading
 pub use Rattle.fax_bits.specs.EndOfLine
 pub use Rattle.fax_bits.specs.Faults
 pub use Rattle.fax_bits.specs.LookUps
+pub use Rattle.fax_bits.specs.Ones
 pub use Rattle.fax_bits.specs.Repetition
 pub use Rattle.fax_bits.specs.Runs
 pub use Rattle.fax_bits.specs.Texts
@@ -27,9 +30,11 @@ pub use Rattle.fax_bits.specs.declared.settings.EncodingMode
 pub use Rattle.fax_bits.specs.declared.tables.TheConstants as TableConstants
 pub use Rattle.fax_reading.specs.Answers
 pub use Rattle.fax_reading.specs.Context
+pub use Rattle.fax_reading.specs.Continuations
 pub use Rattle.fax_reading.specs.Damage
 pub use Rattle.fax_reading.specs.Decoding
 pub use Rattle.fax_reading.specs.Encodings
+pub use Rattle.fax_reading.specs.GapsContinued
 pub use Rattle.fax_reading.specs.Laws
 pub use Rattle.fax_reading.specs.Lines
 pub use Rattle.fax_reading.specs.Locality

@@ -42,6 +42,7 @@ mod modes;
 mod push_rows;
 mod reach;
 mod row_cursor;
+mod row_feed;
 mod row_reader;
 mod rows;
 mod usual;
@@ -53,6 +54,7 @@ pub use in_step::in_step_from;
 pub use locality::body_is_local;
 pub use reach::rows_reached;
 pub use row_cursor::RowCursor;
+pub use row_feed::{Fed, RowFeed};
 pub use row_reader::RowReader;
 
 /// A sink for the rows of an image. [`decode`] calls `push_row` once for each row, from the top.

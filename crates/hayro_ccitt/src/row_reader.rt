@@ -15,6 +15,7 @@ ghost use Rattle.hayro_ccitt.specs.Decoding.{damage_since, cut_since, missed_sin
 ghost use Rattle.hayro_ccitt.specs.RowsRead.{ReachesNextLine};
 ghost use Rattle.hayro_ccitt.specs.RowsRead.{stand_after, line_after, is_at_line, at_end_of_rows, ended, seen, IsStanding};
 ghost use Rattle.hayro_ccitt.specs.PlainReading.{failed_at};
+ghost use Rattle.hayro_ccitt.specs.RowsTried.{PassesGapHere, StandsFirst, rows_behind_line};
 ghost use Rattle.hayro_ccitt.specs.RowsRead.{RepeatsWhite};
 ghost use Rattle.std.specs.Prelude.{drop, Ok};
 ghost use Rattle.hayro_ccitt.specs.RowsRead.{IsStandingAtLine, DamageIsCounted, ReadsNext, gaps_passed, row_came};
@@ -101,7 +102,7 @@ fn missed_since(ctx: &DecoderContext, missed_eols: u64, gap_start: usize) -> Opt
 }
 
 /// Returns whether there is a line here.
-fn is_at_line(stand: Stand) -> bool
+pub(crate) fn is_at_line(stand: Stand) -> bool
     ensures { result ≡ is_at_line stand }
 {
     matches!(&stand, Stand::AtLine)
@@ -129,20 +130,23 @@ pub(crate) fn first_stand(ctx: &mut DecoderContext, reader: &mut BitReader<'_>) 
         → IsPaid from result ctx.old.held.settings reader.old.bits ctx.new.held reader.new.place ctx.new.ticks }
     ensures counts { ctx.old.ticks ≤ ctx.new.ticks }
     ensures no_eols { ctx.old.held.settings.encoding ≡ EncodingMode.Group4 → ctx.new.held.has_eols ≡ false }
+    ensures first { StandsFirst result ctx.old ctx.new reader.old reader.new }
     ensures space { ctx.new.space ≡ ctx.old.space }
 {
+    // An offset is known to be within the data once it is read.
+    let _start = reader.bit_pos();
     if ctx.settings().columns == 0 {
         return Stand::AtEnd;
     }
     match ctx.settings().encoding {
         EncodingMode::Group4 => {
             let over = pass_gap(ctx, reader);
-            // An offset is known to be within the data once it is read.
             let _place = reader.bit_pos();
             stand_after_gap(over)
         }
         EncodingMode::Group3_1D | EncodingMode::Group3_2D => {
             read_leading_eols(ctx, reader);
+            let _place = reader.bit_pos();
             Stand::AtLine
         }
     }
@@ -183,6 +187,27 @@ impl RowState {
         }
     }
 
+    /// Passes the gap here, which begins at this offset of the data, and returns whether there is a line after it.
+    #[inline(always)]
+    pub(crate) fn pass_gap_here(
+        &mut self,
+        ctx: &mut DecoderContext,
+        reader: &mut BitReader<'_>,
+        gap_start: usize,
+    ) -> Result<bool>
+        ensures { PassesGapHere gap_start self.old self.new ctx.old ctx.new reader.old reader.new result }
+    {
+        // An offset is known to be within the data once it is read.
+        let _start = reader.bit_pos();
+        let missed_eols = ctx.missed_eols();
+        let over = pass_gap(ctx, reader);
+        let _end = reader.bit_pos();
+        self.missed = missed_since(ctx, missed_eols, gap_start);
+        self.started_at = start_after_gap(over, gap_start, self.started_at);
+        self.stand = stand_after_gap(over);
+        line_after_gap(over)
+    }
+
     /// Passes the gap before the next line, and returns whether there is a line after it.
     #[inline(always)]
     pub(crate) fn come_to_line(
@@ -204,14 +229,33 @@ impl RowState {
             return Ok(true);
         }
         let gap_start = reader.bit_pos();
-        let missed_eols = ctx.missed_eols();
-        let over = pass_gap(ctx, reader);
-        // An offset is known to be within the data once it is read.
-        let _place = reader.bit_pos();
-        self.missed = missed_since(ctx, missed_eols, gap_start);
-        self.started_at = start_after_gap(over, gap_start, self.started_at);
-        self.stand = stand_after_gap(over);
-        line_after_gap(over)
+        self.pass_gap_here(ctx, reader, gap_start)
+    }
+
+    /// Notes what came of the line that begins at this offset: its row, or its fault. Before it this many rows were damaged, and
+    /// this many had a cut run.
+    #[inline(always)]
+    pub(crate) fn note_line(
+        &mut self,
+        ctx: &DecoderContext,
+        row: &Result<()>,
+        line_start: usize,
+        damaged_rows: u64,
+        cut_rows: u64,
+    )
+        ensures { self.new ≡ rows_behind_line self.old row.now line_start damaged_rows cut_rows ctx.now.held.repairs }
+    {
+        self.started_at = line_start;
+        match row {
+            Ok(()) => {
+                self.damage = damage_since(ctx, damaged_rows);
+                self.cut = cut_since(ctx, cut_rows);
+                self.stand = Stand::BehindRow;
+            }
+            Err(error) => {
+                self.stand = Stand::AtFault(*error);
+            }
+        }
     }
 
     /// Reads the line here.
@@ -237,23 +281,14 @@ impl RowState {
         ensures space { ctx.new.space ≤ max ctx.old.space (room_for (most_stored ctx.old.held.reference
             (line_here ctx.old.held.settings ctx.old.held.reference (here reader.old)))) }
     {
-        self.started_at = reader.bit_pos();
+        let line_start = reader.bit_pos();
         let damaged_rows = ctx.damaged_rows();
         let cut_rows = ctx.cut_rows();
-        match read_row(ctx, reader) {
-            Ok(()) => {
-                // An offset is known to be within the data once it is read.
-                let _place = reader.bit_pos();
-                self.damage = damage_since(ctx, damaged_rows);
-                self.cut = cut_since(ctx, cut_rows);
-                self.stand = Stand::BehindRow;
-                Ok(())
-            }
-            Err(error) => {
-                self.stand = Stand::AtFault(error);
-                Err(error)
-            }
-        }
+        let row = read_row(ctx, reader);
+        // An offset is known to be within the data once it is read.
+        let _end = reader.bit_pos();
+        self.note_line(ctx, &row, line_start, damaged_rows, cut_rows);
+        row
     }
 
     /// If each one that is next is a white row, reads such a row, and returns whether one is here; otherwise nothing is read.

@@ -1,14 +1,17 @@
 //! A row and the gap after it, in every encoding (T.4, 4.1, T.6, 2).
 
-ghost use Rattle.std.specs.Prelude.{false, ◌≡◌, ◌≢◌, ◌<◌, ◌≤◌, ◌+◌, ◌*◌, Err, OnOk, OnErr, IfOk, IfErr, IsOkUnless, true, ◌||◌};
+ghost use Rattle.std.specs.Prelude.{false, ◌≡◌, ◌≢◌, ◌<◌, ◌≤◌, ◌+◌, ◌*◌, Err, OnOk, OnErr, IfOk, IfErr, IsOkUnless, true, ◌||◌, Ok};
 ghost use Rattle.std.specs.Prelude.{[], length, ◌^◌, max};
-ghost use Rattle.hayro_ccitt.specs.Answers.{IsRepairable, RepairStoresChange};
-ghost use Rattle.hayro_ccitt.specs.Bits.{here};
-ghost use Rattle.hayro_ccitt.specs.Context.{after_repair};
+ghost use Rattle.hayro_ccitt.specs.Answers.{IsFault, IsRepairable, RepairStoresChange};
+ghost use Rattle.hayro_ccitt.specs.Bits.{BitsAt, here};
+ghost use Rattle.hayro_ccitt.specs.Context.{Context, after_repair, redrawn};
 ghost use Rattle.hayro_ccitt.specs.Decoding.{ReadsLine, TakesOneRow, cuts_with, gap_said, repairs_behind, with_row_taken};
+ghost use Rattle.hayro_ccitt.specs.GapsContinued.{behind_line_tag, eols_are_settled, gap_is_settled};
 ghost use Rattle.hayro_ccitt.specs.PlainReading.{eols_by, eols_here, is_end_of_block, is_over, gap_behind_row, row_of_line};
 ghost use Rattle.hayro_ccitt.specs.PlainReading.{behind_row, limit_met, line_here};
 ghost use Rattle.hayro_ccitt.specs.Rows.{changes};
+ghost use Rattle.hayro_ccitt.specs.RowsRead.{row_came};
+ghost use Rattle.hayro_ccitt.specs.RowsTried.{ReadsRow, TriesRow, lacks_memory, needs_more};
 ghost use Rattle.hayro_ccitt.specs.Space.{room_for, most_stored};
 ghost use Rattle.hayro_ccitt.specs.Ticks.{looked, looked_ahead, tag_tests};
 ghost use Rattle.hayro_ccitt.specs.Work.{found_here};
@@ -17,6 +20,7 @@ use crate::context::{DecoderContext, decode_1d_line, decode_2d_line};
 use crate::group3::recover;
 use crate::{DecodeError, EncodingMode, Result};
 use fax_bits::bit_reader::{BitReader, at_bit, copy};
+use fax_bits::codes::Color;
 
 /// Returns whether the row limit is met; a limit of 0 is no limit.
 pub(crate) fn limit_met(ctx: &DecoderContext) -> bool
@@ -205,6 +209,61 @@ pub(crate) fn pass_gap(ctx: &mut DecoderContext, reader: &mut BitReader<'_>) -> 
     Ok(is_over(ctx, reader, count))
 }
 
+/// Returns a reader of the bits behind a tag of one here, if it is the next line's: if this number of EOLs, which come before it,
+/// are no RTC (T.4, 4.2.2 and 4.2.4).
+fn behind_line_tag<'a>(reader: &BitReader<'a>, count: usize) -> BitReader<'a>
+    ensures { here result ≡ behind_line_tag (count, here reader.now) }
+{
+    if count == 0 {
+        return copy(reader);
+    }
+    if count >= 6 {
+        return copy(reader);
+    }
+    let mut behind = copy(reader);
+    match behind.read_bit() {
+        Ok(1) => behind,
+        Ok(_) | Err(_) => copy(reader),
+    }
+}
+
+/// Returns whether this number of EOLs, which were read, are all that can be here, whatever bits follow those that are left: the
+/// two of EOFB (T.6, 2.4.1.1) were read, or a one is left that isn't part of an EOL (T.4, 4.1.2 and 4.2.2).
+fn eols_are_settled(ctx: &DecoderContext, reader: &BitReader<'_>, count: usize) -> bool
+    ensures { result ≡ eols_are_settled ctx.now.held.settings.encoding ctx.now.held.settings.end_of_block
+        (count, here reader.now) }
+{
+    match ctx.settings().encoding {
+        EncodingMode::Group4 => ctx.settings().end_of_block && count >= 2 || reader.holds_one(),
+        EncodingMode::Group3_1D => reader.holds_one(),
+        EncodingMode::Group3_2D => behind_line_tag(reader, count).holds_one(),
+    }
+}
+
+/// Returns whether no data that follows can change the gap here: neither the EOLs here, nor, where a lenient reading misses one,
+/// those that come next (T.4, 4.1.2, T.6, 2.4.1.1). Each bit that is looked at is a tick.
+pub(crate) fn gap_is_settled(ctx: &mut DecoderContext, reader: &BitReader<'_>) -> bool
+    ensures settled { result ≡ gap_is_settled ctx.old.held.settings ctx.old.held.taken ctx.old.held.has_eols (here reader.now) }
+    ensures held { ctx.new.held ≡ ctx.old.held }
+    ensures counts { ctx.old.ticks ≤ ctx.new.ticks }
+    ensures work { ctx.new.ticks ≤ ctx.old.ticks + 5 * length (here reader.now) + 4 }
+    ensures space { ctx.new.space ≡ ctx.old.space }
+{
+    let mut ahead = copy(reader);
+    let count = read_eols(ctx, &mut ahead);
+    if !eols_are_settled(ctx, &ahead, count) {
+        return false;
+    }
+    if count > 0 || !ctx.has_eols() || limit_met(ctx) || ahead.at_end() || ctx.settings().strict {
+        return true;
+    }
+    if !ahead.skip_to_eol(ctx.ticks()) {
+        return false;
+    }
+    let count = read_eols(ctx, &mut ahead);
+    eols_are_settled(ctx, &ahead, count)
+}
+
 /// Decodes the line here as `decode_2d_line` does, and so as a line of T.6 data. It is a call, so that tagged one-dimensional
 /// lines don't pay for its registers.
 #[inline(never)]
@@ -269,6 +328,36 @@ fn recover_from(
     recover(ctx, reader, start, error)
 }
 
+/// Takes the row of a line that began at this offset and was drawn with this result, as [`read_row`] does: a damaged line is
+/// repaired first if it may be.
+#[inline(always)]
+fn settle_row(
+    ctx: &mut DecoderContext,
+    reader: &mut BitReader<'_>,
+    line_start: usize,
+    line: Result<()>,
+) -> Result<()>
+    requires rows { ctx.old.held.taken + 1 < 2 ^ 64 }
+    requires damaged { ctx.old.held.repairs.rows ≤ ctx.old.held.taken }
+    requires within { line_start ≤ length reader.old.bits }
+    requires full { OnOk line (ctx.old.held.settings.columns ≤ length ctx.old.held.front) }
+    ensures row { (before : Context) (start : BitsAt) → start ≡ record reader.old { place = line_start }
+        → ReadsLine before.held.settings.encoding 2 before ctx.old line start reader.old
+        → ReadsRow before ctx.new result (here start) (here reader.new) }
+    ensures repairable { OnOk result (IfErr line (λ e. IsFault e)) }
+    ensures same { IfErr result (λ e. IsFault e → line ≡ Err e) }
+    ensures put_back { OnErr result (reader.new ≡ record reader.old { place = line_start }) }
+    ensures same_bits { reader.new.bits ≡ reader.old.bits }
+{
+    if let Err(error) = line {
+        recover_from(ctx, reader, line_start, error)?;
+        take_damaged_row(ctx, reader, error);
+        return Ok(());
+    }
+    take_whole_row(ctx, reader);
+    Ok(())
+}
+
 /// Reads a line, and repairs it if it is damaged and may be repaired. Its row is the reference row then. The errors are those
 /// of a line that isn't repaired, and `OutOfMemory` if a change can't be stored; after each the reader is at the line's start.
 #[inline(always)]
@@ -296,11 +385,74 @@ pub(crate) fn read_row(ctx: &mut DecoderContext, reader: &mut BitReader<'_>) -> 
         (line_here ctx.old.held.settings ctx.old.held.reference (here reader.old)))) }
 {
     let line_start = reader.bit_pos();
-    if let Err(error) = decode_line(ctx, reader) {
-        recover_from(ctx, reader, line_start, error)?;
-        take_damaged_row(ctx, reader, error);
-        return Ok(());
+    let line = decode_line(ctx, reader);
+    settle_row(ctx, reader, line_start, line)
+}
+
+/// Returns whether a line that was drawn with this result is left: the data ended within it, and more may come.
+#[inline(always)]
+fn needs_more(line: &Result<()>, is_last: bool) -> bool
+    ensures { result ≡ needs_more is_last line.now }
+{
+    !is_last && matches!(line, Err(DecodeError::UnexpectedEof))
+}
+
+/// Returns whether a change of a row couldn't be stored.
+#[inline(always)]
+fn lacks_memory(row: &Result<()>) -> bool
+    ensures { result ≡ lacks_memory row.now }
+{
+    matches!(row, Err(DecodeError::OutOfMemory))
+}
+
+/// Returns that a row was read, or its fault.
+#[inline(always)]
+fn answer_of(row: Result<()>) -> Result<bool>
+    ensures { result ≡ row_came row }
+{
+    match row {
+        Ok(()) => Ok(true),
+        Err(error) => Err(error),
     }
-    take_whole_row(ctx, reader);
-    Ok(())
+}
+
+/// Goes back to where a line began that is left, with nothing drawn of it.
+#[cold]
+#[inline(never)]
+fn leave_line(ctx: &mut DecoderContext, reader: &mut BitReader<'_>, line_start: usize)
+    requires within { line_start ≤ length reader.old.bits }
+    ensures frame { ctx.new ≡ record ctx.old { held = redrawn ctx.old.held [] Color.White; passed = 0; cut = false } }
+    ensures put_back { reader.new ≡ record reader.old { place = line_start } }
+{
+    ctx.begin_line();
+    *reader = at_bit(reader, line_start);
+}
+
+/// Reads the line here as [`read_row`] does, and returns true, if no data that follows can change its row. A line that is
+/// short is left, and false is returned, unless this data is the last. After an allocation failure the line is left too.
+#[inline(always)]
+pub(crate) fn try_row(
+    ctx: &mut DecoderContext,
+    reader: &mut BitReader<'_>,
+    is_last: bool,
+) -> Result<bool>
+    requires rows { ctx.old.held.taken + 1 < 2 ^ 64 }
+    requires damaged { ctx.old.held.repairs.rows ≤ ctx.old.held.taken }
+    requires begun { ctx.old.held.front ≡ [] }
+    ensures row { TriesRow is_last ctx.old ctx.new result reader.old reader.new }
+    ensures put_back { result ≢ Ok true → reader.new ≡ reader.old }
+    ensures same_bits { reader.new.bits ≡ reader.old.bits }
+{
+    let line_start = reader.bit_pos();
+    let line = decode_line(ctx, reader);
+    if needs_more(&line, is_last) {
+        leave_line(ctx, reader, line_start);
+        return Ok(false);
+    }
+    let row = settle_row(ctx, reader, line_start, line);
+    if lacks_memory(&row) {
+        leave_line(ctx, reader, line_start);
+        return Err(DecodeError::OutOfMemory);
+    }
+    answer_of(row)
 }

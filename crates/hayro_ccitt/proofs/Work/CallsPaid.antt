@@ -82,7 +82,7 @@ module _ (from : ℕ) (settings : DecodeSettings) (wide : 0 < settings.columns) 
       → IfOk answer (λ over. over ≡ true → last.has_eols ≡ held.has_eols)
       → OnOk answer (last.has_eols ≡ held.has_eols
       → now + 4 * length next ≤ ticks + 4 * length rest + tag_tests settings.encoding + looked_ahead settings.encoding next)
-      → OnOk answer (last.has_eols ≢ held.has_eols → now ≤ ticks + 2 * length rest) → OnErr answer (now ≡ ticks + looked rest)
+      → OnOk answer (last.has_eols ≢ held.has_eols → now ≤ ticks + 2 * length rest) → OnErr answer (now ≤ ticks + looked rest)
       → IsPaid from (stand_after answer) settings bits last place now
   gap_paid (Ok true) said over kept given_up refused =
       let at = behind.at_line in
@@ -137,7 +137,7 @@ module _ (from : ℕ) (settings : DecodeSettings) (is : settings.encoding ≡ Gr
       → IfOk answer (λ over. over ≡ true → last.has_eols ≡ false)
       → OnOk answer (last.has_eols ≡ false
       → now + 4 * length line ≤ from + 4 * length bits + tag_tests settings.encoding + looked_ahead settings.encoding line)
-      → OnErr answer (now ≡ from + looked bits) → IsPaid from (stand_after answer) settings bits last place now
+      → OnErr answer (now ≤ from + looked bits) → IsPaid from (stand_after answer) settings bits last place now
   first_gap_paid (Ok true) said over kept refused =
       omega (arith, most_t6, kept (over refl), ap tag_tests is, looked_ahead_most settings.encoding line)
   first_gap_paid (Ok false) said over kept refused =

@@ -8,6 +8,8 @@ use Rattle.hayro_ccitt.proofs.{Readings.DamageCounted.first_gap_left, Work.Chang
 use Rattle.hayro_ccitt.proofs.Readings.RowByRow.{none_damaged, misses_after, first_gap_stands, first_line_stands, no_fault}
 use Rattle.hayro_ccitt.proofs.Work.CallsPaid.{first_gap_paid, first_line_paid}
 use Rattle.hayro_ccitt.proofs.Work.EolsPassed.{unsought_after}
+use Rattle.hayro_ccitt.proofs.Readings.FirstGaps.{eols_go_on, front_goes_on}
+use Rattle.hayro_ccitt.specs.RowsTried.{PassesGap, StandsFirst}
 use Rattle.hayro_ccitt.proofs.row_reader.first_stand.Goals as goal
 
 -- what the gap says
@@ -145,4 +147,49 @@ returns-in-Group3_1D c =
       counts = c.read_leading_eols.ensures.counts;
       no_eols = λ is. absurd (other is);
       space = c.read_leading_eols.ensures.space;
+      first = subst (λ (n : ℕ). StandsFirst AtLine c.args.ctx.now c.read_leading_eols.new.ctx (record { bits = bits; place = n }) at)
+          (sym c.requires.start) (eols_go_on c.args.ctx.now c.read_leading_eols.new.ctx bits at.place
+          (omega (arith, c.bit_pos-place-in-Group3_1D.ensures.place, c.bit_pos-place-in-Group3_1D.ensures.within,
+          ap length c.read_leading_eols.ensures.same_bits)) other wide c.requires.fresh frame rest (omega (
+            arith,
+            c.read_leading_eols.ensures.work,
+            ap length begins,
+            ap (λ (b : Bits). length (drop at.place b)) c.read_leading_eols.ensures.same_bits,
+            ap (λ (b : Bits). looked (drop at.place b)) c.read_leading_eols.ensures.same_bits,
+          )) at (ap (λ (b : Bits). record { bits = b; place = at.place }) c.read_leading_eols.ensures.same_bits));
     }
+
+-- what comes before the first line, whatever follows
+pub returns-in-Group4-clause-first : goal.returns-in-Group4-clause-first
+returns-in-Group4-clause-first c =
+    let gap = c.pass_gap-over.ensures in
+    let over = c.pass_gap-over.result in
+    let held = c.args.ctx.now.held in
+    let bits = c.args.reader.now.bits in
+    let at = c.pass_gap-over.new.reader in
+    let wide : 0 < held.settings.columns =
+    omega (arith, c.if-settings-eq0.false, ap (λ (s : DecodeSettings). s.columns) c.settings.ensures.value) in
+    let passes : PassesGap c.args.ctx.now c.pass_gap-over.new.ctx over (here c.args.reader.now) (here at) =
+    record {
+      gap = gap.gap;
+      held = gap.held;
+      missed = gap.missed;
+      given_up = gap.given_up;
+      only_code = IfErr-weaker over _ _ (λ error code. code.0) gap.only_code;
+      unchanged = on_err_weaker over (λ same. same.0) gap.unchanged;
+      counts = gap.counts;
+      work = gap.work;
+      work_given_up = gap.work_given_up;
+      work_refused = on_err_weaker over (λ same. omega (arith, same)) gap.work_refused;
+    } in
+    let there = subst (λ (b : Bits). PassesGap c.args.ctx.now c.pass_gap-over.new.ctx over (here c.args.reader.now)
+    (drop at.place b)) gap.same_bits passes in
+    let front = subst (λ (n : ℕ). PassesGap c.args.ctx.now c.pass_gap-over.new.ctx over (drop n bits)
+    (drop at.place bits)) c.requires.start there in
+    let known = front_goes_on c.args.ctx.now c.pass_gap-over.new.ctx bits at.place over
+    (omega (arith, c.bit_pos-place.ensures.place, c.bit_pos-place.ensures.within, ap length gap.same_bits))
+    (ap (λ (s : DecodeSettings). s.encoding) (sym c.settings-2.ensures.value) ∙ c.in-Group4.is) wide c.requires.fresh front at
+    (ap (λ (b : Bits). record { bits = b; place = at.place }) gap.same_bits) in
+    subst (λ (s : Stand). StandsFirst s c.args.ctx.now c.pass_gap-over.new.ctx c.args.reader.now at) (sym c.stand_after_gap.ensures)
+    (subst (λ (n : ℕ). StandsFirst (stand_after over) c.args.ctx.now c.pass_gap-over.new.ctx (record { bits = bits; place = n }) at)
+    (sym c.requires.start) known)

@@ -1,0 +1,734 @@
+-- Rows from data that comes in pieces: what the steps of a call leave of a feed.
+use Rattle.hayro_ccitt.proofs.Names.{◌≡◌, ◌≢◌, ◌∙◌, ◌+◌, ◌-◌, ◌*◌, ◌≤◌, [], ℕ, Bool, true, false, Result, Ok, Err, None, Some, Option, refl, sym, ap, max}
+use Rattle.hayro_ccitt.proofs.Names.{subst, arith, length, drop, cond, Bits, BitsAt, Held, Context, DecodeError, White, redrawn, Line, front_of, here}
+use Rattle.hayro_ccitt.proofs.Names.{IsStanding, IsStandingAtLine, ReachesNextLine, ReadsNext, is_at_line, seen, line_here, most_stored, room_for}
+use Rattle.hayro_ccitt.proofs.Names.{DecodeSettings, Stand, AtLine, BehindRow, AtEnd, AtFault, MissIsTold, missed_before, ended, is_some, ◌++◌, ◌⊎◌, inl, inr}
+use Rattle.hayro_ccitt.proofs.Names.{ReaderStands, DamageIsCounted, WorkIsPaid, IsPaid, HasEnded, HasFailed, sum_by, take, words_of, IfErr, IfOk, OnErr, failed_at, IfErr-weaker, RowsRead, IsFault, false≢true, ◌<◌}
+use Rattle.hayro_ccitt.proofs.Names.{List, zero, suc, ◌∷◌, append_assoc, bits_in, length-append, length-drop, HighestFirst, LowestFirst}
+use Rattle.std.proofs.Math.Seq.{drop-append-add}
+use Rattle.fax_bits.specs.declared.bit_reader.BitOrder.{BitOrder}
+use Rattle.hayro_ccitt.specs.Bits.{bits_of_byte}
+use Rattle.std.specs.Prelude.{◌^◌}
+use Rattle.hayro_ccitt.proofs.Readings.RowByRow.{at_line_stands, begun_is, few, reads_on}
+use Rattle.hayro_ccitt.proofs.Readings.RowsFed.{stands_later, left_is, left_not, from_place, place_within}
+use Rattle.hayro_ccitt.proofs.Work.RoomTaken.{row_enough}
+use Rattle.hayro_ccitt.specs.declared.row_reader.RowState.{RowState}
+use Rattle.hayro_ccitt.specs.Answers.{HasBlack}
+use Rattle.hayro_ccitt.specs.Continuations.{is_short}
+use Rattle.hayro_ccitt.specs.GapsContinued.{first_gap_is_settled, gap_is_settled}
+use Rattle.hayro_ccitt.specs.RowsTried.{CanCome, IsLeft, StandsFirst}
+use Rattle.hayro_ccitt.specs.RowFeeds.{ComesInFeed, ComesOn, Feeding, IsFeedOf, KeepsBits, LieIn, ReadsInFeed, StandsIn, TriesLine, came, fed_over}
+use Rattle.hayro_ccitt.specs.RowFeeds.{Begins, ComeNext, DropsRead, FeedsNext, IsAtFront, IsOpenAt, StaysThere, fed_none, fed_row, is_left, line_first}
+use Rattle.fax_bits.specs.declared.error.DecodeError.TheVariants.{InvalidCode, OutOfMemory}
+use Rattle.hayro_ccitt.specs.declared.row_feed.Fed.{Fed}
+
+module _ (old new : Feeding) (before after : BitsAt) (before_is : before ≡ record { bits = old.kept; place = old.place })
+    (keeps : KeepsBits old new) (ends : new.place ≡ after.place) (begun : old.begun ≡ true) (still : new.begun ≡ true) where
+  abbrev at : ℕ
+  at = old.dropped + old.place
+
+  starts : at ≡ old.dropped + before.place
+  starts = ap (λ (n : ℕ). old.dropped + n) (sym (ap (λ (b : BitsAt). b.place) before_is))
+
+  -- where the reading is in the whole data
+  module _ {whole : Bits} {tried : ℕ} (feed : IsFeedOf whole tried old) where
+    pub lies : LieIn whole old.dropped old.finished before.bits
+    lies = subst (λ (b : Bits). LieIn whole old.dropped old.finished b) (sym (ap (λ (b : BitsAt). b.bits) before_is)) feed.lie
+
+    pub stood : IsStanding tried old.rows old.ctx (record { bits = whole; place = at })
+    stood = subst (λ (b : Bool). StandsIn b tried old.rows old.ctx (record { bits = whole; place = at })) begun feed.stands
+
+    pub stays_fed : (more : ℕ)
+        → IsStanding (tried + more) new.rows new.ctx (record { bits = whole; place = old.dropped + after.place })
+        → IsFeedOf whole (tried + more) new
+    stays_fed more stands = record {
+      fit = feed.fit;
+      lie = subst (λ (n : ℕ). LieIn whole n new.finished new.kept) (sym keeps.dropped)
+          (subst (λ (b : Bool). LieIn whole old.dropped b new.kept) (sym keeps.finished)
+          (subst (λ (b : Bits). LieIn whole old.dropped old.finished b) (sym keeps.kept) feed.lie));
+      stands = subst (λ (b : Bool). StandsIn b (tried + more) new.rows new.ctx
+          (record { bits = whole; place = new.dropped + new.place })) (sym still)
+          (subst (λ (n : ℕ). IsStanding (tried + more) new.rows new.ctx (record { bits = whole; place = n })) place_is stands);
+    }
+      where
+        place_is : old.dropped + after.place ≡ new.dropped + new.place
+        place_is = omega (arith, keeps.dropped, ends)
+
+  place_is : old.dropped + after.place ≡ new.dropped + new.place
+  place_is = omega (arith, keeps.dropped, ends)
+
+  -- a gap is passed
+  pub feed_comes : (answer : Result (Option Bool) DecodeError)
+      → ComesOn old.finished at old.rows new.rows old.ctx new.ctx before after answer → ComesInFeed old new answer
+  feed_comes answer on = record {
+    extra = on.extra;
+    keeps = keeps;
+    begun = still;
+    space = on.space;
+    waits = λ e.
+        let w = on.waits e in (
+          w.0,
+          w.1,
+          w.2,
+          ends ∙ ap (λ (b : BitsAt). b.place) (w.3 ∙ before_is),
+          w.4,
+          w.5,
+          ap (λ (b : BitsAt). gap_is_settled old.ctx.held.settings old.ctx.held.taken old.ctx.held.has_eols (here b))
+              (sym before_is) ∙ w.6,
+        );
+    comes = λ whole tried passed feed. subst (λ (n : ℕ). ReachesNextLine (fed_over whole old)
+        (seen new.rows new.ctx (record { bits = whole; place = n })) (came answer)) place_is
+        (on.comes tried whole old.dropped passed (lies feed) starts (stood feed));
+    stands = λ whole tried passed feed. stays_fed feed on.extra (on.stands tried whole old.dropped passed (lies feed) starts
+        (stood feed));
+    line = on.line;
+    only_code = on.only_code;
+    waiting = λ whole tried e feed.
+        let w = on.waits e in
+        stays_fed feed on.extra (subst (λ (b : BitsAt). IsStanding (tried + on.extra) new.rows new.ctx
+            (record { bits = whole; place = old.dropped + b.place })) (sym w.3)
+            (subst (λ (n : ℕ). IsStanding (tried + on.extra) new.rows new.ctx (record { bits = whole; place = n })) starts
+            (subst (λ (r : RowState). IsStanding (tried + on.extra) r new.ctx (record { bits = whole; place = at })) (sym w.2)
+            (stands_later tried on.extra old.rows old.ctx new.ctx (record { bits = whole; place = at }) w.0 w.1 (stood feed)))));
+  }
+
+  -- the line is read, or left
+  module _ (mid : Context)
+      (frame : mid ≡ record old.ctx { held = redrawn old.ctx.held [] White; passed = 0; cut = false })
+      (width : length old.ctx.held.reference ≡ old.ctx.held.settings.columns) (line : is_at_line old.rows.stand ≡ true)
+      (answer : Result Bool DecodeError)
+      (tries : TriesLine old.finished at old.rows new.rows mid new.ctx before after answer) where
+    counted : old.ctx.ticks ≤ new.ctx.ticks
+    counted = omega (arith, tries.tried.counts, ap (λ (x : Context). x.ticks) frame)
+
+    left_held : IsLeft answer → new.ctx.held ≡ redrawn old.ctx.held [] White
+    left_held left = tries.tried.left left ∙ ap (λ (x : Context). redrawn x.held [] White) frame
+
+    same_line : (P : DecodeSettings → Bits → Bits → Type 0) → IsLeft answer
+        → P mid.held.settings mid.held.reference (here before) → P new.ctx.held.settings new.ctx.held.reference (drop old.place old.kept)
+    same_line P left known =
+        subst (λ (h : Held). P h.settings h.reference (drop old.place old.kept)) (sym (tries.tried.left left))
+        (subst (λ (b : BitsAt). P mid.held.settings mid.held.reference (here b)) before_is known)
+
+    module _ {whole : Bits} {tried : ℕ} (feed : IsFeedOf whole tried old) where
+      same : mid.held ≡ old.ctx.held
+      same =
+          begun_is (at_line_stands old.rows.stand old.ctx.held.settings whole old.ctx.held at line (stood feed).0)
+          (ap (λ (x : Context). x.held) frame)
+
+      mid_is : mid ≡ record old.ctx { passed = 0; cut = false }
+      mid_is = frame ∙ ap (λ (h : Held). record old.ctx { held = h; passed = 0; cut = false })
+          (sym (ap (λ (x : Context). x.held) frame) ∙ same)
+
+      begins_there : IsStandingAtLine tried old.rows mid (record { bits = whole; place = at })
+      begins_there = subst (λ (x : Context). IsStandingAtLine tried old.rows x (record { bits = whole; place = at })) (sym mid_is)
+          (line, stood feed)
+
+      line_fed : (IsLeft answer → ⊥) → ReadsNext (fed_over whole old) (fed_over whole new) answer
+      line_fed read =
+          subst (λ (n : ℕ). ReadsNext (fed_over whole old) (seen new.rows new.ctx (record { bits = whole; place = n })) answer)
+          place_is
+          (subst (λ (x : Context). ReadsNext (seen old.rows x (record { bits = whole; place = at }))
+          (seen new.rows new.ctx (record { bits = whole; place = old.dropped + after.place })) answer) mid_is
+          (tries.reads tried whole old.dropped read (lies feed) starts begins_there))
+
+      line_stays_fed : (b : Bool) → is_left answer ≡ b
+          → IsFeedOf whole (tried + cond b (new.ctx.ticks - old.ctx.ticks) 0) new
+      line_stays_fed true left_so =
+          let left = left_is answer left_so in
+          let more = new.ctx.ticks - old.ctx.ticks in
+          stays_fed feed more (subst (λ (b : BitsAt). IsStanding (tried + more) new.rows new.ctx
+          (record { bits = whole; place = old.dropped + b.place })) (sym (tries.left left).1)
+          (subst (λ (n : ℕ). IsStanding (tried + more) new.rows new.ctx (record { bits = whole; place = n })) starts
+          (subst (λ (r : RowState). IsStanding (tried + more) r new.ctx (record { bits = whole; place = at })) (sym (tries.left left).0)
+          (stands_later tried more old.rows old.ctx new.ctx (record { bits = whole; place = at })
+          (left_held left ∙ sym (ap (λ (x : Context). x.held) frame) ∙ same) (omega (arith, counted)) (stood feed)))))
+      line_stays_fed false read_so =
+          let none : tried + 0 ≡ tried = omega arith in
+          stays_fed feed 0 (subst (λ (n : ℕ). IsStanding n new.rows new.ctx
+          (record { bits = whole; place = old.dropped + after.place })) (sym none)
+          (tries.stands tried whole old.dropped (left_not answer read_so) (lies feed) starts begins_there))
+
+    pub feed_reads : ReadsInFeed old new answer
+    feed_reads = record {
+      extra = cond (is_left answer) (new.ctx.ticks - old.ctx.ticks) 0;
+      keeps = keeps;
+      begun = still;
+      left = λ left. (
+        (tries.left left).0,
+        ends ∙ ap (λ (b : BitsAt). b.place) ((tries.left left).1 ∙ before_is),
+        left_held left,
+      );
+      unsettled = λ e. (
+        (tries.tried.short e).0,
+        same_line (λ s r b. is_short (line_here s r b) ≡ true) (subst IsLeft (sym e) refl) (tries.tried.short e).1,
+      );
+      memory = λ e. same_line (λ s r b. HasBlack (front_of (line_here s r b))) (subst IsLeft (sym e) refl) (tries.tried.memory e);
+      reads = λ whole tried read feed. line_fed feed read;
+      stands = λ whole tried feed. line_stays_fed feed (is_left answer) refl;
+      most = omega (
+        arith,
+        tries.tried.space,
+        ap (λ (x : Context). x.space) frame,
+        row_enough mid.held.settings mid.held.reference (here before)
+            (ap (λ (x : Context). length x.held.reference) frame ∙ width
+            ∙ sym (ap (λ (x : Context). x.held.settings.columns) frame)),
+        ap (λ (x : Context). x.held.settings.columns) frame,
+      );
+      counts = counted;
+    }
+
+-- ---- What is before the first line
+
+-- nothing was missed before the first row
+none_missed : (stand : Stand) (settings : DecodeSettings) (bits : Bits) (taken : ℕ) → taken ≡ 0
+    → MissIsTold stand settings bits taken None
+none_missed AtLine settings bits taken none = sym (ap (missed_before settings bits) none)
+none_missed BehindRow settings bits taken none = tt
+none_missed AtEnd settings bits taken none = sym (ap (missed_before settings bits) none)
+none_missed (AtFault error) settings bits taken none = sym (ap (missed_before settings bits) none)
+
+module _ (old new : Feeding) (mid : Context) (before after : BitsAt) (stand : Stand) (more : ℕ)
+    (before_is : before ≡ record { bits = old.kept; place = old.place }) (keeps : KeepsBits old new)
+    (ends : new.place ≡ after.place) (still : new.begun ≡ true) (rows_are : new.rows ≡ record old.rows { stand = stand })
+    (same : mid.held ≡ old.ctx.held) (ticks : mid.ticks ≡ old.ctx.ticks + more)
+    (first : StandsFirst stand mid new.ctx before after) (none_taken : new.ctx.held.taken ≡ 0)
+    (settings_are : new.ctx.held.settings ≡ mid.held.settings) (counts : mid.ticks ≤ new.ctx.ticks)
+    (unfailed : (error : DecodeError) → ended stand ≢ Some (Err error))
+    (at_line : is_some (ended stand) ≡ false → is_at_line stand ≡ true)
+    (settled : (old.finished ≡ true)
+    ⊎ (first_gap_is_settled mid.held.settings.encoding mid.held.settings before.bits ≡ true))
+    {whole : Bits} {tried : ℕ} (feed : IsFeedOf whole tried old) (front : IsAtFront tried old.rows old.ctx (old.dropped + old.place)) where
+  abbrev lie : LieIn whole old.dropped old.finished old.kept
+  lie = feed.lie
+
+  none_dropped : old.dropped ≡ 0
+  none_dropped = omega (arith, front.start)
+
+  whole_is : whole ≡ before.bits ++ lie.more
+  whole_is = sym (ap (λ (n : ℕ). drop n whole) none_dropped) ∙ lie.bits
+      ∙ ap (λ (b : Bits). b ++ lie.more) (sym (ap (λ (b : BitsAt). b.bits) before_is))
+
+  changes_nothing : (old.finished ≡ true) ⊎ (first_gap_is_settled mid.held.settings.encoding mid.held.settings before.bits ≡ true)
+      → (lie.more ≡ []) ⊎ (first_gap_is_settled mid.held.settings.encoding mid.held.settings before.bits ≡ true)
+  changes_nothing (inl last) = inl (lie.can_come.none last)
+  changes_nothing (inr is) = inr is
+
+  front_ticks : mid.ticks ≡ tried + more
+  front_ticks = omega (arith, ticks, front.ticks)
+
+  front_standing : IsStanding (tried + more) (record { started_at = 0; damage = None; cut = false; missed = None; stand = stand })
+      new.ctx (record { bits = before.bits ++ lie.more; place = after.place })
+  front_standing = (
+    subst (λ (s : DecodeSettings). ReaderStands stand s (before.bits ++ lie.more) new.ctx.held after.place) (sym settings_are)
+        (first.stands lie.more (changes_nothing settled)),
+    subst (λ (s : DecodeSettings). DamageIsCounted stand s (before.bits ++ lie.more) new.ctx.held) (sym settings_are)
+        (first.damage lie.more),
+    subst (λ (n : ℕ). WorkIsPaid n stand new.ctx.held.settings (before.bits ++ lie.more) new.ctx.held after.place new.ctx.ticks)
+        front_ticks (record {
+          words = omega (arith, counts,
+              ap (λ (n : ℕ). sum_by length (take n (words_of new.ctx.held.settings (before.bits ++ lie.more)))) none_taken);
+          paid = subst (λ (s : DecodeSettings). IsPaid mid.ticks stand s (before.bits ++ lie.more) new.ctx.held after.place
+              new.ctx.ticks) (sym settings_are) (first.paid lie.more (changes_nothing settled));
+        }),
+    none_missed stand new.ctx.held.settings (before.bits ++ lie.more) new.ctx.held.taken none_taken,
+  )
+
+  rows_now : new.rows ≡ record { started_at = 0; damage = None; cut = false; missed = None; stand = stand }
+  rows_now = rows_are ∙ ap (λ (r : RowState). record r { stand = stand }) front.state
+
+  place_now : after.place ≡ new.dropped + new.place
+  place_now = omega (arith, none_dropped, keeps.dropped, ends)
+
+  front_stood : IsStanding (tried + more) new.rows new.ctx (record { bits = whole; place = new.dropped + new.place })
+  front_stood = subst (λ (r : RowState). IsStanding (tried + more) r new.ctx
+      (record { bits = whole; place = new.dropped + new.place })) (sym rows_now)
+      (subst (λ (n : ℕ). IsStanding (tried + more) (record { started_at = 0; damage = None; cut = false; missed = None; stand = stand })
+      new.ctx (record { bits = whole; place = n })) place_now
+      (subst (λ (b : Bits). IsStanding (tried + more) (record
+      { started_at = 0; damage = None; cut = false; missed = None; stand = stand }) new.ctx
+      (record { bits = b; place = after.place })) (sym whole_is) front_standing))
+
+  pub front_fed : IsFeedOf whole (tried + more) new
+  front_fed = record {
+    fit = feed.fit;
+    lie = subst (λ (n : ℕ). LieIn whole n new.finished new.kept) (sym keeps.dropped)
+        (subst (λ (b : Bool). LieIn whole old.dropped b new.kept) (sym keeps.finished)
+        (subst (λ (b : Bits). LieIn whole old.dropped old.finished b) (sym keeps.kept) feed.lie));
+    stands = subst (λ (b : Bool). StandsIn b (tried + more) new.rows new.ctx
+        (record { bits = whole; place = new.dropped + new.place })) (sym still) front_stood;
+  }
+
+  none_before : old.ctx.held.taken ≡ 0
+  none_before = ap (λ (h : Held). h.taken) front.fresh
+
+  same_settings : new.ctx.held.settings ≡ old.ctx.held.settings
+  same_settings = settings_are ∙ ap (λ (h : Held). h.settings) same
+
+  pub front_reaches : ReachesNextLine (fed_over whole old) (fed_over whole new) (line_first new.rows.stand)
+  front_reaches = subst (λ (r : RowState). ReachesNextLine (fed_over whole old)
+      (seen r new.ctx (record { bits = whole; place = new.dropped + new.place })) (line_first r.stand)) (sym rows_now)
+      (by_stand stand refl)
+    where
+      ended_there : (s : Stand) → stand ≡ s → line_first s ≡ Ok false → (ended s ≡ Some (Ok tt))
+          × HasEnded old.ctx.held.settings whole new.ctx.held.taken (new.dropped + new.place)
+      ended_there AtLine is e = absurd cc
+      ended_there BehindRow is e = absurd cc
+      ended_there AtEnd is e = (
+        refl,
+        subst (λ (s : DecodeSettings). HasEnded s whole new.ctx.held.taken (new.dropped + new.place)) same_settings
+            (subst (λ (s : Stand). ReaderStands s new.ctx.held.settings whole new.ctx.held (new.dropped + new.place))
+            (ap (λ (r : RowState). r.stand) rows_now ∙ is) front_stood.0).0,
+      )
+      ended_there (AtFault error) is e = absurd cc
+
+      line_there : (s : Stand) → stand ≡ s → line_first s ≡ Ok true → is_at_line s ≡ true
+      line_there AtLine is e = refl
+      line_there BehindRow is e = subst (λ (s : Stand). is_at_line s ≡ true) is (at_line (ap (λ (s : Stand). is_some (ended s)) is))
+      line_there AtEnd is e = absurd cc
+      line_there (AtFault error) is e = absurd cc
+
+      unended_there : (s : Stand) → line_first s ≡ Ok true → ended s ≡ None
+      unended_there AtLine e = refl
+      unended_there BehindRow e = refl
+      unended_there AtEnd e = absurd cc
+      unended_there (AtFault error) e = absurd cc
+
+      no_error : (s : Stand) → stand ≡ s → IfErr (line_first s)
+          (λ e. (ended stand ≡ Some (Err e)) × HasFailed old.ctx.held.settings whole new.ctx.held.taken e)
+      no_error AtLine is = tt
+      no_error BehindRow is = tt
+      no_error AtEnd is = tt
+      no_error (AtFault error) is = absurd (unfailed error (ap ended is))
+
+      no_fault_start : (s : Stand) → stand ≡ s
+          → OnErr (line_first s) (0 ≡ failed_at old.ctx.held.settings whole old.ctx.held.taken)
+      no_fault_start AtLine is = tt
+      no_fault_start BehindRow is = tt
+      no_fault_start AtEnd is = tt
+      no_fault_start (AtFault error) is = absurd (unfailed error (ap ended is))
+
+      in_either : (s : Stand) → IfOk (line_first s) (λ line. 0 ≡ old.rows.started_at)
+      in_either AtLine = sym (ap (λ (r : RowState). r.started_at) front.state)
+      in_either BehindRow = sym (ap (λ (r : RowState). r.started_at) front.state)
+      in_either AtEnd = sym (ap (λ (r : RowState). r.started_at) front.state)
+      in_either (AtFault error) = tt
+
+      by_stand : (s : Stand) → stand ≡ s → ReachesNextLine (fed_over whole old)
+          (seen (record { started_at = 0; damage = None; cut = false; missed = None; stand = stand }) new.ctx
+          (record { bits = whole; place = new.dropped + new.place })) (line_first stand)
+      by_stand s is = record {
+        settings = same_settings;
+        bits = refl;
+        counts = omega (arith, counts, ticks);
+        taken = none_taken ∙ sym none_before;
+        line = λ e. line_there stand refl e;
+        unended = λ e. unended_there stand e;
+        end = λ e. ended_there stand refl e;
+        error = no_error stand refl;
+        fault_start = no_fault_start stand refl;
+        missed = sym (ap (missed_before old.ctx.held.settings whole) none_before);
+        last = (first.row ∙ ap (λ (h : Held). h.reference) same, sym (ap (λ (r : RowState). r.damage) front.state),
+            sym (ap (λ (r : RowState). r.cut) front.state));
+        last_start = in_either stand;
+      }
+
+-- before the first line nothing has begun
+pub at_front : (begun : Bool) (tried : ℕ) (rows : RowState) (ctx : Context) (at : BitsAt) → begun ≡ false
+    → StandsIn begun tried rows ctx at → IsAtFront tried rows ctx at.place
+at_front begun tried rows ctx at none stands = subst (λ (b : Bool). StandsIn b tried rows ctx at) none stands
+
+-- ---- The steps of a call, one after the other
+
+-- where a gap leads to no line, no row is read
+pub none_behind : {old new : RowsRead} (answer : Result Bool DecodeError) → answer ≢ Ok true → ReachesNextLine old new answer
+    → ReadsNext old new answer
+none_behind (Ok true) other reached = absurd (other refl)
+none_behind (Ok false) other reached = record {
+  settings = reached.settings;
+  bits = reached.bits;
+  counts = reached.counts;
+  more = λ e. cc;
+  row = λ e. cc;
+  line_start = λ e. cc;
+  place = λ e. cc;
+  damage = λ e. cc;
+  cut = λ e. cc;
+  end = λ e. ((reached.end refl).0, reached.taken, (reached.end refl).1);
+  error = tt;
+  fault_start = λ unended. tt;
+  missed = reached.missed;
+  last = λ e. reached.last;
+  last_start = λ e. reached.last_start;
+}
+none_behind (Err error) other reached = record {
+  settings = reached.settings;
+  bits = reached.bits;
+  counts = reached.counts;
+  more = λ e. cc;
+  row = λ e. cc;
+  line_start = λ e. cc;
+  place = λ e. cc;
+  damage = λ e. cc;
+  cut = λ e. cc;
+  end = λ e. cc;
+  error = (reached.error.0, reached.taken, reached.error.1);
+  fault_start = λ unended. reached.fault_start;
+  missed = reached.missed;
+  last = λ e. reached.last;
+  last_start = λ e. cc;
+}
+
+-- a line was reached, and the call went on from there
+pub feeds_on : {whole : Bits} {tried : ℕ} (more : ℕ) {old mid new : Feeding} {answer : Result Fed DecodeError}
+    → ReachesNextLine (fed_over whole old) (fed_over whole mid) (Ok true) → FeedsNext whole (tried + more) mid new answer
+    → FeedsNext whole tried old new answer
+feeds_on {whole} {tried} more {old} {mid} {new} {answer} reached next = record {
+  row = λ e. reads_on (fed_over whole old) (fed_over whole mid) (fed_over whole new) (Ok true) reached (next.row e);
+  end = λ e. reads_on (fed_over whole old) (fed_over whole mid) (fed_over whole new) (Ok false) reached (next.end e);
+  fault = IfErr-weaker answer _ _ (λ e known fault.
+      reads_on (fed_over whole old) (fed_over whole mid) (fed_over whole new) (Err e) reached (known fault)) next.fault;
+  none = λ left.
+      let stays = next.none left in
+      record {
+        settings = stays.settings ∙ reached.settings;
+        bits = refl;
+        counts = omega (arith, stays.counts, reached.counts);
+        taken = stays.taken ∙ reached.taken;
+        row = stays.row ∙ reached.last.0;
+        damage = stays.damage ∙ reached.last.1;
+        cut = stays.cut ∙ reached.last.2;
+        line_start = stays.line_start ∙ reached.last_start;
+        unended = stays.unended;
+      };
+  unsettled = next.unsettled;
+  memory = next.memory;
+  extra = more + next.extra;
+  stands = let same : (tried + more) + next.extra ≡ tried + (more + next.extra) = omega arith in
+      subst (λ (n : ℕ). IsFeedOf whole n new) same next.stands;
+}
+
+-- at a line, and behind a row, nothing has ended
+at_line_unended : (stand : Stand) → is_at_line stand ≡ true → ended stand ≡ None
+at_line_unended AtLine is = refl
+at_line_unended BehindRow is = refl
+at_line_unended AtEnd is = absurd (false≢true is)
+at_line_unended (AtFault error) is = absurd (false≢true is)
+
+open_line : (begun : Bool) (stand : Stand) (ctx : Context) (next : Bits) → begun ≡ true → is_at_line stand ≡ true
+    → is_short (line_here ctx.held.settings ctx.held.reference next) ≡ true → IsOpenAt begun stand ctx next
+open_line false stand ctx next begun line short = absurd (false≢true begun)
+open_line true AtLine ctx next begun line short = short
+open_line true BehindRow ctx next begun line short = absurd (false≢true line)
+open_line true AtEnd ctx next begun line short = absurd (false≢true line)
+open_line true (AtFault error) ctx next begun line short = absurd (false≢true line)
+
+open_gap : (begun : Bool) (stand : Stand) (ctx : Context) (next : Bits) → begun ≡ true → is_at_line stand ≡ false → ended stand ≡ None
+    → gap_is_settled ctx.held.settings ctx.held.taken ctx.held.has_eols next ≡ false → IsOpenAt begun stand ctx next
+open_gap false stand ctx next begun line unended gap = absurd (false≢true begun)
+open_gap true AtLine ctx next begun line unended gap = absurd (false≢true (sym line))
+open_gap true BehindRow ctx next begun line unended gap = gap
+open_gap true AtEnd ctx next begun line unended gap = absurd cc
+open_gap true (AtFault error) ctx next begun line unended gap = absurd cc
+
+-- a line that is left changes nothing
+line_left : {whole : Bits} {old new : Feeding} (answer : Result Bool DecodeError) → ReadsInFeed old new answer → IsLeft answer
+    → is_at_line old.rows.stand ≡ true → StaysThere (fed_over whole old) (fed_over whole new)
+line_left {whole} {old} {new} answer reads left line =
+    let stays = reads.left left in
+    record {
+      settings = ap (λ (h : Held). h.settings) stays.2;
+      bits = refl;
+      counts = reads.counts;
+      taken = ap (λ (h : Held). h.taken) stays.2;
+      row = ap (λ (h : Held). h.reference) stays.2;
+      damage = ap (λ (r : RowState). r.damage) stays.0;
+      cut = ap (λ (r : RowState). r.cut) stays.0;
+      line_start = ap (λ (r : RowState). r.started_at) stays.0;
+      unended = ap (λ (r : RowState). ended r.stand) stays.0 ∙ at_line_unended old.rows.stand line;
+    }
+
+next_is : {old new : Feeding} → KeepsBits old new → new.place ≡ old.place → drop old.place old.kept ≡ drop new.place new.kept
+next_is {old} {new} keeps place = ap (λ (n : ℕ). drop n old.kept) (sym place) ∙ ap (drop new.place) (sym keeps.kept)
+
+-- the line is read, or left
+pub line_feeds : {whole : Bits} {tried : ℕ} {old new : Feeding} (answer : Result Bool DecodeError) → ReadsInFeed old new answer
+    → old.begun ≡ true → is_at_line old.rows.stand ≡ true → IsFeedOf whole tried old → FeedsNext whole tried old new (fed_row answer)
+line_feeds {whole} {tried} {old} {new} (Ok true) reads begun line feed = record {
+  row = λ e. reads.reads whole tried (λ left. cc) feed;
+  end = λ e. cc;
+  fault = tt;
+  none = λ left. cc;
+  unsettled = λ e. cc;
+  memory = λ e. cc;
+  extra = reads.extra;
+  stands = reads.stands whole tried feed;
+}
+line_feeds {whole} {tried} {old} {new} (Ok false) reads begun line feed = record {
+  row = λ e. cc;
+  end = λ e. cc;
+  fault = tt;
+  none = λ left. line_left (Ok false) reads refl line;
+  unsettled = λ e. (
+    reads.keeps.finished ∙ (reads.unsettled refl).0,
+    open_line new.begun new.rows.stand new.ctx (drop new.place new.kept) reads.begun
+        (ap (λ (r : RowState). is_at_line r.stand) (reads.left refl).0 ∙ line)
+        (ap (λ (b : Bits). is_short (line_here new.ctx.held.settings new.ctx.held.reference b))
+        (sym (next_is reads.keeps (reads.left refl).1)) ∙ (reads.unsettled refl).1),
+  );
+  memory = λ e. cc;
+  extra = reads.extra;
+  stands = reads.stands whole tried feed;
+}
+line_feeds {whole} {tried} {old} {new} (Err error) reads begun line feed = record {
+  row = λ e. cc;
+  end = λ e. cc;
+  fault = λ fault. reads.reads whole tried (λ left. subst IsFault left fault) feed;
+  none = λ left. line_left (Err error) reads left line;
+  unsettled = λ e. cc;
+  memory = λ e.
+      let is : error ≡ OutOfMemory = cc in
+      subst (λ (b : Bits). HasBlack (front_of (line_here new.ctx.held.settings new.ctx.held.reference b)))
+      (next_is reads.keeps (reads.left is).1) (reads.memory (ap (λ (x : DecodeError). Err x) is));
+  extra = reads.extra;
+  stands = reads.stands whole tried feed;
+}
+
+-- no line is reached: more data is needed, or it is the end
+pub gap_feeds : {whole : Bits} {tried : ℕ} {old new : Feeding} (answer : Result (Option Bool) DecodeError) → ComesInFeed old new answer
+    → answer ≢ Ok (Some true) → old.begun ≡ true → ended old.rows.stand ≡ None → IsFeedOf whole tried old
+    → FeedsNext whole tried old new (fed_none answer)
+gap_feeds {whole} {tried} {old} {new} (Ok None) comes other begun unended feed =
+    let w = comes.waits refl in
+    record {
+      row = λ e. cc;
+      end = λ e. cc;
+      fault = tt;
+      none = λ left. record {
+        settings = ap (λ (h : Held). h.settings) w.0;
+        bits = refl;
+        counts = omega (arith, w.1);
+        taken = ap (λ (h : Held). h.taken) w.0;
+        row = ap (λ (h : Held). h.reference) w.0;
+        damage = ap (λ (r : RowState). r.damage) w.2;
+        cut = ap (λ (r : RowState). r.cut) w.2;
+        line_start = ap (λ (r : RowState). r.started_at) w.2;
+        unended = ap (λ (r : RowState). ended r.stand) w.2 ∙ unended;
+      };
+      unsettled = λ e. (
+        comes.keeps.finished ∙ w.4,
+        open_gap new.begun new.rows.stand new.ctx (drop new.place new.kept) comes.begun
+            (ap (λ (r : RowState). is_at_line r.stand) w.2 ∙ w.5) (ap (λ (r : RowState). ended r.stand) w.2 ∙ unended)
+            (ap (λ (h : Held). gap_is_settled h.settings h.taken h.has_eols (drop new.place new.kept)) w.0
+            ∙ ap (gap_is_settled old.ctx.held.settings old.ctx.held.taken old.ctx.held.has_eols)
+            (sym (next_is comes.keeps w.3)) ∙ w.6),
+      );
+      memory = λ e. cc;
+      extra = comes.extra;
+      stands = comes.waiting whole tried refl feed;
+    }
+gap_feeds {whole} {tried} {old} {new} (Ok (Some true)) comes other begun unended feed = absurd (other refl)
+gap_feeds {whole} {tried} {old} {new} (Ok (Some false)) comes other begun unended feed = record {
+  row = λ e. cc;
+  end = λ e. none_behind (Ok false) (λ is. cc) (comes.comes whole tried (λ is. cc) feed);
+  fault = tt;
+  none = λ left. cc;
+  unsettled = λ e. cc;
+  memory = λ e. cc;
+  extra = comes.extra;
+  stands = comes.stands whole tried (λ is. cc) feed;
+}
+gap_feeds {whole} {tried} {old} {new} (Err error) comes other begun unended feed = record {
+  row = λ e. cc;
+  end = λ e. cc;
+  fault = λ fault. none_behind (Err error) (λ is. cc) (comes.comes whole tried (λ is. cc) feed);
+  none = λ left. let never : InvalidCode ≡ OutOfMemory = sym comes.only_code ∙ left in absurd cc;
+  unsettled = λ e. cc;
+  memory = λ e. let is : error ≡ OutOfMemory = cc in
+      let never : InvalidCode ≡ OutOfMemory = sym comes.only_code ∙ is in absurd cc;
+  extra = comes.extra;
+  stands = comes.stands whole tried (λ is. cc) feed;
+}
+
+-- there is room for the row of a line
+pub row_fits : {whole : Bits} {tried : ℕ} {feed : Feeding} → feed.begun ≡ true → is_at_line feed.rows.stand ≡ true
+    → IsFeedOf whole tried feed → (feed.ctx.held.taken + 1 < 2 ^ 64) × (feed.ctx.held.repairs.rows ≤ feed.ctx.held.taken)
+row_fits {whole} {tried} {feed} begun line is =
+    let stands = subst (λ (b : Bool). StandsIn b tried feed.rows feed.ctx (record
+    { bits = whole; place = feed.dropped + feed.place })) begun is.stands in
+    (
+      omega (arith, is.fit, few (at_line_stands feed.rows.stand feed.ctx.held.settings whole feed.ctx.held
+          (feed.dropped + feed.place) line stands.0)),
+      stands.1.few,
+    )
+
+-- what is before the first line leads to it, or to the end
+pub first_ends : (stand : Stand) {old new : RowsRead} → ((error : DecodeError) → ended stand ≢ Some (Err error))
+    → is_some (ended stand) ≡ true → ReachesNextLine old new (line_first stand) → ReachesNextLine old new (Ok false)
+first_ends AtLine unfailed is reached = absurd cc
+first_ends BehindRow unfailed is reached = absurd cc
+first_ends AtEnd unfailed is reached = reached
+first_ends (AtFault error) unfailed is reached = absurd (unfailed error refl)
+
+pub first_line_is : (stand : Stand) {old new : RowsRead} → is_some (ended stand) ≡ false → ReachesNextLine old new (line_first stand)
+    → ReachesNextLine old new (Ok true)
+first_line_is AtLine is reached = reached
+first_line_is BehindRow is reached = reached
+first_line_is AtEnd is reached = absurd cc
+first_line_is (AtFault error) is reached = absurd cc
+
+pub unended_is : (stand : Stand) → is_some (ended stand) ≡ false → ended stand ≡ None
+unended_is AtLine is = refl
+unended_is BehindRow is = refl
+unended_is AtEnd is = absurd cc
+unended_is (AtFault error) is = absurd cc
+
+open_front : (begun : Bool) (stand : Stand) (ctx : Context) (next : Bits) → begun ≡ false
+    → first_gap_is_settled ctx.held.settings.encoding ctx.held.settings next ≡ false → IsOpenAt begun stand ctx next
+open_front false stand ctx next none known = known
+open_front true stand ctx next none known = absurd (false≢true (sym none))
+
+-- nothing is before the first line yet
+pub front_feeds : {whole : Bits} {tried : ℕ} {old new : Feeding} → Begins old new false → ended old.rows.stand ≡ None
+    → old.place ≡ 0 → IsFeedOf whole tried old → FeedsNext whole tried old new (Ok Fed.NeedsMore)
+front_feeds {whole} {tried} {old} {new} begins unended start feed =
+    let w = begins.waits refl in
+    let whole_kept : new.place ≡ old.place → drop new.place new.kept ≡ old.kept
+    = λ same. ap (λ (n : ℕ). drop n new.kept) (same ∙ start) ∙ begins.keeps.kept in
+    record {
+      row = λ e. cc;
+      end = λ e. cc;
+      fault = tt;
+      none = λ left. record {
+        settings = ap (λ (h : Held). h.settings) w.0;
+        bits = refl;
+        counts = omega (arith, w.1);
+        taken = ap (λ (h : Held). h.taken) w.0;
+        row = ap (λ (h : Held). h.reference) w.0;
+        damage = ap (λ (r : RowState). r.damage) w.2;
+        cut = ap (λ (r : RowState). r.cut) w.2;
+        line_start = ap (λ (r : RowState). r.started_at) w.2;
+        unended = ap (λ (r : RowState). ended r.stand) w.2 ∙ unended;
+      };
+      unsettled = λ e. (
+        begins.keeps.finished ∙ w.4,
+        open_front new.begun new.rows.stand new.ctx (drop new.place new.kept) begins.begun
+            (ap (λ (h : Held). first_gap_is_settled h.settings.encoding h.settings (drop new.place new.kept)) w.0
+            ∙ ap (first_gap_is_settled old.ctx.held.settings.encoding old.ctx.held.settings) (whole_kept w.3) ∙ w.5),
+      );
+      memory = λ e. cc;
+      extra = begins.extra;
+      stands = begins.stands whole tried feed;
+    }
+
+-- a line was reached, and there is room for its row
+pub reached_fits : {whole : Bits} {tried : ℕ} {old new : Feeding} (answer : Result (Option Bool) DecodeError)
+    → (comes : ComesInFeed old new answer) → answer ≡ Ok (Some true) → IsFeedOf whole tried old
+    → (new.ctx.held.taken + 1 < 2 ^ 64) × (new.ctx.held.repairs.rows ≤ new.ctx.held.taken)
+reached_fits {whole} {tried} {old} {new} answer comes is feed =
+    row_fits comes.begun (comes.line is) (comes.stands whole tried (λ none. let never = sym is ∙ none in absurd cc) feed)
+
+pub reached_on : {whole : Bits} {tried : ℕ} {old mid new : Feeding} (line : Result (Option Bool) DecodeError)
+    (row : Result Bool DecodeError) → (comes : ComesInFeed old mid line) → line ≡ Ok (Some true) → ReadsInFeed mid new row
+    → IsFeedOf whole tried old → FeedsNext whole tried old new (fed_row row)
+reached_on {whole} {tried} {old} {mid} {new} line row comes is reads feed =
+    let some : line ≢ Ok None = λ none. let never = sym is ∙ none in absurd cc in
+    let reached = subst (λ (r : Result (Option Bool) DecodeError). ReachesNextLine (fed_over whole old) (fed_over whole mid) (came r))
+    is (comes.comes whole tried some feed) in
+    feeds_on comes.extra reached (line_feeds row reads comes.begun (comes.line is) (comes.stands whole tried some feed))
+
+-- ---- More data
+
+none_left : (n : ℕ) → drop {A = Bool} n [] ≡ []
+none_left zero = refl
+none_left (suc n) = refl
+
+eight : (order : BitOrder) (byte : ℕ) → length (bits_of_byte order byte) ≡ 8
+eight HighestFirst byte = refl
+eight LowestFirst byte = refl
+
+drop-all : (bits : Bits) → drop (length bits) bits ≡ []
+drop-all [] = refl
+drop-all (bit ∷ bits) = drop-all bits
+
+-- the bits of bytes, without those of the first ones
+pub bits-dropped : (order : BitOrder) (bytes : ℕ) (items : List ℕ) → bits_in order (drop bytes items) ≡ drop (8 * bytes) (bits_in order items)
+bits-dropped order zero items = refl
+bits-dropped order (suc bytes) [] = sym (none_left (8 * suc bytes))
+bits-dropped order (suc bytes) (byte ∷ items) =
+    let next : 8 * suc bytes ≡ length (bits_of_byte order byte) + 8 * bytes = omega (arith, eight order byte) in
+    bits-dropped order bytes items ∙ sym (drop-append-add (bits_of_byte order byte) (bits_in order items) (8 * bytes))
+    ∙ ap (λ (n : ℕ). drop n (bits_in order (byte ∷ items))) (sym next)
+
+-- the reading is the same without the bytes that were read
+pub drops_read : {whole : Bits} {tried : ℕ} {old new : Feeding} → DropsRead old new → IsFeedOf whole tried old
+    → IsFeedOf whole tried new
+drops_read {whole} {tried} {old} {new} drops feed =
+    let lie = feed.lie in
+    let enough : 8 * drops.bytes ≤ length old.kept = omega (arith, drops.read, drops.within) in
+    let place : old.dropped + old.place ≡ new.dropped + new.place = omega (arith, drops.dropped, drops.place) in
+    record {
+      fit = feed.fit;
+      lie = record {
+        within = omega (arith, drops.dropped, place_within lie (8 * drops.bytes) enough);
+        more = lie.more;
+        bits = ap (λ (n : ℕ). drop n whole) drops.dropped ∙ from_place lie (8 * drops.bytes) enough
+            ∙ ap (λ (b : Bits). b ++ lie.more) (sym drops.kept);
+        can_come = subst (λ (b : Bool). CanCome b lie.more) (sym drops.finished) lie.can_come;
+      };
+      stands = subst (λ (b : Bool). StandsIn b tried new.rows new.ctx (record { bits = whole; place = new.dropped + new.place }))
+          (sym drops.begun) (subst (λ (r : RowState). StandsIn old.begun tried r new.ctx
+          (record { bits = whole; place = new.dropped + new.place })) (sym drops.rows)
+          (subst (λ (x : Context). StandsIn old.begun tried old.rows x (record { bits = whole; place = new.dropped + new.place }))
+          (sym drops.ctx) (subst (λ (n : ℕ). StandsIn old.begun tried old.rows old.ctx (record { bits = whole; place = n })) place
+          feed.stands)));
+    }
+
+-- more bits are kept
+pub feeds_more : {whole : Bits} {tried : ℕ} {old new : Feeding} (next : Bits)
+    → new ≡ record old { kept = old.kept ++ next } → old.finished ≡ false → IsFeedOf whole tried old → ComeNext whole old next
+    → IsFeedOf whole tried new
+feeds_more {whole} {tried} {old} {new} next is unfinished feed come = subst (IsFeedOf whole tried) (sym is) (record {
+  fit = feed.fit;
+  lie = record {
+    within = feed.lie.within;
+    more = come.rest;
+    bits = feed.lie.bits ∙ ap (λ (b : Bits). old.kept ++ b) (sym rest_is ∙ come.bits) ∙ sym (append_assoc old.kept next come.rest);
+    can_come = record { bytes = come.bytes; none = λ last. absurd (false≢true (sym unfinished ∙ last)) };
+  };
+  stands = feed.stands;
+})
+  where
+    rest_is : drop (old.dropped + length old.kept) whole ≡ feed.lie.more
+    rest_is = from_place feed.lie (length old.kept) (omega arith) ∙ ap (λ (b : Bits). b ++ feed.lie.more) (drop-all old.kept)
+-- they come next also once bytes are dropped
+pub come_next : {whole : Bits} {old new : Feeding} {next : Bits} → DropsRead old new → ComeNext whole old next → ComeNext whole new next
+come_next {whole} {old} {new} drops come = record {
+  rest = come.rest;
+  bits = ap (λ (n : ℕ). drop n whole) same ∙ come.bits;
+  bytes = come.bytes;
+}
+  where
+    same : new.dropped + length new.kept ≡ old.dropped + length old.kept
+    same = omega (arith, drops.dropped, drops.read, drops.within, ap length drops.kept, length-drop (8 * drops.bytes) old.kept)
+
+-- the data is finished
+pub feed_finished : {whole : Bits} {tried : ℕ} {old new : Feeding} → new ≡ record old { finished = true } → IsFeedOf whole tried old
+    → length whole ≡ old.dropped + length old.kept → IsFeedOf whole tried new
+feed_finished {whole} {tried} {old} {new} is feed all = subst (IsFeedOf whole tried) (sym is) (record {
+  fit = feed.fit;
+  lie = record {
+    within = feed.lie.within;
+    more = feed.lie.more;
+    bits = feed.lie.bits;
+    can_come = record { bytes = feed.lie.can_come.bytes; none = λ last. no_bits feed.lie.more none };
+  };
+  stands = feed.stands;
+})
+  where
+    none : length feed.lie.more ≡ 0
+    none = omega (arith, all, feed.lie.within, ap length feed.lie.bits, length-drop old.dropped whole, length-append old.kept feed.lie.more)
+
+    no_bits : (bits : Bits) → length bits ≡ 0 → bits ≡ []
+    no_bits [] e = refl
+    no_bits (bit ∷ bits) e = absurd (omega (arith, e))

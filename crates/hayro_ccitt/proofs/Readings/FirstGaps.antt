@@ -1,0 +1,148 @@
+-- Rows one at a time: what comes before the first line is passed, in data of which a reader may hold a part.
+use Rattle.hayro_ccitt.proofs.Names.{◌≡◌, ◌≢◌, ◌∙◌, ◌<◌, ◌≤◌, ◌+◌, ◌++◌, ◌⊎◌, [], ℕ, Bool, false, true, inl, inr, length, drop, ap, sym, subst, arith}
+use Rattle.hayro_ccitt.proofs.Names.{length-drop, IfOk-weaker, on_err_weaker, on_ok_weaker, DecodeSettings, Result, DecodeError, append-nil}
+use Rattle.hayro_ccitt.proofs.Names.{Group4, Bits, Held, Context, fresh, gap_said, all_eols, gap_behind_row, first_line, changes, refl, length-append}
+use Rattle.hayro_ccitt.proofs.Names.{DamageIsCounted, IsPaid, ReaderStands, stand_after, AtLine, looked, looked_ahead, EncodingMode, Group3_1D}
+use Rattle.hayro_ccitt.proofs.Names.{Group3_2D, BitsAt}
+use Rattle.std.proofs.lemmas.List.{drop-append-le}
+use Rattle.std.specs.Prelude.{nat_lt, ◌||◌}
+use Rattle.fax_bits.specs.Ones.{holds_one}
+use Rattle.fax_reading.proofs.GapsContinued.ContinuedEols.{all_eols-more}
+use Rattle.hayro_ccitt.proofs.{Readings.DamageCounted.first_gap_left, Work.ChangesStored.changes_white}
+use Rattle.hayro_ccitt.proofs.Readings.RowByRow.{none_damaged, misses_after, first_gap_stands, first_line_stands}
+use Rattle.hayro_ccitt.proofs.Readings.GapsPassed.{gap_goes_on, looked-more}
+use Rattle.hayro_ccitt.proofs.Work.CallsPaid.{first_gap_paid, first_line_paid}
+use Rattle.hayro_ccitt.proofs.Work.EolsPassed.{unsought_after}
+use Rattle.hayro_ccitt.specs.GapsContinued.{first_gap_is_settled, gap_is_settled}
+use Rattle.hayro_ccitt.specs.RowsTried.{PassesGap, StandsFirst}
+
+-- in Group 4 a gap (T.6, 2.4.1.1)
+module _ (old new : Context) (bits : Bits) (next : ℕ) (over : Result Bool DecodeError) (within : next ≤ length bits)
+    (is : old.held.settings.encoding ≡ Group4) (wide : 0 < old.held.settings.columns)
+    (begins : old.held ≡ fresh old.held.settings) (passes : PassesGap old new over bits (drop next bits)) where
+  abbrev settings : DecodeSettings
+  settings = old.held.settings
+
+  abbrev last : Held
+  last = new.held
+
+  said : gap_behind_row settings 0 false bits ≡ gap_said over last.has_eols (drop next bits)
+  said = ap (λ (h : Held). gap_behind_row settings h.taken h.has_eols bits) (sym begins) ∙ passes.gap
+
+  frame : last ≡ record (fresh settings) { has_eols = last.has_eols }
+  frame = first_gap_left old.held last bits begins passes.held passes.missed
+
+  sought : old.held.has_eols ≡ false
+  sought = ap (λ (h : Held). h.has_eols) begins
+
+  unsought : last.has_eols ≡ false
+  unsought =
+      unsought_after settings old.held.taken old.held.has_eols last.has_eols bits (drop next bits) over sought passes.gap
+      passes.given_up (on_err_weaker over (λ kept. ap (λ (h : Held). h.has_eols) kept) passes.unchanged)
+
+  pub front_stands : ReaderStands (stand_after over) settings bits last next
+  front_stands = first_gap_stands settings wide bits is last next within frame over said passes.only_code unsought
+
+  pub front_damage : DamageIsCounted (stand_after over) settings bits last
+  front_damage = none_damaged (stand_after over) settings bits last (misses_after over settings bits last)
+      (ap (λ (h : Held). h.taken) frame) (ap (λ (h : Held). h.repairs) frame)
+
+  pub front_paid : IsPaid old.ticks (stand_after over) settings bits last next new.ticks
+  front_paid = first_gap_paid old.ticks settings is bits last next new.ticks frame over said
+      (IfOk-weaker over _ _ (λ over kept is. kept is ∙ sought) passes.given_up)
+      (on_ok_weaker over (λ work on. omega (arith, work (on ∙ sym sought))) passes.work) passes.work_refused
+
+-- so whatever follows
+pub front_goes_on : (old new : Context) (bits : Bits) (next : ℕ) (over : Result Bool DecodeError) → next ≤ length bits
+    → old.held.settings.encoding ≡ Group4 → 0 < old.held.settings.columns → old.held ≡ fresh old.held.settings
+    → PassesGap old new over bits (drop next bits) → (after : BitsAt) → after ≡ record { bits = bits; place = next }
+    → StandsFirst (stand_after over) old new (record { bits = bits; place = 0 }) after
+front_goes_on old new bits next over within is wide begins passes after at =
+    let longer : (more : Bits) → next ≤ length (bits ++ more) = λ more. omega (arith, within, length-append bits more) in
+    let continues = λ (more : Bits)
+        (settled : (more ≡ []) ⊎ (first_gap_is_settled old.held.settings.encoding old.held.settings bits ≡ true)).
+        subst (PassesGap old new over (bits ++ more)) (sym (drop-append-le next bits more within))
+        (gap_goes_on old new over bits (drop next bits) more (at_front more settled) passes) in
+    let place = ap (λ (a : BitsAt). a.place) at in
+    record {
+      stands = λ more settled. subst (ReaderStands (stand_after over) old.held.settings (bits ++ more) new.held) (sym place)
+          (front_stands old new (bits ++ more) next over (longer more) is wide begins (continues more settled));
+      damage = λ more. none_damaged (stand_after over) old.held.settings (bits ++ more) new.held
+          (misses_after over old.held.settings (bits ++ more) new.held)
+          (ap (λ (h : Held). h.taken) (first_gap_left old.held new.held bits begins passes.held passes.missed))
+          (ap (λ (h : Held). h.repairs) (first_gap_left old.held new.held bits begins passes.held passes.missed));
+      paid = λ more settled. subst (λ (n : ℕ). IsPaid old.ticks (stand_after over) old.held.settings (bits ++ more) new.held n
+          new.ticks) (sym place)
+          (front_paid old new (bits ++ more) next over (longer more) is wide begins (continues more settled));
+      within = omega (arith, within, place, ap (λ (a : BitsAt). length a.bits) at);
+      row = ap (λ (h : Held). h.reference) passes.held;
+    }
+  where
+    by_encoding : (e : EncodingMode) → e ≡ Group4 → first_gap_is_settled e old.held.settings bits ≡ true
+        → gap_is_settled old.held.settings 0 false bits ≡ true
+    by_encoding Group4 e settled = settled
+    by_encoding Group3_1D e settled = absurd cc
+    by_encoding Group3_2D e settled = absurd cc
+
+    at_front : (more : Bits) → (more ≡ []) ⊎ (first_gap_is_settled old.held.settings.encoding old.held.settings bits ≡ true)
+        → (more ≡ []) ⊎ (gap_is_settled old.held.settings old.held.taken old.held.has_eols bits ≡ true)
+    at_front more (inl none) = inl none
+    at_front more (inr settled) = inr (ap (λ (h : Held). gap_is_settled old.held.settings h.taken h.has_eols bits) begins
+        ∙ by_encoding old.held.settings.encoding is settled)
+
+-- in Group 3 the EOLs there (T.4, 4.1.2)
+pub eols_go_on : (old new : Context) (bits : Bits) (next : ℕ) → next ≤ length bits → old.held.settings.encoding ≢ Group4
+    → 0 < old.held.settings.columns → old.held ≡ fresh old.held.settings
+    → new.held ≡ record (fresh old.held.settings) { has_eols = (first_line old.held.settings bits).has_eols }
+    → drop next bits ≡ (all_eols bits).1
+    → new.ticks + length (drop next bits) ≤ old.ticks + length bits + looked (drop next bits)
+    → (after : BitsAt) → after ≡ record { bits = bits; place = next }
+    → StandsFirst AtLine old new (record { bits = bits; place = 0 }) after
+eols_go_on old new bits next within other wide begins frame rest work after at =
+    let settings = old.held.settings in
+    let last = new.held in
+    let place = ap (λ (a : BitsAt). a.place) at in
+    let behind = λ (more : Bits). drop-append-le next bits more within in
+    record {
+      stands = λ more settled. subst (ReaderStands AtLine settings (bits ++ more) last) (sym place)
+          (first_line_stands settings wide (bits ++ more) other last (drop next (bits ++ more))
+          (frame ∙ ap (λ (b : Bool). record (fresh settings) { has_eols = b }) (sym (first_has more settled)))
+          (behind more ∙ ap (λ (b : Bits). b ++ more) rest ∙ sym (first_rest more settled))
+          (omega (arith, length-drop next (bits ++ more))));
+      damage = λ more. none_damaged AtLine settings (bits ++ more) last (λ misses. misses) (ap (λ (h : Held). h.taken) frame)
+          (ap (λ (h : Held). h.repairs) frame);
+      paid = λ more settled. subst (λ (n : ℕ). IsPaid old.ticks AtLine settings (bits ++ more) last n new.ticks) (sym place)
+          (first_line_paid old.ticks settings other (bits ++ more) last (drop next (bits ++ more)) new.ticks
+          (ap (λ (h : Held). length (changes h.reference)) frame ∙ changes_white settings.columns)
+          (omega (arith, length-drop next (bits ++ more))) (omega (
+            arith,
+            work,
+            ap length (behind more),
+            ap looked (behind more),
+            length-append bits more,
+            length-append (drop next bits) more,
+            looked-more (drop next bits) more,
+          )));
+      within = omega (arith, within, place, ap (λ (a : BitsAt). length a.bits) at);
+      row = ap (λ (h : Held). h.reference) frame ∙ sym (ap (λ (h : Held). h.reference) begins);
+    }
+  where
+    by_encoding : (e : EncodingMode) → e ≢ Group4 → first_gap_is_settled e old.held.settings bits ≡ true
+        → holds_one (all_eols bits).1 ≡ true
+    by_encoding Group4 e settled = absurd (e refl)
+    by_encoding Group3_1D e settled = settled
+    by_encoding Group3_2D e settled = settled
+
+    same_eols : (more : Bits) → (more ≡ []) ⊎ (first_gap_is_settled old.held.settings.encoding old.held.settings bits ≡ true)
+        → all_eols (bits ++ more) ≡ ((all_eols bits).0, (all_eols bits).1 ++ more)
+    same_eols more (inl none) = subst (λ (m : Bits). all_eols (bits ++ m) ≡ ((all_eols bits).0, (all_eols bits).1 ++ m)) (sym none)
+        (ap all_eols (append-nil bits) ∙ ap (λ (b : Bits). ((all_eols bits).0, b)) (sym (append-nil (all_eols bits).1)))
+    same_eols more (inr settled) = all_eols-more more bits (by_encoding old.held.settings.encoding other settled)
+
+    first_has : (more : Bits) → (more ≡ []) ⊎ (first_gap_is_settled old.held.settings.encoding old.held.settings bits ≡ true)
+        → (first_line old.held.settings (bits ++ more)).has_eols ≡ (first_line old.held.settings bits).has_eols
+    first_has more settled = ap (λ (found : ℕ × Bits). nat_lt 0 found.0 || old.held.settings.end_of_line) (same_eols more settled)
+
+    first_rest : (more : Bits) → (more ≡ []) ⊎ (first_gap_is_settled old.held.settings.encoding old.held.settings bits ≡ true)
+        → (first_line old.held.settings (bits ++ more)).rest ≡ (all_eols bits).1 ++ more
+    first_rest more settled = ap (λ (found : ℕ × Bits). found.1) (same_eols more settled)

@@ -1,0 +1,115 @@
+use Rattle.hayro_ccitt.proofs.Names.{◌≡◌, ◌≢◌, ◌∙◌, ◌+◌, ◌-◌, ◌⊎◌, ◌≤◌, ap, sym, subst, refl, arith, length, true, false, Bool, ℕ, BitsAt, Bits, bits_in, List}
+use Rattle.hayro_ccitt.proofs.Names.{Held, here, drop, DecodeSettings, false≢true, fresh}
+use Rattle.hayro_ccitt.proofs.BitReading.BitLists.{length-bits_in}
+use Rattle.hayro_ccitt.proofs.Readings.FeedsOn.{at_front, front_fed, front_reaches}
+use Rattle.hayro_ccitt.proofs.Readings.RowsFed.{waits_for, waits_not}
+use Rattle.hayro_ccitt.specs.GapsContinued.{first_gap_is_settled}
+use Rattle.hayro_ccitt.specs.RowFeeds.{Feeding, StandsIn}
+use Rattle.hayro_ccitt.proofs.row_feed.RowFeed.begin.Goals.{After-front_waits, After-bit_pos-self-inside}
+use Rattle.hayro_ccitt.proofs.row_feed.RowFeed.begin.Goals as goal
+
+before_is : (c : After-front_waits) → c.placed_at-reader.result
+    ≡ record { bits = bits_in c.self.inside.order c.self.inside.«data».items; place = c.self.inside.place }
+before_is c = c.placed_at-reader.ensures ∙ ap (λ (items : List ℕ). record { bits = bits_in c.self.inside.order items;
+    place = c.self.inside.place }) c.deref.ensures.value
+
+-- nothing has begun, so the reader is at the first bit
+begun_not : (c : After-front_waits) → c.self.inside.begun ≡ false
+begun_not c = ap (λ (f : Feeding). f.begun) c.self.view_is ∙ c.requires
+
+starts : (c : After-front_waits) → here c.placed_at-reader.result ≡ c.placed_at-reader.result.bits
+starts c = ap (λ (n : ℕ). drop n c.placed_at-reader.result.bits) (ap (λ (b : BitsAt). b.place) (before_is c)
+    ∙ c.self.invariant.start (begun_not c))
+
+pub returns-then-front_waits : goal.returns-then-front_waits
+returns-then-front_waits c =
+    let at = (goal.at.returns-then-front_waits c).After-front_waits in
+    let held = c.self.inside.ctx.held in
+    let waits = waits_for c.self.inside.is_last (first_gap_is_settled held.settings.encoding held.settings
+    (here c.placed_at-reader.result)) (sym c.front_waits.ensures.waits ∙ c.if-front_waits.true) in
+    rw (← c.self.view_is) (record {
+      extra = c.front_waits.new.ctx.ticks - c.self.inside.ctx.ticks;
+      keeps = record { order = refl; finished = refl; kept = refl; dropped = refl };
+      begun = begun_not at;
+      space = c.front_waits.ensures.space;
+      waits = λ e. (
+        c.front_waits.ensures.held,
+        omega (arith, c.front_waits.ensures.counts),
+        refl,
+        refl,
+        waits.0,
+        ap (first_gap_is_settled held.settings.encoding held.settings) (sym (starts at
+            ∙ ap (λ (b : BitsAt). b.bits) (before_is at))) ∙ waits.1,
+      );
+      unfailed = λ e. cc;
+      passes = λ whole tried e. cc;
+      stands = λ whole tried feed.
+          let front = at_front c.self.inside.begun tried c.self.inside.rows c.self.inside.ctx
+          (record { bits = whole; place = c.self.inside.dropped + c.self.inside.place }) (begun_not at) feed.stands in
+          record {
+            fit = feed.fit;
+            lie = feed.lie;
+            stands = subst (λ (b : Bool). StandsIn b (tried + (c.front_waits.new.ctx.ticks - c.self.inside.ctx.ticks))
+                c.self.inside.rows c.front_waits.new.ctx (record { bits = whole; place = c.self.inside.dropped
+                + c.self.inside.place })) (sym (begun_not at)) (record {
+                  fresh = c.front_waits.ensures.held ∙ front.fresh
+                      ∙ ap (λ (h : Held). fresh h.settings) (sym c.front_waits.ensures.held);
+                  ticks = omega (arith, front.ticks, c.front_waits.ensures.counts);
+                  state = front.state;
+                  start = front.start;
+                });
+          };
+    })
+
+pub invariant_of-self-2 : goal.invariant_of-self-2
+invariant_of-self-2 c =
+    let at = (goal.at.invariant_of-self-2 c).After-front_waits in
+    record {
+      within = omega (
+        arith,
+        c.bit_pos-self-inside.ensures.within,
+        ap length c.first_stand-self-inside.ensures.same_bits,
+        ap (λ (b : BitsAt). length b.bits) (before_is at),
+        length-bits_in c.self.inside.order c.self.inside.«data».items,
+      );
+      fit = c.self.invariant.fit;
+      fresh = λ e. absurd (false≢true (sym e));
+      start = λ e. absurd (false≢true (sym e));
+      unended = λ e. absurd (false≢true (sym e));
+      rows = λ e. absurd (false≢true (sym e));
+    }
+
+pub returns : goal.returns
+returns c =
+    let at = (goal.at.returns c).After-front_waits in
+    let inside = c.self.inside in
+    let held = inside.ctx.held in
+    let mid = c.front_waits.new.ctx in
+    let more = mid.ticks - inside.ctx.ticks in
+    let stood = c.first_stand-self-inside in
+    let same = c.front_waits.ensures.held in
+    let ticks : mid.ticks ≡ inside.ctx.ticks + more = omega (arith, c.front_waits.ensures.counts) in
+    let closed = waits_not inside.is_last (first_gap_is_settled held.settings.encoding held.settings
+    (here c.placed_at-reader.result)) (sym c.front_waits.ensures.waits ∙ c.if-front_waits.false) in
+    let settled = subst (λ (h : Held). (inside.is_last ≡ true) ⊎ (first_gap_is_settled h.settings.encoding h.settings
+    c.placed_at-reader.result.bits ≡ true)) (sym same) (subst (λ (b : Bits). (inside.is_last ≡ true)
+    ⊎ (first_gap_is_settled held.settings.encoding held.settings b ≡ true)) (starts at) closed) in
+    let settings_are = stood.ensures.settings in
+    rw (← c.self.view_is) (record {
+      extra = more;
+      keeps = record { order = refl; finished = refl; kept = refl; dropped = refl };
+      begun = refl;
+      space = stood.ensures.space ∙ c.front_waits.ensures.space;
+      waits = λ e. cc;
+      unfailed = λ e. stood.ensures.unfailed;
+      passes = λ whole tried e feed. front_reaches _ _ mid c.placed_at-reader.result stood.new.reader stood.result more
+          (before_is at) (record { order = refl; finished = refl; kept = refl; dropped = refl }) c.bit_pos-self-inside.ensures.place
+          refl refl same ticks stood.ensures.first stood.ensures.none_taken settings_are stood.ensures.counts stood.ensures.unfailed
+          stood.ensures.at_line settled feed (at_front inside.begun tried inside.rows inside.ctx
+          (record { bits = whole; place = inside.dropped + inside.place }) (begun_not at) feed.stands);
+      stands = λ whole tried feed. front_fed _ _ mid c.placed_at-reader.result stood.new.reader stood.result more
+          (before_is at) (record { order = refl; finished = refl; kept = refl; dropped = refl }) c.bit_pos-self-inside.ensures.place
+          refl refl same ticks stood.ensures.first stood.ensures.none_taken settings_are stood.ensures.counts stood.ensures.unfailed
+          stood.ensures.at_line settled feed (at_front inside.begun tried inside.rows inside.ctx
+          (record { bits = whole; place = inside.dropped + inside.place }) (begun_not at) feed.stands);
+    })

@@ -1,0 +1,86 @@
+use Rattle.hayro_ccitt.proofs.Names.{◌≡◌, ◌≢◌, ◌∙◌, ◌+◌, ◌-◌, ◌⊎◌, ◌&&◌, ap, sym, subst, refl, not, true, false, inl, inr, Bool, ℕ, Result, DecodeError, Option}
+use Rattle.hayro_ccitt.proofs.Names.{arith, [], Ok, None, Some, length, here, Bits, BitsAt, Held, IsStanding, ReachesNextLine, is_at_line, seen}
+use Rattle.hayro_ccitt.proofs.Readings.RowsFed.{gap_step_stands, gap_step_reaches, stays_at_line, stands_later, waits_for, waits_not, passed_some, said_code, said_line}
+use Rattle.hayro_ccitt.specs.declared.row_reader.RowState.{RowState}
+use Rattle.hayro_ccitt.specs.GapsContinued.{gap_is_settled}
+use Rattle.hayro_ccitt.specs.RowFeeds.{came, some_line}
+use Rattle.hayro_ccitt.proofs.row_reader.RowState.come_to_settled_line.Goals as goal
+
+pub returns-then-is_at_line : goal.returns-then-is_at_line
+returns-then-is_at_line c =
+    let line = sym c.is_at_line.ensures ∙ c.if-is_at_line.true in
+    record {
+      extra = 0;
+      same_bits = refl;
+      within = omega (arith, c.bit_pos-start.ensures.place, c.bit_pos-start.ensures.within);
+      space = refl;
+      waits = λ e. cc;
+      comes = λ from whole dropped passed lie starts stands. subst (λ (n : ℕ). ReachesNextLine
+          (seen c.args.self.now c.args.ctx.now (record { bits = whole; place = c.args.gap_start }))
+          (seen c.args.self.now c.args.ctx.now (record { bits = whole; place = n })) (Ok true)) starts
+          (stays_at_line from c.args.self.now c.args.ctx.now (record { bits = whole; place = c.args.gap_start }) line stands);
+      stands = λ from whole dropped passed lie starts stands. subst (λ (n : ℕ). IsStanding (from + 0) c.args.self.now
+          c.args.ctx.now (record { bits = whole; place = n })) starts
+          (stands_later from 0 c.args.self.now c.args.ctx.now c.args.ctx.now (record { bits = whole; place = c.args.gap_start })
+          refl (omega arith) stands);
+      line = λ e. line;
+      only_code = tt;
+    }
+
+pub returns-then-gap_waits : goal.returns-then-gap_waits
+returns-then-gap_waits c =
+    let held = c.args.ctx.now.held in
+    let unsettled = waits_for c.args.is_last (gap_is_settled held.settings held.taken held.has_eols (here c.args.reader.now))
+    (sym c.gap_waits.ensures.waits ∙ c.if-gap_waits.true) in
+    record {
+      extra = c.gap_waits.new.ctx.ticks - c.args.ctx.now.ticks;
+      same_bits = refl;
+      within = omega (arith, c.bit_pos-start.ensures.place, c.bit_pos-start.ensures.within);
+      space = c.gap_waits.ensures.space;
+      waits = λ e. (
+        c.gap_waits.ensures.held,
+        omega (arith, c.gap_waits.ensures.counts),
+        refl,
+        refl,
+        unsettled.0,
+        sym c.is_at_line.ensures ∙ c.if-is_at_line.false,
+        unsettled.1,
+      );
+      comes = λ from whole dropped passed lie starts stands. absurd (passed refl);
+      stands = λ from whole dropped passed lie starts stands. absurd (passed refl);
+      line = λ e. cc;
+      only_code = tt;
+    }
+
+pub returns : goal.returns
+returns c =
+    let old = c.args.ctx.now in
+    let mid = c.gap_waits.new.ctx in
+    let more = mid.ticks - old.ticks in
+    let held = old.held in
+    let no_line = sym c.is_at_line.ensures ∙ c.if-is_at_line.false in
+    let closed = waits_not c.args.is_last (gap_is_settled held.settings held.taken held.has_eols (here c.args.reader.now))
+    (sym c.gap_waits.ensures.waits ∙ c.if-gap_waits.false) in
+    let same = c.gap_waits.ensures.held in
+    let settled = subst (λ (h : Held). (c.args.is_last ≡ true)
+    ⊎ (gap_is_settled h.settings h.taken h.has_eols (here c.args.reader.now) ≡ true)) (sym same) closed in
+    let gap = c.pass_gap_here.ensures in
+    let rows = c.args.self.now in
+    let answer = c.pass_gap_here.result in
+    let ticks : mid.ticks ≡ old.ticks + more = omega (arith, c.gap_waits.ensures.counts) in
+    record {
+      extra = more;
+      same_bits = gap.same_bits;
+      within = gap.within;
+      space = gap.space ∙ c.gap_waits.ensures.space;
+      waits = λ e. absurd (passed_some answer (sym c.some_line.ensures ∙ e));
+      comes = λ from whole dropped passed lie starts stands. rw c.some_line.ensures (gap_step_reaches c.args.is_last
+          c.args.gap_start rows c.pass_gap_here.new.self old mid c.pass_gap_here.new.ctx c.args.reader.now c.pass_gap_here.new.reader
+          answer more same ticks gap settled c.requires no_line from whole dropped lie starts stands);
+      stands = λ from whole dropped passed lie starts stands. gap_step_stands c.args.is_last
+          c.args.gap_start rows c.pass_gap_here.new.self old mid c.pass_gap_here.new.ctx c.args.reader.now c.pass_gap_here.new.reader
+          answer more same ticks gap settled c.requires no_line from whole dropped lie starts stands;
+      line = λ e. ap (λ (r : RowState). is_at_line r.stand) gap.kept_is
+          ∙ said_line gap.over answer gap.said (sym c.some_line.ensures ∙ e);
+      only_code = rw c.some_line.ensures (said_code gap.over answer gap.said (gap.passes [] (inl refl)).only_code);
+    }

@@ -1,0 +1,285 @@
+-- Rows from data that comes in pieces: what is kept of it, what is seen of a reading, and which data it is a reading of.
+use Rattle.std.specs.Prelude.{◌≡◌, ◌≢◌, ◌≤◌, ◌<◌, ◌+◌, ◌*◌, ◌^◌, ℕ, Bool, true, false, ◌++◌, [], not, max, drop, length, Option, None, Some, Result, Ok, Err, IfErr}
+use Rattle.fax_bits.specs.declared.bit_reader.BitOrder.{BitOrder}
+use Rattle.fax_bits.specs.declared.codes.Color.TheVariants.{White}
+use Rattle.fax_bits.specs.declared.error.DecodeError.{DecodeError}
+use Rattle.fax_bits.specs.declared.error.DecodeError.TheVariants.{InvalidCode, OutOfMemory}
+use Rattle.hayro_ccitt.specs.declared.row_feed.Fed.{Fed}
+use Rattle.hayro_ccitt.specs.declared.row_feed.RowFeed.TheInside.{Inside}
+use Rattle.hayro_ccitt.specs.declared.row_reader.RowState.{RowState}
+use Rattle.hayro_ccitt.specs.declared.row_reader.Stand.{Stand}
+use Rattle.hayro_ccitt.specs.declared.row_reader.Stand.TheVariants.{AtLine, BehindRow, AtEnd, AtFault}
+use Rattle.hayro_ccitt.specs.Answers.{HasBlack, IsFault, front_of}
+use Rattle.hayro_ccitt.specs.Bits.{AreWholeBytes, Bits, BitsAt, bits_in, here}
+use Rattle.hayro_ccitt.specs.Context.{Context, fresh, redrawn}
+use Rattle.hayro_ccitt.specs.Continuations.{is_short}
+use Rattle.hayro_ccitt.specs.GapsContinued.{first_gap_is_settled, gap_is_settled}
+use Rattle.hayro_ccitt.specs.PlainReading.{line_here}
+use Rattle.hayro_ccitt.specs.RowsRead.{IsStanding, IsStandingAtLine, ReachesNextLine, ReadsNext, RowsRead, ended, is_at_line, seen}
+use Rattle.hayro_ccitt.specs.RowsTried.{CanCome, IsLeft, TriesRow, no_memory}
+
+-- ---- What is seen
+
+-- the context, what is kept between two rows, the order of the bits, whether what is before the first line was passed, whether the
+-- data is finished, the bits kept of it, how many bits came before them, and the offset of the next bit among those kept
+pub record Feeding : Type 0 where
+  pub ctx : Context
+  pub rows : RowState
+  pub order : BitOrder
+  pub begun : Bool
+  pub finished : Bool
+  pub kept : Bits
+  pub dropped : ℕ
+  pub place : ℕ
+
+abbrev pub feeding_of : Inside → Feeding
+feeding_of f = record {
+  ctx = f.ctx;
+  rows = f.rows;
+  order = f.order;
+  begun = f.begun;
+  finished = f.is_last;
+  kept = bits_in f.order f.«data».items;
+  dropped = f.dropped;
+  place = f.place;
+}
+
+-- the next bit is among those kept, or just after them, offsets fit, and nothing was read yet if nothing has begun
+pub record IsKept (f : Inside) : Type 0 where
+  pub within : f.place ≤ 8 * length f.«data».items
+  pub fit : f.dropped + 8 * length f.«data».items + 64 < 2 ^ 64
+  pub fresh : f.begun ≡ false → f.ctx.held ≡ fresh f.ctx.held.settings
+  pub start : f.begun ≡ false → f.place ≡ 0
+  pub unended : f.begun ≡ false → ended f.rows.stand ≡ None
+  pub rows : f.begun ≡ false → is_at_line f.rows.stand ≡ false
+
+-- what was read of these bits
+abbrev pub fed_over : Bits → Feeding → RowsRead
+fed_over whole feed = seen feed.rows feed.ctx (record { bits = whole; place = feed.dropped + feed.place })
+
+-- ---- Which data it is a reading of
+
+-- the bits kept, of which so many came before, lie in some data, and more bits may follow them
+pub record LieIn (whole : Bits) (dropped : ℕ) (finished : Bool) (kept : Bits) : Type 0 where
+  pub within : dropped ≤ length whole
+  pub more : Bits
+  pub bits : drop dropped whole ≡ kept ++ more
+  pub can_come : CanCome finished more
+
+-- nothing was read yet
+pub record IsAtFront (from : ℕ) (rows : RowState) (ctx : Context) (place : ℕ) : Type 0 where
+  pub fresh : ctx.held ≡ fresh ctx.held.settings
+  pub ticks : ctx.ticks ≡ from
+  pub state : rows ≡ record { started_at = 0; damage = None; cut = false; missed = None; stand = Stand.BehindRow }
+  pub start : place ≡ 0
+
+-- where the reading is by the plain reading of these bits, with the work of all tries that were left
+abbrev pub StandsIn : Bool → ℕ → RowState → Context → BitsAt → Type 0
+StandsIn true tried rows ctx at = IsStanding tried rows ctx at
+StandsIn false tried rows ctx at = IsAtFront tried rows ctx at.place
+
+-- It is a reading of these bits, of which those fed so far are a beginning, and all of them if the data is finished; its rows so far
+-- are those of the plain reading. This much work was counted for what was tried and left.
+pub record IsFeedOf (whole : Bits) (tried : ℕ) (feed : Feeding) : Type 0 where
+  pub fit : length whole + 64 < 2 ^ 64
+  pub lie : LieIn whole feed.dropped feed.finished feed.kept
+  pub stands : StandsIn feed.begun tried feed.rows feed.ctx (record { bits = whole; place = feed.dropped + feed.place })
+
+-- ---- What a call leaves
+
+-- nothing was read: more data is needed, or there is no memory for the row
+abbrev pub HasNone : Result Fed DecodeError → Type 0
+HasNone (Ok fed) = fed ≡ Fed.NeedsMore
+HasNone (Err error) = error ≡ OutOfMemory
+
+-- what a call that reads no row leaves unchanged: the rows so far and what is known of the last one
+pub record StaysThere (old new : RowsRead) : Type 0 where
+  pub settings : new.settings ≡ old.settings
+  pub bits : new.bits ≡ old.bits
+  pub counts : old.ticks ≤ new.ticks
+  pub taken : new.taken ≡ old.taken
+  pub row : new.row ≡ old.row
+  pub damage : new.damage ≡ old.damage
+  pub cut : new.cut ≡ old.cut
+  pub line_start : new.line_start ≡ old.line_start
+  pub unended : new.end ≡ None
+
+-- What is next can be changed by data that follows: what is before the first line, the gap, or the line, which is short (T.4, 4.1 and
+-- 4.2; T.6, 2.2 and 2.4.1.1).
+abbrev pub IsOpenAt : Bool → Stand → Context → Bits → Type 0
+IsOpenAt false stand ctx next = first_gap_is_settled ctx.held.settings.encoding ctx.held.settings next ≡ false
+IsOpenAt true AtLine ctx next = is_short (line_here ctx.held.settings ctx.held.reference next) ≡ true
+IsOpenAt true BehindRow ctx next = gap_is_settled ctx.held.settings ctx.held.taken ctx.held.has_eols next ≡ false
+IsOpenAt true AtEnd ctx next = ⊥
+IsOpenAt true (AtFault error) ctx next = ⊥
+
+-- What a call that reads the next row leaves, of whatever data those fed are a beginning: the next row of its plain reading, its end
+-- or its fault; or nothing is read, since what is next can still be changed, or since a change of a row that paints a black pixel
+-- can't be stored. What was tried and left counted at most so much.
+pub record FeedsNext (whole : Bits) (tried : ℕ) (old new : Feeding) (answer : Result Fed DecodeError) : Type 0 where
+  pub row : answer ≡ Ok Fed.Row → ReadsNext (fed_over whole old) (fed_over whole new) (Ok true)
+  pub end : answer ≡ Ok Fed.End → ReadsNext (fed_over whole old) (fed_over whole new) (Ok false)
+  pub fault : IfErr answer (λ e. IsFault e → ReadsNext (fed_over whole old) (fed_over whole new) (Err e))
+  pub none : HasNone answer → StaysThere (fed_over whole old) (fed_over whole new)
+  pub unsettled : answer ≡ Ok Fed.NeedsMore
+      → (new.finished ≡ false) × IsOpenAt new.begun new.rows.stand new.ctx (drop new.place new.kept)
+  pub memory : answer ≡ Err OutOfMemory
+      → HasBlack (front_of (line_here new.ctx.held.settings new.ctx.held.reference (drop new.place new.kept)))
+  pub extra : ℕ
+  pub stands : IsFeedOf whole (tried + extra) new
+
+-- ---- The steps of a call: not part of the trusted specification
+
+-- the answer of a step that passes a gap, if it was passed
+abbrev pub came : Result (Option Bool) DecodeError → Result Bool DecodeError
+came (Ok None) = Ok true
+came (Ok (Some line)) = Ok line
+came (Err error) = Err error
+
+-- the gap before the next line is passed, if there is one here, and no data that follows can change it
+pub record ComesOn (is_last : Bool) (gap_start : ℕ) (rows kept : RowState) (old new : Context) (before after : BitsAt)
+    (answer : Result (Option Bool) DecodeError) : Type 0 where
+  pub extra : ℕ
+  pub same_bits : after.bits ≡ before.bits
+  pub within : after.place ≤ length after.bits
+  pub space : new.space ≡ old.space
+  pub waits : answer ≡ Ok None → (new.held ≡ old.held) × (new.ticks ≡ old.ticks + extra) × (kept ≡ rows) × (after ≡ before)
+      × (is_last ≡ false) × (is_at_line rows.stand ≡ false)
+      × (gap_is_settled old.held.settings old.held.taken old.held.has_eols (here before) ≡ false)
+  pub comes : (from : ℕ) (whole : Bits) (dropped : ℕ) → answer ≢ Ok None → LieIn whole dropped is_last before.bits
+      → gap_start ≡ dropped + before.place → IsStanding from rows old (record { bits = whole; place = gap_start })
+      → ReachesNextLine (seen rows old (record { bits = whole; place = gap_start }))
+      (seen kept new (record { bits = whole; place = dropped + after.place })) (came answer)
+  pub stands : (from : ℕ) (whole : Bits) (dropped : ℕ) → answer ≢ Ok None → LieIn whole dropped is_last before.bits
+      → gap_start ≡ dropped + before.place → IsStanding from rows old (record { bits = whole; place = gap_start })
+      → IsStanding (from + extra) kept new (record { bits = whole; place = dropped + after.place })
+  pub line : answer ≡ Ok (Some true) → is_at_line kept.stand ≡ true
+  pub only_code : IfErr answer (λ e. e ≡ InvalidCode)
+
+-- the line here is read, unless data that follows can change it
+pub record TriesLine (is_last : Bool) (line_start : ℕ) (rows kept : RowState) (old new : Context) (before after : BitsAt)
+    (answer : Result Bool DecodeError) : Type 0 where
+  pub tried : TriesRow is_last old new answer before after
+  pub same_bits : after.bits ≡ before.bits
+  pub within : after.place ≤ length after.bits
+  pub left : IsLeft answer → (kept ≡ rows) × (after ≡ before)
+  pub reads : (from : ℕ) (whole : Bits) (dropped : ℕ) → (IsLeft answer → ⊥) → LieIn whole dropped is_last before.bits
+      → line_start ≡ dropped + before.place → IsStandingAtLine from rows old (record { bits = whole; place = line_start })
+      → ReadsNext (seen rows old (record { bits = whole; place = line_start }))
+      (seen kept new (record { bits = whole; place = dropped + after.place })) answer
+  pub stands : (from : ℕ) (whole : Bits) (dropped : ℕ) → (IsLeft answer → ⊥) → LieIn whole dropped is_last before.bits
+      → line_start ≡ dropped + before.place → IsStandingAtLine from rows old (record { bits = whole; place = line_start })
+      → IsStanding from kept new (record { bits = whole; place = dropped + after.place })
+
+abbrev pub some_line : Result Bool DecodeError → Result (Option Bool) DecodeError
+some_line (Ok line) = Ok (Some line)
+some_line (Err error) = Err error
+
+-- a line was left
+abbrev pub is_left : Result Bool DecodeError → Bool
+is_left (Ok read) = not read
+is_left (Err error) = no_memory error
+
+-- what came of a line that wasn't left
+abbrev pub line_answer : Result Bool DecodeError → Result (Unit {0}) DecodeError
+line_answer (Ok read) = Ok tt
+line_answer (Err error) = Err error
+
+-- what no step changes: the order and the bits kept, how many came before them, and whether the data is finished
+pub record KeepsBits (old new : Feeding) : Type 0 where
+  pub order : new.order ≡ old.order
+  pub finished : new.finished ≡ old.finished
+  pub kept : new.kept ≡ old.kept
+  pub dropped : new.dropped ≡ old.dropped
+
+-- how a reading goes on behind what is before its first line
+abbrev pub line_first : Stand → Result Bool DecodeError
+line_first AtLine = Ok true
+line_first BehindRow = Ok true
+line_first AtEnd = Ok false
+line_first (AtFault error) = Err error
+
+-- what is before the first line is passed, if no data that follows can change it
+pub record Begins (old new : Feeding) (answer : Bool) : Type 0 where
+  pub extra : ℕ
+  pub keeps : KeepsBits old new
+  pub begun : new.begun ≡ answer
+  pub space : new.ctx.space ≡ old.ctx.space
+  pub waits : answer ≡ false → (new.ctx.held ≡ old.ctx.held) × (new.ctx.ticks ≡ old.ctx.ticks + extra) × (new.rows ≡ old.rows)
+      × (new.place ≡ old.place) × (old.finished ≡ false)
+      × (first_gap_is_settled old.ctx.held.settings.encoding old.ctx.held.settings old.kept ≡ false)
+  pub unfailed : answer ≡ true → (error : DecodeError) → ended new.rows.stand ≢ Some (Err error)
+  pub passes : (whole : Bits) (tried : ℕ) → answer ≡ true → IsFeedOf whole tried old
+      → ReachesNextLine (fed_over whole old) (fed_over whole new) (line_first new.rows.stand)
+  pub stands : (whole : Bits) (tried : ℕ) → IsFeedOf whole tried old → IsFeedOf whole (tried + extra) new
+
+-- so is the gap before the next line
+pub record ComesInFeed (old new : Feeding) (answer : Result (Option Bool) DecodeError) : Type 0 where
+  pub extra : ℕ
+  pub keeps : KeepsBits old new
+  pub begun : new.begun ≡ true
+  pub space : new.ctx.space ≡ old.ctx.space
+  pub waits : answer ≡ Ok None → (new.ctx.held ≡ old.ctx.held) × (new.ctx.ticks ≡ old.ctx.ticks + extra) × (new.rows ≡ old.rows)
+      × (new.place ≡ old.place) × (old.finished ≡ false) × (is_at_line old.rows.stand ≡ false)
+      × (gap_is_settled old.ctx.held.settings old.ctx.held.taken old.ctx.held.has_eols (drop old.place old.kept) ≡ false)
+  pub comes : (whole : Bits) (tried : ℕ) → answer ≢ Ok None → IsFeedOf whole tried old
+      → ReachesNextLine (fed_over whole old) (fed_over whole new) (came answer)
+  pub stands : (whole : Bits) (tried : ℕ) → answer ≢ Ok None → IsFeedOf whole tried old → IsFeedOf whole (tried + extra) new
+  pub line : answer ≡ Ok (Some true) → is_at_line new.rows.stand ≡ true
+  pub only_code : IfErr answer (λ e. e ≡ InvalidCode)
+  pub waiting : (whole : Bits) (tried : ℕ) → answer ≡ Ok None → IsFeedOf whole tried old → IsFeedOf whole (tried + extra) new
+
+-- and the line here is read
+pub record ReadsInFeed (old new : Feeding) (answer : Result Bool DecodeError) : Type 0 where
+  pub extra : ℕ
+  pub keeps : KeepsBits old new
+  pub begun : new.begun ≡ true
+  pub counts : old.ctx.ticks ≤ new.ctx.ticks
+  pub left : IsLeft answer → (new.rows ≡ old.rows) × (new.place ≡ old.place) × (new.ctx.held ≡ redrawn old.ctx.held [] White)
+  pub unsettled : answer ≡ Ok false → (old.finished ≡ false)
+      × (is_short (line_here new.ctx.held.settings new.ctx.held.reference (drop old.place old.kept)) ≡ true)
+  pub memory : answer ≡ Err OutOfMemory
+      → HasBlack (front_of (line_here new.ctx.held.settings new.ctx.held.reference (drop old.place old.kept)))
+  pub reads : (whole : Bits) (tried : ℕ) → (IsLeft answer → ⊥) → IsFeedOf whole tried old
+      → ReadsNext (fed_over whole old) (fed_over whole new) answer
+  pub stands : (whole : Bits) (tried : ℕ) → IsFeedOf whole tried old → IsFeedOf whole (tried + extra) new
+  pub most : new.ctx.space ≤ max old.ctx.space (2 * old.ctx.held.settings.columns + 66)
+
+-- what a call answers where a line was tried
+abbrev pub fed_row : Result Bool DecodeError → Result Fed DecodeError
+fed_row (Ok true) = Ok Fed.Row
+fed_row (Ok false) = Ok Fed.NeedsMore
+fed_row (Err error) = Err error
+
+-- what it answers where no line was reached
+abbrev pub fed_none : Result (Option Bool) DecodeError → Result Fed DecodeError
+fed_none (Ok None) = Ok Fed.NeedsMore
+fed_none (Ok (Some line)) = Ok Fed.End
+fed_none (Err error) = Err error
+
+-- what a call answers once the reading has ended
+abbrev pub fed_end : Result (Unit {0}) DecodeError → Result Fed DecodeError
+fed_end (Ok x) = Ok Fed.End
+fed_end (Err error) = Err error
+
+-- ---- More data
+
+-- these bits are those of the whole data that come next, and whole bytes follow them
+pub record ComeNext (whole : Bits) (feed : Feeding) (next : Bits) : Type 0 where
+  pub rest : Bits
+  pub bits : drop (feed.dropped + length feed.kept) whole ≡ next ++ rest
+  pub bytes : AreWholeBytes rest
+
+-- whole bytes before the next bit are dropped
+pub record DropsRead (old new : Feeding) : Type 0 where
+  pub bytes : ℕ
+  pub read : 8 * bytes ≤ old.place
+  pub kept : new.kept ≡ drop (8 * bytes) old.kept
+  pub dropped : new.dropped ≡ old.dropped + 8 * bytes
+  pub place : new.place + 8 * bytes ≡ old.place
+  pub within : old.place ≤ length old.kept
+  pub ctx : new.ctx ≡ old.ctx
+  pub rows : new.rows ≡ old.rows
+  pub order : new.order ≡ old.order
+  pub begun : new.begun ≡ old.begun
+  pub finished : new.finished ≡ old.finished

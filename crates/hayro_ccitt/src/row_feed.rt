@@ -1,0 +1,484 @@
+//! Rows from data that comes in pieces.
+
+ghost use Rattle.std.specs.Prelude.{◌≡◌, ◌≢◌, ◌≤◌, ◌<◌, ◌+◌, ◌*◌, ◌/◌, ◌^◌, ◌&&◌, not, ℕ, Bool, true, false, [], ◌++◌, None, Some, Ok, Err};
+ghost use Rattle.std.specs.Prelude.{IfOk, IfErr, OnErr, OnOk, IsOkUnless, Result, length, max, drop};
+ghost use Rattle.hayro_ccitt.specs.Bits.{AreWholeBytes, Bits, bits_in, here};
+ghost use Rattle.hayro_ccitt.specs.Context.{fresh};
+ghost use Rattle.hayro_ccitt.specs.GapsContinued.{first_gap_is_settled, gap_is_settled};
+ghost use Rattle.hayro_ccitt.specs.RowsRead.{at_end_of_rows, ended, is_at_line};
+ghost use Rattle.hayro_ccitt.specs.RowsTried.{IsLeft};
+ghost use Rattle.hayro_ccitt.specs.RowFeeds.{Begins, ComeNext, ComesInFeed, DropsRead, ReadsInFeed, ComesOn, FeedsNext, IsFeedOf, KeepsBits, TriesLine, fed_end, fed_none, fed_row, is_left, line_answer, some_line};
+ghost use Rattle.hayro_ccitt.specs.Rows.{changes};
+
+use crate::context::DecoderContext;
+use crate::row_reader::{RowState, Stand, first_stand, has_ended, is_at_line};
+use crate::rows::{gap_is_settled, try_row};
+use crate::{DecodeError, EncodingMode, Result};
+use fax_bits::DecodeSettings;
+use fax_bits::bit_reader::{BitOrder, BitReader, copy, placed_at};
+use std::alloc::Global;
+use std::marker::Model;
+
+/// What a call of [`RowFeed::next_row`] came to.
+#[derive(Copy, Clone, Debug, PartialEq, Eq)]
+pub enum Fed {
+    /// A row was read.
+    Row,
+    /// Data that follows could change what is next: feed more, or finish the data.
+    NeedsMore,
+    /// The image has ended.
+    End,
+}
+
+/// The most bytes whose bits have offsets that fit, with 64 bits more.
+const MOST_BYTES: usize = (usize::MAX - 64) / 8;
+
+/// Returns whether the gap here must wait for more data.
+fn gap_waits(ctx: &mut DecoderContext, reader: &BitReader<'_>, is_last: bool) -> bool
+    ensures waits { result ≡ (not is_last && not (gap_is_settled ctx.old.held.settings ctx.old.held.taken ctx.old.held.has_eols
+        (here reader.now))) }
+    ensures held { ctx.new.held ≡ ctx.old.held }
+    ensures counts { ctx.old.ticks ≤ ctx.new.ticks }
+    ensures space { ctx.new.space ≡ ctx.old.space }
+{
+    if is_last {
+        return false;
+    }
+    !gap_is_settled(ctx, reader)
+}
+
+/// Returns whether what is before the first line must wait for more data.
+fn front_waits(ctx: &mut DecoderContext, reader: &BitReader<'_>, is_last: bool) -> bool
+    requires fresh { ctx.old.held ≡ fresh ctx.old.held.settings }
+    ensures waits { result ≡ (not is_last && not (first_gap_is_settled ctx.old.held.settings.encoding ctx.old.held.settings
+        (here reader.now))) }
+    ensures held { ctx.new.held ≡ ctx.old.held }
+    ensures counts { ctx.old.ticks ≤ ctx.new.ticks }
+    ensures space { ctx.new.space ≡ ctx.old.space }
+{
+    if is_last {
+        return false;
+    }
+    match ctx.settings().encoding {
+        EncodingMode::Group4 => !gap_is_settled(ctx, reader),
+        EncodingMode::Group3_1D | EncodingMode::Group3_2D => {
+            let mut ahead = copy(reader);
+            ahead.read_eol_if_available(ctx.ticks());
+            !ahead.holds_one()
+        }
+    }
+}
+
+/// Returns whether a line is here behind a gap that was passed.
+fn some_line(line: Result<bool>) -> Result<Option<bool>>
+    ensures { result ≡ some_line line }
+{
+    match line {
+        Ok(line) => Ok(Some(line)),
+        Err(error) => Err(error),
+    }
+}
+
+/// Returns whether a line was left.
+fn is_left(row: &Result<bool>) -> bool
+    ensures { result ≡ is_left row.now }
+{
+    matches!(row, Ok(false) | Err(DecodeError::OutOfMemory))
+}
+
+/// Returns what came of a line that wasn't left.
+fn line_answer(row: &Result<bool>) -> Result<()>
+    ensures { result ≡ line_answer row.now }
+{
+    match row {
+        Ok(_) => Ok(()),
+        Err(error) => Err(*error),
+    }
+}
+
+/// Returns whether a line is here.
+fn is_some_line(line: &Result<Option<bool>>) -> bool
+    ensures here { result ≡ true → line.now ≡ Ok (Some true) }
+    ensures none { result ≡ false → line.now ≢ Ok (Some true) }
+{
+    matches!(line, Ok(Some(true)))
+}
+
+/// Returns what a call comes to that reaches no line.
+fn fed_none(line: Result<Option<bool>>) -> Result<Fed>
+    ensures { result ≡ fed_none line }
+{
+    match line {
+        Ok(None) => Ok(Fed::NeedsMore),
+        Ok(Some(_)) => Ok(Fed::End),
+        Err(error) => Err(error),
+    }
+}
+
+/// Returns what a call comes to that tries a line.
+fn fed_row(row: Result<bool>) -> Result<Fed>
+    ensures { result ≡ fed_row row }
+{
+    match row {
+        Ok(true) => Ok(Fed::Row),
+        Ok(false) => Ok(Fed::NeedsMore),
+        Err(error) => Err(error),
+    }
+}
+
+impl RowState {
+    /// Passes the gap before the next line, which begins at this offset of the data, if no data that follows can change it.
+    /// Returns whether there is a line after it, or `None` if more data is needed.
+    pub(crate) fn come_to_settled_line(
+        &mut self,
+        ctx: &mut DecoderContext,
+        reader: &mut BitReader<'_>,
+        is_last: bool,
+        gap_start: usize,
+    ) -> Result<Option<bool>>
+        requires { ended self.old.stand ≡ None }
+        ensures { ComesOn is_last gap_start self.old self.new ctx.old ctx.new reader.old reader.new result }
+    {
+        // An offset is known to be within the data once it is read.
+        let _start = reader.bit_pos();
+        if is_at_line(self.stand) {
+            return Ok(Some(true));
+        }
+        if gap_waits(ctx, reader, is_last) {
+            return Ok(None);
+        }
+        some_line(self.pass_gap_here(ctx, reader, gap_start))
+    }
+
+    /// Reads the line here, which begins at this offset of the data, and returns true, if no data that follows can change it;
+    /// otherwise it is left, and false is returned. After an allocation failure it is left too.
+    pub(crate) fn try_line(
+        &mut self,
+        ctx: &mut DecoderContext,
+        reader: &mut BitReader<'_>,
+        is_last: bool,
+        line_start: usize,
+    ) -> Result<bool>
+        requires rows { ctx.old.held.taken + 1 < 2 ^ 64 }
+        requires damaged { ctx.old.held.repairs.rows ≤ ctx.old.held.taken }
+        requires begun { ctx.old.held.front ≡ [] }
+        ensures { TriesLine is_last line_start self.old self.new ctx.old ctx.new reader.old reader.new result }
+    {
+        // An offset is known to be within the data once it is read.
+        let _start = reader.bit_pos();
+        let damaged_rows = ctx.damaged_rows();
+        let cut_rows = ctx.cut_rows();
+        let row = try_row(ctx, reader, is_last);
+        let _end = reader.bit_pos();
+        if is_left(&row) {
+            return row;
+        }
+        let line = line_answer(&row);
+        self.note_line(ctx, &line, line_start, damaged_rows, cut_rows);
+        row
+    }
+}
+
+/// Reads the rows of an image from data that comes in pieces, each as soon as no data that follows can change it.
+#[derive(Drop)]
+pub struct RowFeed {
+    ctx: DecoderContext,
+    rows: RowState,
+    order: BitOrder,
+    /// Whether what is before the first line was passed.
+    begun: bool,
+    is_last: bool,
+    /// The bytes that are still needed, and those of the line or gap that is next.
+    data: Vec<u8>,
+    /// How many bits came before them.
+    dropped: usize,
+    place: usize,
+}
+
+impl Model for RowFeed {
+    ghost use Rattle.hayro_ccitt.specs.RowFeeds.{Feeding, feeding_of};
+
+    ghost Value = { Feeding };
+
+    ghost use Rattle.hayro_ccitt.specs.RowFeeds.{IsKept};
+
+    ghost view = { feeding_of };
+
+    ghost invariant = { IsKept };
+}
+
+impl RowFeed {
+    /// Creates a reader of the rows of an image whose bytes hold their bits in this order. Nothing was fed.
+    ///
+    /// # Errors
+    ///
+    /// `OutOfMemory` is the only one. Today nothing is allocated here.
+    pub fn new(alloc: Global, order: BitOrder, settings: DecodeSettings) -> Result<RowFeed>
+        ensures reading { (whole : Bits) → AreWholeBytes whole → length whole + 64 < 2 ^ 64
+            → IfOk result (λ feed. IsFeedOf whole 0 feed) }
+        ensures settings { IfOk result (λ feed. feed.ctx.held.settings ≡ settings) }
+        ensures order { IfOk result (λ feed. feed.order ≡ order) }
+        ensures none_fed { IfOk result (λ feed. (feed.kept ≡ []) × (feed.finished ≡ false)) }
+        ensures none_read { IfOk result (λ feed. feed.ctx.held.taken ≡ 0) }
+        ensures only_memory { IsOkUnless result DecodeError.OutOfMemory }
+    {
+        Ok(RowFeed {
+            ctx: DecoderContext::new(alloc, settings)?,
+            rows: RowState::new(Stand::BehindRow),
+            order,
+            begun: false,
+            is_last: false,
+            data: Vec::new(alloc),
+            dropped: 0,
+            place: 0,
+        })
+    }
+
+    /// Passes what is before the first line, if no data that follows can change it, and returns whether it was passed.
+    fn begin(&mut self) -> bool
+        requires { self.old.begun ≡ false }
+        ensures { Begins self.old self.new result }
+    {
+        let mut reader = placed_at(&self.data, self.order, self.place);
+        if front_waits(&mut self.ctx, &reader, self.is_last) {
+            return false;
+        }
+        self.rows.stand = first_stand(&mut self.ctx, &mut reader);
+        self.place = reader.bit_pos();
+        self.begun = true;
+        true
+    }
+
+    /// Passes the gap before the next line, if no data that follows can change it. Returns whether there is a line after it,
+    /// or `None` if more data is needed.
+    fn come_to_line(&mut self) -> Result<Option<bool>>
+        requires begun { self.old.begun ≡ true }
+        requires unended { ended self.old.rows.stand ≡ None }
+        ensures { ComesInFeed self.old self.new result }
+    {
+        let mut reader = placed_at(&self.data, self.order, self.place);
+        let gap_start = self.dropped + self.place;
+        let line = self
+            .rows
+            .come_to_settled_line(&mut self.ctx, &mut reader, self.is_last, gap_start);
+        self.place = reader.bit_pos();
+        line
+    }
+
+    /// Reads the line here, if no data that follows can change it, and returns whether it was read.
+    fn read_line(&mut self) -> Result<bool>
+        requires begun { self.old.begun ≡ true }
+        requires rows { self.old.ctx.held.taken + 1 < 2 ^ 64 }
+        requires damaged { self.old.ctx.held.repairs.rows ≤ self.old.ctx.held.taken }
+        requires line { is_at_line self.old.rows.stand ≡ true }
+        ensures { ReadsInFeed self.old self.new result }
+    {
+        let mut reader = placed_at(&self.data, self.order, self.place);
+        let line_start = self.dropped + self.place;
+        self.ctx.begin_line();
+        let row = self
+            .rows
+            .try_line(&mut self.ctx, &mut reader, self.is_last, line_start);
+        self.place = reader.bit_pos();
+        row
+    }
+
+    /// Returns whether one more row can be counted.
+    fn can_take_row(&self) -> bool
+        ensures rows { result ≡ true → self.now.ctx.held.taken + 1 < 2 ^ 64 }
+        ensures damaged { result ≡ true → self.now.ctx.held.repairs.rows ≤ self.now.ctx.held.taken }
+        ensures room { self.now.ctx.held.taken + 1 < 2 ^ 64 → self.now.ctx.held.repairs.rows ≤ self.now.ctx.held.taken
+            → result ≡ true }
+    {
+        let rows = self.ctx.decoded_rows();
+        rows < u64::MAX && self.ctx.damaged_rows() <= rows
+    }
+
+    /// Reads the next row behind the first line's start.
+    fn read_on(&mut self) -> Result<Fed>
+        requires begun { self.old.begun ≡ true }
+        requires unended { ended self.old.rows.stand ≡ None }
+        ensures reads { (whole : Bits) (tried : ℕ) → IsFeedOf whole tried self.old → FeedsNext whole tried self.old self.new result }
+        ensures keeps { KeepsBits self.old self.new }
+    {
+        let line = self.come_to_line();
+        if !is_some_line(&line) {
+            return fed_none(line);
+        }
+        if !self.can_take_row() {
+            return Err(DecodeError::UnexpectedEof);
+        }
+        let row = self.read_line();
+        fed_row(row)
+    }
+
+    /// Reads the first row, behind what is before it.
+    fn read_first(&mut self) -> Result<Fed>
+        requires unbegun { self.old.begun ≡ false }
+        ensures reads { (whole : Bits) (tried : ℕ) → IsFeedOf whole tried self.old → FeedsNext whole tried self.old self.new result }
+        ensures keeps { KeepsBits self.old self.new }
+    {
+        if !self.begin() {
+            return Ok(Fed::NeedsMore);
+        }
+        if has_ended(self.rows.stand) {
+            return Ok(Fed::End);
+        }
+        self.read_on()
+    }
+
+    /// Reads the next row, if no data that follows can change it. After [`Fed::NeedsMore`] feed more, or finish the data. At the
+    /// end of the image each further call returns [`Fed::End`].
+    ///
+    /// # Errors
+    ///
+    /// Those of [`decode`](crate::decode), except `Refused`. After an error each further call returns the same error, except
+    /// after `OutOfMemory`: then nothing was read, and the call can be made again.
+    pub fn next_row(&mut self) -> Result<Fed>
+        ensures reads { (whole : Bits) (tried : ℕ) → ended self.old.rows.stand ≡ None → IsFeedOf whole tried self.old
+            → FeedsNext whole tried self.old self.new result }
+        ensures keeps { KeepsBits self.old self.new }
+        ensures ended { (end : Result (Unit {0}) DecodeError) → ended self.old.rows.stand ≡ Some end
+            → (self.new ≡ self.old) × (result ≡ fed_end end) }
+    {
+        match self.rows.stand {
+            Stand::AtEnd => Ok(Fed::End),
+            Stand::AtFault(error) => Err(error),
+            Stand::AtLine | Stand::BehindRow => {
+                if self.begun {
+                    self.read_on()
+                } else {
+                    self.read_first()
+                }
+            }
+        }
+    }
+
+    /// Drops the bytes that were read.
+    fn drop_read(&mut self)
+        ensures { DropsRead self.old self.new }
+    {
+        let bytes = self.place / 8;
+        self.data.rotate_left(bytes);
+        let left = self.data.len() - bytes;
+        self.data.truncate(left);
+        self.dropped += bytes * 8;
+        self.place -= bytes * 8;
+    }
+
+    /// Feeds the bytes that come next in the data. Those that were read are dropped first.
+    ///
+    /// # Errors
+    ///
+    /// `OutOfMemory` if the bytes can't be stored, or if all bytes fed would have more than 2^64 - 65 bits. No byte is fed then,
+    /// and the reading is the same.
+    pub fn feed(&mut self, bytes: &[u8]) -> Result<()>
+        requires unfinished { self.old.finished ≡ false }
+        ensures fed { OnOk result ((whole : Bits) (tried : ℕ) → IsFeedOf whole tried self.old
+            → ComeNext whole self.old (bits_in self.old.order bytes.now) → IsFeedOf whole tried self.new) }
+        ensures refused { OnErr result ((whole : Bits) (tried : ℕ) → IsFeedOf whole tried self.old → IsFeedOf whole tried self.new) }
+        ensures same { (self.new.ctx ≡ self.old.ctx) × (self.new.rows ≡ self.old.rows) × (self.new.order ≡ self.old.order)
+            × (self.new.finished ≡ self.old.finished) }
+        ensures only_memory { IsOkUnless result DecodeError.OutOfMemory }
+    {
+        self.drop_read();
+        let kept = self.data.len();
+        if bytes.len() > MOST_BYTES - kept || self.dropped > (MOST_BYTES - kept - bytes.len()) * 8 {
+            return Err(DecodeError::OutOfMemory);
+        }
+        self.data.extend_from_slice(bytes)?;
+        Ok(())
+    }
+
+    /// Finishes the data: no bytes follow those that were fed.
+    pub fn finish(&mut self)
+        ensures finished { (whole : Bits) (tried : ℕ) → IsFeedOf whole tried self.old
+            → length whole ≡ self.old.dropped + length self.old.kept → IsFeedOf whole tried self.new }
+        ensures same { self.new ≡ record self.old { finished = true } }
+    {
+        self.is_last = true;
+    }
+
+    /// Returns whether the data is finished.
+    pub fn is_finished(&self) -> bool
+        ensures { result ≡ self.now.finished }
+    {
+        self.is_last
+    }
+
+    /// Returns the changes of the last row that was read, in ascending order: the pixels at which its colour changes. There
+    /// are none before the first row.
+    pub fn row(&self) -> &[u32]
+        ensures changes { result.now ≡ changes self.now.ctx.held.reference }
+    {
+        self.ctx.reference_row()
+    }
+
+    /// Returns the number of rows that were read.
+    pub fn rows_read(&self) -> u64
+        ensures { result ≡ self.now.ctx.held.taken }
+    {
+        self.ctx.decoded_rows()
+    }
+
+    /// Returns the offset in bits at which the line of the last row begins, as
+    /// [`RowReader::line_start`](crate::RowReader::line_start) does.
+    pub fn line_start(&self) -> usize
+        ensures { result ≡ self.now.rows.started_at }
+    {
+        self.rows.started_at
+    }
+
+    /// Returns the fault of the last row if its line was damaged and repaired, as in a lenient reading of Group 3 with EOLs
+    /// (T.4, 4.1.2); `None` if the line was whole, and before the first row.
+    pub fn damage(&self) -> Option<DecodeError>
+        ensures { result ≡ self.now.rows.damage }
+    {
+        self.rows.damage
+    }
+
+    /// Returns whether a run of the last row, or a vertical mode, goes beyond the row's end and was cut there, where a strict
+    /// reading fails (T.4, 4.1.1); false before the first row, and for a row that was repaired.
+    pub fn is_cut(&self) -> bool
+        ensures { result ≡ self.now.rows.cut }
+    {
+        self.rows.cut
+    }
+
+    /// Returns the offset in bits at which an EOL was missed before the last row, as
+    /// [`RowReader::missed_eol`](crate::RowReader::missed_eol) does.
+    pub fn missed_eol(&self) -> Option<usize>
+        ensures { result ≡ self.now.rows.missed }
+    {
+        self.rows.missed
+    }
+
+    /// Returns the number of rows read whose line was damaged and repaired.
+    pub fn damaged_rows(&self) -> u64
+        ensures { result ≡ self.now.ctx.held.repairs.rows }
+    {
+        self.ctx.damaged_rows()
+    }
+
+    /// Returns the number of rows read in which a run was cut.
+    pub fn cut_rows(&self) -> u64
+        ensures { result ≡ self.now.ctx.held.repairs.cut }
+    {
+        self.ctx.cut_rows()
+    }
+
+    /// Returns the number of rows read after which the EOL was missed (T.4, 4.1.2).
+    pub fn missed_eols(&self) -> u64
+        ensures { result ≡ self.now.ctx.held.repairs.missed }
+    {
+        self.ctx.missed_eols()
+    }
+
+    /// Returns the number of bytes consumed so far, the last one rounded up: at the end of the image those that
+    /// [`decode`](crate::decode) returns.
+    pub fn bytes_read(&self) -> usize
+        ensures { result ≡ (self.now.dropped + self.now.place + 7) / 8 }
+    {
+        (self.dropped + self.place).div_ceil(8)
+    }
+}
