@@ -94,8 +94,9 @@ fn read_data(
 /// as many rows as the row limit, whichever comes first. What follows the picture isn't looked at. Each byte has its bits in
 /// this order.
 ///
-/// The place is not behind the last bit, and from there on are what breaks the rule: no word of the kind that the rule asks for, or
-/// one that the rule is about. The lines and the words before it keep to the rules; that is tested, and not proved.
+/// The place is at most the number of bits, and the bits from there on break the rule: they begin with no word of the kind that the
+/// rule asks for, or with one that the rule is about. That the lines and the words before it keep to the rules is tested, and not
+/// proved.
 ///
 /// More is asked here than of data that [`hayro_ccitt::decode`] reads strictly. Pass mode is only where b2 is left of a1, and
 /// each vertical mode to the right of a0 (T.4, 4.2.1.3); only the first run of a row has no pixels, and one at the row's end in

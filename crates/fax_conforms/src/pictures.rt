@@ -84,7 +84,7 @@ fn limit_met(settings: DecodeSettings, taken: u64) -> bool
     settings.rows != 0 && u64::from(settings.rows) == taken
 }
 
-/// Returns a reader behind the EOL without fill that is here, if there is one (T.4, 4.1.2).
+/// Returns a reader after the EOL without fill that is here, if there is one (T.4, 4.1.2).
 fn behind_plain_eol<'a>(reader: &BitReader<'a>, ticks: &mut Ticks) -> Option<BitReader<'a>>
     ensures found { IfSome result (λ after. here reader.now ≡ eol 0 ++ here after) }
     ensures none { IfNone result ((rest : Bits) → here reader.now ≡ eol 0 ++ rest → ⊥) }
@@ -225,7 +225,7 @@ pub fn read_body(
     }
 }
 
-/// Returns a reader behind the EOL that is here with its fill, if there is one (T.4, 4.1.2 and 4.1.3).
+/// Returns a reader after the EOL that is here with its fill, if there is one (T.4, 4.1.2 and 4.1.3).
 fn behind_eol<'a>(reader: &BitReader<'a>, ticks: &mut Ticks) -> Option<BitReader<'a>>
     ensures found { IfSome result (λ after. EolStands (here reader.now) (here after)) }
     ensures none { IfNone result ((rest : Bits) → EolStands (here reader.now) rest → ⊥) }
@@ -252,7 +252,7 @@ fn pass_closing_tag(encoding: EncodingMode, reader: &mut BitReader<'_>) -> bool
     }
 }
 
-/// Returns a reader behind the EOL of RTC that is here, and its tag, if there is one (T.4, 4.1.4 and 4.2.4).
+/// Returns a reader after the EOL of RTC that is here, and its tag, if there is one (T.4, 4.1.4 and 4.2.4).
 fn behind_tagged_eol<'a>(
     encoding: EncodingMode,
     reader: &BitReader<'a>,
@@ -343,7 +343,7 @@ fn draw_line_behind_eol(
     draw_line(words, reader, settings, reference, coding)
 }
 
-/// Reads lines up to their end, each behind an EOL: by the row limit, or by RTC (T.4, 4.1.2 and 4.1.4).
+/// Reads lines up to their end, each after an EOL: by the row limit, or by RTC (T.4, 4.1.2 and 4.1.4).
 pub fn read_lines(
     words: &mut Words,
     reader: &mut BitReader<'_>,

@@ -134,4 +134,5 @@ pub is_damage_text : (settings : DecodeSettings) (bits : Bits) (read : ℕ) (out
 is_damage_text settings bits read outcome ends =
     end_of_run settings bits read (damage_after settings bits read) (whole_damage settings bits)
     (IsDamageWithoutMemory settings bits) (all_damage settings bits read) outcome ends.0
-    (λ cut. let short = cut_by_row settings bits read (damage_after settings bits read) outcome ends cut in (read, short.0, short.1))
+    (λ cut. let short = cut_by_row settings bits read (damage_after settings bits read) outcome ends cut in
+    (read, short.0, short.1))

@@ -16,7 +16,8 @@ pub use Rattle.faxrows_runs.specs.DamageText.{number_and, numbered, repair_of_ro
 pub use Rattle.faxrows_runs.specs.Output.{PassesOn, Used, WritesText, bytes_after, bytes_before, used}
 pub use Rattle.faxrows_runs.specs.PackedRuns.{IsPackedOf, answer_of}
 pub use Rattle.faxrows_runs.specs.ProgramRuns.{HasInput, LacksInput, RunsProgram}
-pub use Rattle.faxrows_runs.specs.Runs.{EndsAfter, IsRowsText, IsTextOfEnd, IsTextOfWant, OnKnown, Outcome, done_of, done_of_kind, outcome_of}
+pub use Rattle.faxrows_runs.specs.Runs.{EndsAfter, IsRowsText, IsTextOfEnd, IsTextOfWant, OnKnown, Outcome, done_of}
+pub use Rattle.faxrows_runs.specs.Runs.{done_of_kind, outcome_of}
 pub use Rattle.faxrows_runs.specs.Runs.{rows_of, text_after, whole_text}
 pub use Rattle.faxrows_runs.specs.RunsByRow.{EndsByRow, IsTextByRow, IsTextWithoutMemory}
 pub use Rattle.faxrows_runs.specs.Text.{line_of_outcome, line_of_row, lines_of_rows, text_of, text_of_change}

@@ -1,8 +1,9 @@
 -- What a run of the program does, from what its parts do.
-use Rattle.faxrows_runs.proofs.Names.{◌≡◌, true, false, List, ℕ, Option, Result, Ok, Err, IfErr, OnOk, OnErr, refl, sym, ap, subst}
+use Rattle.faxrows_runs.proofs.Names.{◌≡◌, true, false, List, ℕ, Option, Result, Ok, Err, IfErr, OnOk, OnErr, refl, sym, ap}
+use Rattle.faxrows_runs.proofs.Names.{subst}
 use Rattle.faxrows_runs.proofs.Names.{◌∙◌, Arguments, Appends, AppendsFront, Bits, BitsFit, DecodeSettings, IfSome, RunFault}
-use Rattle.faxrows_runs.proofs.Names.{BadArguments, FaultOfMemory, Read, TooLong, Write, arguments_of_words, bits_in}
-use Rattle.faxrows_runs.proofs.Names.{HasInput, LacksInput, OnKnown, RunsProgram, Used, WritesText, bytes_after, bytes_before}
+use Rattle.faxrows_runs.proofs.Names.{Write, arguments_of_words, bits_in}
+use Rattle.faxrows_runs.proofs.Names.{HasInput, OnKnown, RunsProgram, Used, WritesText, bytes_after, bytes_before}
 use Rattle.faxrows_runs.proofs.Texts.{on_input, on_known}
 
 -- ---- What a call writes
@@ -43,30 +44,6 @@ writes_weaker IsText IsOther writer (Err fault) on writes = wrote_front IsOther 
 
 module _ {R W T : Type 0} (IsText : DecodeSettings → Bits → T → List ℕ → Type 0) (words : List (List ℕ)) (reader : Used R)
     (writer : Used W) where
-  -- without its input it has written nothing
-  pub without_input : (fault : RunFault) → LacksInput words reader fault → writer.after ≡ writer.before
-      → RunsProgram IsText words reader writer (Err fault)
-  without_input fault lacks same = record {
-    bad_arguments = (λ e. lacks.bad_arguments.0 (let f : fault ≡ BadArguments = cc in f), λ e. ap Err (lacks.bad_arguments.1 e));
-    unread = λ e. lacks.unread (let f : fault ≡ BadArguments = cc in f);
-    unwritten = λ e. same;
-    written = tt;
-    front = λ e. absurd (lacks.not_write (let f : fault ≡ Write = cc in f));
-    drained = tt;
-    fit = tt;
-    fit_write = λ e. absurd (lacks.not_write (let f : fault ≡ Write = cc in f));
-    fit_so_far = λ other. lacks.fit_so_far (λ e. other (ap Err e));
-    too_long = λ e. lacks.too_long (let f : fault ≡ TooLong = cc in f);
-    read = λ unfailed. (
-      λ e. (lacks.read unfailed).0 (let f : fault ≡ Read = cc in f),
-      λ failed. ap Err ((lacks.read unfailed).1 failed),
-    );
-    write = λ unfailed. (
-      λ e. absurd (lacks.not_write (let f : fault ≡ Write = cc in f)),
-      λ failed. absurd (let both : true ≡ false = sym failed ∙ ap (λ d. d.1) same ∙ unfailed in cc),
-    );
-  }
-
   module _ (arguments : Arguments) (input : List ℕ) (has : HasInput words reader arguments input) where
     -- there are at most as many bits as offsets
     fits : IfSome (bytes_before reader) BitsFit
@@ -81,26 +58,6 @@ module _ {R W T : Type 0} (IsText : DecodeSettings → Bits → T → List ℕ �
         → bits ≡ bits_in arguments.order input → P settings bits → OnKnown (arguments_of_words words) (bytes_before reader) P
     known P settings bits kept same holds =
         on_known _ arguments settings _ input P has.arguments_are kept has.all (subst (P settings) same holds)
-
-    -- an allocation failed before anything was written
-    pub without_memory : writer.after ≡ writer.before → RunsProgram IsText words reader writer (Err FaultOfMemory)
-    without_memory same = record {
-      bad_arguments = (λ e. cc, λ none. absurd (meant none));
-      unread = λ e. cc;
-      unwritten = λ e. same;
-      written = tt;
-      front = λ e. cc;
-      drained = tt;
-      fit = tt;
-      fit_write = λ e. cc;
-      fit_so_far = λ e. has.fit_so_far;
-      too_long = λ e. cc;
-      read = λ unfailed. (λ e. cc, λ failed. let both : true ≡ false = sym failed ∙ has.read unfailed in cc);
-      write = λ unfailed. (
-        λ e. cc,
-        λ failed. let both : true ≡ false = sym failed ∙ ap (λ d. d.1) same ∙ unfailed in cc,
-      );
-    }
 
     -- it wrote a text of the settings and the bits, or a front of one
     pub with_text : (settings : DecodeSettings) (bits : Bits) (result : Result T RunFault) → settings ≡ arguments.settings

@@ -1,6 +1,7 @@
 -- What a run writes row by row, from how the reading ended.
 use Rattle.faxrows_runs.proofs.Names.{◌≡◌, ℕ, List, refl, sym, ◌∙◌, Ok, Err, OutOfMemory, DecodeSettings, Bits, Faulty}
-use Rattle.faxrows_runs.proofs.Names.{Memory, Outcome, EndsAfter, EndsByRow, IsTextByRow, IsTextWithoutMemory, done_of, text_after}
+use Rattle.faxrows_runs.proofs.Names.{Memory, Outcome, EndsAfter, EndsByRow, IsTextByRow, IsTextWithoutMemory, done_of}
+use Rattle.faxrows_runs.proofs.Names.{text_after}
 use Rattle.faxrows_runs.proofs.Names.{whole_text}
 use Rattle.faxrows_runs.proofs.Texts.{all_text, done_at_fault, end_of_run}
 use Rattle.hayro_ccitt.proofs.ErrorKinds.{by_kind}
@@ -22,4 +23,5 @@ pub text_by_row : (settings : DecodeSettings) (bits : Bits) (read : ℕ) (outcom
 text_by_row settings bits read outcome ends =
     end_of_run settings bits read (text_after settings bits read) (whole_text settings bits) (IsTextWithoutMemory settings bits)
     (all_text settings bits read) outcome ends.0
-    (λ cut. let short = cut_by_row settings bits read (text_after settings bits read) outcome ends cut in (read, short.0, short.1))
+    (λ cut. let short = cut_by_row settings bits read (text_after settings bits read) outcome ends cut in
+    (read, short.0, short.1))

@@ -102,8 +102,8 @@ on_known (Some meant) arguments settings known input P e kept same p =
     (subst (λ (a : Arguments). P a.settings (bits_in a.order input)) same_arguments of_arguments)
 
 -- the text of the accepted rows is one of the end
-pub is_rows_text : (settings : DecodeSettings) (bits : Bits) (taken : ℕ) (outcome : Outcome) → EndsAfter settings bits taken outcome
-    → IsRowsText settings bits (done_of outcome) (text_after settings bits taken outcome)
+pub is_rows_text : (settings : DecodeSettings) (bits : Bits) (taken : ℕ) (outcome : Outcome)
+    → EndsAfter settings bits taken outcome → IsRowsText settings bits (done_of outcome) (text_after settings bits taken outcome)
 is_rows_text settings bits taken outcome ends =
     end_of_run settings bits taken (text_after settings bits taken) (whole_text settings bits) (IsTextOfWant settings bits)
     (all_text settings bits taken) outcome ends (λ want. (taken, outcome, ends, want, refl))

@@ -5,8 +5,8 @@ use Rattle.fax_program.specs.Devices.{AppendsFront}
 use Rattle.fax_program.specs.declared.fault.RunFault.{RunFault}
 use Rattle.fax_program.specs.declared.fault.RunFault.TheVariants.{Write}
 
--- a reader or a writer before a call and after it, with the flag that it has failed, and the bytes that it specifies: those left to
--- read, or those written
+-- a reader or a writer before a call and after it, each time with the flag that it has failed; and the bytes that it specifies:
+-- those left to read, or those written
 pub record Used (T : Type 0) : Type 0 where
   pub bytes : T → Option (List ℕ)
   pub before : T × Bool

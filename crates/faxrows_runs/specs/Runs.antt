@@ -59,8 +59,8 @@ IsTextOfWant settings bits text =
     (taken : ℕ) × (outcome : Outcome) × EndsAfter settings bits taken outcome × (done_of outcome ≡ Memory)
     × (text ≡ text_after settings bits taken outcome)
 
--- What a run wrote that ended like this: all of a text, after a reading that ended well or at a fault, or a text that is cut short
--- by an allocation failure or a refusal.
+-- What a run wrote that ended like this: all of a text, after a reading that ended well or at a fault, or a text that is cut
+-- short by an allocation failure or a refusal.
 abbrev pub IsTextOfEnd : Done → Outcome → List ℕ → (List ℕ → Type 0) → List ℕ → Type 0
 IsTextOfEnd Good outcome whole IsCut text = IsOk outcome × (text ≡ whole)
 IsTextOfEnd Faulty outcome whole IsCut text = IsErr outcome × (text ≡ whole)

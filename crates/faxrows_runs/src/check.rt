@@ -3,7 +3,7 @@
 
 ghost use Rattle.std.specs.Prelude.{◌≡◌, ◌++◌, IfErr, OnOk, OnErr, true, map, string_bytes};
 ghost use Rattle.fax_program.specs.Devices.{AppendsFront};
-ghost use Rattle.faxrows_runs.specs.CheckText.{IsCheck, done_of_check, end_with_rule, line_of_check, line_of_violation};
+ghost use Rattle.faxrows_runs.specs.CheckText.{IsCheck, done_of_check, end_with_rule, line_of_check};
 ghost use Rattle.faxrows_runs.specs.Output.{PassesOn, WritesText, used};
 ghost use Rattle.faxrows_runs.specs.ProgramRuns.{RunsProgram};
 
@@ -65,7 +65,7 @@ fn done_of_check(found: Option<Violation>) -> Done
     }
 }
 
-/// Puts the line of a check.
+/// Puts the line of a check: `ok`, or `violation`, its offset in bits, and the rule.
 fn put_found<W: Write>(
     found: Option<Violation>,
     waiting: &mut Vec<u8>,
@@ -79,26 +79,9 @@ fn put_found<W: Write>(
     ensures failed { OnErr result (writer.new.1 ≡ true) }
     ensures only { IfErr result (λ fault. fault ≡ RunFault.Write) }
 {
-    match found {
-        None => put(b"ok\n", waiting, writer),
-        Some(violation) => put_violation(violation, waiting, writer),
-    }
-}
-
-/// Puts the line of a violation: `violation`, its offset in bits, and the rule.
-fn put_violation<W: Write>(
-    violation: Violation,
-    waiting: &mut Vec<u8>,
-    writer: &mut Device<W>,
-) -> std::result::Result<(), RunFault>
-    ensures ok { OnOk result (PassesOn (W.contents writer.old.0) (W.contents writer.new.0)
-        waiting.old.items (line_of_violation violation) waiting.new.items) }
-    ensures front { OnErr result (AppendsFront (W.contents writer.old.0) (W.contents writer.new.0)
-        (waiting.old.items ++ line_of_violation violation)) }
-    ensures flag { OnOk result (writer.new.1 ≡ writer.old.1) }
-    ensures failed { OnErr result (writer.new.1 ≡ true) }
-    ensures only { IfErr result (λ fault. fault ≡ RunFault.Write) }
-{
+    let Some(violation) = found else {
+        return put(b"ok\n", waiting, writer);
+    };
     put(b"violation ", waiting, writer)?;
     put_number(violation.place as u64, b' ', waiting, writer)?;
     put(rule_and_end(violation.rule), waiting, writer)

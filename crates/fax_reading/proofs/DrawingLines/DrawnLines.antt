@@ -307,8 +307,8 @@ fails_by : (step : Pen → Step) → Shrinks step pen_left → ((P : Row → Typ
 fails_by step shrinks keeps line turn e pen is =
     kind_weaker (kind_of e) (turn ≡ Turn.done (Line.broken pen.front e)) (StopsAtChange (front_after turn) pen.front) ⊥
     (line ≡ Line.broken pen.front e) (StopsAtChange (front_of line) pen.front) ⊥ (λ draws. is ∙ rw draws refl)
-    (λ draws. subst (λ (l : Line). StopsAtChange (front_of l) pen.front) (sym is) (keeps_after (stopping_at pen.front) step shrinks
-    (keeps (stopping_at pen.front) (later_change pen.front)) turn draws)) (λ draws. draws)
+    (λ draws. subst (λ (l : Line). StopsAtChange (front_of l) pen.front) (sym is) (keeps_after (stopping_at pen.front) step
+    shrinks (keeps (stopping_at pen.front) (later_change pen.front)) turn draws)) (λ draws. draws)
 
 pub line_1d_fails : (strict : Bool) (columns : ℕ) (line : Line) (step : Step) (e : DecodeError) (pen : Pen) → line
     ≡ after_turn (drawn_by (step_1d strict columns)) step → DrawsStep step (Err e) pen → DrawsLine line (Err e) pen.front pen.rest
@@ -370,8 +370,8 @@ pub behind_fails : (behind : Pen → Step) (step : Step) (e : DecodeError) (pen 
     → DrawsStep step (Err e) pen → DrawsStep (turn_behind step behind) (Err e) pen
 behind_fails behind step e pen keeps =
     kind_weaker (kind_of e) (step ≡ Turn.done (Line.broken pen.front e)) (StopsAtChange (front_after step) pen.front) ⊥
-    (turn_behind step behind ≡ Turn.done (Line.broken pen.front e)) (StopsAtChange (front_after (turn_behind step behind)) pen.front)
-    ⊥ (λ draws. rw draws refl) (stops step) (λ draws. draws)
+    (turn_behind step behind ≡ Turn.done (Line.broken pen.front e))
+    (StopsAtChange (front_after (turn_behind step behind)) pen.front) ⊥ (λ draws. rw draws refl) (stops step) (λ draws. draws)
   where
     stops : (step : Step) → StopsAtChange (front_after step) pen.front
         → StopsAtChange (front_after (turn_behind step behind)) pen.front

@@ -53,8 +53,8 @@ pub returns-in_err-flush : goal.returns-in_err-flush
 returns-in_err-flush g c =
     let at = (goal.at.returns-in_err-flush g c).After-put_last_line in
     let waiting = c.put_last_line.new.waiting.items in
-    let passes : PassesOn (g.W.Write.contents c.args.writer.now.0) (g.W.Write.contents c.put_last_line.new.writer.0) [] (text g at)
-    waiting = passes_both _ _ _ [] _ c.put_rows.new.waiting.items (line_of_outcome c.in_ok-outcome.outcome) waiting
+    let passes : PassesOn (g.W.Write.contents c.args.writer.now.0) (g.W.Write.contents c.put_last_line.new.writer.0) []
+    (text g at) waiting = passes_both _ _ _ [] _ c.put_rows.new.waiting.items (line_of_outcome c.in_ok-outcome.outcome) waiting
     c.in_ok-outcome.ensures.lines c.in_ok-put_last_line.ensures.ok in
     let front : (done : Done) × (text : List ℕ) × IsTextByRow (settings g at) (bits g at) done text
     × AppendsFront (g.W.Write.contents c.args.writer.now.0) (g.W.Write.contents c.flush.new.writer.0) text = (
@@ -69,8 +69,8 @@ pub returns : goal.returns
 returns g c =
     let at = (goal.at.returns g c).After-put_last_line in
     let waiting = c.put_last_line.new.waiting.items in
-    let passes : PassesOn (g.W.Write.contents c.args.writer.now.0) (g.W.Write.contents c.put_last_line.new.writer.0) [] (text g at)
-    waiting = passes_both _ _ _ [] _ c.put_rows.new.waiting.items (line_of_outcome c.in_ok-outcome.outcome) waiting
+    let passes : PassesOn (g.W.Write.contents c.args.writer.now.0) (g.W.Write.contents c.put_last_line.new.writer.0) []
+    (text g at) waiting = passes_both _ _ _ [] _ c.put_rows.new.waiting.items (line_of_outcome c.in_ok-outcome.outcome) waiting
     c.in_ok-outcome.ensures.lines c.in_ok-put_last_line.ensures.ok in
     record {
       writes = wrote _ _ c.done_of.result (text g at) (rw c.done_of.ensures (is_text g at))

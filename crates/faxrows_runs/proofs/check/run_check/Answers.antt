@@ -11,5 +11,6 @@ returns g c =
       runs = with_text IsCheck _ _ _ arguments _ c.in_ok-arguments.ensures.has arguments.settings bits _ refl
           (ap (bits_in arguments.order) c.as_slice.ensures.value)
           (writes_weaker _ (IsCheck arguments.settings bits) _ _ (λ done text is. rw (is.0, is.1)
-          (is_check arguments.settings bits c.in-Ok.found c.in-Ok.ensures.none c.in-Ok.ensures.place)) c.write_found.ensures.writes);
+          (is_check arguments.settings bits c.in-Ok.found c.in-Ok.ensures.none c.in-Ok.ensures.place))
+          c.write_found.ensures.writes);
     }

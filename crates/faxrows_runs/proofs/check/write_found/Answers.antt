@@ -1,4 +1,5 @@
-use Rattle.faxrows_runs.proofs.Names.{rules, ◌≡◌, [], List, ℕ, refl, subst, AppendsFront, Done, PassesOn, done_of_check, line_of_check}
+use Rattle.faxrows_runs.proofs.Names.{rules, ◌≡◌, [], List, ℕ, refl, subst, AppendsFront, Done, PassesOn, done_of_check}
+use Rattle.faxrows_runs.proofs.Names.{line_of_check}
 use Rattle.faxrows_runs.proofs.Outputs.{front_of_waiting}
 use Rattle.faxrows_runs.proofs.check.write_found.Goals as goal
 

@@ -1,4 +1,5 @@
-use Rattle.faxrows_runs.proofs.Names.{rules, ◌≡◌, ◌∙◌, ◌++◌, [], List, ℕ, ap, length, subst, sym, Appends, Appends-trans, AppendsFront}
+use Rattle.faxrows_runs.proofs.Names.{rules, ◌≡◌, ◌∙◌, ◌++◌, [], List, ℕ, ap, length, subst, sym, Appends, Appends-trans}
+use Rattle.faxrows_runs.proofs.Names.{AppendsFront}
 use Rattle.faxrows_runs.proofs.Names.{Bits, DecodeSettings, Done, IsDamageText, IsDamageWithoutMemory, Outcome, PassesOn, done_of}
 use Rattle.faxrows_runs.proofs.Names.{damage_after, damage_lines, last_line_of_damage, outcome_of, rows_of, whole_damage}
 use Rattle.faxrows_runs.proofs.{DamageTexts.is_damage_text, ProgramRuns.wrote, Texts.whole_end, damage.write_damage.Given.Over}

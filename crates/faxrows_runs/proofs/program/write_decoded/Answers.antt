@@ -1,4 +1,5 @@
-use Rattle.faxrows_runs.proofs.Names.{rules, ◌≡◌, ◌++◌, List, ℕ, subst, sym, take, ◌∙◌, Appends, AppendsFront, Bits, DecodeSettings, Done}
+use Rattle.faxrows_runs.proofs.Names.{rules, ◌≡◌, ◌++◌, List, ℕ, subst, sym, take, ◌∙◌, Appends, AppendsFront, Bits}
+use Rattle.faxrows_runs.proofs.Names.{DecodeSettings, Done}
 use Rattle.faxrows_runs.proofs.Names.{Appends-trans, IsRowsText, bits_in, done_of, rows_of, lines_of_rows, line_of_outcome}
 use Rattle.faxrows_runs.proofs.{Outputs.front_after, Outputs.front_of_more, ProgramRuns.wrote, program.write_decoded.Given.Over}
 use Rattle.faxrows_runs.proofs.Texts.{ends_after, is_rows_text, sink_text}
