@@ -37,9 +37,9 @@ pub use Rattle.std.proofs.Common.{length, length-append, length-drop, ltb, map, 
 pub use Rattle.std.proofs.Common.{pow_pos, refl, replicate, rules, slice_get, subst, suc, sym, take, true, zero, ℕ, ◌%◌}
 pub use Rattle.std.proofs.Common.{◌&&◌, ◌*◌, ◌++◌, ◌+◌, ◌-◌, ◌/◌, ◌<◌, ◌^◌, ◌||◌, ◌∙◌, ◌∷◌, ◌≡◌, ◌≢◌, ◌≤◌, ◌⊎◌}
 pub use Rattle.std.proofs.Math.Nat.{div-div-eq-div-mul, mod-eq_of_lt, pow-le-pow_right, pow-suc}
-pub use Rattle.std.proofs.lemmas.Bool.{agree_below_at, and_from, and_parts, cases_eq, cases_lt, eq-eqb, eqb-true, false≢true}
-pub use Rattle.std.proofs.lemmas.Bool.{le-leb, le-ltb, leb-true, lt-leb, lt-ltb, ltb-true, ne_eqb, not-true, or_cases}
-pub use Rattle.std.proofs.lemmas.Bool.{or_parts}
+pub use Rattle.std.proofs.lemmas.Bool.{agree_below_at, and_from, and_parts, cases_eq, cases_lt, cond-false, cond-true, eq-eqb}
+pub use Rattle.std.proofs.lemmas.Bool.{eqb-true, false≢true, le-leb, le-ltb, leb-true, lt-leb, lt-ltb, ltb-true, ne_eqb, not-true}
+pub use Rattle.std.proofs.lemmas.Bool.{or_cases, or_parts}
 pub use Rattle.std.proofs.lemmas.Grind.{common_steps}
 pub use Rattle.std.proofs.lemmas.List.{drop-drop, drop_min, get_or-drop, get_or-take, get_or_append_left, get_or_past}
 pub use Rattle.std.proofs.lemmas.List.{length-replicate, length-take, replicate-append-replicate, take_rest}

@@ -363,7 +363,7 @@ impl<'a> BitReader<'a> {
         true
     }
 
-    /// The same for an EOL that may have more fill.
+    /// Consumes an EOL here that may have any fill, as [`pass_eol`] does.
     #[cold]
     #[inline(never)]
     fn pass_far_eol(&mut self, ticks: &mut Ticks) -> bool
@@ -502,33 +502,6 @@ impl<'a> BitReader<'a> {
         }
     }
 
-    /// Returns whether an EOL is here, with its fill (T.4, 4.1.2 and 4.1.3). Each bit that is examined is a tick.
-    fn is_at_eol(&self, ticks: &mut Ticks) -> bool
-        ensures eol { result ≡ is_some (after_eol 0 (here self.now)) }
-        ensures ticks { ticks.new ≡ ticks.old + looked (here self.now) }
-    {
-        let zeros = self.peek_u32().leading_zeros() as usize;
-        if zeros >= 32 {
-            return self.is_at_far_eol(ticks);
-        }
-        tick_times(ticks, zeros + 1);
-        zeros >= 11
-    }
-
-    /// The same for an EOL that may have more fill.
-    #[cold]
-    #[inline(never)]
-    fn is_at_far_eol(&self, ticks: &mut Ticks) -> bool
-        ensures eol { result ≡ is_some (after_eol 0 (here self.now)) }
-        ensures ticks { ticks.new ≡ ticks.old + looked (here self.now) }
-    {
-        let (zeros, after) = self.zero_run(ticks);
-        match after {
-            Some(_) => zeros >= 11,
-            None => false,
-        }
-    }
-
     /// Consumes a tag of 1 here before an EOL (T.4, 4.2.2). Each bit that is examined is a tick.
     fn pass_tag(&mut self, ticks: &mut Ticks)
         ensures rest { here self.new ≡ past_tag (here self.old) }
@@ -540,7 +513,8 @@ impl<'a> BitReader<'a> {
             Ok(0) => ticks.tick(),
             Ok(_) => {
                 ticks.tick();
-                if behind.is_at_eol(ticks) {
+                let mut end = copy(&behind);
+                if pass_eol(&mut end, ticks) {
                     *self = behind;
                 }
             }
@@ -668,10 +642,13 @@ pub fn pass_eol(reader: &mut BitReader<'_>, ticks: &mut Ticks) -> bool
     ensures ticks { ticks.new ≡ ticks.old + looked (here reader.old) }
 {
     let zeros = reader.peek_u32().leading_zeros() as usize;
-    if zeros < 11 || zeros >= 32 {
+    if zeros >= 32 {
         return reader.pass_far_eol(ticks);
     }
     tick_times(ticks, zeros + 1);
+    if zeros < 11 {
+        return false;
+    }
     // The one is there to be consumed.
     let _ = reader.consume(zeros + 1);
     true

@@ -14,7 +14,7 @@ ghost use Rattle.hayro_ccitt.specs.Work.{most_for_body};
 use crate::context::{DecoderContext, decode_1d_line};
 use crate::{DecodeError, DecodeSettings, EncodingMode, Result};
 use fax_bits::bit_reader::starting_at;
-use fax_bits::codes::Ticks;
+use fax_bits::codes::{Ticks, pass_eol};
 
 /// Returns whether these settings are those of lenient one-dimensional data of Group 3.
 fn is_lenient_1d(settings: DecodeSettings) -> bool
@@ -42,10 +42,8 @@ fn is_behind_eol(data: &[u8], place: usize, ticks: &mut Ticks) -> bool
     if place < 12 {
         return place == 0;
     }
-    let before = starting_at(data, place - 12);
-    let (zeros, after) = before.zero_run(ticks);
-    match after {
-        Some(_) => zeros == 11,
+    match end_of_eol(data, place - 12, ticks) {
+        Some(end) => end == place,
         None => false,
     }
 }
@@ -73,7 +71,7 @@ fn end_of_eol(data: &[u8], place: usize, ticks: &mut Ticks) -> Option<usize>
     ensures work { ticks.new ≡ ticks.old + looked (drop place (bits_of «data».now)) }
 {
     let mut reader = starting_at(data, place);
-    if reader.read_eols(1, ticks) == 0 {
+    if !pass_eol(&mut reader, ticks) {
         return None;
     }
     Some(reader.bit_pos())

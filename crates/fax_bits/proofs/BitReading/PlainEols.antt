@@ -1,12 +1,12 @@
 -- EOLs without fill.
-use Rattle.fax_bits.proofs.Names.{◌≡◌, ℕ, ◌+◌, ◌-◌, ◌*◌, ◌/◌, ◌%◌, ◌^◌, ◌<◌, ◌≤◌, true, false, eqb, ◌∷◌, ◌++◌, length, get_or}
-use Rattle.fax_bits.proofs.Names.{drop, replicate, min, Some, None, sym, ap, ◌∙◌, arith, inl, inr, count_leading_zeros}
+use Rattle.fax_bits.proofs.Names.{◌≡◌, ℕ, ◌+◌, ◌-◌, ◌*◌, ◌/◌, ◌%◌, ◌^◌, ◌<◌, ◌≤◌, true, false, eqb, length, get_or, cond}
+use Rattle.fax_bits.proofs.Names.{Option, leb, drop, min, Some, None, sym, ap, ◌∙◌, arith, inl, inr, count_leading_zeros}
 use Rattle.fax_bits.proofs.Names.{count_trailing_zeros, bit_at, cases_lt, get_or-drop, length-drop, drop_min, leading_top}
 use Rattle.fax_bits.proofs.Names.{shr-shr, pow-le-pow_right, bit_at_above, bit_at_cat_low, bit_at-trailing_zeros, Bits, BitsAt}
-use Rattle.fax_bits.proofs.Names.{here, bit_of, after_eol, all_eols, past_tag, pass_last_tag, tagged_eols, common_steps}
+use Rattle.fax_bits.proofs.Names.{here, bit_of, looked, after_eol, all_eols, past_tag, pass_last_tag, tagged_eols, common_steps}
 use Rattle.fax_bits.proofs.{BitReading.SoughtEols.one_near, BitReading.ZerosPassed.HoldsNextBits}
 use Rattle.fax_bits.proofs.BitReading.ZerosPassed.{run_ahead}
-use Rattle.fax_bits.proofs.BitReading.ZeroRuns.{after_eol_run, eols_one, eols_enough}
+use Rattle.fax_bits.proofs.BitReading.ZeroRuns.{after_eol_run, eols_one, eols_enough, looked_eol, looked_run}
 use Rattle.fax_bits.proofs.BitReading.ConsecutiveEols.{after_eol_shorter, eols_with_tags-some, eols_with_tags-none}
 use Rattle.std.specs.Int.{w32}
 
@@ -25,19 +25,31 @@ eleven_zeros w small one =
     omega (arith, top.1, above, below)
 
 module _ (at : BitsAt) (w : ℕ) (small : w < 2 ^ 32) (held : HoldsNextBits w at) where
+  -- a word with a one says whether an EOL is here, and how many bits are examined
+  pub word_says : count_leading_zeros 32 w < 32 → (after_eol 0 (here at) ≡ cond (leb 11 (count_leading_zeros 32 w))
+      (Some (drop (at.place + (count_leading_zeros 32 w + 1)) at.bits)) None) × (looked (here at) ≡ count_leading_zeros 32 w + 1)
+  word_says few =
+      let n = count_leading_zeros 32 w in
+      let run = run_ahead at w small held few in
+      let place : at.place + n + 1 ≡ at.place + (n + 1) = omega arith in (
+        ap (after_eol 0) run ∙ after_eol_run n (drop (at.place + n + 1) at.bits)
+            ∙ ap (λ (i : ℕ). cond (leb 11 n) (Some (drop i at.bits)) None) place,
+        ap looked run ∙ looked_run n (drop (at.place + n + 1) at.bits),
+      )
+
   -- the EOL of a word that begins with one
   module _ (one : w / 1048576 ≡ 1) (next : BitsAt) (e : next ≡ record at { place = min (at.place + 12) (length at.bits) }) where
-    pub plain_eol : here at ≡ replicate 11 false ++ true ∷ here next
-    plain_eol =
-        let eleven = eleven_zeros w small one in
-        let place : at.place + 11 + 1 ≡ at.place + 12 = omega arith in
-        let after : here next ≡ drop (at.place + 12) at.bits = ap here e ∙ drop_min (at.place + 12) at.bits in
-        run_ahead at w small held (omega (arith, eleven))
-        ∙ ap (λ (n : ℕ). replicate n false ++ true ∷ drop (at.place + n + 1) at.bits) eleven ∙ ap (λ (n : ℕ).
-        replicate 11 false ++ true ∷ drop n at.bits) place ∙ ap (λ (rest : Bits). replicate 11 false ++ true ∷ rest) (sym after)
+    eleven : count_leading_zeros 32 w ≡ 11
+    eleven = eleven_zeros w small one
+
+    pub plain_eol : after_eol 0 (here at) ≡ Some (here next)
+    plain_eol = (word_says (omega (arith, eleven))).0
+        ∙ ap (λ (n : ℕ). cond (leb 11 n) (Some (drop (at.place + (n + 1)) at.bits)) None) eleven
+        ∙ ap {B = Option Bits} (λ (b : Bits). Some b) (sym (ap here e ∙ drop_min (at.place + 12) at.bits))
 
     pub twelve_more : length (here at) ≡ length (here next) + 12
-    twelve_more = omega (arith, ap length plain_eol)
+    twelve_more =
+        omega (arith, looked_eol 0 (here at) (here next) plain_eol, (word_says (omega (arith, eleven))).1, eleven)
 
     pub plain_eol_within : next.place ≡ at.place + 12
     plain_eol_within = grind (arith, common_steps, length-drop, twelve_more)
@@ -80,10 +92,6 @@ module _ (at : BitsAt) (w : ℕ) (small : w < 2 ^ 32) (held : HoldsNextBits w at
         grind (arith, common_steps, step2, get_or-drop 1 (here next) (9 - zeros_behind) false, step3, step, one_there, within_ten)
 
 -- ---- The EOLs.
--- eleven zeros and a one are an EOL
-pub eleven_are_eol : (here rest : Bits) → here ≡ replicate 11 false ++ true ∷ rest → after_eol 0 here ≡ Some rest
-eleven_are_eol here rest e = ap (after_eol 0) e ∙ after_eol_run 11 rest
-
 -- the first, and the others
 pub eol_and_others : (here rest : Bits) → after_eol 0 here ≡ Some rest
     → all_eols here ≡ (1 + (all_eols rest).0, (all_eols rest).1)

@@ -3,7 +3,7 @@ use Rattle.fax_reading.proofs.DamagedLines.LineStarts.{not_some}
 use Rattle.fax_reading.proofs.Names.{◌≡◌, ◌≢◌, ℕ, zero, suc, ◌+◌, ◌-◌, ◌<◌, ◌≤◌, ◌⊎◌, Bool, true, false, cond, eqb, ltb, leb, []}
 use Rattle.fax_reading.proofs.Names.{◌∷◌, ◌++◌, length, take, drop, replicate, Option, Some, None, Err, IsTrue, refl, sym, ap}
 use Rattle.fax_reading.proofs.Names.{subst, ◌∙◌, arith, inl, inr, ◌↔◌, is_some, cases_lt, lt-ltb, le-leb, lt-leb, ltb-true}
-use Rattle.fax_reading.proofs.Names.{leb-true, eqb-true, eq-eqb, none-some, length-append, length-replicate, length-drop}
+use Rattle.fax_reading.proofs.Names.{leb-true, eqb-true, eq-eqb, none-some, length-append, length-drop}
 use Rattle.fax_reading.proofs.Names.{take-append-drop, drop-drop, DecodeError, OutOfMemory, DecodeSettings, Group3_1D, DrawsLine}
 use Rattle.fax_reading.proofs.Names.{line_from_1d, Bits, BitsAt, here, leading_zeros, Held, fresh, after_eol, next_eol, Line}
 use Rattle.fax_reading.proofs.Names.{line_1d, EndsBefore, IsLocal, Row, common_steps}
@@ -14,31 +14,19 @@ use Rattle.fax_reading.proofs.DamagedLines.PastEol.{past, past_is, then_after}
 
 -- ---- An EOL before a position.
 -- the EOL of the twelve bits before a position ends there
-pub behind_eol : (bits rest : Bits) (place zeros : ℕ) → 12 ≤ place → place ≤ length bits → drop (place - 12) bits
-    ≡ replicate zeros false ++ true ∷ rest → after_eol 0 (drop (place - 12) bits) ≡ cond (leb 11 zeros) (Some rest) None
-    → IsTrue (eqb zeros 11) ↔ ((place ≡ 0) ⊎ ((12 ≤ place) × (after_eol 0 (drop (place - 12) bits) ≡ Some (drop place bits))))
-behind_eol bits rest place zeros far within is eol = (
-  λ test. inr (far, there (eqb-true zeros 11 test)),
+pub behind_eol : (bits : Bits) (place end : ℕ) → 12 ≤ place → place ≤ length bits → end ≤ length bits
+    → after_eol 0 (drop (place - 12) bits) ≡ Some (drop end bits)
+    → IsTrue (eqb end place) ↔ ((place ≡ 0) ⊎ ((12 ≤ place) × (after_eol 0 (drop (place - 12) bits) ≡ Some (drop place bits))))
+behind_eol bits place end far within there eol = (
+  λ test. inr (far, eol ∙ ap (λ (n : ℕ). Some (drop n bits)) (eqb-true end place test)),
   λ before. elim before [
     | inl none ↦ absurd (omega (arith, none, far))
-    | inr found ↦ eq-eqb zeros 11 (eleven found.1)
+    | inr found ↦
+        let both : ◌≡◌ {A = Option Bits} (Some (drop end bits)) (Some (drop place bits)) = sym eol ∙ found.1 in
+        let same : drop end bits ≡ drop place bits = cc in
+        eq-eqb end place (omega (arith, ap length same, length-drop end bits, length-drop place bits, within, there))
   ],
 )
-  where
-    rest_is : zeros ≡ 11 → rest ≡ drop place bits
-    rest_is e = grind (arith, common_steps, drop-drop 12 (place - 12) bits)
-
-    there : zeros ≡ 11 → after_eol 0 (drop (place - 12) bits) ≡ Some (drop place bits)
-    there e = eol ∙ rw (le-leb 11 zeros (omega (arith, e))) (ap (λ (b : Bits). Some b) (rest_is e))
-
-    eleven : after_eol 0 (drop (place - 12) bits) ≡ Some (drop place bits) → zeros ≡ 11
-    eleven found = either_way (leb 11 zeros) (sym eol ∙ found)
-      where
-        either_way : (b : Bool) → cond b (Some rest) None ≡ Some (drop place bits) → zeros ≡ 11
-        either_way false e = absurd (let f : ◌≡◌ {A = Option Bits} None (Some (drop place bits)) = e in cc)
-        either_way true e =
-            let step = length-append (replicate zeros false) (true ∷ rest) in
-            grind (arith, common_steps, step, length-drop place bits, length-drop (place - 12) bits, length-replicate zeros false)
 
 -- ---- A one in a body.
 zeros_only : (m : ℕ) (here : Bits) → m ≤ leading_zeros here → take m here ≡ replicate m false

@@ -1,9 +1,8 @@
 -- What the tests of a body look at.
-use Rattle.fax_reading.proofs.Names.{◌≡◌, ℕ, zero, suc, ◌+◌, ◌-◌, ◌*◌, ◌≤◌, true, false, List, [], ◌∷◌, cond, eqb, length, drop}
+use Rattle.fax_reading.proofs.Names.{◌≡◌, ℕ, zero, suc, ◌+◌, ◌-◌, ◌*◌, ◌≤◌, true, false, List, [], ◌∷◌, length, drop}
 use Rattle.fax_reading.proofs.Names.{Option, Some, None, refl, sym, ap, ◌∙◌, arith, none-some, length-drop, drop-drop, Bits}
-use Rattle.fax_reading.proofs.Names.{after_eol, eols, next_eol, looked, common_steps}
+use Rattle.fax_reading.proofs.Names.{after_eol, next_eol, looked, common_steps}
 use Rattle.fax_bits.proofs.BitReading.SoughtEols.{next_eol-here}
-use Rattle.fax_bits.proofs.BitReading.ZeroRuns.{looked_eol}
 use Rattle.fax_bits.proofs.BitReading.ConsecutiveEols.{next_eol_found}
 
 -- further on no fewer bits are looked at but for those between
@@ -54,11 +53,6 @@ module _ (bits after : Bits) (from to : ℕ) (order : from ≤ to) (within : to 
         omega (arith, passed, again, onward.0),
         omega (arith, passed, again, zeros, near, order, length-drop place bits, length-drop from bits, inside, within),
       )
-
--- one EOL that is read, or none, is what a count of zeros looks at
-pub one_eol_looked : (here rest : Bits) (count before now : ℕ) → eols 1 here ≡ (count, rest)
-    → now + length rest ≡ before + length here + cond (eqb count 1) 0 (looked rest) → now ≡ before + looked here
-one_eol_looked here rest count before now is counted = grind (arith, common_steps, looked_eol)
 
 -- the same bound, for the same words and the same count before
 pub same_bound : (now before same : ℕ) (words known : List Bits) → same ≡ before → known ≡ words → now ≤ same + length known + 1

@@ -1,28 +1,27 @@
-use Rattle.fax_bits.proofs.Names.{◌≡◌, ◌+◌, ◌<◌, Some, None, drop, leb, cond, true, sym, ap, ◌∙◌, arith, count_leading_zeros}
-use Rattle.fax_bits.proofs.Names.{le-leb, drop_min, Bits, here, after_eol, looked}
-use Rattle.fax_bits.proofs.BitReading.ZeroRuns.{after_eol_run, looked_run}
-use Rattle.fax_bits.proofs.BitReading.ZerosPassed.{run_ahead}
+use Rattle.fax_bits.proofs.Names.{◌+◌, Some, cond-true, cond-false, ap, sym, ◌∙◌, arith, le-leb, lt-leb, drop_min, here}
+use Rattle.fax_bits.proofs.Names.{count_leading_zeros}
+use Rattle.fax_bits.proofs.BitReading.PlainEols.{word_says}
 use Rattle.fax_bits.proofs.codes.pass_eol.Goals as goal
+
+pub returns-then-zeros-lt11-clause-eol : goal.returns-then-zeros-lt11-clause-eol
+returns-then-zeros-lt11-clause-eol c =
+    let says = word_says c.args.reader.now c.peek_u32.result c.peek_u32.type_inv c.peek_u32.ensures c.if-zeros-ge32.false in
+    says.0 ∙ cond-false _ _ _ (lt-leb 11 (count_leading_zeros 32 c.peek_u32.result) c.if-zeros-lt11.true)
+
+pub returns-then-zeros-lt11-clause-ticks : goal.returns-then-zeros-lt11-clause-ticks
+returns-then-zeros-lt11-clause-ticks c =
+    let says = word_says c.args.reader.now c.peek_u32.result c.peek_u32.type_inv c.peek_u32.ensures c.if-zeros-ge32.false in
+    omega (arith, says.1, c.tick_times.ensures)
 
 pub returns-clause-eol : goal.returns-clause-eol
 returns-clause-eol c =
     let at = c.args.reader.now in
-    let next = c.peek_u32.result in
-    let n = count_leading_zeros 32 next in
-    let rest : Bits = drop (at.place + n + 1) at.bits in
-    let near : n < 32 = omega (arith, c.if-zeros-ge32.false) in
-    let many : leb 11 n ≡ true = le-leb 11 n (omega (arith, c.if-zeros-lt11.false)) in
-    let place : at.place + (n + 1) ≡ at.place + n + 1 = omega arith in
-    let after : here c.consume.new.self ≡ rest =
-    ap here c.consume.ensures.moved ∙ drop_min (at.place + (n + 1)) at.bits ∙ ap (λ i. drop i at.bits) place in
-    ap (after_eol 0) (run_ahead at next c.peek_u32.type_inv c.peek_u32.ensures near) ∙ after_eol_run n rest
-    ∙ ap (λ t. cond t (Some rest) None) many ∙ ap Some (sym after)
+    let n = count_leading_zeros 32 c.peek_u32.result in
+    let says = word_says at c.peek_u32.result c.peek_u32.type_inv c.peek_u32.ensures c.if-zeros-ge32.false in
+    let after = ap here c.consume.ensures.moved ∙ drop_min (at.place + (n + 1)) at.bits in
+    says.0 ∙ cond-true _ _ _ (le-leb 11 n c.if-zeros-lt11.false) ∙ ap Some (sym after)
 
 pub returns-clause-ticks : goal.returns-clause-ticks
 returns-clause-ticks c =
-    let at = c.args.reader.now in
-    let next = c.peek_u32.result in
-    let n = count_leading_zeros 32 next in
-    let near : n < 32 = omega (arith, c.if-zeros-ge32.false) in
-    let run = run_ahead at next c.peek_u32.type_inv c.peek_u32.ensures near in
-    omega (arith, c.tick_times.ensures, ap looked run, looked_run n (drop (at.place + n + 1) at.bits))
+    let says = word_says c.args.reader.now c.peek_u32.result c.peek_u32.type_inv c.peek_u32.ensures c.if-zeros-ge32.false in
+    omega (arith, says.1, c.tick_times.ensures)
