@@ -6,9 +6,9 @@ ghost use Rattle.hayro_ccitt.specs.Laws.{StepsOnRows};
 use crate::Decoder;
 pub use fax_reading::laws::{
     after_eofb, bits_of_bytes, changes_are_rows, code_reading, code_words,
-    every_picture_has_an_encoding, gaps_settle, lines_by_eols, locality, locality_by_k, no_damage, one_picture,
-    pictures, row_limit, rows_before, rows_behind, strict_then_lenient, synchronised, t4_pictures,
-    t6_pictures,
+    every_picture_has_an_encoding, gaps_settle, lines_by_eols, locality, locality_by_k, no_damage,
+    one_picture, pictures, row_limit, rows_before, rows_behind, strict_then_lenient, synchronised,
+    t4_pictures, t6_pictures,
 };
 
 /// A sink whose step depends on the pixels of a row's changes: over rows of its width it means what a fold of the step
