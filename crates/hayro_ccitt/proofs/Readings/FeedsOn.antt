@@ -24,7 +24,7 @@ use Rattle.hayro_ccitt.specs.GapsContinued.{first_gap_is_settled, gap_is_settled
 use Rattle.hayro_ccitt.specs.RowsTried.{CanCome, IsLeft, StandsFirst}
 use Rattle.hayro_ccitt.specs.RowFeeds.{ComesInFeed, ComesOn, Feeding, IsFeedOf, KeepsBits, LieIn, ReadsInFeed, StandsIn}
 use Rattle.hayro_ccitt.specs.RowFeeds.{TriesLine, came, fed_over}
-use Rattle.hayro_ccitt.specs.RowFeeds.{Begins, ComeNext, DropsRead, FeedsNext, IsAtFront, IsOpenAt, StaysThere, fed_none}
+use Rattle.hayro_ccitt.specs.RowFeeds.{ComeNext, DropsRead, FeedsNext, IsAtFront, IsOpenAt, StaysThere, fed_none}
 use Rattle.hayro_ccitt.specs.RowFeeds.{fed_row, is_left, line_first}
 use Rattle.fax_bits.specs.declared.error.DecodeError.TheVariants.{InvalidCode, OutOfMemory}
 use Rattle.hayro_ccitt.specs.declared.row_feed.Fed.{Fed}
