@@ -112,6 +112,7 @@ COUNTS = {
     "crates/hayro_ccitt/src/context.rt": {"new", "restart"},
     "crates/hayro_ccitt/src/row_reader.rt": {"new"},  # a reader's own context, which no call of `decode` has
     "crates/hayro_ccitt/src/row_cursor.rt": {"new"},  # the same
+    "crates/hayro_ccitt/src/row_feed.rt": {"new"},  # the same
 }
 MAKES_A_COUNT = re.compile(
     r"\bTicks>?\s*::|\bTicks\s*\{\s*\}|\bTicks\s+as\b|\btype\b.*\bTicks\b"

@@ -1,5 +1,6 @@
 -- Rows from data that comes in pieces: what is kept of it, what is seen of a reading, and which data it is a reading of.
-use Rattle.std.specs.Prelude.{◌≡◌, ◌≢◌, ◌≤◌, ◌<◌, ◌+◌, ◌*◌, ◌^◌, ℕ, Bool, true, false, ◌++◌, [], not, max, drop, length, Option, None, Some, Result, Ok, Err, IfErr}
+use Rattle.std.specs.Prelude.{◌≡◌, ◌≢◌, ◌≤◌, ◌<◌, ◌+◌, ◌*◌, ◌^◌, ℕ, Bool, true, false, ◌++◌, [], not, max, drop, length, Option}
+use Rattle.std.specs.Prelude.{None, Some, Result, Ok, Err, IfErr}
 use Rattle.fax_bits.specs.declared.bit_reader.BitOrder.{BitOrder}
 use Rattle.fax_bits.specs.declared.codes.Color.TheVariants.{White}
 use Rattle.fax_bits.specs.declared.error.DecodeError.{DecodeError}
@@ -15,12 +16,14 @@ use Rattle.hayro_ccitt.specs.Context.{Context, fresh, redrawn}
 use Rattle.hayro_ccitt.specs.Continuations.{is_short}
 use Rattle.hayro_ccitt.specs.GapsContinued.{first_gap_is_settled, gap_is_settled}
 use Rattle.hayro_ccitt.specs.PlainReading.{line_here}
-use Rattle.hayro_ccitt.specs.RowsRead.{IsStanding, IsStandingAtLine, ReachesNextLine, ReadsNext, RowsRead, ended, is_at_line, seen}
+use Rattle.hayro_ccitt.specs.RowsRead.{IsStanding, IsStandingAtLine, ReachesNextLine, ReadsNext, RowsRead, ended, is_at_line}
+use Rattle.hayro_ccitt.specs.RowsRead.{seen}
 use Rattle.hayro_ccitt.specs.RowsTried.{CanCome, IsLeft, TriesRow, no_memory}
 
 -- ---- What is seen
 
--- the context, what is kept between two rows, the order of the bits, whether what is before the first line was passed, whether the
+-- the context, what is kept between two rows, the order of the bits, whether what is before the first line was passed,
+-- whether the
 -- data is finished, the bits kept of it, how many bits came before them, and the offset of the next bit among those kept
 pub record Feeding : Type 0 where
   pub ctx : Context
@@ -78,7 +81,8 @@ abbrev pub StandsIn : Bool → ℕ → RowState → Context → BitsAt → Type 
 StandsIn true tried rows ctx at = IsStanding tried rows ctx at
 StandsIn false tried rows ctx at = IsAtFront tried rows ctx at.place
 
--- It is a reading of these bits, of which those fed so far are a beginning, and all of them if the data is finished; its rows so far
+-- It is a reading of these bits, of which those fed so far are a beginning, and all of them if the data is finished; its
+-- rows so far
 -- are those of the plain reading. This much work was counted for what was tried and left.
 pub record IsFeedOf (whole : Bits) (tried : ℕ) (feed : Feeding) : Type 0 where
   pub fit : length whole + 64 < 2 ^ 64
@@ -104,7 +108,8 @@ pub record StaysThere (old new : RowsRead) : Type 0 where
   pub line_start : new.line_start ≡ old.line_start
   pub unended : new.end ≡ None
 
--- What is next can be changed by data that follows: what is before the first line, the gap, or the line, which is short (T.4, 4.1 and
+-- What is next can be changed by data that follows: what is before the first line, the gap, or the line, which is short
+-- (T.4, 4.1 and
 -- 4.2; T.6, 2.2 and 2.4.1.1).
 abbrev pub IsOpenAt : Bool → Stand → Context → Bits → Type 0
 IsOpenAt false stand ctx next = first_gap_is_settled ctx.held.settings.encoding ctx.held.settings next ≡ false
@@ -113,8 +118,10 @@ IsOpenAt true BehindRow ctx next = gap_is_settled ctx.held.settings ctx.held.tak
 IsOpenAt true AtEnd ctx next = ⊥
 IsOpenAt true (AtFault error) ctx next = ⊥
 
--- What a call that reads the next row leaves, of whatever data those fed are a beginning: the next row of its plain reading, its end
--- or its fault; or nothing is read, since what is next can still be changed, or since a change of a row that paints a black pixel
+-- What a call that reads the next row leaves, of whatever data those fed are a beginning: the next row of its plain reading,
+-- its end
+-- or its fault; or nothing is read, since what is next can still be changed, or since a change of a row that paints a black
+-- pixel
 -- can't be stored. What was tried and left counted at most so much.
 pub record FeedsNext (whole : Bits) (tried : ℕ) (old new : Feeding) (answer : Result Fed DecodeError) : Type 0 where
   pub row : answer ≡ Ok Fed.Row → ReadsNext (fed_over whole old) (fed_over whole new) (Ok true)

@@ -1,5 +1,6 @@
 -- A gap that is passed and a row that is read in data of which more may come: not part of the trusted specification.
-use Rattle.std.specs.Prelude.{◌≡◌, ◌≢◌, ◌≤◌, ◌+◌, ◌*◌, ℕ, Bool, true, false, [], ◌++◌, length, max, not, ◌⊎◌, ◌&&◌, Result, Ok, Err}
+use Rattle.std.specs.Prelude.{◌≡◌, ◌≢◌, ◌≤◌, ◌+◌, ◌*◌, ℕ, Bool, true, false, [], ◌++◌, length, max, not, ◌⊎◌, ◌&&◌, Result, Ok}
+use Rattle.std.specs.Prelude.{Err}
 use Rattle.std.specs.Prelude.{OnErr, OnOk, IfErr, IfOk}
 use Rattle.fax_bits.specs.declared.codes.Color.TheVariants.{White}
 use Rattle.fax_bits.specs.declared.error.DecodeError.{DecodeError}
@@ -36,7 +37,8 @@ pub record ReadsRow (old new : Context) (answer : Result (Unit {0}) DecodeError)
   pub space : new.space ≤ max old.space (room_for (most_stored old.held.reference
       (line_here old.held.settings old.held.reference start)))
 
--- What a call that passes the gap that begins some bits leaves, with these bits after it: whether the image ends there, the EOLs
+-- What a call that passes the gap that begins some bits leaves, with these bits after it: whether the image ends there, the
+-- EOLs
 -- that were missed, and its work (T.4, 4.1.2 and 4.1.4; T.6, 2.4.1.1).
 pub record PassesGap (old new : Context) (answer : Result Bool DecodeError) (start rest : Bits) : Type 0 where
   pub gap : gap_behind_row old.held.settings old.held.taken old.held.has_eols start ≡ gap_said answer new.held.has_eols rest
@@ -86,7 +88,8 @@ IsLeft (Err error) = error ≡ OutOfMemory
 -- What a call that tries to read the line here leaves: whatever bits follow, its row or its fault; or the line is left, and
 -- what the context holds is as at its start, since the line is short and more data may come, or since a change can't be stored
 -- (T.4, 4.1 and 4.2; T.6, 2.2).
-pub record TriesRow (is_last : Bool) (old new : Context) (answer : Result Bool DecodeError) (before after : BitsAt) : Type 0 where
+pub record TriesRow (is_last : Bool) (old new : Context) (answer : Result Bool DecodeError)
+    (before after : BitsAt) : Type 0 where
   pub read : answer ≡ Ok true → (more : Bits) → CanCome is_last more
       → ReadsRow old new (Ok tt) (here before ++ more) (here after ++ more)
   pub failed : IfErr answer (λ e. IsFault e → (more : Bits) → CanCome is_last more
@@ -132,7 +135,8 @@ rows_behind_line rows (Err error) place damaged cut repairs = record {
   stand = Stand.AtFault error;
 }
 
--- What a call leaves that passes the gap here, which begins at this offset of the data: what is kept after it, and whatever bits
+-- What a call leaves that passes the gap here, which begins at this offset of the data: what is kept after it, and whatever
+-- bits
 -- follow, if they change nothing of the gap, that it is passed (T.4, 4.1.2 and 4.1.4; T.6, 2.4.1.1).
 pub record PassesGapHere (gap_start : ℕ) (rows kept : RowState) (old new : Context) (before after : BitsAt)
     (answer : Result Bool DecodeError) : Type 0 where
@@ -160,3 +164,4 @@ pub record StandsFirst (stand : Stand) (old new : Context) (before after : BitsA
       → IsPaid old.ticks stand old.held.settings (before.bits ++ more) new.held after.place new.ticks
   pub within : after.place ≤ length after.bits
   pub row : new.held.reference ≡ old.held.reference
+  pub counts : old.ticks ≤ new.ticks

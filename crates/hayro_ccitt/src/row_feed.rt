@@ -1,13 +1,16 @@
 //! Rows from data that comes in pieces.
 
-ghost use Rattle.std.specs.Prelude.{◌≡◌, ◌≢◌, ◌≤◌, ◌<◌, ◌+◌, ◌*◌, ◌/◌, ◌^◌, ◌&&◌, not, ℕ, Bool, true, false, [], ◌++◌, None, Some, Ok, Err};
+ghost use Rattle.std.specs.Prelude.{◌≡◌, ◌≢◌, ◌≤◌, ◌<◌, ◌+◌, ◌*◌, ◌/◌, ◌^◌, ◌&&◌, not, ℕ, Bool, true, false, [], ◌++◌, None};
+ghost use Rattle.std.specs.Prelude.{Some, Ok, Err};
 ghost use Rattle.std.specs.Prelude.{IfOk, IfErr, OnErr, OnOk, IsOkUnless, Result, length, max, drop};
 ghost use Rattle.hayro_ccitt.specs.Bits.{AreWholeBytes, Bits, bits_in, here};
 ghost use Rattle.hayro_ccitt.specs.Context.{fresh};
 ghost use Rattle.hayro_ccitt.specs.GapsContinued.{first_gap_is_settled, gap_is_settled};
 ghost use Rattle.hayro_ccitt.specs.RowsRead.{at_end_of_rows, ended, is_at_line};
 ghost use Rattle.hayro_ccitt.specs.RowsTried.{IsLeft};
-ghost use Rattle.hayro_ccitt.specs.RowFeeds.{Begins, ComeNext, ComesInFeed, DropsRead, ReadsInFeed, ComesOn, FeedsNext, IsFeedOf, KeepsBits, TriesLine, fed_end, fed_none, fed_row, is_left, line_answer, some_line};
+ghost use Rattle.hayro_ccitt.specs.RowFeeds.{Begins, ComeNext, ComesInFeed, DropsRead, ReadsInFeed, ComesOn, FeedsNext};
+ghost use Rattle.hayro_ccitt.specs.RowFeeds.{IsFeedOf, KeepsBits, TriesLine, fed_end, fed_none, fed_row, is_left, line_answer};
+ghost use Rattle.hayro_ccitt.specs.RowFeeds.{some_line};
 ghost use Rattle.hayro_ccitt.specs.Rows.{changes};
 
 use crate::context::DecoderContext;
@@ -298,7 +301,8 @@ impl RowFeed {
     fn read_on(&mut self) -> Result<Fed>
         requires begun { self.old.begun ≡ true }
         requires unended { ended self.old.rows.stand ≡ None }
-        ensures reads { (whole : Bits) (tried : ℕ) → IsFeedOf whole tried self.old → FeedsNext whole tried self.old self.new result }
+        ensures reads { (whole : Bits) (tried : ℕ) → IsFeedOf whole tried self.old
+            → FeedsNext whole tried self.old self.new result }
         ensures keeps { KeepsBits self.old self.new }
     {
         let line = self.come_to_line();
@@ -315,7 +319,8 @@ impl RowFeed {
     /// Reads the first row, behind what is before it.
     fn read_first(&mut self) -> Result<Fed>
         requires unbegun { self.old.begun ≡ false }
-        ensures reads { (whole : Bits) (tried : ℕ) → IsFeedOf whole tried self.old → FeedsNext whole tried self.old self.new result }
+        ensures reads { (whole : Bits) (tried : ℕ) → IsFeedOf whole tried self.old
+            → FeedsNext whole tried self.old self.new result }
         ensures keeps { KeepsBits self.old self.new }
     {
         if !self.begin() {
@@ -327,7 +332,8 @@ impl RowFeed {
         self.read_on()
     }
 
-    /// Reads the next row, if no data that follows can change it. After [`Fed::NeedsMore`] feed more, or finish the data. At the
+    /// Reads the next row, if no data that follows can change it. After [`Fed::NeedsMore`] feed more, or finish the data. At
+    /// the
     /// end of the image each further call returns [`Fed::End`].
     ///
     /// # Errors
@@ -370,13 +376,15 @@ impl RowFeed {
     ///
     /// # Errors
     ///
-    /// `OutOfMemory` if the bytes can't be stored, or if all bytes fed would have more than 2^64 - 65 bits. No byte is fed then,
+    /// `OutOfMemory` if the bytes can't be stored, or if all bytes fed would have more than 2^64 - 65 bits. No byte is fed
+    /// then,
     /// and the reading is the same.
     pub fn feed(&mut self, bytes: &[u8]) -> Result<()>
         requires unfinished { self.old.finished ≡ false }
         ensures fed { OnOk result ((whole : Bits) (tried : ℕ) → IsFeedOf whole tried self.old
             → ComeNext whole self.old (bits_in self.old.order bytes.now) → IsFeedOf whole tried self.new) }
-        ensures refused { OnErr result ((whole : Bits) (tried : ℕ) → IsFeedOf whole tried self.old → IsFeedOf whole tried self.new) }
+        ensures refused { OnErr result ((whole : Bits) (tried : ℕ) → IsFeedOf whole tried self.old
+            → IsFeedOf whole tried self.new) }
         ensures same { (self.new.ctx ≡ self.old.ctx) × (self.new.rows ≡ self.old.rows) × (self.new.order ≡ self.old.order)
             × (self.new.finished ≡ self.old.finished) }
         ensures only_memory { IsOkUnless result DecodeError.OutOfMemory }

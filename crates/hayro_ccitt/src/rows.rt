@@ -1,6 +1,7 @@
 //! A row and the gap after it, in every encoding (T.4, 4.1, T.6, 2).
 
-ghost use Rattle.std.specs.Prelude.{false, ◌≡◌, ◌≢◌, ◌<◌, ◌≤◌, ◌+◌, ◌*◌, Err, OnOk, OnErr, IfOk, IfErr, IsOkUnless, true, ◌||◌, Ok};
+ghost use Rattle.std.specs.Prelude.{false, ◌≡◌, ◌≢◌, ◌<◌, ◌≤◌, ◌+◌, ◌*◌, Err, OnOk, OnErr, IfOk, IfErr, IsOkUnless, true, ◌||◌};
+ghost use Rattle.std.specs.Prelude.{Ok};
 ghost use Rattle.std.specs.Prelude.{[], length, ◌^◌, max};
 ghost use Rattle.hayro_ccitt.specs.Answers.{IsFault, IsRepairable, RepairStoresChange};
 ghost use Rattle.hayro_ccitt.specs.Bits.{BitsAt, here};
@@ -103,7 +104,8 @@ fn take_damaged_row(ctx: &mut DecoderContext, reader: &mut BitReader<'_>, fault:
 /// number.
 #[inline(always)]
 fn read_eols_of_t6(ctx: &mut DecoderContext, reader: &mut BitReader<'_>) -> usize
-    ensures eols { eols_by EncodingMode.Group4 ctx.old.held.settings.end_of_block (here reader.old) ≡ (result, here reader.new) }
+    ensures eols { eols_by EncodingMode.Group4 ctx.old.held.settings.end_of_block (here reader.old) ≡
+        (result, here reader.new) }
     ensures same_bits { reader.new.bits ≡ reader.old.bits }
     ensures held { ctx.new.held ≡ ctx.old.held }
     ensures counts { ctx.old.ticks ≤ ctx.new.ticks }
@@ -209,7 +211,8 @@ pub(crate) fn pass_gap(ctx: &mut DecoderContext, reader: &mut BitReader<'_>) -> 
     Ok(is_over(ctx, reader, count))
 }
 
-/// Returns a reader of the bits behind a tag of one here, if it is the next line's: if this number of EOLs, which come before it,
+/// Returns a reader of the bits behind a tag of one here, if it is the next line's: if this number of EOLs, which come
+/// before it,
 /// are no RTC (T.4, 4.2.2 and 4.2.4).
 fn behind_line_tag<'a>(reader: &BitReader<'a>, count: usize) -> BitReader<'a>
     ensures { here result ≡ behind_line_tag (count, here reader.now) }
@@ -227,7 +230,8 @@ fn behind_line_tag<'a>(reader: &BitReader<'a>, count: usize) -> BitReader<'a>
     }
 }
 
-/// Returns whether this number of EOLs, which were read, are all that can be here, whatever bits follow those that are left: the
+/// Returns whether this number of EOLs, which were read, are all that can be here, whatever bits follow those that are left:
+/// the
 /// two of EOFB (T.6, 2.4.1.1) were read, or a one is left that isn't part of an EOL (T.4, 4.1.2 and 4.2.2).
 fn eols_are_settled(ctx: &DecoderContext, reader: &BitReader<'_>, count: usize) -> bool
     ensures { result ≡ eols_are_settled ctx.now.held.settings.encoding ctx.now.held.settings.end_of_block
@@ -240,7 +244,8 @@ fn eols_are_settled(ctx: &DecoderContext, reader: &BitReader<'_>, count: usize) 
     }
 }
 
-/// Returns whether no data that follows can change the gap here: neither the EOLs here, nor, where a lenient reading misses one,
+/// Returns whether no data that follows can change the gap here: neither the EOLs here, nor, where a lenient reading misses
+/// one,
 /// those that come next (T.4, 4.1.2, T.6, 2.4.1.1). Each bit that is looked at is a tick.
 pub(crate) fn gap_is_settled(ctx: &mut DecoderContext, reader: &BitReader<'_>) -> bool
     ensures settled { result ≡ gap_is_settled ctx.old.held.settings ctx.old.held.taken ctx.old.held.has_eols (here reader.now) }

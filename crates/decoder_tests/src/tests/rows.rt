@@ -4,7 +4,7 @@
 use super::cases::{cases_of, settings_in};
 use super::{bytes_of, said, same, same_text};
 use hayro_ccitt::bit_reader::BitOrder;
-use hayro_ccitt::{DecodeSettings, Result, RowCursor, RowReader, bits_fit};
+use hayro_ccitt::{DecodeSettings, Fed, Result, RowCursor, RowFeed, RowReader, bits_fit};
 use std::alloc::AllocGlobal;
 use std::process::Abort;
 
@@ -33,6 +33,64 @@ fn next_of(reader: &mut RowReader) -> Result<bool> {
 fn next_in(rt: &impl Abort, cursor: &mut RowCursor, data: &[u8]) -> Result<bool> {
     assert!(rt; bits_fit(data));
     cursor.next_row(data)
+}
+
+/// Reads a feed's next row, and feeds one byte of the data whenever more is needed, from this one on.
+fn next_fed(
+    rt: &(impl Abort + AllocGlobal),
+    feed: &mut RowFeed,
+    data: &[u8],
+    fed: &mut usize,
+) -> Result<bool> {
+    for _ in 0..data.len() + 2 {
+        match feed.next_row()? {
+            Fed::Row => return Ok(true),
+            Fed::End => return Ok(false),
+            Fed::NeedsMore => {
+                assert!(rt; !feed.is_finished());
+                if *fed < data.len() {
+                    feed.feed(&data[*fed..*fed + 1])?;
+                    *fed += 1;
+                } else {
+                    feed.finish();
+                }
+            }
+        }
+    }
+    panic!(rt; "more is needed once the data is finished")
+}
+
+/// Writes what a feed says.
+fn said_by_feed(rt: &(impl Abort + AllocGlobal), feed: &RowFeed) -> String {
+    let counts = [feed.rows_read(), feed.damaged_rows(), feed.missed_eols()];
+    let places = (feed.line_start(), feed.bytes_read());
+    said(rt, &(feed.row(), places.0, feed.damage(), counts, places.1))
+}
+
+/// Reads the rows of data that comes byte by byte, as a reader does from all of it.
+fn feeds_bytes(
+    rt: &(impl Abort + AllocGlobal),
+    data: &[u8],
+    settings: DecodeSettings,
+    digits: &str,
+) {
+    let mut reader = reader_of(rt, data, settings);
+    let mut feed = RowFeed::new(rt.alloc(), BitOrder::HighestFirst, settings).expect(rt, "memory");
+    let mut fed = 0;
+    for _ in 0..8 * data.len() + 4 {
+        let found = next_of(&mut reader);
+        same(rt, next_fed(rt, &mut feed, data, &mut fed), found);
+        same_text(
+            rt,
+            digits,
+            said_by_feed(rt, &feed).as_str(),
+            said_by_reader(rt, &reader).as_str(),
+        );
+        let missed = reader.missed_eol();
+        same(rt, feed.missed_eol(), missed);
+        let cut = (reader.is_cut(), reader.cut_rows());
+        same(rt, (feed.is_cut(), feed.cut_rows()), cut);
+    }
 }
 
 /// Writes what a reader says.
@@ -107,6 +165,7 @@ fn reads_each(rt: &(impl Abort + AllocGlobal), text: &str) {
         for entry in expected.split(';') {
             reads_next(rt, &mut reader, &mut cursor, data, entry.trim());
         }
+        feeds_bytes(rt, data, settings, digits);
     }
 }
 

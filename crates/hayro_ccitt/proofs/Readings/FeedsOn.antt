@@ -1,10 +1,15 @@
 -- Rows from data that comes in pieces: what the steps of a call leave of a feed.
-use Rattle.hayro_ccitt.proofs.Names.{◌≡◌, ◌≢◌, ◌∙◌, ◌+◌, ◌-◌, ◌*◌, ◌≤◌, [], ℕ, Bool, true, false, Result, Ok, Err, None, Some, Option, refl, sym, ap, max}
-use Rattle.hayro_ccitt.proofs.Names.{subst, arith, length, drop, cond, Bits, BitsAt, Held, Context, DecodeError, White, redrawn, Line, front_of, here}
-use Rattle.hayro_ccitt.proofs.Names.{IsStanding, IsStandingAtLine, ReachesNextLine, ReadsNext, is_at_line, seen, line_here, most_stored, room_for}
-use Rattle.hayro_ccitt.proofs.Names.{DecodeSettings, Stand, AtLine, BehindRow, AtEnd, AtFault, MissIsTold, missed_before, ended, is_some, ◌++◌, ◌⊎◌, inl, inr}
-use Rattle.hayro_ccitt.proofs.Names.{ReaderStands, DamageIsCounted, WorkIsPaid, IsPaid, HasEnded, HasFailed, sum_by, take, words_of, IfErr, IfOk, OnErr, failed_at, IfErr-weaker, RowsRead, IsFault, false≢true, ◌<◌}
-use Rattle.hayro_ccitt.proofs.Names.{List, zero, suc, ◌∷◌, append_assoc, bits_in, length-append, length-drop, HighestFirst, LowestFirst}
+use Rattle.hayro_ccitt.proofs.Names.{◌≡◌, ◌≢◌, ◌∙◌, ◌+◌, ◌-◌, ◌*◌, ◌≤◌, [], ℕ, Bool, true, false, Result, Ok, Err, None, Some}
+use Rattle.hayro_ccitt.proofs.Names.{Option, refl, sym, ap}
+use Rattle.hayro_ccitt.proofs.Names.{subst, arith, length, drop, cond, Bits, BitsAt, Held, Context, DecodeError, White, redrawn}
+use Rattle.hayro_ccitt.proofs.Names.{front_of, here}
+use Rattle.hayro_ccitt.proofs.Names.{IsStanding, IsStandingAtLine, ReachesNextLine, ReadsNext, is_at_line, seen, line_here}
+use Rattle.hayro_ccitt.proofs.Names.{DecodeSettings, Stand, AtLine, BehindRow, AtEnd, AtFault, MissIsTold, missed_before, ended}
+use Rattle.hayro_ccitt.proofs.Names.{is_some, ◌++◌, ◌⊎◌, inl, inr}
+use Rattle.hayro_ccitt.proofs.Names.{ReaderStands, DamageIsCounted, WorkIsPaid, IsPaid, HasEnded, HasFailed, sum_by, take}
+use Rattle.hayro_ccitt.proofs.Names.{words_of, IfErr, IfOk, OnErr, failed_at, IfErr-weaker, RowsRead, IsFault, false≢true, ◌<◌}
+use Rattle.hayro_ccitt.proofs.Names.{List, zero, suc, ◌∷◌, append_assoc, bits_in, length-append, length-drop, HighestFirst}
+use Rattle.hayro_ccitt.proofs.Names.{LowestFirst}
 use Rattle.std.proofs.Math.Seq.{drop-append-add}
 use Rattle.fax_bits.specs.declared.bit_reader.BitOrder.{BitOrder}
 use Rattle.hayro_ccitt.specs.Bits.{bits_of_byte}
@@ -17,8 +22,10 @@ use Rattle.hayro_ccitt.specs.Answers.{HasBlack}
 use Rattle.hayro_ccitt.specs.Continuations.{is_short}
 use Rattle.hayro_ccitt.specs.GapsContinued.{first_gap_is_settled, gap_is_settled}
 use Rattle.hayro_ccitt.specs.RowsTried.{CanCome, IsLeft, StandsFirst}
-use Rattle.hayro_ccitt.specs.RowFeeds.{ComesInFeed, ComesOn, Feeding, IsFeedOf, KeepsBits, LieIn, ReadsInFeed, StandsIn, TriesLine, came, fed_over}
-use Rattle.hayro_ccitt.specs.RowFeeds.{Begins, ComeNext, DropsRead, FeedsNext, IsAtFront, IsOpenAt, StaysThere, fed_none, fed_row, is_left, line_first}
+use Rattle.hayro_ccitt.specs.RowFeeds.{ComesInFeed, ComesOn, Feeding, IsFeedOf, KeepsBits, LieIn, ReadsInFeed, StandsIn}
+use Rattle.hayro_ccitt.specs.RowFeeds.{TriesLine, came, fed_over}
+use Rattle.hayro_ccitt.specs.RowFeeds.{ComeNext, DropsRead, FeedsNext, IsAtFront, IsOpenAt, StaysThere, fed_none}
+use Rattle.hayro_ccitt.specs.RowFeeds.{fed_row, is_left, line_first}
 use Rattle.fax_bits.specs.declared.error.DecodeError.TheVariants.{InvalidCode, OutOfMemory}
 use Rattle.hayro_ccitt.specs.declared.row_feed.Fed.{Fed}
 
@@ -86,10 +93,10 @@ module _ (old new : Feeding) (before after : BitsAt) (before_is : before ≡ rec
     waiting = λ whole tried e feed.
         let w = on.waits e in
         stays_fed feed on.extra (subst (λ (b : BitsAt). IsStanding (tried + on.extra) new.rows new.ctx
-            (record { bits = whole; place = old.dropped + b.place })) (sym w.3)
-            (subst (λ (n : ℕ). IsStanding (tried + on.extra) new.rows new.ctx (record { bits = whole; place = n })) starts
-            (subst (λ (r : RowState). IsStanding (tried + on.extra) r new.ctx (record { bits = whole; place = at })) (sym w.2)
-            (stands_later tried on.extra old.rows old.ctx new.ctx (record { bits = whole; place = at }) w.0 w.1 (stood feed)))));
+        (record { bits = whole; place = old.dropped + b.place })) (sym w.3)
+        (subst (λ (n : ℕ). IsStanding (tried + on.extra) new.rows new.ctx (record { bits = whole; place = n })) starts
+        (subst (λ (r : RowState). IsStanding (tried + on.extra) r new.ctx (record { bits = whole; place = at })) (sym w.2)
+        (stands_later tried on.extra old.rows old.ctx new.ctx (record { bits = whole; place = at }) w.0 w.1 (stood feed)))));
   }
 
   -- the line is read, or left
@@ -105,7 +112,8 @@ module _ (old new : Feeding) (before after : BitsAt) (before_is : before ≡ rec
     left_held left = tries.tried.left left ∙ ap (λ (x : Context). redrawn x.held [] White) frame
 
     same_line : (P : DecodeSettings → Bits → Bits → Type 0) → IsLeft answer
-        → P mid.held.settings mid.held.reference (here before) → P new.ctx.held.settings new.ctx.held.reference (drop old.place old.kept)
+        → P mid.held.settings mid.held.reference (here before) → P new.ctx.held.settings new.ctx.held.reference
+        (drop old.place old.kept)
     same_line P left known =
         subst (λ (h : Held). P h.settings h.reference (drop old.place old.kept)) (sym (tries.tried.left left))
         (subst (λ (b : BitsAt). P mid.held.settings mid.held.reference (here b)) before_is known)
@@ -121,7 +129,8 @@ module _ (old new : Feeding) (before after : BitsAt) (before_is : before ≡ rec
           (sym (ap (λ (x : Context). x.held) frame) ∙ same)
 
       begins_there : IsStandingAtLine tried old.rows mid (record { bits = whole; place = at })
-      begins_there = subst (λ (x : Context). IsStandingAtLine tried old.rows x (record { bits = whole; place = at })) (sym mid_is)
+      begins_there = subst (λ (x : Context). IsStandingAtLine tried old.rows x (record { bits = whole; place = at }))
+          (sym mid_is)
           (line, stood feed)
 
       line_fed : (IsLeft answer → ⊥) → ReadsNext (fed_over whole old) (fed_over whole new) answer
@@ -140,7 +149,8 @@ module _ (old new : Feeding) (before after : BitsAt) (before_is : before ≡ rec
           stays_fed feed more (subst (λ (b : BitsAt). IsStanding (tried + more) new.rows new.ctx
           (record { bits = whole; place = old.dropped + b.place })) (sym (tries.left left).1)
           (subst (λ (n : ℕ). IsStanding (tried + more) new.rows new.ctx (record { bits = whole; place = n })) starts
-          (subst (λ (r : RowState). IsStanding (tried + more) r new.ctx (record { bits = whole; place = at })) (sym (tries.left left).0)
+          (subst (λ (r : RowState). IsStanding (tried + more) r new.ctx (record { bits = whole; place = at })) (sym
+          (tries.left left).0)
           (stands_later tried more old.rows old.ctx new.ctx (record { bits = whole; place = at })
           (left_held left ∙ sym (ap (λ (x : Context). x.held) frame) ∙ same) (omega (arith, counted)) (stood feed)))))
       line_stays_fed false read_so =
@@ -163,7 +173,8 @@ module _ (old new : Feeding) (before after : BitsAt) (before_is : before ≡ rec
         (tries.tried.short e).0,
         same_line (λ s r b. is_short (line_here s r b) ≡ true) (subst IsLeft (sym e) refl) (tries.tried.short e).1,
       );
-      memory = λ e. same_line (λ s r b. HasBlack (front_of (line_here s r b))) (subst IsLeft (sym e) refl) (tries.tried.memory e);
+      memory = λ e. same_line (λ s r b. HasBlack (front_of (line_here s r b))) (subst IsLeft (sym e) refl)
+          (tries.tried.memory e);
       reads = λ whole tried read feed. line_fed feed read;
       stands = λ whole tried feed. line_stays_fed feed (is_left answer) refl;
       most = omega (
@@ -181,12 +192,12 @@ module _ (old new : Feeding) (before after : BitsAt) (before_is : before ≡ rec
 -- ---- What is before the first line
 
 -- nothing was missed before the first row
-none_missed : (stand : Stand) (settings : DecodeSettings) (bits : Bits) (taken : ℕ) → taken ≡ 0
+no_eol_missed : (stand : Stand) (settings : DecodeSettings) (bits : Bits) (taken : ℕ) → taken ≡ 0
     → MissIsTold stand settings bits taken None
-none_missed AtLine settings bits taken none = sym (ap (missed_before settings bits) none)
-none_missed BehindRow settings bits taken none = tt
-none_missed AtEnd settings bits taken none = sym (ap (missed_before settings bits) none)
-none_missed (AtFault error) settings bits taken none = sym (ap (missed_before settings bits) none)
+no_eol_missed AtLine settings bits taken none = sym (ap (missed_before settings bits) none)
+no_eol_missed BehindRow settings bits taken none = tt
+no_eol_missed AtEnd settings bits taken none = sym (ap (missed_before settings bits) none)
+no_eol_missed (AtFault error) settings bits taken none = sym (ap (missed_before settings bits) none)
 
 module _ (old new : Feeding) (mid : Context) (before after : BitsAt) (stand : Stand) (more : ℕ)
     (before_is : before ≡ record { bits = old.kept; place = old.place }) (keeps : KeepsBits old new)
@@ -198,7 +209,8 @@ module _ (old new : Feeding) (mid : Context) (before after : BitsAt) (stand : St
     (at_line : is_some (ended stand) ≡ false → is_at_line stand ≡ true)
     (settled : (old.finished ≡ true)
     ⊎ (first_gap_is_settled mid.held.settings.encoding mid.held.settings before.bits ≡ true))
-    {whole : Bits} {tried : ℕ} (feed : IsFeedOf whole tried old) (front : IsAtFront tried old.rows old.ctx (old.dropped + old.place)) where
+    {whole : Bits} {tried : ℕ} (feed : IsFeedOf whole tried old) (front : IsAtFront tried old.rows old.ctx
+    (old.dropped + old.place)) where
   abbrev lie : LieIn whole old.dropped old.finished old.kept
   lie = feed.lie
 
@@ -209,7 +221,8 @@ module _ (old new : Feeding) (mid : Context) (before after : BitsAt) (stand : St
   whole_is = sym (ap (λ (n : ℕ). drop n whole) none_dropped) ∙ lie.bits
       ∙ ap (λ (b : Bits). b ++ lie.more) (sym (ap (λ (b : BitsAt). b.bits) before_is))
 
-  changes_nothing : (old.finished ≡ true) ⊎ (first_gap_is_settled mid.held.settings.encoding mid.held.settings before.bits ≡ true)
+  changes_nothing : (old.finished ≡ true) ⊎
+      (first_gap_is_settled mid.held.settings.encoding mid.held.settings before.bits ≡ true)
       → (lie.more ≡ []) ⊎ (first_gap_is_settled mid.held.settings.encoding mid.held.settings before.bits ≡ true)
   changes_nothing (inl last) = inl (lie.can_come.none last)
   changes_nothing (inr is) = inr is
@@ -217,7 +230,8 @@ module _ (old new : Feeding) (mid : Context) (before after : BitsAt) (stand : St
   front_ticks : mid.ticks ≡ tried + more
   front_ticks = omega (arith, ticks, front.ticks)
 
-  front_standing : IsStanding (tried + more) (record { started_at = 0; damage = None; cut = false; missed = None; stand = stand })
+  front_standing : IsStanding (tried + more)
+      (record { started_at = 0; damage = None; cut = false; missed = None; stand = stand })
       new.ctx (record { bits = before.bits ++ lie.more; place = after.place })
   front_standing = (
     subst (λ (s : DecodeSettings). ReaderStands stand s (before.bits ++ lie.more) new.ctx.held after.place) (sym settings_are)
@@ -226,12 +240,15 @@ module _ (old new : Feeding) (mid : Context) (before after : BitsAt) (stand : St
         (first.damage lie.more),
     subst (λ (n : ℕ). WorkIsPaid n stand new.ctx.held.settings (before.bits ++ lie.more) new.ctx.held after.place new.ctx.ticks)
         front_ticks (record {
-          words = omega (arith, counts,
-              ap (λ (n : ℕ). sum_by length (take n (words_of new.ctx.held.settings (before.bits ++ lie.more)))) none_taken);
+          words = omega (
+            arith,
+            counts,
+            ap (λ (n : ℕ). sum_by length (take n (words_of new.ctx.held.settings (before.bits ++ lie.more)))) none_taken,
+          );
           paid = subst (λ (s : DecodeSettings). IsPaid mid.ticks stand s (before.bits ++ lie.more) new.ctx.held after.place
               new.ctx.ticks) (sym settings_are) (first.paid lie.more (changes_nothing settled));
         }),
-    none_missed stand new.ctx.held.settings (before.bits ++ lie.more) new.ctx.held.taken none_taken,
+    no_eol_missed stand new.ctx.held.settings (before.bits ++ lie.more) new.ctx.held.taken none_taken,
   )
 
   rows_now : new.rows ≡ record { started_at = 0; damage = None; cut = false; missed = None; stand = stand }
@@ -243,7 +260,8 @@ module _ (old new : Feeding) (mid : Context) (before after : BitsAt) (stand : St
   front_stood : IsStanding (tried + more) new.rows new.ctx (record { bits = whole; place = new.dropped + new.place })
   front_stood = subst (λ (r : RowState). IsStanding (tried + more) r new.ctx
       (record { bits = whole; place = new.dropped + new.place })) (sym rows_now)
-      (subst (λ (n : ℕ). IsStanding (tried + more) (record { started_at = 0; damage = None; cut = false; missed = None; stand = stand })
+      (subst (λ (n : ℕ). IsStanding (tried + more)
+      (record { started_at = 0; damage = None; cut = false; missed = None; stand = stand })
       new.ctx (record { bits = whole; place = n })) place_now
       (subst (λ (b : Bits). IsStanding (tried + more) (record
       { started_at = 0; damage = None; cut = false; missed = None; stand = stand }) new.ctx
@@ -284,7 +302,8 @@ module _ (old new : Feeding) (mid : Context) (before after : BitsAt) (stand : St
 
       line_there : (s : Stand) → stand ≡ s → line_first s ≡ Ok true → is_at_line s ≡ true
       line_there AtLine is e = refl
-      line_there BehindRow is e = subst (λ (s : Stand). is_at_line s ≡ true) is (at_line (ap (λ (s : Stand). is_some (ended s)) is))
+      line_there BehindRow is e = subst (λ (s : Stand). is_at_line s ≡ true) is (at_line (ap (λ (s : Stand). is_some
+          (ended s)) is))
       line_there AtEnd is e = absurd cc
       line_there (AtFault error) is e = absurd cc
 
@@ -328,8 +347,11 @@ module _ (old new : Feeding) (mid : Context) (before after : BitsAt) (stand : St
         error = no_error stand refl;
         fault_start = no_fault_start stand refl;
         missed = sym (ap (missed_before old.ctx.held.settings whole) none_before);
-        last = (first.row ∙ ap (λ (h : Held). h.reference) same, sym (ap (λ (r : RowState). r.damage) front.state),
-            sym (ap (λ (r : RowState). r.cut) front.state));
+        last = (
+          first.row ∙ ap (λ (h : Held). h.reference) same,
+          sym (ap (λ (r : RowState). r.damage) front.state),
+          sym (ap (λ (r : RowState). r.cut) front.state),
+        );
         last_start = in_either stand;
       }
 
@@ -423,7 +445,8 @@ open_line true BehindRow ctx next begun line short = absurd (false≢true line)
 open_line true AtEnd ctx next begun line short = absurd (false≢true line)
 open_line true (AtFault error) ctx next begun line short = absurd (false≢true line)
 
-open_gap : (begun : Bool) (stand : Stand) (ctx : Context) (next : Bits) → begun ≡ true → is_at_line stand ≡ false → ended stand ≡ None
+open_gap : (begun : Bool) (stand : Stand) (ctx : Context) (next : Bits) → begun ≡ true → is_at_line stand ≡ false
+    → ended stand ≡ None
     → gap_is_settled ctx.held.settings ctx.held.taken ctx.held.has_eols next ≡ false → IsOpenAt begun stand ctx next
 open_gap false stand ctx next begun line unended gap = absurd (false≢true begun)
 open_gap true AtLine ctx next begun line unended gap = absurd (false≢true (sym line))
@@ -453,7 +476,8 @@ next_is {old} {new} keeps place = ap (λ (n : ℕ). drop n old.kept) (sym place)
 
 -- the line is read, or left
 pub line_feeds : {whole : Bits} {tried : ℕ} {old new : Feeding} (answer : Result Bool DecodeError) → ReadsInFeed old new answer
-    → old.begun ≡ true → is_at_line old.rows.stand ≡ true → IsFeedOf whole tried old → FeedsNext whole tried old new (fed_row answer)
+    → old.begun ≡ true → is_at_line old.rows.stand ≡ true → IsFeedOf whole tried old → FeedsNext whole tried old new
+    (fed_row answer)
 line_feeds {whole} {tried} {old} {new} (Ok true) reads begun line feed = record {
   row = λ e. reads.reads whole tried (λ left. cc) feed;
   end = λ e. cc;
@@ -495,7 +519,8 @@ line_feeds {whole} {tried} {old} {new} (Err error) reads begun line feed = recor
 }
 
 -- no line is reached: more data is needed, or it is the end
-pub gap_feeds : {whole : Bits} {tried : ℕ} {old new : Feeding} (answer : Result (Option Bool) DecodeError) → ComesInFeed old new answer
+pub gap_feeds : {whole : Bits} {tried : ℕ} {old new : Feeding} (answer : Result (Option Bool) DecodeError)
+    → ComesInFeed old new answer
     → answer ≢ Ok (Some true) → old.begun ≡ true → ended old.rows.stand ≡ None → IsFeedOf whole tried old
     → FeedsNext whole tried old new (fed_none answer)
 gap_feeds {whole} {tried} {old} {new} (Ok None) comes other begun unended feed =
@@ -555,71 +580,23 @@ pub row_fits : {whole : Bits} {tried : ℕ} {feed : Feeding} → feed.begun ≡ 
     → IsFeedOf whole tried feed → (feed.ctx.held.taken + 1 < 2 ^ 64) × (feed.ctx.held.repairs.rows ≤ feed.ctx.held.taken)
 row_fits {whole} {tried} {feed} begun line is =
     let stands = subst (λ (b : Bool). StandsIn b tried feed.rows feed.ctx (record
-    { bits = whole; place = feed.dropped + feed.place })) begun is.stands in
-    (
-      omega (arith, is.fit, few (at_line_stands feed.rows.stand feed.ctx.held.settings whole feed.ctx.held
-          (feed.dropped + feed.place) line stands.0)),
+    { bits = whole; place = feed.dropped + feed.place })) begun is.stands in (
+      omega (
+        arith,
+        is.fit,
+        few (at_line_stands feed.rows.stand feed.ctx.held.settings whole feed.ctx.held
+            (feed.dropped + feed.place) line stands.0),
+      ),
       stands.1.few,
     )
 
--- what is before the first line leads to it, or to the end
-pub first_ends : (stand : Stand) {old new : RowsRead} → ((error : DecodeError) → ended stand ≢ Some (Err error))
-    → is_some (ended stand) ≡ true → ReachesNextLine old new (line_first stand) → ReachesNextLine old new (Ok false)
-first_ends AtLine unfailed is reached = absurd cc
-first_ends BehindRow unfailed is reached = absurd cc
-first_ends AtEnd unfailed is reached = reached
-first_ends (AtFault error) unfailed is reached = absurd (unfailed error refl)
-
-pub first_line_is : (stand : Stand) {old new : RowsRead} → is_some (ended stand) ≡ false → ReachesNextLine old new (line_first stand)
+pub first_line_is : (stand : Stand) {old new : RowsRead} → is_some (ended stand) ≡ false → ReachesNextLine old new
+    (line_first stand)
     → ReachesNextLine old new (Ok true)
 first_line_is AtLine is reached = reached
 first_line_is BehindRow is reached = reached
 first_line_is AtEnd is reached = absurd cc
 first_line_is (AtFault error) is reached = absurd cc
-
-pub unended_is : (stand : Stand) → is_some (ended stand) ≡ false → ended stand ≡ None
-unended_is AtLine is = refl
-unended_is BehindRow is = refl
-unended_is AtEnd is = absurd cc
-unended_is (AtFault error) is = absurd cc
-
-open_front : (begun : Bool) (stand : Stand) (ctx : Context) (next : Bits) → begun ≡ false
-    → first_gap_is_settled ctx.held.settings.encoding ctx.held.settings next ≡ false → IsOpenAt begun stand ctx next
-open_front false stand ctx next none known = known
-open_front true stand ctx next none known = absurd (false≢true (sym none))
-
--- nothing is before the first line yet
-pub front_feeds : {whole : Bits} {tried : ℕ} {old new : Feeding} → Begins old new false → ended old.rows.stand ≡ None
-    → old.place ≡ 0 → IsFeedOf whole tried old → FeedsNext whole tried old new (Ok Fed.NeedsMore)
-front_feeds {whole} {tried} {old} {new} begins unended start feed =
-    let w = begins.waits refl in
-    let whole_kept : new.place ≡ old.place → drop new.place new.kept ≡ old.kept
-    = λ same. ap (λ (n : ℕ). drop n new.kept) (same ∙ start) ∙ begins.keeps.kept in
-    record {
-      row = λ e. cc;
-      end = λ e. cc;
-      fault = tt;
-      none = λ left. record {
-        settings = ap (λ (h : Held). h.settings) w.0;
-        bits = refl;
-        counts = omega (arith, w.1);
-        taken = ap (λ (h : Held). h.taken) w.0;
-        row = ap (λ (h : Held). h.reference) w.0;
-        damage = ap (λ (r : RowState). r.damage) w.2;
-        cut = ap (λ (r : RowState). r.cut) w.2;
-        line_start = ap (λ (r : RowState). r.started_at) w.2;
-        unended = ap (λ (r : RowState). ended r.stand) w.2 ∙ unended;
-      };
-      unsettled = λ e. (
-        begins.keeps.finished ∙ w.4,
-        open_front new.begun new.rows.stand new.ctx (drop new.place new.kept) begins.begun
-            (ap (λ (h : Held). first_gap_is_settled h.settings.encoding h.settings (drop new.place new.kept)) w.0
-            ∙ ap (first_gap_is_settled old.ctx.held.settings.encoding old.ctx.held.settings) (whole_kept w.3) ∙ w.5),
-      );
-      memory = λ e. cc;
-      extra = begins.extra;
-      stands = begins.stands whole tried feed;
-    }
 
 -- a line was reached, and there is room for its row
 pub reached_fits : {whole : Bits} {tried : ℕ} {old new : Feeding} (answer : Result (Option Bool) DecodeError)
@@ -633,7 +610,8 @@ pub reached_on : {whole : Bits} {tried : ℕ} {old mid new : Feeding} (line : Re
     → IsFeedOf whole tried old → FeedsNext whole tried old new (fed_row row)
 reached_on {whole} {tried} {old} {mid} {new} line row comes is reads feed =
     let some : line ≢ Ok None = λ none. let never = sym is ∙ none in absurd cc in
-    let reached = subst (λ (r : Result (Option Bool) DecodeError). ReachesNextLine (fed_over whole old) (fed_over whole mid) (came r))
+    let reached = subst (λ (r : Result (Option Bool) DecodeError). ReachesNextLine (fed_over whole old) (fed_over whole mid)
+    (came r))
     is (comes.comes whole tried some feed) in
     feeds_on comes.extra reached (line_feeds row reads comes.begun (comes.line is) (comes.stands whole tried some feed))
 
@@ -652,7 +630,8 @@ drop-all [] = refl
 drop-all (bit ∷ bits) = drop-all bits
 
 -- the bits of bytes, without those of the first ones
-pub bits-dropped : (order : BitOrder) (bytes : ℕ) (items : List ℕ) → bits_in order (drop bytes items) ≡ drop (8 * bytes) (bits_in order items)
+pub bits-dropped : (order : BitOrder) (bytes : ℕ) (items : List ℕ) → bits_in order (drop bytes items) ≡ drop (8 * bytes)
+    (bits_in order items)
 bits-dropped order zero items = refl
 bits-dropped order (suc bytes) [] = sym (none_left (8 * suc bytes))
 bits-dropped order (suc bytes) (byte ∷ items) =
@@ -676,11 +655,14 @@ drops_read {whole} {tried} {old} {new} drops feed =
             ∙ ap (λ (b : Bits). b ++ lie.more) (sym drops.kept);
         can_come = subst (λ (b : Bool). CanCome b lie.more) (sym drops.finished) lie.can_come;
       };
-      stands = subst (λ (b : Bool). StandsIn b tried new.rows new.ctx (record { bits = whole; place = new.dropped + new.place }))
+      stands = subst (λ (b : Bool). StandsIn b tried new.rows new.ctx
+          (record { bits = whole; place = new.dropped + new.place }))
           (sym drops.begun) (subst (λ (r : RowState). StandsIn old.begun tried r new.ctx
           (record { bits = whole; place = new.dropped + new.place })) (sym drops.rows)
-          (subst (λ (x : Context). StandsIn old.begun tried old.rows x (record { bits = whole; place = new.dropped + new.place }))
-          (sym drops.ctx) (subst (λ (n : ℕ). StandsIn old.begun tried old.rows old.ctx (record { bits = whole; place = n })) place
+          (subst (λ (x : Context). StandsIn old.begun tried old.rows x
+          (record { bits = whole; place = new.dropped + new.place }))
+          (sym drops.ctx) (subst (λ (n : ℕ). StandsIn old.begun tried old.rows old.ctx
+          (record { bits = whole; place = n })) place
           feed.stands)));
     }
 
@@ -693,7 +675,8 @@ feeds_more {whole} {tried} {old} {new} next is unfinished feed come = subst (IsF
   lie = record {
     within = feed.lie.within;
     more = come.rest;
-    bits = feed.lie.bits ∙ ap (λ (b : Bits). old.kept ++ b) (sym rest_is ∙ come.bits) ∙ sym (append_assoc old.kept next come.rest);
+    bits = feed.lie.bits ∙ ap (λ (b : Bits). old.kept ++ b) (sym rest_is ∙ come.bits) ∙ sym
+        (append_assoc old.kept next come.rest);
     can_come = record { bytes = come.bytes; none = λ last. absurd (false≢true (sym unfinished ∙ last)) };
   };
   stands = feed.stands;
@@ -701,8 +684,10 @@ feeds_more {whole} {tried} {old} {new} next is unfinished feed come = subst (IsF
   where
     rest_is : drop (old.dropped + length old.kept) whole ≡ feed.lie.more
     rest_is = from_place feed.lie (length old.kept) (omega arith) ∙ ap (λ (b : Bits). b ++ feed.lie.more) (drop-all old.kept)
+
 -- they come next also once bytes are dropped
-pub come_next : {whole : Bits} {old new : Feeding} {next : Bits} → DropsRead old new → ComeNext whole old next → ComeNext whole new next
+pub come_next : {whole : Bits} {old new : Feeding} {next : Bits} → DropsRead old new → ComeNext whole old next
+    → ComeNext whole new next
 come_next {whole} {old} {new} drops come = record {
   rest = come.rest;
   bits = ap (λ (n : ℕ). drop n whole) same ∙ come.bits;
@@ -713,7 +698,8 @@ come_next {whole} {old} {new} drops come = record {
     same = omega (arith, drops.dropped, drops.read, drops.within, ap length drops.kept, length-drop (8 * drops.bytes) old.kept)
 
 -- the data is finished
-pub feed_finished : {whole : Bits} {tried : ℕ} {old new : Feeding} → new ≡ record old { finished = true } → IsFeedOf whole tried old
+pub feed_finished : {whole : Bits} {tried : ℕ} {old new : Feeding} → new ≡ record old { finished = true }
+    → IsFeedOf whole tried old
     → length whole ≡ old.dropped + length old.kept → IsFeedOf whole tried new
 feed_finished {whole} {tried} {old} {new} is feed all = subst (IsFeedOf whole tried) (sym is) (record {
   fit = feed.fit;
@@ -727,7 +713,15 @@ feed_finished {whole} {tried} {old} {new} is feed all = subst (IsFeedOf whole tr
 })
   where
     none : length feed.lie.more ≡ 0
-    none = omega (arith, all, feed.lie.within, ap length feed.lie.bits, length-drop old.dropped whole, length-append old.kept feed.lie.more)
+    none = omega (
+      arith,
+      all,
+      feed.lie.within,
+      ap length feed.lie.bits,
+      length-drop old.dropped whole,
+      length-append old.kept
+          feed.lie.more,
+    )
 
     no_bits : (bits : Bits) → length bits ≡ 0 → bits ≡ []
     no_bits [] e = refl

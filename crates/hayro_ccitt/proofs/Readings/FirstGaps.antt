@@ -1,8 +1,11 @@
 -- Rows one at a time: what comes before the first line is passed, in data of which a reader may hold a part.
-use Rattle.hayro_ccitt.proofs.Names.{◌≡◌, ◌≢◌, ◌∙◌, ◌<◌, ◌≤◌, ◌+◌, ◌++◌, ◌⊎◌, [], ℕ, Bool, false, true, inl, inr, length, drop, ap, sym, subst, arith}
-use Rattle.hayro_ccitt.proofs.Names.{length-drop, IfOk-weaker, on_err_weaker, on_ok_weaker, DecodeSettings, Result, DecodeError, append-nil}
-use Rattle.hayro_ccitt.proofs.Names.{Group4, Bits, Held, Context, fresh, gap_said, all_eols, gap_behind_row, first_line, changes, refl, length-append}
-use Rattle.hayro_ccitt.proofs.Names.{DamageIsCounted, IsPaid, ReaderStands, stand_after, AtLine, looked, looked_ahead, EncodingMode, Group3_1D}
+use Rattle.hayro_ccitt.proofs.Names.{◌≡◌, ◌≢◌, ◌∙◌, ◌<◌, ◌≤◌, ◌+◌, ◌++◌, ◌⊎◌, [], ℕ, Bool, false, true, inl, inr, length, drop}
+use Rattle.hayro_ccitt.proofs.Names.{ap, sym, subst, arith}
+use Rattle.hayro_ccitt.proofs.Names.{length-drop, IfOk-weaker, on_err_weaker, on_ok_weaker, DecodeSettings, Result, DecodeError}
+use Rattle.hayro_ccitt.proofs.Names.{append-nil}
+use Rattle.hayro_ccitt.proofs.Names.{Group4, Bits, Held, Context, fresh, gap_said, all_eols, gap_behind_row, first_line}
+use Rattle.hayro_ccitt.proofs.Names.{changes, refl, length-append}
+use Rattle.hayro_ccitt.proofs.Names.{IsPaid, ReaderStands, stand_after, AtLine, looked, EncodingMode, Group3_1D}
 use Rattle.hayro_ccitt.proofs.Names.{Group3_2D, BitsAt}
 use Rattle.std.proofs.lemmas.List.{drop-append-le}
 use Rattle.std.specs.Prelude.{nat_lt, ◌||◌}
@@ -43,10 +46,6 @@ module _ (old new : Context) (bits : Bits) (next : ℕ) (over : Result Bool Deco
   pub front_stands : ReaderStands (stand_after over) settings bits last next
   front_stands = first_gap_stands settings wide bits is last next within frame over said passes.only_code unsought
 
-  pub front_damage : DamageIsCounted (stand_after over) settings bits last
-  front_damage = none_damaged (stand_after over) settings bits last (misses_after over settings bits last)
-      (ap (λ (h : Held). h.taken) frame) (ap (λ (h : Held). h.repairs) frame)
-
   pub front_paid : IsPaid old.ticks (stand_after over) settings bits last next new.ticks
   front_paid = first_gap_paid old.ticks settings is bits last next new.ticks frame over said
       (IfOk-weaker over _ _ (λ over kept is. kept is ∙ sought) passes.given_up)
@@ -60,9 +59,9 @@ pub front_goes_on : (old new : Context) (bits : Bits) (next : ℕ) (over : Resul
 front_goes_on old new bits next over within is wide begins passes after at =
     let longer : (more : Bits) → next ≤ length (bits ++ more) = λ more. omega (arith, within, length-append bits more) in
     let continues = λ (more : Bits)
-        (settled : (more ≡ []) ⊎ (first_gap_is_settled old.held.settings.encoding old.held.settings bits ≡ true)).
-        subst (PassesGap old new over (bits ++ more)) (sym (drop-append-le next bits more within))
-        (gap_goes_on old new over bits (drop next bits) more (at_front more settled) passes) in
+    (settled : (more ≡ []) ⊎ (first_gap_is_settled old.held.settings.encoding old.held.settings bits ≡ true)).
+    subst (PassesGap old new over (bits ++ more)) (sym (drop-append-le next bits more within))
+    (gap_goes_on old new over bits (drop next bits) more (at_front more settled) passes) in
     let place = ap (λ (a : BitsAt). a.place) at in
     record {
       stands = λ more settled. subst (ReaderStands (stand_after over) old.held.settings (bits ++ more) new.held) (sym place)
@@ -76,6 +75,7 @@ front_goes_on old new bits next over within is wide begins passes after at =
           (front_paid old new (bits ++ more) next over (longer more) is wide begins (continues more settled));
       within = omega (arith, within, place, ap (λ (a : BitsAt). length a.bits) at);
       row = ap (λ (h : Held). h.reference) passes.held;
+      counts = passes.counts;
     }
   where
     by_encoding : (e : EncodingMode) → e ≡ Group4 → first_gap_is_settled e old.held.settings bits ≡ true
@@ -96,9 +96,9 @@ pub eols_go_on : (old new : Context) (bits : Bits) (next : ℕ) → next ≤ len
     → new.held ≡ record (fresh old.held.settings) { has_eols = (first_line old.held.settings bits).has_eols }
     → drop next bits ≡ (all_eols bits).1
     → new.ticks + length (drop next bits) ≤ old.ticks + length bits + looked (drop next bits)
-    → (after : BitsAt) → after ≡ record { bits = bits; place = next }
+    → old.ticks ≤ new.ticks → (after : BitsAt) → after ≡ record { bits = bits; place = next }
     → StandsFirst AtLine old new (record { bits = bits; place = 0 }) after
-eols_go_on old new bits next within other wide begins frame rest work after at =
+eols_go_on old new bits next within other wide begins frame rest work counts after at =
     let settings = old.held.settings in
     let last = new.held in
     let place = ap (λ (a : BitsAt). a.place) at in
@@ -125,6 +125,7 @@ eols_go_on old new bits next within other wide begins frame rest work after at =
           )));
       within = omega (arith, within, place, ap (λ (a : BitsAt). length a.bits) at);
       row = ap (λ (h : Held). h.reference) frame ∙ sym (ap (λ (h : Held). h.reference) begins);
+      counts = counts;
     }
   where
     by_encoding : (e : EncodingMode) → e ≢ Group4 → first_gap_is_settled e old.held.settings bits ≡ true
@@ -135,13 +136,15 @@ eols_go_on old new bits next within other wide begins frame rest work after at =
 
     same_eols : (more : Bits) → (more ≡ []) ⊎ (first_gap_is_settled old.held.settings.encoding old.held.settings bits ≡ true)
         → all_eols (bits ++ more) ≡ ((all_eols bits).0, (all_eols bits).1 ++ more)
-    same_eols more (inl none) = subst (λ (m : Bits). all_eols (bits ++ m) ≡ ((all_eols bits).0, (all_eols bits).1 ++ m)) (sym none)
+    same_eols more (inl none) = subst (λ (m : Bits). all_eols (bits ++ m) ≡ ((all_eols bits).0, (all_eols bits).1 ++ m))
+        (sym none)
         (ap all_eols (append-nil bits) ∙ ap (λ (b : Bits). ((all_eols bits).0, b)) (sym (append-nil (all_eols bits).1)))
     same_eols more (inr settled) = all_eols-more more bits (by_encoding old.held.settings.encoding other settled)
 
     first_has : (more : Bits) → (more ≡ []) ⊎ (first_gap_is_settled old.held.settings.encoding old.held.settings bits ≡ true)
         → (first_line old.held.settings (bits ++ more)).has_eols ≡ (first_line old.held.settings bits).has_eols
-    first_has more settled = ap (λ (found : ℕ × Bits). nat_lt 0 found.0 || old.held.settings.end_of_line) (same_eols more settled)
+    first_has more settled = ap (λ (found : ℕ × Bits). nat_lt 0 found.0 || old.held.settings.end_of_line)
+        (same_eols more settled)
 
     first_rest : (more : Bits) → (more ≡ []) ⊎ (first_gap_is_settled old.held.settings.encoding old.held.settings bits ≡ true)
         → (first_line old.held.settings (bits ++ more)).rest ≡ (all_eols bits).1 ++ more

@@ -1,26 +1,34 @@
 -- Rows one at a time: the gap before the next line is passed, in data of which a reader may hold a part.
 use Rattle.hayro_ccitt.proofs.Names.{OnErr, IfOk, Ok, Err, sum_by, ℕ, ◌-◌, ◌≤◌, take, length-drop, ◌≡◌, ◌∙◌, Bool, None, false}
 use Rattle.hayro_ccitt.proofs.Names.{Result, length, drop, ap, sym, subst, arith, refl, on_err_weaker}
-use Rattle.hayro_ccitt.proofs.Names.{DecodeError, line_after, DecodeSettings, Bits, Held, Repairs, gap_behind_row, failed_at, Context}
-use Rattle.hayro_ccitt.proofs.Names.{ReachesNextLine, ReaderStands, read_so_far, start_after, stand_after, IsStanding, ended, is_at_line}
-use Rattle.hayro_ccitt.proofs.Names.{StandsBehindRow, DamageIsCounted, MissIsTold, WorkIsPaid, missed_before, missed_since, seen}
-use Rattle.hayro_ccitt.proofs.Names.{words_of, looked, looked_ahead, ◌++◌, [], ◌∷◌, true, EncodingMode, Group3_1D, Group3_2D, Group4, gap_said}
-use Rattle.hayro_ccitt.proofs.Names.{◌⊎◌, inl, inr, append-nil, length-append, on_ok_weaker, ◌+◌, repairs_behind}
-use Rattle.hayro_ccitt.specs.GapsContinued.{GapIsSettled, gap_before, gap_is_settled}
+use Rattle.hayro_ccitt.proofs.Names.{DecodeError, line_after, DecodeSettings, Bits, Held, Repairs, failed_at, Context}
+use Rattle.hayro_ccitt.proofs.Names.{ReachesNextLine, ReaderStands, start_after, stand_after, IsStanding, ended, is_at_line}
+use Rattle.hayro_ccitt.proofs.Names.{StandsBehindRow, WorkIsPaid, missed_before, missed_since, seen}
+use Rattle.hayro_ccitt.proofs.Names.{words_of, looked, looked_ahead, ◌++◌, [], ◌∷◌, true, EncodingMode, Group3_1D, Group3_2D}
+use Rattle.hayro_ccitt.proofs.Names.{Group4, gap_said}
+use Rattle.hayro_ccitt.proofs.Names.{◌⊎◌, inl, inr, append-nil, length-append, on_ok_weaker}
+use Rattle.hayro_ccitt.specs.GapsContinued.{gap_before, gap_is_settled}
 use Rattle.fax_reading.proofs.GapsContinued.SettledGaps.{gap_settled, repairs_behind-more}
 use Rattle.hayro_ccitt.proofs.{Readings.DamageCounted.repaired_behind, Work.CallsPaid.behind_row_paid, Work.CallsPaid.gap_paid}
-use Rattle.hayro_ccitt.proofs.Readings.RowByRow.{starts_behind, behind_row_stands, damage_stays, misses_behind_row, misses_passed}
+use Rattle.hayro_ccitt.proofs.Readings.RowByRow.{
+  starts_behind,
+  behind_row_stands,
+  damage_stays,
+  misses_behind_row,
+  misses_passed,
+}
 use Rattle.hayro_ccitt.proofs.Readings.RowByRow.{misses_after, miss_told, told_after, gap_stands, comes_to_line}
 use Rattle.hayro_ccitt.specs.declared.row_reader.RowState.{RowState}
 use Rattle.hayro_ccitt.specs.RowsTried.{PassesGap, rows_behind_gap}
 
 -- if a gap has no fault, the offset of the last row's line is unchanged
-kept : (over : Result Bool DecodeError) (place before : ℕ) → IfOk over (λ b. start_after over place before ≡ before)
-kept (Ok b) place before = refl
-kept (Err error) place before = tt
+start_kept : (over : Result Bool DecodeError) (place before : ℕ) → IfOk over (λ b. start_after over place before ≡ before)
+start_kept (Ok b) place before = refl
+start_kept (Err error) place before = tt
 
 module _ (from : ℕ) (rows : RowState) (old new : Context) (bits : Bits) (place next : ℕ) (over : Result Bool DecodeError)
-    (passes : PassesGap old new over (drop place bits) (drop next bits)) (begun : place ≤ length bits) (within : next ≤ length bits)
+    (passes : PassesGap old new over (drop place bits) (drop next bits)) (begun : place ≤ length bits)
+    (within : next ≤ length bits)
     (unended : ended rows.stand ≡ None) (no_line : is_at_line rows.stand ≡ false)
     (stands : IsStanding from rows old (record { bits = bits; place = place })) where
   abbrev held : Held
@@ -52,7 +60,8 @@ module _ (from : ℕ) (rows : RowState) (old new : Context) (bits : Bits) (place
   -- the offset of its fault, if it has one
   started : OnErr over (start_after over place rows.started_at ≡ failed_at held.settings bits held.taken)
   started =
-      starts_behind held.settings bits held here_now is_behind_row last next within passes.held over passes.gap place _ gap_start
+      starts_behind held.settings bits held here_now is_behind_row last next within passes.held over passes.gap place _
+      gap_start
 
   -- where its EOL was missed
   told : missed_since last.repairs held.repairs.missed place ≡ missed_before held.settings bits held.taken
@@ -72,7 +81,8 @@ module _ (from : ℕ) (rows : RowState) (old new : Context) (bits : Bits) (place
           passes.counts,
           ap (λ (h : Held). sum_by length (take h.taken (words_of held.settings bits))) passes.held,
         );
-        paid = gap_paid from held.settings is_behind_row.wide bits held here_now old.ticks row last next new.ticks passes.held over
+        paid = gap_paid from held.settings is_behind_row.wide bits held here_now old.ticks row last next new.ticks
+            passes.held over
             passes.gap passes.given_up passes.work passes.work_given_up passes.work_refused;
       }
 
@@ -104,7 +114,7 @@ module _ (from : ℕ) (rows : RowState) (old new : Context) (bits : Bits) (place
       comes_to_line (seen rows old (record { bits = bits; place = place })) last new.ticks new.space
       (record { bits = bits; place = next }) (start_after over place rows.started_at) rows.damage rows.cut
       (missed_since last.repairs held.repairs.missed place) over same refl taken passes.counts
-      (ap (λ (h : Held). h.reference) passes.held, refl, refl) (kept over place rows.started_at) passed started told
+      (ap (λ (h : Held). h.reference) passes.held, refl, refl) (start_kept over place rows.started_at) passed started told
 
 -- ---- A gap that no data that follows changes
 
@@ -114,7 +124,8 @@ looked-more [] more = omega arith
 looked-more (false ∷ here) more = omega (arith, looked-more here more)
 looked-more (true ∷ here) more = omega arith
 
-looked_ahead-more : (encoding : EncodingMode) (here more : Bits) → looked_ahead encoding here ≤ looked_ahead encoding (here ++ more)
+looked_ahead-more : (encoding : EncodingMode) (here more : Bits) → looked_ahead encoding here ≤ looked_ahead encoding
+    (here ++ more)
 looked_ahead-more Group3_1D here more = looked-more here more
 looked_ahead-more Group3_2D [] more = omega arith
 looked_ahead-more Group3_2D (bit ∷ here) more = looked-more here more
@@ -146,8 +157,13 @@ gap_goes_on old new over start rest more (inr settled) passes =
       only_code = passes.only_code;
       unchanged = passes.unchanged;
       counts = passes.counts;
-      work = on_ok_weaker over (λ work kept. omega (arith, work kept, length-append rest more, length-append start more,
-          looked_ahead-more held.settings.encoding rest more)) passes.work;
+      work = on_ok_weaker over (λ work kept. omega (
+        arith,
+        work kept,
+        length-append rest more,
+        length-append start more,
+        looked_ahead-more held.settings.encoding rest more,
+      )) passes.work;
       work_given_up = on_ok_weaker over (λ work given_up. omega (arith, work given_up, length-append start more))
           passes.work_given_up;
       work_refused = on_err_weaker over (λ work. omega (arith, work, looked-more start more)) passes.work_refused;

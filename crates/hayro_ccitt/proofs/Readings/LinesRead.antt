@@ -51,7 +51,8 @@ module _ (from : ℕ) (rows : RowState) (old new : Context) (bits : Bits) (place
           };
         }
 
-    row_stays : IsStanding from (rows_behind_line rows (Ok tt) place held.repairs.rows held.repairs.cut left.repairs) new (record { bits = bits; place = next })
+    row_stays : IsStanding from (rows_behind_line rows (Ok tt) place held.repairs.rows held.repairs.cut left.repairs) new
+        (record { bits = bits; place = next })
     row_stays =
         let counted = at.1.1 in
         let missed = read.misses (misses_at_line rows.stand held.settings bits held at.0 counted.misses) in (
@@ -64,12 +65,14 @@ module _ (from : ℕ) (rows : RowState) (old new : Context) (bits : Bits) (place
                 cut = read.cut_counted counted.few_cut counted.cut;
                 misses = missed;
               }) missed,
-          subst (λ (s : DecodeSettings). WorkIsPaid from BehindRow s bits left next new.ticks) (sym read.settings_are) row_is_paid,
+          subst (λ (s : DecodeSettings). WorkIsPaid from BehindRow s bits left next new.ticks)
+              (sym read.settings_are) row_is_paid,
           tt,
         )
 
     row_is_next : ReadsNext (seen rows old (record { bits = bits; place = place }))
-        (seen (rows_behind_line rows (Ok tt) place held.repairs.rows held.repairs.cut left.repairs) new (record { bits = bits; place = next })) (Ok true)
+        (seen (rows_behind_line rows (Ok tt) place held.repairs.rows held.repairs.cut left.repairs) new
+        (record { bits = bits; place = next })) (Ok true)
     row_is_next = record {
       settings = read.settings_are;
       bits = refl;
@@ -116,7 +119,8 @@ module _ (from : ℕ) (rows : RowState) (old new : Context) (bits : Bits) (place
               (at_line_paid from rows.stand held.settings bits held place old.ticks at.0 work.paid) new.ticks reads.at_most;
         }
 
-    fault_stays : IsStanding from (rows_behind_line rows (Err e) place held.repairs.rows held.repairs.cut left.repairs) new (record { bits = bits; place = next })
+    fault_stays : IsStanding from (rows_behind_line rows (Err e) place held.repairs.rows held.repairs.cut left.repairs) new
+        (record { bits = bits; place = next })
     fault_stays = (
       subst (λ (s : DecodeSettings). ReaderStands (AtFault e) s bits left next) (sym settings_left) unread,
       damage_stays rows.stand (AtFault e) held.settings left.settings bits bits held left settings_left refl taken_left
@@ -131,7 +135,8 @@ module _ (from : ℕ) (rows : RowState) (old new : Context) (bits : Bits) (place
     )
 
     fault_is_next : ReadsNext (seen rows old (record { bits = bits; place = place }))
-        (seen (rows_behind_line rows (Err e) place held.repairs.rows held.repairs.cut left.repairs) new (record { bits = bits; place = next })) (Err e)
+        (seen (rows_behind_line rows (Err e) place held.repairs.rows held.repairs.cut left.repairs) new
+        (record { bits = bits; place = next })) (Err e)
     fault_is_next = record {
       settings = settings_left;
       bits = refl;
@@ -151,12 +156,14 @@ module _ (from : ℕ) (rows : RowState) (old new : Context) (bits : Bits) (place
     }
 
   pub line_stays : (answer : Result (Unit {0}) DecodeError) → ReadsRow old new answer (drop place bits) (drop next bits)
-      → IsStanding from (rows_behind_line rows answer place held.repairs.rows held.repairs.cut left.repairs) new (record { bits = bits; place = next })
+      → IsStanding from (rows_behind_line rows answer place held.repairs.rows held.repairs.cut left.repairs) new
+      (record { bits = bits; place = next })
   line_stays (Ok x) reads = row_stays reads
   line_stays (Err e) reads = fault_stays e reads
 
   pub line_is_next : (answer : Result (Unit {0}) DecodeError) → ReadsRow old new answer (drop place bits) (drop next bits)
       → ReadsNext (seen rows old (record { bits = bits; place = place }))
-      (seen (rows_behind_line rows answer place held.repairs.rows held.repairs.cut left.repairs) new (record { bits = bits; place = next })) (row_came answer)
+      (seen (rows_behind_line rows answer place held.repairs.rows held.repairs.cut left.repairs) new
+      (record { bits = bits; place = next })) (row_came answer)
   line_is_next (Ok x) reads = row_is_next reads
   line_is_next (Err e) reads = fault_is_next e reads

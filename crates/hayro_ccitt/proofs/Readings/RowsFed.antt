@@ -1,8 +1,14 @@
 -- Rows from data that comes in pieces: what the bits kept say of the whole data, and what a try that is left changes.
-use Rattle.hayro_ccitt.proofs.Names.{◌≡◌, ◌≢◌, ◌∙◌, ◌+◌, ◌-◌, ◌*◌, ◌≤◌, ◌++◌, ◌⊎◌, [], ℕ, Bool, true, false, Result, Ok, Err, None, Some, Option, refl, sym, ap}
-use Rattle.hayro_ccitt.proofs.Names.{subst, arith, length, drop, length-drop, length-append, drop-drop, inl, inr, Bits, BitsAt, Held, Context, DecodeError}
-use Rattle.hayro_ccitt.proofs.Names.{IsStanding, ReachesNextLine, WorkIsPaid, IsPaid, PaidAtLine, PaidBehindRow, Stand, AtLine, BehindRow, AtEnd, AtFault}
-use Rattle.hayro_ccitt.proofs.Names.{DecodeSettings, is_at_line, ended, seen, here, ReaderStands, DamageIsCounted, MissIsTold, line_after, false≢true, HasEnded, HasFailed, missed_before, failed_at, IfErr-weaker, on_err_weaker, not, ◌&&◌, stand_after, row_came, IsStandingAtLine, ReadsNext, IfErr, IsFault}
+use Rattle.hayro_ccitt.proofs.Names.{◌≡◌, ◌≢◌, ◌∙◌, ◌+◌, ◌≤◌, ◌++◌, ◌⊎◌, [], ℕ, Bool, true, false, Result, Ok, Err, None, Some}
+use Rattle.hayro_ccitt.proofs.Names.{refl, sym, ap}
+use Rattle.hayro_ccitt.proofs.Names.{subst, arith, length, drop, length-drop, length-append, drop-drop, inl, inr, Bits, BitsAt}
+use Rattle.hayro_ccitt.proofs.Names.{Held, Context, DecodeError}
+use Rattle.hayro_ccitt.proofs.Names.{IsStanding, ReachesNextLine, WorkIsPaid, IsPaid, PaidAtLine, Stand, AtLine, BehindRow}
+use Rattle.hayro_ccitt.proofs.Names.{AtEnd, AtFault}
+use Rattle.hayro_ccitt.proofs.Names.{DecodeSettings, is_at_line, ended, seen, here, ReaderStands, DamageIsCounted, MissIsTold}
+use Rattle.hayro_ccitt.proofs.Names.{line_after, false≢true, HasEnded, HasFailed, missed_before, failed_at, IfErr-weaker}
+use Rattle.hayro_ccitt.proofs.Names.{on_err_weaker, not, ◌&&◌, stand_after, row_came, IsStandingAtLine, ReadsNext, IfErr}
+use Rattle.hayro_ccitt.proofs.Names.{IsFault}
 use Rattle.std.proofs.lemmas.List.{drop-append-le}
 use Rattle.hayro_ccitt.proofs.Readings.GapsPassed.{gap_stays, gap_reaches}
 use Rattle.hayro_ccitt.proofs.Readings.RowByRow.{told_at_line}
@@ -100,7 +106,8 @@ stays_at_line from rows ctx at line stands = record {
 
 -- where it is passed, that is so in the whole data
 module _ (is_last : Bool) (gap_start : ℕ) (rows kept : RowState) (old mid new : Context) (before after : BitsAt)
-    (answer : Result Bool DecodeError) (more_ticks : ℕ) (same : mid.held ≡ old.held) (ticks : mid.ticks ≡ old.ticks + more_ticks)
+    (answer : Result Bool DecodeError) (more_ticks : ℕ) (same : mid.held ≡ old.held)
+    (ticks : mid.ticks ≡ old.ticks + more_ticks)
     (gap : PassesGapHere gap_start rows kept mid new before after answer)
     (settled : (is_last ≡ true) ⊎ (gap_is_settled mid.held.settings mid.held.taken mid.held.has_eols (here before) ≡ true))
     (unended : ended rows.stand ≡ None) (no_line : is_at_line rows.stand ≡ false)
@@ -124,7 +131,8 @@ module _ (is_last : Bool) (gap_start : ℕ) (rows kept : RowState) (old mid new 
 
   passes : PassesGap mid new gap.over (drop gap_start whole) (drop (dropped + after.place) whole)
   passes = subst (λ (b : Bits). PassesGap mid new gap.over b (drop (dropped + after.place) whole)) (sym there)
-      (subst (PassesGap mid new gap.over (here before ++ lie.more)) (sym behind) (gap.passes lie.more (changes_nothing settled)))
+      (subst (PassesGap mid new gap.over (here before ++ lie.more)) (sym behind) (gap.passes lie.more
+      (changes_nothing settled)))
 
   begun : gap_start ≤ length whole
   begun = omega (arith, starts, place_within lie before.place gap.begun)
@@ -144,9 +152,11 @@ module _ (is_last : Bool) (gap_start : ℕ) (rows kept : RowState) (old mid new 
   pub gap_step_reaches : ReachesNextLine (seen rows old (record { bits = whole; place = gap_start }))
       (seen kept new (record { bits = whole; place = dropped + after.place })) (came (some_line answer))
   gap_step_reaches =
-      let reaches = gap_reaches (from + more_ticks) rows mid new whole gap_start (dropped + after.place) gap.over passes begun within
+      let reaches = gap_reaches (from + more_ticks) rows mid new whole gap_start
+      (dropped + after.place) gap.over passes begun within
       unended no_line later in
-      let said = subst (λ (r : Result Bool DecodeError). ReachesNextLine (seen rows mid (record { bits = whole; place = gap_start }))
+      let said = subst (λ (r : Result Bool DecodeError). ReachesNextLine (seen rows mid
+      (record { bits = whole; place = gap_start }))
       (seen kept new (record { bits = whole; place = dropped + after.place })) r) (sym (came_is answer ∙ gap.said))
       (subst (λ (r : RowState). ReachesNextLine (seen rows mid (record { bits = whole; place = gap_start }))
       (seen r new (record { bits = whole; place = dropped + after.place })) (line_after gap.over)) (sym gap.kept_is) reaches) in
@@ -171,7 +181,8 @@ module _ (is_last : Bool) (gap_start : ℕ) (rows kept : RowState) (old mid new 
             (dropped + after.place)) same (reached.end e);
         error = IfErr-weaker r _ _ (λ e failed. subst (λ (h : Held). (ended kept.stand ≡ Some (Err e))
             × HasFailed h.settings whole new.held.taken e) same failed) reached.error;
-        fault_start = on_err_weaker r (λ is. is ∙ ap (λ (h : Held). failed_at h.settings whole h.taken) same) reached.fault_start;
+        fault_start = on_err_weaker r (λ is. is ∙ ap (λ
+            (h : Held). failed_at h.settings whole h.taken) same) reached.fault_start;
         missed = reached.missed ∙ ap (λ (h : Held). missed_before h.settings whole h.taken) same;
         last = (reached.last.0 ∙ ap (λ (h : Held). h.reference) same, reached.last.1, reached.last.2);
         last_start = reached.last_start;
@@ -194,9 +205,11 @@ passed_some (Ok line) e = cc
 passed_some (Err error) e = cc
 
 -- where a line is said to be here, it is
-pub said_line : (over : Result Bool DecodeError) (r : Result Bool DecodeError) → r ≡ line_after over → some_line r ≡ Ok (Some true)
+pub said_line : (over : Result Bool DecodeError) (r : Result Bool DecodeError) → r ≡ line_after over → some_line r ≡ Ok
+    (Some true)
     → is_at_line (stand_after over) ≡ true
-said_line (Ok true) r is e = let never : some_line (line_after (Ok true)) ≡ Ok (Some true) = ap some_line (sym is) ∙ e in absurd cc
+said_line (Ok true) r is e = let never : some_line (line_after (Ok true)) ≡ Ok (Some true) = ap some_line (sym is)
+    ∙ e in absurd cc
 said_line (Ok false) r is e = refl
 said_line (Err error) r is e =
     let never : some_line (line_after (Err error)) ≡ Ok (Some true) = ap some_line (sym is) ∙ e in absurd cc
@@ -205,7 +218,8 @@ said_line (Err error) r is e =
 pub said_code : (over r : Result Bool DecodeError) → r ≡ line_after over → IfErr over (λ e. e ≡ InvalidCode)
     → IfErr (some_line r) (λ e. e ≡ InvalidCode)
 said_code (Ok over) r is code = subst (λ (r : Result Bool DecodeError). IfErr (some_line r) (λ e. e ≡ InvalidCode)) (sym is) tt
-said_code (Err error) r is code = subst (λ (r : Result Bool DecodeError). IfErr (some_line r) (λ e. e ≡ InvalidCode)) (sym is) code
+said_code (Err error) r is code = subst (λ (r : Result Bool DecodeError). IfErr (some_line r) (λ e. e ≡ InvalidCode))
+    (sym is) code
 
 -- ---- The line here
 
@@ -265,7 +279,8 @@ module _ (is_last : Bool) (line_start : ℕ) (rows kept : RowState) (old new : C
   reads_here (Err Refused) is e = absurd (tries.not_refused is)
 
   line_reads : ReadsRow old new (line_answer answer) (drop line_start whole) (drop (dropped + after.place) whole)
-  line_reads = subst (λ (b : Bits). ReadsRow old new (line_answer answer) b (drop (dropped + after.place) whole)) (sym line_there)
+  line_reads = subst (λ (b : Bits). ReadsRow old new (line_answer answer) b (drop (dropped + after.place) whole))
+      (sym line_there)
       (subst (ReadsRow old new (line_answer answer) (here before ++ lie.more)) (sym line_behind) (reads_here answer refl other))
 
   line_begins : line_start ≤ length whole
@@ -281,7 +296,8 @@ module _ (is_last : Bool) (line_start : ℕ) (rows kept : RowState) (old new : C
 
   pub line_step_reads : ReadsNext (seen rows old (record { bits = whole; place = line_start }))
       (seen kept new (record { bits = whole; place = dropped + after.place })) answer
-  line_step_reads = subst (λ (r : Result Bool DecodeError). ReadsNext (seen rows old (record { bits = whole; place = line_start }))
+  line_step_reads = subst (λ (r : Result Bool DecodeError). ReadsNext (seen rows old
+      (record { bits = whole; place = line_start }))
       (seen kept new (record { bits = whole; place = dropped + after.place })) r) (came_of answer other)
       (subst (λ (r : RowState). ReadsNext (seen rows old (record { bits = whole; place = line_start }))
       (seen r new (record { bits = whole; place = dropped + after.place })) (row_came (line_answer answer))) (sym kept_is)

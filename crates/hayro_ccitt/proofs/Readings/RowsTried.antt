@@ -1,12 +1,13 @@
 -- A row that no data that follows can change, and a line that is left.
-use Rattle.hayro_ccitt.proofs.Names.{◌≡◌, ◌+◌, ◌*◌, ◌≤◌, ℕ, Bool, true, false, [], ◌++◌, length, Result, Ok, Err, OnOk, refl, sym, ap, ◌∙◌}
-use Rattle.hayro_ccitt.proofs.Names.{subst, DecodeError, IsFault, OnAnswer, DrawsLine, Row, Bits, Line, Held, Context, Repairs, AreWholeBytes}
-use Rattle.hayro_ccitt.proofs.Names.{TakesOneRow, repairs_with, with_row_taken, line_here, row_of_line, front_of, found_here, changes}
-use Rattle.hayro_ccitt.proofs.Names.{max, room_for, most_stored, append-nil, List, IfErr, inl, inr, ◌⊎◌, DecodeSettings, BitsAt, here, row_came, ◌≢◌, arith, redrawn, White}
+use Rattle.hayro_ccitt.proofs.Names.{◌≡◌, ◌+◌, ◌*◌, ◌≤◌, ℕ, Bool, true, false, [], ◌++◌, length, Result, Ok, Err, OnOk, refl}
+use Rattle.hayro_ccitt.proofs.Names.{sym, ap, ◌∙◌}
+use Rattle.hayro_ccitt.proofs.Names.{subst, DecodeError, IsFault, OnAnswer, DrawsLine, Row, Bits, Line, Held, Context, Repairs}
+use Rattle.hayro_ccitt.proofs.Names.{AreWholeBytes}
+use Rattle.hayro_ccitt.proofs.Names.{TakesOneRow, repairs_with, with_row_taken, line_here, row_of_line, front_of, changes}
+use Rattle.hayro_ccitt.proofs.Names.{append-nil, List, IfErr, inl, inr, ◌⊎◌, BitsAt, here, row_came, ◌≢◌, arith, redrawn, White}
 use Rattle.fax_reading.proofs.Continuations.ShortLines.{line_stays}
 use Rattle.hayro_ccitt.proofs.DrawingLines.FullRows.{IsFull}
-use Rattle.hayro_ccitt.specs.Answers.{HasBlack, is_broken}
-use Rattle.hayro_ccitt.specs.Decoding.{RowIsTaken}
+use Rattle.hayro_ccitt.specs.Answers.{HasBlack}
 use Rattle.hayro_ccitt.specs.Continuations.{StaysAsRead, is_short, line_before, row_continued}
 use Rattle.hayro_ccitt.specs.RowsTried.{ReadsRow, CanCome, TriesRow, falls_short, lacks_memory, needs_more}
 use Rattle.fax_bits.specs.declared.error.DecodeError.TheVariants.{UnexpectedEof, InvalidCode, Overflow, OutOfMemory, Refused}
@@ -18,7 +19,8 @@ drawn_full columns line (Ok x) front rest full drawn = subst (IsFull columns) dr
 drawn_full columns line (Err e) front rest full drawn = tt
 
 -- a line that was drawn until it ended or broke isn't short if its error isn't the end of the data
-pub isnt_short : (line : Line) (answer : Result (Unit {0}) DecodeError) (front : Row) (rest : Bits) → DrawsLine line answer front rest
+pub isnt_short : (line : Line) (answer : Result (Unit {0}) DecodeError) (front : Row) (rest : Bits)
+    → DrawsLine line answer front rest
     → falls_short answer ≡ false → OnAnswer answer (is_short line ≡ false)
 isnt_short line (Ok x) front rest drawn other = ap is_short drawn
 isnt_short line (Err UnexpectedEof) front rest drawn other = absurd cc
@@ -26,16 +28,6 @@ isnt_short line (Err InvalidCode) front rest drawn other = λ fault. ap is_short
 isnt_short line (Err Overflow) front rest drawn other = λ fault. ap is_short drawn
 isnt_short line (Err OutOfMemory) front rest drawn other = λ fault. absurd fault
 isnt_short line (Err Refused) front rest drawn other = λ fault. absurd fault
-
--- and is if it is
-pub falls : (line : Line) (answer : Result (Unit {0}) DecodeError) (front : Row) (rest : Bits) → DrawsLine line answer front rest
-    → falls_short answer ≡ true → is_short line ≡ true
-falls line (Ok x) front rest drawn short = absurd cc
-falls line (Err UnexpectedEof) front rest drawn short = ap is_short drawn
-falls line (Err InvalidCode) front rest drawn short = absurd cc
-falls line (Err Overflow) front rest drawn short = absurd cc
-falls line (Err OutOfMemory) front rest drawn short = absurd cc
-falls line (Err Refused) front rest drawn short = absurd cc
 
 -- a line with more bits behind it has the same front, is as broken, and counts as the same damage
 same_front : (more : Bits) (line : Line) → front_of (line_before more line) ≡ front_of line
@@ -95,7 +87,8 @@ row_goes_on old new answer start rest more stays bytes read =
           (row_of_line settings has_eols start line) old.held new.held answer rest read.row)));
       counts = read.counts;
       at_least = subst (λ (words : List Bits). OnOk answer (old.ticks + length words ≤ new.ticks)) (sym found) read.at_least;
-      at_most = subst (λ (words : List Bits). new.ticks ≤ old.ticks + 4 * length words + 2 + length (changes reference)) (sym found)
+      at_most = subst (λ (words : List Bits). new.ticks ≤ old.ticks + 4 * length words + 2 + length (changes reference))
+          (sym found)
           read.at_most;
       stored = subst (λ (words : List Bits). OnOk answer (length (changes new.held.reference) ≤ length words + 1)) (sym found)
           read.stored;
@@ -179,7 +172,8 @@ module _ (is_last : Bool) (old new : Context) (before after : BitsAt) (line : Re
   tries (Err Refused) enough read repairable same = failed Refused (λ is. cc) read same
 
 -- a line whose row can't be stored is left
-pub leaves_row : (is_last : Bool) (old mid new : Context) (row : Result (Unit {0}) DecodeError) (before after : BitsAt) (rest : Bits)
+pub leaves_row : (is_last : Bool) (old mid new : Context) (row : Result (Unit {0}) DecodeError) (before after : BitsAt)
+    (rest : Bits)
     → ReadsRow old mid row (here before) rest → lacks_memory row ≡ true
     → new ≡ record mid { held = redrawn mid.held [] White; passed = 0; cut = false }
     → TriesRow is_last old new (Err OutOfMemory) before after

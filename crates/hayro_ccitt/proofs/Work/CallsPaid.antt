@@ -1,6 +1,37 @@
 -- Rows one at a time: what all calls of a reader of rows count is paid.
-use Rattle.hayro_ccitt.proofs.Names.{IfOk, OnOk, OnErr, sum_by, ◌≡◌, ◌≢◌, ◌+◌, ◌*◌, ◌<◌, ◌≤◌, ℕ, Bool, true, false, length, take}
-use Rattle.hayro_ccitt.proofs.Names.{drop, None, Result, Ok, Err, refl, sym, ap, ◌∙◌, arith, false≢true, length-drop, DecodeError}
+use Rattle.hayro_ccitt.proofs.Names.{
+  IfOk,
+  OnOk,
+  OnErr,
+  sum_by,
+  ◌≡◌,
+  ◌≢◌,
+  ◌+◌,
+  ◌*◌,
+  ◌<◌,
+  ◌≤◌,
+  ℕ,
+  Bool,
+  true,
+  false,
+  length,
+  take,
+}
+use Rattle.hayro_ccitt.proofs.Names.{
+  drop,
+  None,
+  Result,
+  Ok,
+  Err,
+  refl,
+  sym,
+  ap,
+  ◌∙◌,
+  arith,
+  false≢true,
+  length-drop,
+  DecodeError,
+}
 use Rattle.hayro_ccitt.proofs.Names.{Stand, AtLine, BehindRow, AtEnd, AtFault, DecodeSettings, EncodingMode, Group4, Group3_1D}
 use Rattle.hayro_ccitt.proofs.Names.{Group3_2D, Bits, Held, fresh, gap_said, Gap, gap_behind_row, changes, IsPaid, PaidAtLine}
 use Rattle.hayro_ccitt.proofs.Names.{PaidBehindRow, ReaderStands, WorkIsPaid, ended, is_at_line, stand_after, looked}
@@ -90,7 +121,8 @@ module _ (from : ℕ) (settings : DecodeSettings) (wide : 0 < settings.columns) 
         arith,
         at.enough,
         gap_ends settings wide at.begun (length bits) at.giving_up behind.before.reference behind.before.has_eols behind.start
-            at.within behind.ticks_before (length (changes behind.before.reference)) at.paid ticks behind.line held.reference rest
+            at.within behind.ticks_before (length
+            (changes behind.before.reference)) at.paid ticks behind.line held.reference rest
             behind.row_is now next (omega (arith, kept (over refl), few_tag_tests settings.encoding)),
       )
   gap_paid (Ok false) said over kept given_up refused =
@@ -105,7 +137,8 @@ module _ (from : ℕ) (settings : DecodeSettings) (wide : 0 < settings.columns) 
         within = omega (arith, length-drop place bits);
         paid = turn_goes_on settings wide at.begun (length bits) at.giving_up behind.before.reference behind.before.has_eols
             behind.start at.within behind.ticks_before (length (changes behind.before.reference)) at.paid ticks
-            behind.line held.reference rest behind.row_is held.taken last.has_eols next now (length (changes last.reference)) line
+            behind.line held.reference rest behind.row_is held.taken last.has_eols next now (length
+            (changes last.reference)) line
             (omega (arith, behind.stored, ap (λ (h : Held). length (changes h.reference)) frame))
             (λ same. omega (arith, kept (same ∙ sym behind.kept), few_tag_tests settings.encoding))
             (λ other. given_up (λ same. other (same ∙ behind.kept))) at.sought;
@@ -116,8 +149,10 @@ module _ (from : ℕ) (settings : DecodeSettings) (wide : 0 < settings.columns) 
       omega (
         arith,
         at.enough,
-        missing_ends settings wide at.begun (length bits) at.giving_up behind.before.reference behind.before.has_eols behind.start
-            at.within behind.ticks_before (length (changes behind.before.reference)) at.paid ticks behind.line held.reference rest
+        missing_ends settings wide at.begun
+            (length bits) at.giving_up behind.before.reference behind.before.has_eols behind.start
+            at.within behind.ticks_before (length
+            (changes behind.before.reference)) at.paid ticks behind.line held.reference rest
             behind.row_is now (omega (arith, refused, looked_most rest)),
       )
 
@@ -212,7 +247,8 @@ work_is_counted stand settings bits held place ticks stands work =
     }
 
 -- so it is before the first row
-pub begun_is_counted : (stand : Stand) (settings : DecodeSettings) (bits : Bits) (held : Held) (place ticks : ℕ) → held.taken ≡ 0
+pub begun_is_counted : (stand : Stand) (settings : DecodeSettings) (bits : Bits) (held : Held) (place ticks : ℕ)
+    → held.taken ≡ 0
     → ReaderStands stand settings bits held place → IsPaid 0 stand settings bits held place ticks
     → CountsWork settings bits held.taken ticks
 begun_is_counted stand settings bits held place ticks none stands paid =

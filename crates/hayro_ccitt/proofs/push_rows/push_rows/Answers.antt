@@ -1,5 +1,15 @@
 use Rattle.hayro_ccitt.proofs.Names.{◌≡◌, ◌∙◌, ◌-◌, Bool, Result, Ok, Err, Some, refl, sym, ap, subst, arith, true}
-use Rattle.hayro_ccitt.proofs.Names.{err_from_is_err_and, length, DecodeError, DecodeSettings, Bits, BitsAt, Context, Held, rules}
+use Rattle.hayro_ccitt.proofs.Names.{
+  err_from_is_err_and,
+  length,
+  DecodeError,
+  DecodeSettings,
+  Bits,
+  BitsAt,
+  Context,
+  Held,
+  rules,
+}
 use Rattle.hayro_ccitt.proofs.Names.{SinkState, here, failed_at, IsStanding, IsStandingAtLine, ReachesNextLine, ReadsNext, seen}
 use Rattle.hayro_ccitt.proofs.Names.{ended, row_came, is_some, sum_by, words_of, take, plain, None, ℕ}
 use Rattle.hayro_ccitt.proofs.Names.{drop, DecodesRows, meaning_after, ReaderStands, DamageIsCounted, WorkIsPaid, MissIsTold}
@@ -101,7 +111,7 @@ returns-then-has_ended-clause-rows g c =
       first.ensures.stands,
       first.ensures.damage,
       record {
-        words = omega (arith, ap (λ (n : ℕ). sum_by length (take n (words_of settings bits))) none, first.ensures.counts);
+        words = omega (arith, ap (λ (n : ℕ). sum_by length (take n (words_of settings bits))) none, first.ensures.first.counts);
         paid = first.ensures.paid c.args.ctx.now.ticks refl;
       },
       none_missed first.result settings bits none,
@@ -165,7 +175,8 @@ returns-in-Err-clause-rows g c =
       refused = g.D.Decoder.has_refused c.push_row.new.self;
       refuses = g.D.Decoder.refuses c.push_row.new.self;
     } in
-    let run = run_refused {step = step} {before = before} {after = after} c.rows.rows read.self c.rows.ctx read.ctx c.rows.reader
+    let run = run_refused {step = step} {before = before} {after = after} c.rows.rows read.self c.rows.ctx read.ctx
+    c.rows.reader
     read.reader inv.stands (c.read_line.ensures.stands from (inv.at_line, inv.stands))
     c.in_ok-read_line.ensures.behind_row (row_came_here g there) last.held
     (ap (λ (x : Context). x.held) frame ∙ ap (λ (n : ℕ). record read.ctx.held {

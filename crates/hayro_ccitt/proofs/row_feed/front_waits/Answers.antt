@@ -1,5 +1,6 @@
-use Rattle.hayro_ccitt.proofs.Names.{◌≡◌, ◌∙◌, ◌&&◌, not, ap, sym, refl, arith, true, false, Bool, ℕ, Bits, BitsAt, here, EncodingMode, Group3_1D, Group3_2D, Group4}
-use Rattle.hayro_ccitt.proofs.Names.{DecodeSettings, all_eols, ◌⊎◌, inl, inr, length}
+use Rattle.hayro_ccitt.proofs.Names.{◌≡◌, ◌∙◌, ◌&&◌, not, ap, sym, refl, arith, Bool, ℕ, Bits, BitsAt, here, EncodingMode}
+use Rattle.hayro_ccitt.proofs.Names.{Group3_1D, Group3_2D, Group4}
+use Rattle.hayro_ccitt.proofs.Names.{DecodeSettings, all_eols, ◌⊎◌, inl, inr}
 use Rattle.fax_bits.specs.Ones.{holds_one}
 use Rattle.hayro_ccitt.proofs.BitReading.EolCounts.{all_eols_leave}
 use Rattle.hayro_ccitt.specs.GapsContinued.{first_gap_is_settled}
@@ -30,7 +31,11 @@ returns-in-Group3_1D c =
       waits = ap not (c.holds_one.ensures ∙ ap holds_one (sym eols) ∙ sym front)
           ∙ sym (ap (λ (b : Bool). not b && not (first_gap_is_settled settings.encoding settings start)) c.if-is_last.false);
       held = refl;
-      counts = omega (arith, c.ticks.ensures.value, c.read_eol_if_available.ensures.ticks,
-          all_eols_leave c.read_eol_if_available.result (here c.copy-ahead.result) rest c.read_eol_if_available.ensures.eols);
+      counts = omega (
+        arith,
+        c.ticks.ensures.value,
+        c.read_eol_if_available.ensures.ticks,
+        all_eols_leave c.read_eol_if_available.result (here c.copy-ahead.result) rest c.read_eol_if_available.ensures.eols,
+      );
       space = refl;
     }

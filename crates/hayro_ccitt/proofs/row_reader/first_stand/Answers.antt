@@ -20,7 +20,8 @@ first_gap_said c =
     let held = c.args.ctx.now.held in
     let last = c.pass_gap-over.new.ctx.held in
     ap (λ (h : Held). gap_behind_row held.settings h.taken h.has_eols c.args.reader.now.bits) (sym c.requires.fresh)
-    ∙ ap (λ (n : ℕ). gap_behind_row held.settings held.taken held.has_eols (drop n c.args.reader.now.bits)) (sym c.requires.start)
+    ∙ ap (λ (n : ℕ). gap_behind_row held.settings held.taken held.has_eols (drop n c.args.reader.now.bits))
+    (sym c.requires.start)
     ∙ c.pass_gap-over.ensures.gap ∙ ap (λ (b : Bits). gap_said c.pass_gap-over.result last.has_eols
     (drop c.pass_gap-over.new.reader.place b)) c.pass_gap-over.ensures.same_bits
 
@@ -144,19 +145,24 @@ returns-in-Group3_1D c =
             ap (λ (b : Bits). length (drop at.place b)) c.read_leading_eols.ensures.same_bits,
             ap (λ (b : Bits). looked (drop at.place b)) c.read_leading_eols.ensures.same_bits,
           ));
-      counts = c.read_leading_eols.ensures.counts;
       no_eols = λ is. absurd (other is);
       space = c.read_leading_eols.ensures.space;
-      first = subst (λ (n : ℕ). StandsFirst AtLine c.args.ctx.now c.read_leading_eols.new.ctx (record { bits = bits; place = n }) at)
+      first = subst (λ (n : ℕ). StandsFirst AtLine c.args.ctx.now c.read_leading_eols.new.ctx
+          (record { bits = bits; place = n }) at)
           (sym c.requires.start) (eols_go_on c.args.ctx.now c.read_leading_eols.new.ctx bits at.place
-          (omega (arith, c.bit_pos-place-in-Group3_1D.ensures.place, c.bit_pos-place-in-Group3_1D.ensures.within,
-          ap length c.read_leading_eols.ensures.same_bits)) other wide c.requires.fresh frame rest (omega (
+          (omega (
+            arith,
+            c.bit_pos-place-in-Group3_1D.ensures.place,
+            c.bit_pos-place-in-Group3_1D.ensures.within,
+            ap length c.read_leading_eols.ensures.same_bits,
+          )) other wide c.requires.fresh frame rest (omega (
             arith,
             c.read_leading_eols.ensures.work,
             ap length begins,
             ap (λ (b : Bits). length (drop at.place b)) c.read_leading_eols.ensures.same_bits,
             ap (λ (b : Bits). looked (drop at.place b)) c.read_leading_eols.ensures.same_bits,
-          )) at (ap (λ (b : Bits). record { bits = b; place = at.place }) c.read_leading_eols.ensures.same_bits));
+          )) c.read_leading_eols.ensures.counts at (ap (λ
+          (b : Bits). record { bits = b; place = at.place }) c.read_leading_eols.ensures.same_bits));
     }
 
 -- what comes before the first line, whatever follows
@@ -190,6 +196,8 @@ returns-in-Group4-clause-first c =
     (omega (arith, c.bit_pos-place.ensures.place, c.bit_pos-place.ensures.within, ap length gap.same_bits))
     (ap (λ (s : DecodeSettings). s.encoding) (sym c.settings-2.ensures.value) ∙ c.in-Group4.is) wide c.requires.fresh front at
     (ap (λ (b : Bits). record { bits = b; place = at.place }) gap.same_bits) in
-    subst (λ (s : Stand). StandsFirst s c.args.ctx.now c.pass_gap-over.new.ctx c.args.reader.now at) (sym c.stand_after_gap.ensures)
-    (subst (λ (n : ℕ). StandsFirst (stand_after over) c.args.ctx.now c.pass_gap-over.new.ctx (record { bits = bits; place = n }) at)
+    subst (λ (s : Stand). StandsFirst s c.args.ctx.now c.pass_gap-over.new.ctx c.args.reader.now at)
+    (sym c.stand_after_gap.ensures)
+    (subst (λ (n : ℕ). StandsFirst (stand_after over) c.args.ctx.now c.pass_gap-over.new.ctx
+    (record { bits = bits; place = n }) at)
     (sym c.requires.start) known)

@@ -1,5 +1,6 @@
-use Rattle.hayro_ccitt.proofs.Names.{◌≡◌, ◌∙◌, ◌≤◌, ◌+◌, ◌*◌, ℕ, Bool, true, cond, Option, Some, None, ap, sym, arith, length, Bits, here, Held, looked}
-use Rattle.hayro_ccitt.proofs.Names.{eols_here, next_eol, BitsAt}
+use Rattle.hayro_ccitt.proofs.Names.{◌≡◌, ◌∙◌, ◌≤◌, ◌+◌, ◌*◌, ℕ, Bool, cond, Option, Some, None, ap, arith, length, Bits, here}
+use Rattle.hayro_ccitt.proofs.Names.{looked}
+use Rattle.hayro_ccitt.proofs.Names.{next_eol, BitsAt}
 use Rattle.fax_bits.proofs.BitReading.ConsecutiveEols.{next_eol_found}
 use Rattle.hayro_ccitt.proofs.Work.EolsPassed.{eols_here_shorter, eols_here_stay, few_tag_tests, looked_ahead_most, looked_most}
 use Rattle.hayro_ccitt.proofs.rows.gap_is_settled.Goals.{After-read_eols-count, After-skip_to_eol}

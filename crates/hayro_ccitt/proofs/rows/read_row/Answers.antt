@@ -1,5 +1,5 @@
-use Rattle.hayro_ccitt.proofs.Names.{◌≤◌, ℕ, length, ap, subst, Held, Line, Result, DecodeError, Ok, Err, OnOk, DrawsLine, here}
-use Rattle.hayro_ccitt.proofs.Names.{Row, Bits, line_here}
+use Rattle.hayro_ccitt.proofs.Names.{ap, Held, here}
+use Rattle.hayro_ccitt.proofs.Names.{line_here}
 use Rattle.hayro_ccitt.proofs.DrawingLines.FullRows.{line_by_full}
 use Rattle.hayro_ccitt.proofs.Readings.RowsTried.{drawn_full}
 use Rattle.hayro_ccitt.proofs.rows.read_row.Goals as goal

@@ -1,6 +1,7 @@
-use Rattle.hayro_ccitt.proofs.Names.{rules, repaired, ◌≡◌, ◌≤◌, ◌+◌, length, ap, subst, arith, err_from_is_err_and, front_of, Line, changes}
+use Rattle.hayro_ccitt.proofs.Names.{rules, repaired, ◌≡◌, ◌≤◌, ◌+◌, length, ap, subst, arith, err_from_is_err_and, front_of}
+use Rattle.hayro_ccitt.proofs.Names.{Line, changes}
 use Rattle.hayro_ccitt.proofs.Names.{true, Bool, sym, ◌∙◌, with_row_taken, cuts_with, repairs_with, DrawsLine, OnAnswer, OnOk}
-use Rattle.hayro_ccitt.proofs.Names.{found_here, here, Context, Held, line_here, most_stored, is_broken, Result, DecodeError, Ok}
+use Rattle.hayro_ccitt.proofs.Names.{found_here, here, Context, Held, line_here, most_stored, is_broken, Result, DecodeError}
 use Rattle.hayro_ccitt.proofs.DrawingLines.UnreadRows.{draws_anywhere, isnt_repaired, line_breaks}
 use Rattle.hayro_ccitt.proofs.Work.ChangesStored.{changes_found, changes_repaired}
 use Rattle.hayro_ccitt.proofs.Work.RoomTaken.{grown_again}
@@ -12,7 +13,8 @@ returns-in_err-recover_from-clause-row c before start is read =
     let line = line_here held.settings held.reference (here start) in
     let left = here c.recover_from.new.reader in
     let answer = err_from_is_err_and c.from_residual.result c.from_residual.ensures.1 in
-    let drawn = subst (λ (r : Result (Unit {0}) DecodeError). DrawsLine line r c.args.ctx.now.held.front (here c.args.reader.now))
+    let drawn = subst (λ (r : Result (Unit {0}) DecodeError). DrawsLine line r c.args.ctx.now.held.front
+    (here c.args.reader.now))
     c.in-Err.is read.drawn in
     let draws = draws_anywhere line c.in-Err.error c.args.ctx.now.held.front (here c.args.reader.now) left drawn in
     let strict = line_here (record held.settings { strict = true }) held.reference (here start) in

@@ -1,9 +1,9 @@
-use Rattle.hayro_ccitt.proofs.Names.{rules, ◌≡◌, ◌++◌, ap, subst, sym, ◌∙◌, refl, true, false, Held, Line, Result, DecodeError, Ok, Err, OnOk, DrawsLine}
-use Rattle.hayro_ccitt.proofs.Names.{Row, Bits, BitsAt, here, line_here, OnAnswer, IsFault, ◌⊎◌, Context}
-use Rattle.hayro_ccitt.proofs.DrawingLines.FullRows.{IsFull, line_by_full}
+use Rattle.hayro_ccitt.proofs.Names.{rules, ◌≡◌, ap, sym, ◌∙◌, true, false, Held}
+use Rattle.hayro_ccitt.proofs.Names.{here, line_here, OnAnswer, ◌⊎◌}
+use Rattle.hayro_ccitt.proofs.DrawingLines.FullRows.{line_by_full}
 use Rattle.hayro_ccitt.proofs.Readings.RowsTried.{drawn_full, settled, tries, leaves_row}
 use Rattle.hayro_ccitt.specs.Continuations.{is_short}
-use Rattle.hayro_ccitt.specs.RowsTried.{ReadsRow, CanCome}
+use Rattle.hayro_ccitt.specs.RowsTried.{ReadsRow}
 use Rattle.hayro_ccitt.proofs.rows.try_row.Goals.{After-settle_row-row}
 use Rattle.hayro_ccitt.proofs.rows.try_row.Goals as goal
 
@@ -22,12 +22,13 @@ settle_row-row-requires-clause-full c =
 unchanged : (c : After-settle_row-row) → OnAnswer c.decode_line-line.result ((c.args.is_last ≡ true)
     ⊎ (is_short (line_here c.args.ctx.now.held.settings c.args.ctx.now.held.reference (here c.args.reader.now)) ≡ false))
 unchanged c = settled c.args.is_last _ c.decode_line-line.result c.decode_line-line.new.ctx.held.front
-    (here c.decode_line-line.new.reader) c.decode_line-line.ensures.line.drawn (sym c.needs_more.ensures ∙ c.if-needs_more.false)
+    (here c.decode_line-line.new.reader) c.decode_line-line.ensures.line.drawn (sym c.needs_more.ensures
+    ∙ c.if-needs_more.false)
 
 -- what is read of the bits here
-read : (c : After-settle_row-row) → ReadsRow c.args.ctx.now c.settle_row-row.new.ctx c.settle_row-row.result
+row_read : (c : After-settle_row-row) → ReadsRow c.args.ctx.now c.settle_row-row.new.ctx c.settle_row-row.result
     (here c.args.reader.now) (here c.settle_row-row.new.reader)
-read c = c.settle_row-row.ensures.row c.args.ctx.now c.args.reader.now (search rules) c.decode_line-line.ensures.line
+row_read c = c.settle_row-row.ensures.row c.args.ctx.now c.args.reader.now (search rules) c.decode_line-line.ensures.line
 
 pub returns-clause-row : goal.returns-clause-row
 returns-clause-row c =
@@ -35,11 +36,11 @@ returns-clause-row c =
     let now = c.settle_row-row.new.reader in
     rw c.answer_of.ensures (tries c.args.is_last c.args.ctx.now c.settle_row-row.new.ctx c.args.reader.now now
     c.decode_line-line.result (unchanged at) c.settle_row-row.result (sym c.lacks_memory.ensures ∙ c.if-lacks_memory.false)
-    (read at) c.settle_row-row.ensures.repairable c.settle_row-row.ensures.same)
+    (row_read at) c.settle_row-row.ensures.repairable c.settle_row-row.ensures.same)
 
 pub returns-then-lacks_memory-clause-row : goal.returns-then-lacks_memory-clause-row
 returns-then-lacks_memory-clause-row c =
     let at = (goal.at.returns-then-lacks_memory-clause-row c).After-settle_row-row in
     leaves_row c.args.is_last c.args.ctx.now c.settle_row-row.new.ctx _ c.settle_row-row.result c.args.reader.now
-    _ (here c.settle_row-row.new.reader) (read at)
+    _ (here c.settle_row-row.new.reader) (row_read at)
     (sym c.lacks_memory.ensures ∙ c.if-lacks_memory.true) c.leave_line-then-lacks_memory.ensures.frame

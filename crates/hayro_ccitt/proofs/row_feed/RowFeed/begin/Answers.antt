@@ -1,5 +1,6 @@
-use Rattle.hayro_ccitt.proofs.Names.{◌≡◌, ◌≢◌, ◌∙◌, ◌+◌, ◌-◌, ◌⊎◌, ◌≤◌, ap, sym, subst, refl, arith, length, true, false, Bool, ℕ, BitsAt, Bits, bits_in, List}
-use Rattle.hayro_ccitt.proofs.Names.{Held, here, drop, DecodeSettings, false≢true, fresh}
+use Rattle.hayro_ccitt.proofs.Names.{◌≡◌, ◌∙◌, ◌+◌, ◌-◌, ◌⊎◌, ap, sym, subst, refl, arith, length, true, false, Bool, ℕ, BitsAt}
+use Rattle.hayro_ccitt.proofs.Names.{Bits, bits_in, List}
+use Rattle.hayro_ccitt.proofs.Names.{Held, here, drop, false≢true, fresh}
 use Rattle.hayro_ccitt.proofs.BitReading.BitLists.{length-bits_in}
 use Rattle.hayro_ccitt.proofs.Readings.FeedsOn.{at_front, front_fed, front_reaches}
 use Rattle.hayro_ccitt.proofs.Readings.RowsFed.{waits_for, waits_not}
@@ -8,17 +9,19 @@ use Rattle.hayro_ccitt.specs.RowFeeds.{Feeding, StandsIn}
 use Rattle.hayro_ccitt.proofs.row_feed.RowFeed.begin.Goals.{After-front_waits, After-bit_pos-self-inside}
 use Rattle.hayro_ccitt.proofs.row_feed.RowFeed.begin.Goals as goal
 
-before_is : (c : After-front_waits) → c.placed_at-reader.result
+front_is : (c : After-front_waits) → c.placed_at-reader.result
     ≡ record { bits = bits_in c.self.inside.order c.self.inside.«data».items; place = c.self.inside.place }
-before_is c = c.placed_at-reader.ensures ∙ ap (λ (items : List ℕ). record { bits = bits_in c.self.inside.order items;
-    place = c.self.inside.place }) c.deref.ensures.value
+front_is c = c.placed_at-reader.ensures ∙ ap (λ (items : List ℕ). record {
+  bits = bits_in c.self.inside.order items;
+  place = c.self.inside.place;
+}) c.deref.ensures.value
 
 -- nothing has begun, so the reader is at the first bit
 begun_not : (c : After-front_waits) → c.self.inside.begun ≡ false
 begun_not c = ap (λ (f : Feeding). f.begun) c.self.view_is ∙ c.requires
 
 starts : (c : After-front_waits) → here c.placed_at-reader.result ≡ c.placed_at-reader.result.bits
-starts c = ap (λ (n : ℕ). drop n c.placed_at-reader.result.bits) (ap (λ (b : BitsAt). b.place) (before_is c)
+starts c = ap (λ (n : ℕ). drop n c.placed_at-reader.result.bits) (ap (λ (b : BitsAt). b.place) (front_is c)
     ∙ c.self.invariant.start (begun_not c))
 
 pub returns-then-front_waits : goal.returns-then-front_waits
@@ -39,7 +42,7 @@ returns-then-front_waits c =
         refl,
         waits.0,
         ap (first_gap_is_settled held.settings.encoding held.settings) (sym (starts at
-            ∙ ap (λ (b : BitsAt). b.bits) (before_is at))) ∙ waits.1,
+            ∙ ap (λ (b : BitsAt). b.bits) (front_is at))) ∙ waits.1,
       );
       unfailed = λ e. cc;
       passes = λ whole tried e. cc;
@@ -50,8 +53,11 @@ returns-then-front_waits c =
             fit = feed.fit;
             lie = feed.lie;
             stands = subst (λ (b : Bool). StandsIn b (tried + (c.front_waits.new.ctx.ticks - c.self.inside.ctx.ticks))
-                c.self.inside.rows c.front_waits.new.ctx (record { bits = whole; place = c.self.inside.dropped
-                + c.self.inside.place })) (sym (begun_not at)) (record {
+                c.self.inside.rows c.front_waits.new.ctx (record {
+                  bits = whole;
+                  place = c.self.inside.dropped
+                      + c.self.inside.place;
+                })) (sym (begun_not at)) (record {
                   fresh = c.front_waits.ensures.held ∙ front.fresh
                       ∙ ap (λ (h : Held). fresh h.settings) (sym c.front_waits.ensures.held);
                   ticks = omega (arith, front.ticks, c.front_waits.ensures.counts);
@@ -69,7 +75,7 @@ invariant_of-self-2 c =
         arith,
         c.bit_pos-self-inside.ensures.within,
         ap length c.first_stand-self-inside.ensures.same_bits,
-        ap (λ (b : BitsAt). length b.bits) (before_is at),
+        ap (λ (b : BitsAt). length b.bits) (front_is at),
         length-bits_in c.self.inside.order c.self.inside.«data».items,
       );
       fit = c.self.invariant.fit;
@@ -103,13 +109,17 @@ returns c =
       waits = λ e. cc;
       unfailed = λ e. stood.ensures.unfailed;
       passes = λ whole tried e feed. front_reaches _ _ mid c.placed_at-reader.result stood.new.reader stood.result more
-          (before_is at) (record { order = refl; finished = refl; kept = refl; dropped = refl }) c.bit_pos-self-inside.ensures.place
-          refl refl same ticks stood.ensures.first stood.ensures.none_taken settings_are stood.ensures.counts stood.ensures.unfailed
+          (front_is at) (record { order = refl; finished = refl; kept = refl; dropped = refl })
+          c.bit_pos-self-inside.ensures.place
+          refl refl same ticks stood.ensures.first stood.ensures.none_taken settings_are stood.ensures.first.counts
+          stood.ensures.unfailed
           stood.ensures.at_line settled feed (at_front inside.begun tried inside.rows inside.ctx
           (record { bits = whole; place = inside.dropped + inside.place }) (begun_not at) feed.stands);
       stands = λ whole tried feed. front_fed _ _ mid c.placed_at-reader.result stood.new.reader stood.result more
-          (before_is at) (record { order = refl; finished = refl; kept = refl; dropped = refl }) c.bit_pos-self-inside.ensures.place
-          refl refl same ticks stood.ensures.first stood.ensures.none_taken settings_are stood.ensures.counts stood.ensures.unfailed
+          (front_is at) (record { order = refl; finished = refl; kept = refl; dropped = refl })
+          c.bit_pos-self-inside.ensures.place
+          refl refl same ticks stood.ensures.first stood.ensures.none_taken settings_are stood.ensures.first.counts
+          stood.ensures.unfailed
           stood.ensures.at_line settled feed (at_front inside.begun tried inside.rows inside.ctx
           (record { bits = whole; place = inside.dropped + inside.place }) (begun_not at) feed.stands);
     })

@@ -1,4 +1,4 @@
-use Rattle.hayro_ccitt.proofs.Names.{◌≡◌, ◌∙◌, ◌++◌, ◌-◌, ◌/◌, ◌*◌, ap, refl, arith, length, length-drop, drop, take, bits_in, List, ℕ}
+use Rattle.hayro_ccitt.proofs.Names.{◌≡◌, ◌∙◌, ◌++◌, ◌-◌, ◌/◌, ap, refl, arith, length, length-drop, drop, take, bits_in, ℕ}
 use Rattle.std.proofs.Math.Seq.{take-append_seam}
 use Rattle.hayro_ccitt.proofs.BitReading.BitLists.{length-bits_in}
 use Rattle.hayro_ccitt.proofs.Readings.FeedsOn.{bits-dropped}

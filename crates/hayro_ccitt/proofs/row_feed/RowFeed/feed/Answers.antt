@@ -24,7 +24,8 @@ returns-in_err-extend_from_slice-clause-refused c =
       dropped = inside.dropped;
       place = inside.place;
     } in
-    let same = ap (λ (items : List ℕ). record view { kept = bits_in inside.order items }) c.in_err-extend_from_slice.ensures.items
+    let same = ap (λ (items : List ℕ). record view { kept = bits_in inside.order items })
+    c.in_err-extend_from_slice.ensures.items
     ∙ c.self.view_is in
     rw answer.1 (λ whole tried feed. subst (IsFeedOf whole tried) (sym same) (drops_read c.drop_read.ensures feed))
 

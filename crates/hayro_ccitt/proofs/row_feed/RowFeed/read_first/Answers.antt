@@ -1,4 +1,4 @@
-use Rattle.hayro_ccitt.proofs.Names.{◌≡◌, ◌∙◌, sym, ap, is_some, ended}
+use Rattle.hayro_ccitt.proofs.Names.{◌∙◌, sym, ap, is_some, ended}
 use Rattle.hayro_ccitt.proofs.Readings.FeedsOn.{feeds_on, first_line_is}
 use Rattle.hayro_ccitt.specs.RowFeeds.{Feeding}
 use Rattle.hayro_ccitt.proofs.row_feed.RowFeed.read_first.Goals as goal

@@ -1,4 +1,5 @@
-use Rattle.hayro_ccitt.proofs.Names.{◌≡◌, ◌≤◌, ◌*◌, ◌∙◌, ap, sym, refl, arith, length, false≢true, false, true, BitsAt, bits_in, is_at_line, List, ℕ}
+use Rattle.hayro_ccitt.proofs.Names.{◌≡◌, ◌∙◌, ap, sym, refl, arith, length, false≢true, true, BitsAt, bits_in, is_at_line}
+use Rattle.hayro_ccitt.proofs.Names.{List, ℕ}
 use Rattle.hayro_ccitt.proofs.BitReading.BitLists.{length-bits_in}
 use Rattle.hayro_ccitt.proofs.Readings.FeedsOn.{feed_reads}
 use Rattle.hayro_ccitt.specs.RowFeeds.{Feeding}
@@ -6,13 +7,15 @@ use Rattle.hayro_ccitt.proofs.row_feed.RowFeed.read_line.Goals.{After-try_line-r
 use Rattle.hayro_ccitt.proofs.row_feed.RowFeed.read_line.Goals as goal
 
 -- what begun is
-has_begun : (c : After-try_line-row) → c.self.inside.begun ≡ true
-has_begun c = ap (λ (f : Feeding). f.begun) c.self.view_is ∙ c.requires.begun
+line_begun : (c : After-try_line-row) → c.self.inside.begun ≡ true
+line_begun c = ap (λ (f : Feeding). f.begun) c.self.view_is ∙ c.requires.begun
 
-before_is : (c : After-try_line-row) → c.placed_at-reader.result
+line_is_at : (c : After-try_line-row) → c.placed_at-reader.result
     ≡ record { bits = bits_in c.self.inside.order c.self.inside.«data».items; place = c.self.inside.place }
-before_is c = c.placed_at-reader.ensures ∙ ap (λ (items : List ℕ). record { bits = bits_in c.self.inside.order items;
-    place = c.self.inside.place }) c.deref.ensures.value
+line_is_at c = c.placed_at-reader.ensures ∙ ap (λ (items : List ℕ). record {
+  bits = bits_in c.self.inside.order items;
+  place = c.self.inside.place;
+}) c.deref.ensures.value
 
 pub invariant_of-self : goal.invariant_of-self
 invariant_of-self c =
@@ -22,21 +25,21 @@ invariant_of-self c =
         arith,
         c.bit_pos-self-inside.ensures.within,
         ap length c.try_line-row.ensures.same_bits,
-        ap (λ (b : BitsAt). length b.bits) (before_is at),
+        ap (λ (b : BitsAt). length b.bits) (line_is_at at),
         length-bits_in c.self.inside.order c.self.inside.«data».items,
       );
       fit = c.self.invariant.fit;
-      fresh = λ e. absurd (false≢true (sym e ∙ has_begun at));
-      start = λ e. absurd (false≢true (sym e ∙ has_begun at));
-      unended = λ e. absurd (false≢true (sym e ∙ has_begun at));
-      rows = λ e. absurd (false≢true (sym e ∙ has_begun at));
+      fresh = λ e. absurd (false≢true (sym e ∙ line_begun at));
+      start = λ e. absurd (false≢true (sym e ∙ line_begun at));
+      unended = λ e. absurd (false≢true (sym e ∙ line_begun at));
+      rows = λ e. absurd (false≢true (sym e ∙ line_begun at));
     }
 
 pub returns : goal.returns
 returns c =
     let at = (goal.at.returns c).After-try_line-row in
-    rw (← c.self.view_is) (feed_reads _ _ c.placed_at-reader.result c.try_line-row.new.reader (before_is at)
+    rw (← c.self.view_is) (feed_reads _ _ c.placed_at-reader.result c.try_line-row.new.reader (line_is_at at)
     (record { order = refl; finished = refl; kept = refl; dropped = refl }) c.bit_pos-self-inside.ensures.place
-    (has_begun at) (has_begun at) c.begin_line.new.self c.begin_line.ensures.frame c.begin_line.ensures.width
+    (line_begun at) (line_begun at) c.begin_line.new.self c.begin_line.ensures.frame c.begin_line.ensures.width
     (ap (λ (f : Feeding). is_at_line f.rows.stand) c.self.view_is ∙ c.requires.line)
     c.try_line-row.result c.try_line-row.ensures)

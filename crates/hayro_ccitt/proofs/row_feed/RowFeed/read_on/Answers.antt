@@ -1,4 +1,4 @@
-use Rattle.hayro_ccitt.proofs.Names.{◌≡◌, ◌∙◌, sym, false≢true}
+use Rattle.hayro_ccitt.proofs.Names.{◌∙◌, sym, false≢true}
 use Rattle.hayro_ccitt.proofs.Readings.FeedsOn.{gap_feeds, reached_fits, reached_on}
 use Rattle.hayro_ccitt.proofs.row_feed.RowFeed.read_on.Goals as goal
 

@@ -1,5 +1,7 @@
-use Rattle.hayro_ccitt.proofs.Names.{◌≡◌, ◌∙◌, ◌++◌, [], ap, sym, subst, refl, inl, append-nil, Bits, BitsAt, Result, Bool, DecodeError, here, drop}
-use Rattle.hayro_ccitt.proofs.Names.{ReachesNextLine, IsStanding, seen, Held, length, arith, ◌-◌, length-drop, OnErr, Ok, Err, line_after, start_after}
+use Rattle.hayro_ccitt.proofs.Names.{◌≡◌, ◌∙◌, ◌++◌, [], ap, sym, subst, refl, inl, append-nil, Bits, BitsAt, Result, Bool}
+use Rattle.hayro_ccitt.proofs.Names.{DecodeError, here, drop}
+use Rattle.hayro_ccitt.proofs.Names.{ReachesNextLine, IsStanding, seen, Held, length, arith, ◌-◌, length-drop, OnErr, Ok, Err}
+use Rattle.hayro_ccitt.proofs.Names.{line_after, start_after}
 use Rattle.hayro_ccitt.proofs.Names.{on_err_weaker, ℕ}
 use Rattle.hayro_ccitt.specs.declared.row_reader.RowState.{RowState}
 use Rattle.hayro_ccitt.specs.RowsTried.{PassesGap, rows_behind_gap}
@@ -15,30 +17,35 @@ passed c =
     let gap = c.pass_gap_here.ensures in
     let before = c.args.reader.now in
     let after = c.pass_gap_here.new.reader in
-    subst (λ (b : Bits). PassesGap c.args.ctx.now c.pass_gap_here.new.ctx gap.over (here before) (drop after.place b)) gap.same_bits
+    subst (λ (b : Bits). PassesGap c.args.ctx.now c.pass_gap_here.new.ctx gap.over (here before)
+    (drop after.place b)) gap.same_bits
     (subst (PassesGap c.args.ctx.now c.pass_gap_here.new.ctx gap.over (here before)) (append-nil (here after))
     (subst (λ (s : Bits). PassesGap c.args.ctx.now c.pass_gap_here.new.ctx gap.over s (here after ++ []))
     (append-nil (here before)) (gap.passes [] (inl refl))))
 
 -- what is kept
-kept : (c : After-pass_gap_here) → c.pass_gap_here.new.self ≡ rows_behind_gap c.args.self.now c.pass_gap_here.ensures.over
+kept_behind_gap : (c : After-pass_gap_here)
+    → c.pass_gap_here.new.self ≡ rows_behind_gap c.args.self.now c.pass_gap_here.ensures.over
     c.args.reader.now.place c.args.ctx.now c.pass_gap_here.new.ctx
-kept c = c.pass_gap_here.ensures.kept_is ∙ ap (λ (n : ℕ). rows_behind_gap c.args.self.now c.pass_gap_here.ensures.over n
+kept_behind_gap c = c.pass_gap_here.ensures.kept_is ∙ ap (λ
+    (n : ℕ). rows_behind_gap c.args.self.now c.pass_gap_here.ensures.over n
     c.args.ctx.now c.pass_gap_here.new.ctx) c.bit_pos-gap_start.ensures.place
 
-there : (c : After-pass_gap_here)
+at_gap_end : (c : After-pass_gap_here)
     → record { bits = c.args.reader.now.bits; place = c.pass_gap_here.new.reader.place } ≡ c.pass_gap_here.new.reader
-there c = ap (λ (b : Bits). record { bits = b; place = c.pass_gap_here.new.reader.place }) (sym c.pass_gap_here.ensures.same_bits)
+at_gap_end c = ap (λ (b : Bits). record { bits = b; place = c.pass_gap_here.new.reader.place })
+    (sym c.pass_gap_here.ensures.same_bits)
 
 pub returns-clause-stands : goal.returns-clause-stands
 returns-clause-stands c from stands =
     let gap = c.pass_gap_here.ensures in
     let before = c.args.reader.now in
     let at = (goal.at.returns-clause-stands c).After-pass_gap_here in
-    subst (λ (r : RowState). IsStanding from r c.pass_gap_here.new.ctx c.pass_gap_here.new.reader) (sym (kept at))
+    subst (λ (r : RowState). IsStanding from r c.pass_gap_here.new.ctx c.pass_gap_here.new.reader) (sym (kept_behind_gap at))
     (subst (IsStanding from (rows_behind_gap c.args.self.now gap.over before.place c.args.ctx.now c.pass_gap_here.new.ctx)
-    c.pass_gap_here.new.ctx) (there at)
-    (gap_stays from c.args.self.now c.args.ctx.now c.pass_gap_here.new.ctx before.bits before.place c.pass_gap_here.new.reader.place
+    c.pass_gap_here.new.ctx) (at_gap_end at)
+    (gap_stays from c.args.self.now c.args.ctx.now c.pass_gap_here.new.ctx before.bits before.place
+    c.pass_gap_here.new.reader.place
     gap.over (passed at) gap.begun (omega (arith, gap.within, ap length gap.same_bits)) c.requires
     (sym c.is_at_line.ensures ∙ c.if-is_at_line.false) stands))
 
@@ -51,10 +58,12 @@ returns-clause-comes c from stands =
     let rows = rows_behind_gap c.args.self.now gap.over before.place c.args.ctx.now c.pass_gap_here.new.ctx in
     subst (λ (r : Result Bool DecodeError). ReachesNextLine old (seen c.pass_gap_here.new.self c.pass_gap_here.new.ctx
     c.pass_gap_here.new.reader) r) (sym gap.said)
-    (subst (λ (r : RowState). ReachesNextLine old (seen r c.pass_gap_here.new.ctx c.pass_gap_here.new.reader) (line_after gap.over))
-    (sym (kept at))
-    (subst (λ (b : BitsAt). ReachesNextLine old (seen rows c.pass_gap_here.new.ctx b) (line_after gap.over)) (there at)
-    (gap_reaches from c.args.self.now c.args.ctx.now c.pass_gap_here.new.ctx before.bits before.place c.pass_gap_here.new.reader.place
+    (subst (λ (r : RowState). ReachesNextLine old (seen r c.pass_gap_here.new.ctx c.pass_gap_here.new.reader)
+    (line_after gap.over))
+    (sym (kept_behind_gap at))
+    (subst (λ (b : BitsAt). ReachesNextLine old (seen rows c.pass_gap_here.new.ctx b) (line_after gap.over)) (at_gap_end at)
+    (gap_reaches from c.args.self.now c.args.ctx.now c.pass_gap_here.new.ctx before.bits before.place
+    c.pass_gap_here.new.reader.place
     gap.over (passed at) gap.begun (omega (arith, gap.within, ap length gap.same_bits)) c.requires
     (sym c.is_at_line.ensures ∙ c.if-is_at_line.false) stands)))
 
@@ -71,7 +80,7 @@ returns-clause-fails c =
     let now = length c.pass_gap_here.new.reader.bits - length (here c.pass_gap_here.new.reader) in
     let at = (goal.at.returns-clause-fails c).After-pass_gap_here in
     subst (λ (r : Result Bool DecodeError). OnErr r (now ≡ c.pass_gap_here.new.self.started_at)) (sym gap.said)
-    (subst (λ (r : RowState). OnErr (line_after gap.over) (now ≡ r.started_at)) (sym (kept at))
+    (subst (λ (r : RowState). OnErr (line_after gap.over) (now ≡ r.started_at)) (sym (kept_behind_gap at))
     (stays gap.over before.place c.args.self.now.started_at now (on_err_weaker gap.over (λ same. omega (
       arith,
       ap length same,

@@ -1,9 +1,9 @@
-use Rattle.hayro_ccitt.proofs.Names.{◌≡◌, ◌≢◌, ◌∙◌, ◌+◌, ◌-◌, ◌⊎◌, ◌&&◌, ap, sym, subst, refl, not, true, false, inl, inr, Bool, ℕ, Result, DecodeError, Option}
-use Rattle.hayro_ccitt.proofs.Names.{arith, [], Ok, None, Some, length, here, Bits, BitsAt, Held, IsStanding, ReachesNextLine, is_at_line, seen}
-use Rattle.hayro_ccitt.proofs.Readings.RowsFed.{gap_step_stands, gap_step_reaches, stays_at_line, stands_later, waits_for, waits_not, passed_some, said_code, said_line}
+use Rattle.hayro_ccitt.proofs.Names.{◌≡◌, ◌∙◌, ◌+◌, ◌-◌, ◌⊎◌, ap, sym, subst, refl, true, inl, ℕ}
+use Rattle.hayro_ccitt.proofs.Names.{arith, [], Ok, here, Held, IsStanding, ReachesNextLine, is_at_line, seen}
+use Rattle.hayro_ccitt.proofs.Readings.RowsFed.{gap_step_stands, gap_step_reaches, stays_at_line, stands_later, waits_for}
+use Rattle.hayro_ccitt.proofs.Readings.RowsFed.{waits_not, passed_some, said_code, said_line}
 use Rattle.hayro_ccitt.specs.declared.row_reader.RowState.{RowState}
 use Rattle.hayro_ccitt.specs.GapsContinued.{gap_is_settled}
-use Rattle.hayro_ccitt.specs.RowFeeds.{came, some_line}
 use Rattle.hayro_ccitt.proofs.row_reader.RowState.come_to_settled_line.Goals as goal
 
 pub returns-then-is_at_line : goal.returns-then-is_at_line
@@ -75,10 +75,12 @@ returns c =
       space = gap.space ∙ c.gap_waits.ensures.space;
       waits = λ e. absurd (passed_some answer (sym c.some_line.ensures ∙ e));
       comes = λ from whole dropped passed lie starts stands. rw c.some_line.ensures (gap_step_reaches c.args.is_last
-          c.args.gap_start rows c.pass_gap_here.new.self old mid c.pass_gap_here.new.ctx c.args.reader.now c.pass_gap_here.new.reader
+          c.args.gap_start rows c.pass_gap_here.new.self old mid c.pass_gap_here.new.ctx c.args.reader.now
+          c.pass_gap_here.new.reader
           answer more same ticks gap settled c.requires no_line from whole dropped lie starts stands);
       stands = λ from whole dropped passed lie starts stands. gap_step_stands c.args.is_last
-          c.args.gap_start rows c.pass_gap_here.new.self old mid c.pass_gap_here.new.ctx c.args.reader.now c.pass_gap_here.new.reader
+          c.args.gap_start rows c.pass_gap_here.new.self old mid c.pass_gap_here.new.ctx c.args.reader.now
+          c.pass_gap_here.new.reader
           answer more same ticks gap settled c.requires no_line from whole dropped lie starts stands;
       line = λ e. ap (λ (r : RowState). is_at_line r.stand) gap.kept_is
           ∙ said_line gap.over answer gap.said (sym c.some_line.ensures ∙ e);

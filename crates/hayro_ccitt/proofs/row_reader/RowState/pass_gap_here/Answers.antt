@@ -1,5 +1,4 @@
-use Rattle.hayro_ccitt.proofs.Names.{rules, ◌≡◌, ◌++◌, ap, ℕ, IfErr-weaker, on_err_weaker, arith, here, missed_since, stand_after}
-use Rattle.hayro_ccitt.proofs.Names.{start_after}
+use Rattle.hayro_ccitt.proofs.Names.{rules, IfErr-weaker, on_err_weaker, arith, here}
 use Rattle.hayro_ccitt.specs.RowsTried.{PassesGap}
 use Rattle.hayro_ccitt.proofs.Readings.GapsPassed.{gap_goes_on}
 use Rattle.hayro_ccitt.proofs.row_reader.RowState.pass_gap_here.Goals as goal
@@ -8,7 +7,8 @@ pub returns : goal.returns
 returns c =
     let gap = c.pass_gap-over.ensures in
     let over = c.pass_gap-over.result in
-    let passes : PassesGap c.args.ctx.now c.pass_gap-over.new.ctx over (here c.args.reader.now) (here c.pass_gap-over.new.reader) =
+    let passes : PassesGap c.args.ctx.now c.pass_gap-over.new.ctx over (here c.args.reader.now)
+    (here c.pass_gap-over.new.reader) =
     record {
       gap = gap.gap;
       held = gap.held;

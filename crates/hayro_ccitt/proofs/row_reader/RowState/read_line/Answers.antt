@@ -1,4 +1,4 @@
-use Rattle.hayro_ccitt.proofs.Names.{rules, ◌≡◌, ap, sym, subst, drop, here, Bits, BitsAt, arith, length, IsStanding, ℕ}
+use Rattle.hayro_ccitt.proofs.Names.{rules, ◌≡◌, ap, sym, subst, drop, here, Bits, BitsAt, arith, length, IsStanding}
 use Rattle.hayro_ccitt.proofs.Names.{ReadsNext, seen, row_came}
 use Rattle.hayro_ccitt.proofs.Readings.LinesRead.{line_stays, line_is_next}
 use Rattle.hayro_ccitt.specs.declared.row_reader.RowState.{RowState}
@@ -7,9 +7,10 @@ use Rattle.hayro_ccitt.proofs.row_reader.RowState.read_line.Goals.{After-note_li
 use Rattle.hayro_ccitt.proofs.row_reader.RowState.read_line.Goals as goal
 
 -- what the line left
-read : (c : After-note_line) → ReadsRow c.args.ctx.now c.read_row-row.new.ctx c.read_row-row.result (here c.args.reader.now)
+read_here : (c : After-note_line) → ReadsRow c.args.ctx.now c.read_row-row.new.ctx c.read_row-row.result
+    (here c.args.reader.now)
     (drop c.read_row-row.new.reader.place c.args.reader.now.bits)
-read c =
+read_here c =
     let row = c.read_row-row.ensures in
     subst (λ (b : Bits). ReadsRow c.args.ctx.now c.read_row-row.new.ctx c.read_row-row.result (here c.args.reader.now)
     (drop c.read_row-row.new.reader.place b)) row.same_bits (record {
@@ -22,27 +23,30 @@ read c =
       space = row.space;
     })
 
-there : (c : After-note_line)
+at_line_end : (c : After-note_line)
     → record { bits = c.args.reader.now.bits; place = c.read_row-row.new.reader.place } ≡ c.read_row-row.new.reader
-there c = ap (λ (b : Bits). record { bits = b; place = c.read_row-row.new.reader.place }) (sym c.read_row-row.ensures.same_bits)
+at_line_end c = ap (λ (b : Bits). record { bits = b; place = c.read_row-row.new.reader.place })
+    (sym c.read_row-row.ensures.same_bits)
 
 -- what is kept
-kept : (c : After-note_line) → c.note_line.new.self ≡ rows_behind_line c.args.self.now c.read_row-row.result
+kept_behind_line : (c : After-note_line) → c.note_line.new.self ≡ rows_behind_line c.args.self.now c.read_row-row.result
     c.args.reader.now.place c.args.ctx.now.held.repairs.rows c.args.ctx.now.held.repairs.cut c.read_row-row.new.ctx.held.repairs
-kept c = search rules
+kept_behind_line c = search rules
 
 pub returns-clause-stands : goal.returns-clause-stands
 returns-clause-stands c from at =
     let before = c.args.reader.now in
     let ctx = c.read_row-row.new.ctx in
     let row = c.read_row-row.result in
-    let rows = rows_behind_line c.args.self.now row before.place c.args.ctx.now.held.repairs.rows c.args.ctx.now.held.repairs.cut
+    let rows = rows_behind_line c.args.self.now row before.place c.args.ctx.now.held.repairs.rows
+    c.args.ctx.now.held.repairs.cut
     ctx.held.repairs in
-    subst (λ (r : RowState). IsStanding from r ctx c.read_row-row.new.reader) (sym (kept c))
-    (subst (IsStanding from rows ctx) (there c) (line_stays from c.args.self.now c.args.ctx.now ctx before.bits before.place
+    subst (λ (r : RowState). IsStanding from r ctx c.read_row-row.new.reader) (sym (kept_behind_line c))
+    (subst (IsStanding from rows ctx) (at_line_end c)
+    (line_stays from c.args.self.now c.args.ctx.now ctx before.bits before.place
     c.read_row-row.new.reader.place (omega (arith, c.bit_pos-line_start.ensures.place, c.bit_pos-line_start.ensures.within))
     (omega (arith, c.bit_pos-end.ensures.place, c.bit_pos-end.ensures.within, ap length c.read_row-row.ensures.same_bits))
-    at row (read c)))
+    at row (read_here c)))
 
 pub returns-clause-reads : goal.returns-clause-reads
 returns-clause-reads c from at =
@@ -50,11 +54,12 @@ returns-clause-reads c from at =
     let ctx = c.read_row-row.new.ctx in
     let row = c.read_row-row.result in
     let old = seen c.args.self.now c.args.ctx.now before in
-    let rows = rows_behind_line c.args.self.now row before.place c.args.ctx.now.held.repairs.rows c.args.ctx.now.held.repairs.cut
+    let rows = rows_behind_line c.args.self.now row before.place c.args.ctx.now.held.repairs.rows
+    c.args.ctx.now.held.repairs.cut
     ctx.held.repairs in
-    subst (λ (r : RowState). ReadsNext old (seen r ctx c.read_row-row.new.reader) (row_came row)) (sym (kept c))
-    (subst (λ (b : BitsAt). ReadsNext old (seen rows ctx b) (row_came row)) (there c)
+    subst (λ (r : RowState). ReadsNext old (seen r ctx c.read_row-row.new.reader) (row_came row)) (sym (kept_behind_line c))
+    (subst (λ (b : BitsAt). ReadsNext old (seen rows ctx b) (row_came row)) (at_line_end c)
     (line_is_next from c.args.self.now c.args.ctx.now ctx before.bits before.place
     c.read_row-row.new.reader.place (omega (arith, c.bit_pos-line_start.ensures.place, c.bit_pos-line_start.ensures.within))
     (omega (arith, c.bit_pos-end.ensures.place, c.bit_pos-end.ensures.within, ap length c.read_row-row.ensures.same_bits))
-    at row (read c)))
+    at row (read_here c)))

@@ -1,6 +1,6 @@
-use Rattle.hayro_ccitt.proofs.Names.{rules, ◌≡◌, ◌∙◌, ap, sym, subst, refl, arith, length, ◌≤◌, true, Ok, Result, Bool, DecodeError}
+use Rattle.hayro_ccitt.proofs.Names.{rules, ◌≡◌, ◌∙◌, sym, refl, arith, length, ◌≤◌}
 use Rattle.hayro_ccitt.proofs.Readings.RowsFed.{left_is, left_not, line_step_stands, line_step_reads, none_read}
-use Rattle.hayro_ccitt.specs.RowsTried.{IsLeft, rows_behind_line}
+use Rattle.hayro_ccitt.specs.RowsTried.{rows_behind_line}
 use Rattle.hayro_ccitt.specs.RowFeeds.{line_answer}
 use Rattle.hayro_ccitt.proofs.row_reader.RowState.try_line.Goals.{After-note_line}
 use Rattle.hayro_ccitt.proofs.row_reader.RowState.try_line.Goals as goal
@@ -19,9 +19,10 @@ returns-then-is_left c =
     }
 
 -- what is kept
-kept : (c : After-note_line) → c.note_line.new.self ≡ rows_behind_line c.args.self.now (line_answer c.try_row-row.result)
+kept_behind_try : (c : After-note_line) → c.note_line.new.self ≡ rows_behind_line c.args.self.now
+    (line_answer c.try_row-row.result)
     c.args.line_start c.args.ctx.now.held.repairs.rows c.args.ctx.now.held.repairs.cut c.try_row-row.new.ctx.held.repairs
-kept c = search rules
+kept_behind_try c = search rules
 
 pub returns : goal.returns
 returns c =
@@ -38,9 +39,11 @@ returns c =
       within = omega (arith, c.bit_pos-end.ensures.place, c.bit_pos-end.ensures.within);
       left = λ is. absurd (left_not answer other is);
       reads = λ from whole dropped read lie starts at. line_step_reads c.args.is_last c.args.line_start c.args.self.now
-          c.note_line.new.self c.args.ctx.now c.try_row-row.new.ctx c.args.reader.now c.try_row-row.new.reader answer row.row other
-          row.same_bits begun ends (kept c) from whole dropped lie starts at;
+          c.note_line.new.self c.args.ctx.now c.try_row-row.new.ctx c.args.reader.now c.try_row-row.new.reader answer row.row
+          other
+          row.same_bits begun ends (kept_behind_try c) from whole dropped lie starts at;
       stands = λ from whole dropped read lie starts at. line_step_stands c.args.is_last c.args.line_start c.args.self.now
-          c.note_line.new.self c.args.ctx.now c.try_row-row.new.ctx c.args.reader.now c.try_row-row.new.reader answer row.row other
-          row.same_bits begun ends (kept c) from whole dropped lie starts at;
+          c.note_line.new.self c.args.ctx.now c.try_row-row.new.ctx c.args.reader.now c.try_row-row.new.reader answer row.row
+          other
+          row.same_bits begun ends (kept_behind_try c) from whole dropped lie starts at;
     }
