@@ -10,13 +10,7 @@ use Rattle.hayro_ccitt.proofs.Names.{◌⊎◌, inl, inr, append-nil, length-app
 use Rattle.hayro_ccitt.specs.GapsContinued.{gap_before, gap_is_settled}
 use Rattle.fax_reading.proofs.GapsContinued.SettledGaps.{gap_settled, repairs_behind-more}
 use Rattle.hayro_ccitt.proofs.{Readings.DamageCounted.repaired_behind, Work.CallsPaid.behind_row_paid, Work.CallsPaid.gap_paid}
-use Rattle.hayro_ccitt.proofs.Readings.RowByRow.{
-  starts_behind,
-  behind_row_stands,
-  damage_stays,
-  misses_behind_row,
-  misses_passed,
-}
+use Rattle.hayro_ccitt.proofs.Readings.RowByRow.{starts_behind, behind_row_stands, damage_stays, misses_behind_row, misses_passed}
 use Rattle.hayro_ccitt.proofs.Readings.RowByRow.{misses_after, miss_told, told_after, gap_stands, comes_to_line}
 use Rattle.hayro_ccitt.specs.declared.row_reader.RowState.{RowState}
 use Rattle.hayro_ccitt.specs.RowsTried.{PassesGap, rows_behind_gap}

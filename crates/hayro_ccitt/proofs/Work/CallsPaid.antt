@@ -1,37 +1,6 @@
 -- Rows one at a time: what all calls of a reader of rows count is paid.
-use Rattle.hayro_ccitt.proofs.Names.{
-  IfOk,
-  OnOk,
-  OnErr,
-  sum_by,
-  ◌≡◌,
-  ◌≢◌,
-  ◌+◌,
-  ◌*◌,
-  ◌<◌,
-  ◌≤◌,
-  ℕ,
-  Bool,
-  true,
-  false,
-  length,
-  take,
-}
-use Rattle.hayro_ccitt.proofs.Names.{
-  drop,
-  None,
-  Result,
-  Ok,
-  Err,
-  refl,
-  sym,
-  ap,
-  ◌∙◌,
-  arith,
-  false≢true,
-  length-drop,
-  DecodeError,
-}
+use Rattle.hayro_ccitt.proofs.Names.{IfOk, OnOk, OnErr, sum_by, ◌≡◌, ◌≢◌, ◌+◌, ◌*◌, ◌<◌, ◌≤◌, ℕ, Bool, true, false, length, take}
+use Rattle.hayro_ccitt.proofs.Names.{drop, None, Result, Ok, Err, refl, sym, ap, ◌∙◌, arith, false≢true, length-drop, DecodeError}
 use Rattle.hayro_ccitt.proofs.Names.{Stand, AtLine, BehindRow, AtEnd, AtFault, DecodeSettings, EncodingMode, Group4, Group3_1D}
 use Rattle.hayro_ccitt.proofs.Names.{Group3_2D, Bits, Held, fresh, gap_said, Gap, gap_behind_row, changes, IsPaid, PaidAtLine}
 use Rattle.hayro_ccitt.proofs.Names.{PaidBehindRow, ReaderStands, WorkIsPaid, ended, is_at_line, stand_after, looked}

@@ -1,15 +1,5 @@
 use Rattle.hayro_ccitt.proofs.Names.{◌≡◌, ◌∙◌, ◌-◌, Bool, Result, Ok, Err, Some, refl, sym, ap, subst, arith, true}
-use Rattle.hayro_ccitt.proofs.Names.{
-  err_from_is_err_and,
-  length,
-  DecodeError,
-  DecodeSettings,
-  Bits,
-  BitsAt,
-  Context,
-  Held,
-  rules,
-}
+use Rattle.hayro_ccitt.proofs.Names.{err_from_is_err_and, length, DecodeError, DecodeSettings, Bits, BitsAt, Context, Held, rules}
 use Rattle.hayro_ccitt.proofs.Names.{SinkState, here, failed_at, IsStanding, IsStandingAtLine, ReachesNextLine, ReadsNext, seen}
 use Rattle.hayro_ccitt.proofs.Names.{ended, row_came, is_some, sum_by, words_of, take, plain, None, ℕ}
 use Rattle.hayro_ccitt.proofs.Names.{drop, DecodesRows, meaning_after, ReaderStands, DamageIsCounted, WorkIsPaid, MissIsTold}
