@@ -34,6 +34,7 @@ KEPT = {
     "if self.bitmap.len() < self.start || self.bitmap.len() - self.start < bytes",
     "if self.rows == self.most",
     "if !bits_fit(encoded)",
+    "if lacks_memory(&row)",
 }
 
 

@@ -1,7 +1,7 @@
 //! Rows from data that comes in pieces.
 
 ghost use Rattle.std.specs.Prelude.{◌≡◌, ◌≢◌, ◌≤◌, ◌<◌, ◌+◌, ◌*◌, ◌/◌, ◌^◌, ◌&&◌, not, ℕ, Bool, true, false, [], ◌++◌, None};
-ghost use Rattle.std.specs.Prelude.{Some, Ok, Err};
+ghost use Rattle.std.specs.Prelude.{Some, Ok, Err, ◌⊎◌, ◌-◌};
 ghost use Rattle.std.specs.Prelude.{IfOk, IfErr, OnErr, OnOk, IsOkUnless, Result, length, max, drop};
 ghost use Rattle.hayro_ccitt.specs.Bits.{AreWholeBytes, Bits, bits_in, here};
 ghost use Rattle.hayro_ccitt.specs.Context.{fresh};
@@ -183,6 +183,22 @@ impl RowState {
 }
 
 /// Reads the rows of an image from data that comes in pieces, each as soon as no data that follows can change it.
+///
+/// # Example
+///
+/// ```text
+/// let mut rows = RowFeed::new(alloc, BitOrder::HighestFirst, settings)?;
+/// for piece in pieces {
+///     rows.feed(piece)?;
+///     while rows.next_row()? == Fed::Row {
+///         show(rows.row());
+///     }
+/// }
+/// rows.finish();
+/// while rows.next_row()? == Fed::Row {
+///     show(rows.row());
+/// }
+/// ```
 #[derive(Drop)]
 pub struct RowFeed {
     ctx: DecoderContext,
@@ -376,9 +392,8 @@ impl RowFeed {
     ///
     /// # Errors
     ///
-    /// `OutOfMemory` if the bytes can't be stored, or if all bytes fed would have more than 2^64 - 65 bits. No byte is fed
-    /// then,
-    /// and the reading is the same.
+    /// `OutOfMemory` if the bytes can't be stored, and `Overflow` if all bytes fed would have more than 2^64 - 72 bits. No byte
+    /// is fed then, and the reading is the same.
     pub fn feed(&mut self, bytes: &[u8]) -> Result<()>
         requires unfinished { self.old.finished ≡ false }
         ensures fed { OnOk result ((whole : Bits) (tried : ℕ) → IsFeedOf whole tried self.old
@@ -387,12 +402,14 @@ impl RowFeed {
             → IsFeedOf whole tried self.new) }
         ensures same { (self.new.ctx ≡ self.old.ctx) × (self.new.rows ≡ self.old.rows) × (self.new.order ≡ self.old.order)
             × (self.new.finished ≡ self.old.finished) }
-        ensures only_memory { IsOkUnless result DecodeError.OutOfMemory }
+        ensures only { IfErr result (λ e. (e ≡ DecodeError.OutOfMemory) ⊎ (e ≡ DecodeError.Overflow)) }
+        ensures too_long { result ≡ Err DecodeError.Overflow
+            → 2 ^ 64 - 72 < self.old.dropped + length self.old.kept + 8 * length bytes.now }
     {
         self.drop_read();
         let kept = self.data.len();
         if bytes.len() > MOST_BYTES - kept || self.dropped > (MOST_BYTES - kept - bytes.len()) * 8 {
-            return Err(DecodeError::OutOfMemory);
+            return Err(DecodeError::Overflow);
         }
         self.data.extend_from_slice(bytes)?;
         Ok(())
