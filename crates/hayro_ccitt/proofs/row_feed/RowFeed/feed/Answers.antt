@@ -1,4 +1,5 @@
-use Rattle.hayro_ccitt.proofs.Names.{◌≡◌, ◌∙◌, ◌++◌, ◌*◌, ap, sym, subst, bits_in, Bits, List, ℕ, err_from_is_err_and, arith, length, length-drop}
+use Rattle.hayro_ccitt.proofs.Names.{◌≡◌, ◌∙◌, ◌++◌, ◌*◌, ap, sym, subst, bits_in, Bits, List, ℕ, err_from_is_err_and}
+use Rattle.hayro_ccitt.proofs.Names.{arith, length, length-drop}
 use Rattle.hayro_ccitt.proofs.Readings.FeedsOn.{come_next, drops_read, feeds_more}
 use Rattle.std.proofs.lemmas.List.Concat.{flat_map-append}
 use Rattle.fax_bits.specs.declared.bit_reader.BitOrder.{BitOrder}
@@ -66,6 +67,11 @@ returns-then-bytes-kept-clause-too_long c e =
     ∙ length-drop (8 * drops.bytes) c.args.self.now.kept in
     let dropped = ap (λ (f : Feeding). f.dropped) c.self.view_is in
     elim c.then-bytes-kept.branch [
-      | then-bytes-kept-via-then-bytes-kept w ↦ omega (arith, kept, left, dropped, drops.dropped, drops.read, drops.place, drops.within, c.len-kept.ensures, w.if-bytes-kept)
-      | then-bytes-kept-via-else-bytes-kept+then-self-kept w ↦ omega (arith, kept, left, dropped, drops.dropped, drops.read, drops.place, drops.within, c.len-kept.ensures, w.if-bytes-kept, w.if-self-kept)
+      | then-bytes-kept-via-then-bytes-kept w ↦ omega (
+        arith, kept, left, dropped, drops.dropped, drops.read, drops.place, drops.within, c.len-kept.ensures, w.if-bytes-kept,
+      )
+      | then-bytes-kept-via-else-bytes-kept+then-self-kept w ↦ omega (
+        arith, kept, left, dropped, drops.dropped, drops.read, drops.place, drops.within, c.len-kept.ensures, w.if-bytes-kept,
+        w.if-self-kept,
+      )
     ]
