@@ -74,6 +74,7 @@ fn feeds_bytes(
     settings: DecodeSettings,
     digits: &str,
 ) {
+    assert!(rt; bits_fit(data));
     let mut reader = reader_of(rt, data, settings);
     let mut feed = RowFeed::new(rt.alloc(), BitOrder::HighestFirst, settings).expect(rt, "memory");
     let mut fed = 0;
