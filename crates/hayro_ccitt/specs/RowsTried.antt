@@ -38,8 +38,7 @@ pub record ReadsRow (old new : Context) (answer : Result (Unit {0}) DecodeError)
       (line_here old.held.settings old.held.reference start)))
 
 -- What a call that passes the gap that begins some bits leaves, with these bits after it: whether the image ends there, the
--- EOLs
--- that were missed, and its work (T.4, 4.1.2 and 4.1.4; T.6, 2.4.1.1).
+-- EOLs that were missed, and its work (T.4, 4.1.2 and 4.1.4; T.6, 2.4.1.1).
 pub record PassesGap (old new : Context) (answer : Result Bool DecodeError) (start rest : Bits) : Type 0 where
   pub gap : gap_behind_row old.held.settings old.held.taken old.held.has_eols start ≡ gap_said answer new.held.has_eols rest
   pub held : new.held ≡ record old.held { has_eols = new.held.has_eols; repairs = new.held.repairs }
@@ -136,8 +135,7 @@ rows_behind_line rows (Err error) place damaged cut repairs = record {
 }
 
 -- What a call leaves that passes the gap here, which begins at this offset of the data: what is kept after it, and whatever
--- bits
--- follow, if they change nothing of the gap, that it is passed (T.4, 4.1.2 and 4.1.4; T.6, 2.4.1.1).
+-- bits follow, if they change nothing of the gap, that it is passed (T.4, 4.1.2 and 4.1.4; T.6, 2.4.1.1).
 pub record PassesGapHere (gap_start : ℕ) (rows kept : RowState) (old new : Context) (before after : BitsAt)
     (answer : Result Bool DecodeError) : Type 0 where
   pub over : Result Bool DecodeError

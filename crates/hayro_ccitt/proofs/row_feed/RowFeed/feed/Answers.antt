@@ -68,10 +68,28 @@ returns-then-bytes-kept-clause-too_long c e =
     let dropped = ap (λ (f : Feeding). f.dropped) c.self.view_is in
     elim c.then-bytes-kept.branch [
       | then-bytes-kept-via-then-bytes-kept w ↦ omega (
-        arith, kept, left, dropped, drops.dropped, drops.read, drops.place, drops.within, c.len-kept.ensures, w.if-bytes-kept,
+        arith,
+        kept,
+        left,
+        dropped,
+        drops.dropped,
+        drops.read,
+        drops.place,
+        drops.within,
+        c.len-kept.ensures,
+        w.if-bytes-kept,
       )
       | then-bytes-kept-via-else-bytes-kept+then-self-kept w ↦ omega (
-        arith, kept, left, dropped, drops.dropped, drops.read, drops.place, drops.within, c.len-kept.ensures, w.if-bytes-kept,
+        arith,
+        kept,
+        left,
+        dropped,
+        drops.dropped,
+        drops.read,
+        drops.place,
+        drops.within,
+        c.len-kept.ensures,
+        w.if-bytes-kept,
         w.if-self-kept,
       )
     ]
