@@ -11,7 +11,7 @@ ghost use Rattle.hayro_ccitt.specs.RowsTried.{IsLeft};
 ghost use Rattle.hayro_ccitt.specs.RowFeeds.{Begins, ComeNext, ComesInFeed, DropsRead, ReadsInFeed, ComesOn, FeedsNext};
 ghost use Rattle.hayro_ccitt.specs.RowFeeds.{IsFeedOf, KeepsBits, TriesLine, fed_end, fed_none, fed_row, is_left, line_answer};
 ghost use Rattle.hayro_ccitt.specs.RowFeeds.{some_line};
-ghost use Rattle.hayro_ccitt.specs.Rows.{changes};
+ghost use Rattle.hayro_ccitt.specs.Rows.{AreChanges, changes};
 
 use crate::context::DecoderContext;
 use crate::row_reader::{RowState, Stand, first_stand, has_ended, is_at_line};
@@ -435,6 +435,8 @@ impl RowFeed {
     /// are none before the first row.
     pub fn row(&self) -> &[u32]
         ensures changes { result.now ≡ changes self.now.ctx.held.reference }
+        ensures lawful { AreChanges self.now.ctx.held.settings.columns result.now }
+        ensures width { length self.now.ctx.held.reference ≡ self.now.ctx.held.settings.columns }
     {
         self.ctx.reference_row()
     }
@@ -505,5 +507,20 @@ impl RowFeed {
         ensures { result ≡ (self.now.dropped + self.now.place + 7) / 8 }
     {
         (self.dropped + self.place).div_ceil(8)
+    }
+
+    /// Returns the bytes that were fed and aren't consumed; of a byte that is partly read nothing is left. At the end of the
+    /// image they are what was fed behind it.
+    pub fn unused(&self) -> &[u8]
+        ensures { bits_in self.now.order result.now ≡ drop (8 * ((self.now.place + 7) / 8)) self.now.kept }
+    {
+        &self.data[self.place.div_ceil(8)..]
+    }
+
+    /// Returns the settings by which the rows are read.
+    pub fn settings(&self) -> DecodeSettings
+        ensures { result ≡ self.now.ctx.held.settings }
+    {
+        self.ctx.settings()
     }
 }
