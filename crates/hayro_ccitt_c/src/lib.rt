@@ -45,8 +45,11 @@ use change_count::ChangeCount;
 use encoding::{Unencoded, encoded, encoder_of_rows, layout_asked, rows_asked};
 pub use encoding::{EncodeOutcome, EncodeSettings};
 pub use feed_handle::Feed;
-pub use feeds::{hayro_ccitt_feed, hayro_ccitt_feed_close, hayro_ccitt_feed_finish, hayro_ccitt_feed_next_changes};
-pub use feeds::{hayro_ccitt_feed_next_packed, hayro_ccitt_feed_open, hayro_ccitt_feed_unused};
+pub use feeds::{
+    hayro_ccitt_feed, hayro_ccitt_feed_close, hayro_ccitt_feed_finish,
+    hayro_ccitt_feed_next_changes, hayro_ccitt_feed_next_packed, hayro_ccitt_feed_open,
+    hayro_ccitt_feed_unused,
+};
 use hayro_ccitt::bits_fit;
 use listed_rows::ListedRows;
 use owned::Owned;

@@ -3,7 +3,7 @@ use Rattle.hayro_ccitt.proofs.Names.{◌≡◌, ◌∙◌, ◌++◌, ◌+◌, �
 use Rattle.hayro_ccitt.proofs.Names.{◌-◌, length-drop}
 use Rattle.std.specs.Prelude.{◌/◌}
 use Rattle.std.proofs.lemmas.List.{append-nil, drop-append-le}
-use Rattle.hayro_ccitt.specs.RowFeeds.{DropsRead, Feeding, HoldsMore, unused}
+use Rattle.hayro_ccitt.specs.RowFeeds.{DropsRead, Feeding, HoldsMore}
 
 -- what is behind an offset of the bits that are left, once bytes before it are dropped and bits are appended
 behind : (kept next : Bits) (dropped offset : ℕ) → offset ≤ length (drop dropped kept)

@@ -171,20 +171,23 @@ returns-in_err-extend_from_slice-clause-too_long c =
     let left = ap (λ (f : Feeding). length f.kept) c.self.view_is ∙ ap length drops.kept
     ∙ length-drop (8 * drops.bytes) c.args.self.now.kept in
     let dropped = ap (λ (f : Feeding). f.dropped) c.self.view_is in
-    rw answer.1 (λ e. absurd (not_long c.from_residual.result answer.0 answer.1 answer.2 (answer.1 ∙ e)), λ more. absurd (omega (
-      arith,
-      more,
-      kept,
-      left,
-      dropped,
-      drops.dropped,
-      drops.read,
-      drops.place,
-      drops.within,
-      c.len-kept.ensures,
-      c.if-bytes-kept.false,
-      c.if-self-kept.false,
-    )))
+    rw answer.1 (
+      λ e. absurd (not_long c.from_residual.result answer.0 answer.1 answer.2 (answer.1 ∙ e)),
+      λ more. absurd (omega (
+        arith,
+        more,
+        kept,
+        left,
+        dropped,
+        drops.dropped,
+        drops.read,
+        drops.place,
+        drops.within,
+        c.len-kept.ensures,
+        c.if-bytes-kept.false,
+        c.if-self-kept.false,
+      )),
+    )
 
 pub returns-clause-too_long : goal.returns-clause-too_long
 returns-clause-too_long c =
@@ -193,18 +196,20 @@ returns-clause-too_long c =
     let kept = length-bits_in inside.order inside.«data».items in
     let left = ap (λ (f : Feeding). length f.kept) c.self.view_is ∙ ap length drops.kept
     ∙ length-drop (8 * drops.bytes) c.args.self.now.kept in
-    let dropped = ap (λ (f : Feeding). f.dropped) c.self.view_is in
-    (λ e. cc, λ more. absurd (omega (
-      arith,
-      more,
-      kept,
-      left,
-      dropped,
-      drops.dropped,
-      drops.read,
-      drops.place,
-      drops.within,
-      c.len-kept.ensures,
-      c.if-bytes-kept.false,
-      c.if-self-kept.false,
-    )))
+    let dropped = ap (λ (f : Feeding). f.dropped) c.self.view_is in (
+      λ e. cc,
+      λ more. absurd (omega (
+        arith,
+        more,
+        kept,
+        left,
+        dropped,
+        drops.dropped,
+        drops.read,
+        drops.place,
+        drops.within,
+        c.len-kept.ensures,
+        c.if-bytes-kept.false,
+        c.if-self-kept.false,
+      )),
+    )
