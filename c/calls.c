@@ -17,6 +17,13 @@ uint32_t proved_hayro_ccitt_open(const uint8_t *, size_t, const hayro_ccitt_sett
 uint32_t proved_hayro_ccitt_next_changes(const uint8_t *, size_t, hayro_ccitt_reader *, uint32_t *, size_t, hayro_ccitt_row *);
 uint32_t proved_hayro_ccitt_next_packed(const uint8_t *, size_t, hayro_ccitt_reader *, uint8_t *, size_t, hayro_ccitt_row *);
 uint32_t proved_hayro_ccitt_close(hayro_ccitt_reader *);
+uint32_t proved_hayro_ccitt_feed_open(const hayro_ccitt_settings *, hayro_ccitt_row_feed *);
+uint32_t proved_hayro_ccitt_feed(hayro_ccitt_row_feed *, const uint8_t *, size_t);
+uint32_t proved_hayro_ccitt_feed_finish(hayro_ccitt_row_feed *);
+uint32_t proved_hayro_ccitt_feed_next_changes(hayro_ccitt_row_feed *, uint32_t *, size_t, hayro_ccitt_row *);
+uint32_t proved_hayro_ccitt_feed_next_packed(hayro_ccitt_row_feed *, uint8_t *, size_t, hayro_ccitt_row *);
+uint32_t proved_hayro_ccitt_feed_unused(hayro_ccitt_row_feed *, uint8_t *, size_t, size_t *);
+uint32_t proved_hayro_ccitt_feed_close(hayro_ccitt_row_feed *);
 uint32_t proved_fax_encode_bitmap(const uint8_t *, size_t, const fax_encode_settings *, uint8_t *, size_t, fax_encode_outcome *);
 uint32_t proved_fax_encode_open(const fax_encode_settings *, fax_encode_writer *);
 uint32_t proved_fax_encode_row_packed(fax_encode_writer *, const uint8_t *, size_t);
@@ -80,6 +87,41 @@ uint32_t hayro_ccitt_next_packed(const uint8_t *data, size_t data_length, hayro_
 uint32_t hayro_ccitt_close(hayro_ccitt_reader *reader)
 {
     return proved_hayro_ccitt_close(reader);
+}
+
+uint32_t hayro_ccitt_feed_open(const hayro_ccitt_settings *settings, hayro_ccitt_row_feed *feed)
+{
+    return proved_hayro_ccitt_feed_open(settings, feed);
+}
+
+uint32_t hayro_ccitt_feed(hayro_ccitt_row_feed *feed, const uint8_t *bytes, size_t length)
+{
+    return proved_hayro_ccitt_feed(feed, OR_NONE(bytes, length, no_data), length);
+}
+
+uint32_t hayro_ccitt_feed_finish(hayro_ccitt_row_feed *feed)
+{
+    return proved_hayro_ccitt_feed_finish(feed);
+}
+
+uint32_t hayro_ccitt_feed_next_changes(hayro_ccitt_row_feed *feed, uint32_t *changes, size_t changes_length, hayro_ccitt_row *row)
+{
+    return proved_hayro_ccitt_feed_next_changes(feed, OR_NONE(changes, changes_length, no_numbers), changes_length, row);
+}
+
+uint32_t hayro_ccitt_feed_next_packed(hayro_ccitt_row_feed *feed, uint8_t *packed, size_t packed_length, hayro_ccitt_row *row)
+{
+    return proved_hayro_ccitt_feed_next_packed(feed, OR_NONE(packed, packed_length, no_bytes), packed_length, row);
+}
+
+uint32_t hayro_ccitt_feed_unused(hayro_ccitt_row_feed *feed, uint8_t *bytes, size_t length, size_t *count)
+{
+    return proved_hayro_ccitt_feed_unused(feed, OR_NONE(bytes, length, no_bytes), length, count);
+}
+
+uint32_t hayro_ccitt_feed_close(hayro_ccitt_row_feed *feed)
+{
+    return proved_hayro_ccitt_feed_close(feed);
 }
 
 uint32_t fax_encode_bitmap(const uint8_t *bitmap, size_t bitmap_length, const fax_encode_settings *settings,

@@ -25,7 +25,7 @@
  * Threads. Calls share no state, so several threads may call at the same time. Don't call from a signal handler, nor after fork
  * in the child of a process with threads.
  *
- * Memory. The library allocates by malloc, and frees all of it before a call returns, except what an open reader or writer
+ * Memory. The library allocates by malloc, and frees all of it before a call returns, except what an open reader, feed or writer
  * holds. hayro_ccitt_heap.h says how a program gives it another allocator. */
 #ifndef HAYRO_CCITT_H
 #define HAYRO_CCITT_H
@@ -91,7 +91,8 @@ enum {
     HAYRO_CCITT_REFUSED = 5,        /* there is no room for the next row, of which nothing is written */
     HAYRO_CCITT_NOT_TAKEN = 6,      /* the settings are invalid, or the data has 2 ^ 61 - 8 bytes or more; the outcome is zeros,
                                      * and nothing else is written */
-    HAYRO_CCITT_NO_ROW = 7          /* no row is left: only from the calls that read one row */
+    HAYRO_CCITT_NO_ROW = 7,         /* no row is left: only from the calls that read one row */
+    HAYRO_CCITT_NEEDS_MORE = 8      /* more data is needed, or its end: only from the calls that read one row of data in pieces */
 };
 
 /* Counts rows and their changes. It never returns HAYRO_CCITT_REFUSED. */
@@ -126,8 +127,7 @@ typedef struct {
     unsigned char is_open;
 } hayro_ccitt_reader;
 
-/* What hayro_ccitt_next_changes and hayro_ccitt_next_packed fill in, of the last row that was read; zeros after
- * HAYRO_CCITT_NOT_TAKEN. */
+/* What the calls that read one row fill in, of the last row that was read; zeros after HAYRO_CCITT_NOT_TAKEN. */
 typedef struct {
     uint64_t rows;         /* the number of rows read so far */
     uint64_t changes;      /* the number of changes of the last one */
@@ -162,6 +162,48 @@ uint32_t hayro_ccitt_next_packed(const uint8_t *data, size_t data_length, hayro_
 /* Closes a reader, and frees its memory. Returns HAYRO_CCITT_OK, or HAYRO_CCITT_NOT_TAKEN if it isn't open: then it does
  * nothing. */
 uint32_t hayro_ccitt_close(hayro_ccitt_reader *reader);
+
+/* Rows of data that comes in pieces, however it is cut, each as soon as no data that follows can change it: open a feed, feed the
+ * bytes as they come, and after each piece read rows until the status isn't HAYRO_CCITT_OK; after the last piece finish the data,
+ * and read the rows that are left; close the feed. The rows, the last status and bytes_read are those of a reader of all the data.
+ *
+ * A feed keeps a copy of the bytes that it still needs: those of a line that isn't whole, and what was fed but not read yet.
+ *
+ * Several feeds may be open at a time. Each belongs to one thread at a time. A feed that isn't closed leaks its memory. */
+typedef struct {
+    void *feeding;         /* the fields are the library's own: set all to zero before hayro_ccitt_feed_open, change none after it, */
+    void *nowhere;         /* and don't copy an open feed */
+    unsigned char is_open;
+} hayro_ccitt_row_feed;
+
+/* Opens a feed to which nothing was fed. Unless it returns HAYRO_CCITT_OK, the feed stays as it is. HAYRO_CCITT_NOT_TAKEN means that
+ * the settings are invalid or the feed is open. */
+uint32_t hayro_ccitt_feed_open(const hayro_ccitt_settings *settings, hayro_ccitt_row_feed *feed);
+
+/* Feeds the bytes that come next in the data. After HAYRO_CCITT_OUT_OF_MEMORY none of them is fed, and they can be fed again.
+ * HAYRO_CCITT_OVERFLOW means that all bytes fed would be 2 ^ 61 - 8 or more, and HAYRO_CCITT_NOT_TAKEN that the feed isn't open or the
+ * data is finished: none of them is fed either. */
+uint32_t hayro_ccitt_feed(hayro_ccitt_row_feed *feed, const uint8_t *bytes, size_t length);
+
+/* Finishes the data: no bytes follow those that were fed. Returns HAYRO_CCITT_OK, or HAYRO_CCITT_NOT_TAKEN if the feed isn't
+ * open. */
+uint32_t hayro_ccitt_feed_finish(hayro_ccitt_row_feed *feed);
+
+/* Reads the next row as hayro_ccitt_next_changes does, if no data that follows can change it; else it returns
+ * HAYRO_CCITT_NEEDS_MORE: feed more, or finish the data. After HAYRO_CCITT_OUT_OF_MEMORY nothing was read, and the call can be made
+ * again. HAYRO_CCITT_NOT_TAKEN means that the feed isn't open. The offsets of `row` are counted from the first byte fed. */
+uint32_t hayro_ccitt_feed_next_changes(hayro_ccitt_row_feed *feed, uint32_t *changes, size_t changes_length, hayro_ccitt_row *row);
+
+/* The same, but packs the row as hayro_ccitt_next_packed does. */
+uint32_t hayro_ccitt_feed_next_packed(hayro_ccitt_row_feed *feed, uint8_t *packed, size_t packed_length, hayro_ccitt_row *row);
+
+/* Copies the bytes that were fed and aren't consumed, and stores in `count` how many they are: after HAYRO_CCITT_NO_ROW, those behind
+ * the image. A byte of which a bit was read is consumed. After HAYRO_CCITT_REFUSED there was no room, and none is copied. The bytes
+ * after them keep their values. HAYRO_CCITT_NOT_TAKEN means that the feed isn't open; `count` is 0. The feed stays as it is. */
+uint32_t hayro_ccitt_feed_unused(hayro_ccitt_row_feed *feed, uint8_t *bytes, size_t length, size_t *count);
+
+/* Closes a feed, and frees its memory. Returns HAYRO_CCITT_OK, or HAYRO_CCITT_NOT_TAKEN if it isn't open: then it does nothing. */
+uint32_t hayro_ccitt_feed_close(hayro_ccitt_row_feed *feed);
 
 #ifdef __cplusplus
 }

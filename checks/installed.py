@@ -40,6 +40,23 @@ static uint32_t by_rows(const uint8_t *data, size_t length, const hayro_ccitt_se
     return opened + 10 * listed + 100 * packed + 1000 * hayro_ccitt_close(&reader);
 }
 
+static uint32_t by_feed(const uint8_t *data, size_t length, const hayro_ccitt_settings *settings, uint8_t *bytes, uint32_t *numbers,
+                        hayro_ccitt_outcome *outcome)
+{
+    hayro_ccitt_row_feed feed = {0, 0, 0};
+    hayro_ccitt_row row;
+    size_t count = 0;
+    uint32_t opened = hayro_ccitt_feed_open(settings, &feed);
+    uint32_t fed = hayro_ccitt_feed(&feed, data, length) + hayro_ccitt_feed_finish(&feed);
+    uint32_t listed = hayro_ccitt_feed_next_changes(&feed, numbers, 0, &row);
+    uint32_t packed = hayro_ccitt_feed_next_packed(&feed, bytes, 0, &row);
+    uint32_t unused = hayro_ccitt_feed_unused(&feed, bytes, 0, &count);
+    outcome->rows = row.rows;
+    outcome->changes = row.changes;
+    outcome->bytes_read = row.bytes_read + 8 * count;
+    return opened + 10 * listed + 100 * packed + 1000 * fed + 100000 * unused + 1000000 * hayro_ccitt_feed_close(&feed);
+}
+
 static uint32_t strip_by_rows(const fax_encode_settings *settings, const uint8_t *row, const uint32_t *changes, uint8_t *data,
                               fax_encode_outcome *outcome)
 {
@@ -89,6 +106,12 @@ int main(void)
                 all += !same(one, &first, two, &second);
                 one = by_rows(row, 2, &settings, NULL, NULL, &first);
                 two = by_rows(row, 2, &settings, &none, &number, &second);
+                all += !same(one, &first, two, &second);
+                one = by_feed(NULL, 0, &settings, NULL, NULL, &first);
+                two = by_feed(&none, 0, &settings, &none, &number, &second);
+                all += !same(one, &first, two, &second);
+                one = by_feed(row, 2, &settings, NULL, NULL, &first);
+                two = by_feed(row, 2, &settings, &none, &number, &second);
                 all += !same(one, &first, two, &second);
                 one = fax_encode_bitmap(NULL, 0, &encoded, NULL, 0, &told);
                 two = fax_encode_bitmap(&none, 0, &encoded, &none, 0, &other);

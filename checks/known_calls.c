@@ -139,17 +139,37 @@ static void read_rows(const known *it, const uint8_t *bitmap) {
     ended(hayro_ccitt_close(&reader), HAYRO_CCITT_OK, "closed");
 }
 
+/* The same of data that is fed at once. */
+static void read_fed_rows(const known *it, const uint8_t *bitmap) {
+    size_t width = (it->columns + 7ULL) / 8, stride = it->settings.stride ? it->settings.stride : width;
+    hayro_ccitt_row_feed feed = {0, 0, 0};
+    hayro_ccitt_row row;
+    must(hayro_ccitt_feed_open(&it->settings, &feed) == HAYRO_CCITT_OK, "a feed of packed rows");
+    must(hayro_ccitt_feed(&feed, it->data, it->length) == HAYRO_CCITT_OK && hayro_ccitt_feed_finish(&feed) == HAYRO_CCITT_OK, "fed");
+    for (uint64_t index = 0; index < it->rows; index++) {
+        uint8_t *memory = lend(width);
+        must(hayro_ccitt_feed_next_packed(&feed, memory, width, &row) == HAYRO_CCITT_OK, "a packed row that is fed");
+        must(are_same(memory, bitmap + index * stride, width), "the bytes of a packed row that is fed");
+        take_back(memory);
+    }
+    uint32_t wanted = it->status ? it->status : HAYRO_CCITT_NO_ROW;
+    must(hayro_ccitt_feed_next_packed(&feed, NULL, 0, &row) == wanted, "the end of packed rows that are fed");
+    ended(hayro_ccitt_feed_close(&feed), HAYRO_CCITT_OK, "closed");
+}
+
 /* Settings that aren't taken: each call says so. */
 static void refuse_settings(const known *it) {
     hayro_ccitt_outcome outcome;
     hayro_ccitt_reader reader = {0, 0, 0};
+    hayro_ccitt_row_feed feed = {0, 0, 0};
     uint8_t *memory = lend(64);
     uint32_t *lists = lend(64);
     ended(hayro_ccitt_measure(it->data, it->length, &it->settings, &outcome), HAYRO_CCITT_NOT_TAKEN, "measured");
     ended(hayro_ccitt_decode_packed(it->data, it->length, &it->settings, memory, 64, &outcome), HAYRO_CCITT_NOT_TAKEN, "packed");
     ended(hayro_ccitt_decode_changes(it->data, it->length, &it->settings, lists, 16, &outcome), HAYRO_CCITT_NOT_TAKEN, "listed");
     ended(hayro_ccitt_open(it->data, it->length, &it->settings, &reader), HAYRO_CCITT_NOT_TAKEN, "opened");
-    must(outcome.rows == 0 && !reader.is_open, "nothing is told");
+    ended(hayro_ccitt_feed_open(&it->settings, &feed), HAYRO_CCITT_NOT_TAKEN, "a feed is opened");
+    must(outcome.rows == 0 && !reader.is_open && !feed.is_open, "nothing is told");
     must(is_untouched_behind(memory, 0, 64) && is_untouched_behind(lists, 0, 64), "nothing is written");
     take_back(lists);
     take_back(memory);
@@ -167,6 +187,7 @@ static void spread(const known *it, const uint8_t *bitmap, size_t size) {
     if (size > 1) spread_rows(it, bitmap, size / 2);
     if (size > 2) spread_rows(it, bitmap, 0);
     read_rows(it, bitmap);
+    read_fed_rows(it, bitmap);
 }
 
 static void encode(const uint8_t *bitmap, size_t length, const fax_encode_settings *settings, uint32_t status, uint64_t rows, const uint8_t *strip,

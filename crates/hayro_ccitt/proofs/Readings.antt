@@ -1,3 +1,4 @@
+pub mod BitsHeld
 pub mod FeedsOn
 pub mod FirstGaps
 pub mod GapsPassed

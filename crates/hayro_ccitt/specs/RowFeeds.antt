@@ -1,5 +1,5 @@
 -- Rows from data that comes in pieces: what is kept of it, what is seen of a reading, and which data it is a reading of.
-use Rattle.std.specs.Prelude.{◌≡◌, ◌≢◌, ◌≤◌, ◌<◌, ◌+◌, ◌*◌, ◌^◌, ℕ, Bool, true, false, ◌++◌, [], not, max, drop, length, Option}
+use Rattle.std.specs.Prelude.{◌≡◌, ◌≢◌, ◌≤◌, ◌<◌, ◌+◌, ◌*◌, ◌/◌, ◌^◌, ℕ, Bool, true, false, ◌++◌, [], not, max, drop, length, Option}
 use Rattle.std.specs.Prelude.{None, Some, Result, Ok, Err, IfErr}
 use Rattle.fax_bits.specs.declared.bit_reader.BitOrder.{BitOrder}
 use Rattle.fax_bits.specs.declared.codes.Color.TheVariants.{White}
@@ -270,6 +270,18 @@ fed_end (Ok x) = Ok Fed.End
 fed_end (Err error) = Err error
 
 -- ---- More data
+
+-- the bits of the bytes that were fed and aren't consumed: a byte of which a bit was read is
+abbrev pub unused : Feeding → Bits
+unused feed = drop (8 * ((feed.place + 7) / 8)) feed.kept
+
+-- These bits are held behind those that were, and the reading is at the same offset.
+pub record HoldsMore (next : Bits) (old new : Feeding) : Type 0 where
+  pub unread : drop new.place new.kept ≡ drop old.place old.kept ++ next
+  pub left : unused new ≡ unused old ++ next
+  pub fed : new.dropped + length new.kept ≡ old.dropped + length old.kept + length next
+  pub place : new.dropped + new.place ≡ old.dropped + old.place
+  pub begun : new.begun ≡ old.begun
 
 -- these bits are those of the whole data that come next, and whole bytes follow them
 pub record ComeNext (whole : Bits) (feed : Feeding) (next : Bits) : Type 0 where

@@ -1,7 +1,7 @@
 //! Rows from data that comes in pieces.
 
 ghost use Rattle.std.specs.Prelude.{◌≡◌, ◌≢◌, ◌≤◌, ◌<◌, ◌+◌, ◌*◌, ◌/◌, ◌^◌, ◌&&◌, not, ℕ, Bool, true, false, [], ◌++◌, None};
-ghost use Rattle.std.specs.Prelude.{Some, Ok, Err, ◌⊎◌, ◌-◌};
+ghost use Rattle.std.specs.Prelude.{Some, Ok, Err, ◌⊎◌, ◌↔◌, ◌-◌};
 ghost use Rattle.std.specs.Prelude.{IfOk, IfErr, OnErr, OnOk, IsOkUnless, Result, length, max, drop};
 ghost use Rattle.hayro_ccitt.specs.Bits.{AreWholeBytes, Bits, bits_in, here};
 ghost use Rattle.hayro_ccitt.specs.Context.{fresh};
@@ -10,8 +10,8 @@ ghost use Rattle.hayro_ccitt.specs.RowsRead.{at_end_of_rows, ended, is_at_line};
 ghost use Rattle.hayro_ccitt.specs.RowsTried.{IsLeft};
 ghost use Rattle.hayro_ccitt.specs.RowFeeds.{Begins, ComeNext, ComesInFeed, DropsRead, ReadsInFeed, ComesOn, FeedsNext};
 ghost use Rattle.hayro_ccitt.specs.RowFeeds.{IsFeedOf, KeepsBits, TriesLine, fed_end, fed_none, fed_row, is_left, line_answer};
-ghost use Rattle.hayro_ccitt.specs.RowFeeds.{some_line};
-ghost use Rattle.hayro_ccitt.specs.Rows.{changes};
+ghost use Rattle.hayro_ccitt.specs.RowFeeds.{HoldsMore, some_line, unused};
+ghost use Rattle.hayro_ccitt.specs.Rows.{AreChanges, changes};
 
 use crate::context::DecoderContext;
 use crate::row_reader::{RowState, Stand, first_stand, has_ended, is_at_line};
@@ -237,8 +237,8 @@ impl RowFeed {
             → IfOk result (λ feed. IsFeedOf whole 0 feed) }
         ensures settings { IfOk result (λ feed. feed.ctx.held.settings ≡ settings) }
         ensures order { IfOk result (λ feed. feed.order ≡ order) }
-        ensures none_fed { IfOk result (λ feed. (feed.kept ≡ []) × (feed.finished ≡ false)) }
-        ensures none_read { IfOk result (λ feed. feed.ctx.held.taken ≡ 0) }
+        ensures none_fed { IfOk result (λ feed. (feed.kept ≡ []) × (feed.dropped ≡ 0) × (feed.finished ≡ false)) }
+        ensures none_read { IfOk result (λ feed. (feed.ctx.held.taken ≡ 0) × (feed.begun ≡ false)) }
         ensures only_memory { IsOkUnless result DecodeError.OutOfMemory }
     {
         Ok(RowFeed {
@@ -403,8 +403,10 @@ impl RowFeed {
         ensures same { (self.new.ctx ≡ self.old.ctx) × (self.new.rows ≡ self.old.rows) × (self.new.order ≡ self.old.order)
             × (self.new.finished ≡ self.old.finished) }
         ensures only { IfErr result (λ e. (e ≡ DecodeError.OutOfMemory) ⊎ (e ≡ DecodeError.Overflow)) }
-        ensures too_long { result ≡ Err DecodeError.Overflow
-            → 2 ^ 64 - 72 < self.old.dropped + length self.old.kept + 8 * length bytes.now }
+        ensures held { OnOk result (HoldsMore (bits_in self.old.order bytes.now) self.old self.new) }
+        ensures kept { OnErr result (HoldsMore [] self.old self.new) }
+        ensures too_long { (result ≡ Err DecodeError.Overflow)
+            ↔ (2 ^ 64 - 72 < self.old.dropped + length self.old.kept + 8 * length bytes.now) }
     {
         self.drop_read();
         let kept = self.data.len();
@@ -435,6 +437,8 @@ impl RowFeed {
     /// are none before the first row.
     pub fn row(&self) -> &[u32]
         ensures changes { result.now ≡ changes self.now.ctx.held.reference }
+        ensures lawful { AreChanges self.now.ctx.held.settings.columns result.now }
+        ensures width { length self.now.ctx.held.reference ≡ self.now.ctx.held.settings.columns }
     {
         self.ctx.reference_row()
     }
@@ -505,5 +509,20 @@ impl RowFeed {
         ensures { result ≡ (self.now.dropped + self.now.place + 7) / 8 }
     {
         (self.dropped + self.place).div_ceil(8)
+    }
+
+    /// Returns the bytes that were fed and aren't consumed; of a byte that is partly read nothing is left. At the end of the
+    /// image they are what was fed behind it.
+    pub fn unused(&self) -> &[u8]
+        ensures { bits_in self.now.order result.now ≡ unused self.now }
+    {
+        &self.data[self.place.div_ceil(8)..]
+    }
+
+    /// Returns the settings by which the rows are read.
+    pub fn settings(&self) -> DecodeSettings
+        ensures { result ≡ self.now.ctx.held.settings }
+    {
+        self.ctx.settings()
     }
 }

@@ -4,6 +4,7 @@ pub mod Listing
 pub mod Owned
 pub mod Packing
 pub mod Reports
+pub mod RowsFed
 pub mod RowsGiven
 pub mod RowsTaken
 pub mod Settings

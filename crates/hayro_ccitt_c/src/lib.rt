@@ -25,20 +25,31 @@ ghost use Rattle.hayro_ccitt_c.specs.declared.strip.Strip.TheVariants.{Rows};
 
 mod change_count;
 mod encoding;
+mod feed_handle;
+mod feeding;
+mod feeds;
 mod handle;
 mod listed_rows;
 mod owned;
+mod owned_feeding;
 mod packed_rows;
 mod reading;
 mod report;
 mod row_handle;
 mod row_outcome;
+mod row_room;
 mod settings;
 mod strip;
 
 use change_count::ChangeCount;
 use encoding::{Unencoded, encoded, encoder_of_rows, layout_asked, rows_asked};
 pub use encoding::{EncodeOutcome, EncodeSettings};
+pub use feed_handle::Feed;
+pub use feeds::{
+    hayro_ccitt_feed, hayro_ccitt_feed_close, hayro_ccitt_feed_finish,
+    hayro_ccitt_feed_next_changes, hayro_ccitt_feed_next_packed, hayro_ccitt_feed_open,
+    hayro_ccitt_feed_unused,
+};
 use hayro_ccitt::bits_fit;
 use listed_rows::ListedRows;
 use owned::Owned;

@@ -11,6 +11,7 @@ ghost use Rattle.hayro_ccitt_c.specs.RowsGiven.{GivesRow, IsListed, IsOpened, Is
 ghost use Rattle.hayro_ccitt_c.specs.RowsTaken.{Finishes, IfFinished, IsGiven, TakesRow, strip_told};
 
 use crate::encoding::EncodeOutcome;
+use crate::feeding::Feeding;
 use crate::reading::Reading;
 use crate::row_outcome::{RowOutcome, told_of};
 use crate::strip::Strip;
@@ -19,11 +20,12 @@ use hayro_ccitt::DecodeSettings;
 use hayro_ccitt::bit_reader::BitOrder;
 use std::alloc::Global;
 
-/// What a handle owns: a reading of rows, or a strip to which rows are added.
+/// What a handle owns: a reading of rows, a strip to which rows are added, or a reading of rows of data in pieces.
 #[derive(Drop)]
 pub enum Owned {
     Reading(Reading),
     Strip(Strip),
+    Feeding(Feeding),
 }
 
 impl Owned {
@@ -83,7 +85,7 @@ impl Owned {
                 *outcome = told_of(reading);
                 status
             }
-            Owned::Strip(_) => 6,
+            Owned::Strip(_) | Owned::Feeding(_) => 6,
         }
     }
 
@@ -111,7 +113,7 @@ impl Owned {
                 *outcome = told_of(reading);
                 status
             }
-            Owned::Strip(_) => 6,
+            Owned::Strip(_) | Owned::Feeding(_) => 6,
         }
     }
 
@@ -124,7 +126,7 @@ impl Owned {
     {
         match self {
             Owned::Strip(strip) => strip.add_changes(changes),
-            Owned::Reading(_) => 6,
+            Owned::Reading(_) | Owned::Feeding(_) => 6,
         }
     }
 
@@ -138,7 +140,7 @@ impl Owned {
     {
         match self {
             Owned::Strip(strip) => strip.add_packed(row, black_is_0),
-            Owned::Reading(_) => 6,
+            Owned::Reading(_) | Owned::Feeding(_) => 6,
         }
     }
 
@@ -156,7 +158,7 @@ impl Owned {
     {
         match self {
             Owned::Strip(strip) => strip.give_bytes(data, outcome),
-            Owned::Reading(_) => 6,
+            Owned::Reading(_) | Owned::Feeding(_) => 6,
         }
     }
 }

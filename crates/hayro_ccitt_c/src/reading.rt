@@ -6,7 +6,7 @@ ghost use Rattle.hayro_ccitt.specs.Rows.{changes};
 ghost use Rattle.hayro_ccitt_c.specs.Packing.{bytes_of_row};
 ghost use Rattle.hayro_ccitt_c.specs.RowsGiven.{GivesRow, IsListed, IsOpened, IsPacked, TurnsTo, is_row, status_of_row};
 
-use crate::packed_rows::pack_row;
+use crate::row_room::{list_over, pack_over};
 use hayro_ccitt::bit_reader::BitOrder;
 use hayro_ccitt::{DecodeError, DecodeSettings, Result, RowCursor};
 use std::alloc::Global;
@@ -90,12 +90,7 @@ impl Reading {
         ensures black { self.new.black_is_0 ≡ self.old.black_is_0 }
         ensures kept { self.new.is_kept ≡ not result }
     {
-        let row = self.rows.row();
-        let count = row.len();
-        let has_room = count <= list.len();
-        if has_room {
-            list[..count].copy_from_slice(row);
-        }
+        let has_room = list_over(list, self.rows.row());
         self.is_kept = !has_room;
         has_room
     }
@@ -111,19 +106,9 @@ impl Reading {
         ensures kept { self.new.is_kept ≡ not result }
     {
         let columns = self.rows.settings().columns;
-        let count = (columns as usize).div_ceil(8);
-        if bytes.len() < count {
-            self.is_kept = true;
-            return false;
-        }
-        pack_row(
-            &mut bytes[..count],
-            columns,
-            self.rows.row(),
-            self.black_is_0,
-        );
-        self.is_kept = false;
-        true
+        let has_room = pack_over(bytes, columns, self.rows.row(), self.black_is_0);
+        self.is_kept = !has_room;
+        has_room
     }
 
     /// Writes the next row as a list of its changes, and returns the status.

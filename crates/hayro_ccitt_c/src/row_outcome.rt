@@ -52,7 +52,7 @@ pub(crate) fn nothing_told() -> RowOutcome
 }
 
 /// Returns the status of the fault of a row that was repaired, 0 for one that was whole.
-fn damage_told(damage: Option<DecodeError>) -> u64
+pub(crate) fn damage_told(damage: Option<DecodeError>) -> u64
     ensures { result ≡ damage_told damage }
 {
     match damage {
@@ -62,7 +62,7 @@ fn damage_told(damage: Option<DecodeError>) -> u64
 }
 
 /// Returns the offset of an EOL that was missed, 0 if none was.
-fn miss_told(missed: Option<usize>) -> u64
+pub(crate) fn miss_told(missed: Option<usize>) -> u64
     ensures { result ≡ miss_told missed }
 {
     match missed {

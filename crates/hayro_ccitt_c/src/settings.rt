@@ -77,7 +77,7 @@ pub(crate) fn layout_of(settings: &Settings) -> Layout
 
 /// Returns the settings that C means, or `None` if they are invalid: an encoding or a flag that isn't known, or a stride that is
 /// less than the bytes of a row.
-fn settings_of(settings: &Settings) -> Option<DecodeSettings>
+pub(crate) fn settings_of(settings: &Settings) -> Option<DecodeSettings>
     ensures meant { result ≡ settings_of settings.now }
     ensures reaches { IfSome result (λ meant. bytes_of_row meant.columns ≤ (layout_of settings.now).stride) }
 {

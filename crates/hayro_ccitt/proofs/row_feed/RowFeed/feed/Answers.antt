@@ -1,5 +1,9 @@
 use Rattle.hayro_ccitt.proofs.Names.{◌≡◌, ◌∙◌, ◌++◌, ◌*◌, ap, sym, subst, bits_in, Bits, List, ℕ, err_from_is_err_and}
-use Rattle.hayro_ccitt.proofs.Names.{arith, length, length-drop}
+use Rattle.fax_bits.specs.declared.error.DecodeError.{DecodeError}
+use Rattle.fax_bits.specs.declared.error.DecodeError.TheVariants.{OutOfMemory, Overflow}
+use Rattle.hayro_ccitt.proofs.Names.{Err, Result, ◌+◌, ◌-◌, ◌<◌, arith, length, length-drop, refl}
+use Rattle.std.specs.Prelude.{◌^◌}
+use Rattle.hayro_ccitt.proofs.Readings.BitsHeld.{holds_more, holds_none}
 use Rattle.hayro_ccitt.proofs.Readings.FeedsOn.{come_next, drops_read, feeds_more}
 use Rattle.std.proofs.lemmas.List.Concat.{flat_map-append}
 use Rattle.fax_bits.specs.declared.bit_reader.BitOrder.{BitOrder}
@@ -58,15 +62,73 @@ returns-clause-fed c whole tried feed come =
     feeds_more next is (c.drop_read.ensures.finished ∙ c.requires.unfinished) (drops_read c.drop_read.ensures feed)
     (come_next c.drop_read.ensures come)
 
+-- the bits that are kept once bytes are dropped are whole bytes
+are_whole : (feed : Feeding) (order : BitOrder) (items : List ℕ) → feed.kept ≡ bits_in order items
+    → length feed.kept ≡ 8 * length items
+are_whole feed order items is = ap length is ∙ length-bits_in order items
+
+pub returns-then-bytes-kept-clause-kept : goal.returns-then-bytes-kept-clause-kept
+returns-then-bytes-kept-clause-kept c =
+    let kept = ap (λ (f : Feeding). f.kept) (sym c.self.view_is) in
+    holds_none (length c.self.inside.«data».items) c.drop_read.ensures
+    (are_whole c.drop_read.new.self c.self.inside.order c.self.inside.«data».items kept) refl
+
+pub returns-in_err-extend_from_slice-clause-kept : goal.returns-in_err-extend_from_slice-clause-kept
+returns-in_err-extend_from_slice-clause-kept c =
+    let answer = err_from_is_err_and c.from_residual.result c.from_residual.ensures.1 in
+    let inside = c.self.inside in
+    let view : Feeding = record {
+      ctx = inside.ctx;
+      rows = inside.rows;
+      order = inside.order;
+      begun = inside.begun;
+      finished = inside.is_last;
+      kept = bits_in inside.order inside.«data».items;
+      dropped = inside.dropped;
+      place = inside.place;
+    } in
+    let same = ap (λ (items : List ℕ). record view { kept = bits_in inside.order items })
+    c.in_err-extend_from_slice.ensures.items
+    ∙ c.self.view_is in
+    let kept = ap (λ (f : Feeding). f.kept) (sym c.self.view_is) in
+    rw answer.1 (holds_none (length inside.«data».items) c.drop_read.ensures
+    (are_whole c.drop_read.new.self inside.order inside.«data».items kept) same)
+
+pub returns-clause-held : goal.returns-clause-held
+returns-clause-held c =
+    let inside = c.self.inside in
+    let view : Feeding = record {
+      ctx = inside.ctx;
+      rows = inside.rows;
+      order = inside.order;
+      begun = inside.begun;
+      finished = inside.is_last;
+      kept = bits_in inside.order inside.«data».items;
+      dropped = inside.dropped;
+      place = inside.place;
+    } in
+    let order : c.args.self.now.order ≡ inside.order
+    = sym c.drop_read.ensures.order ∙ ap (λ (f : Feeding). f.order) (sym c.self.view_is) in
+    let next = bits_in c.args.self.now.order c.args.bytes.now in
+    let longer = ap (bits_in inside.order) c.in_ok-extend_from_slice.ensures.items
+    ∙ flat_map-append (bits_of_byte inside.order) inside.«data».items c.args.bytes.now
+    ∙ ap (λ (o : BitOrder). bits_in inside.order inside.«data».items ++ bits_in o c.args.bytes.now) (sym order) in
+    let is = ap (λ (b : Bits). record view { kept = b }) longer
+    ∙ ap (λ (f : Feeding). record f { kept = f.kept ++ next }) c.self.view_is in
+    let kept = ap (λ (f : Feeding). f.kept) (sym c.self.view_is) in
+    holds_more next (length inside.«data».items) c.drop_read.ensures
+    (are_whole c.drop_read.new.self inside.order inside.«data».items kept) is
+
 pub returns-then-bytes-kept-clause-too_long : goal.returns-then-bytes-kept-clause-too_long
-returns-then-bytes-kept-clause-too_long c e =
+returns-then-bytes-kept-clause-too_long c =
     let inside = c.self.inside in
     let drops = c.drop_read.ensures in
     let kept = length-bits_in inside.order inside.«data».items in
     let left = ap (λ (f : Feeding). length f.kept) c.self.view_is ∙ ap length drops.kept
     ∙ length-drop (8 * drops.bytes) c.args.self.now.kept in
     let dropped = ap (λ (f : Feeding). f.dropped) c.self.view_is in
-    elim c.then-bytes-kept.branch [
+    let more : 2 ^ 64 - 72 < c.args.self.now.dropped + length c.args.self.now.kept + 8 * length c.args.bytes.now
+    = elim c.then-bytes-kept.branch [
       | then-bytes-kept-via-then-bytes-kept w ↦ omega (
         arith,
         kept,
@@ -92,4 +154,62 @@ returns-then-bytes-kept-clause-too_long c e =
         w.if-bytes-kept,
         w.if-self-kept,
       )
-    ]
+    ] in
+    (λ e. more, λ e. refl)
+
+-- want of memory isn't a length
+not_long : (answer : Result (Unit {0}) DecodeError) (error : DecodeError) → answer ≡ Err error → error ≡ OutOfMemory
+    → answer ≡ Err Overflow → ⊥
+not_long answer error is memory e = cc
+
+pub returns-in_err-extend_from_slice-clause-too_long : goal.returns-in_err-extend_from_slice-clause-too_long
+returns-in_err-extend_from_slice-clause-too_long c =
+    let answer = err_from_is_err_and c.from_residual.result c.from_residual.ensures.1 in
+    let inside = c.self.inside in
+    let drops = c.drop_read.ensures in
+    let kept = length-bits_in inside.order inside.«data».items in
+    let left = ap (λ (f : Feeding). length f.kept) c.self.view_is ∙ ap length drops.kept
+    ∙ length-drop (8 * drops.bytes) c.args.self.now.kept in
+    let dropped = ap (λ (f : Feeding). f.dropped) c.self.view_is in
+    rw answer.1 (
+      λ e. absurd (not_long c.from_residual.result answer.0 answer.1 answer.2 (answer.1 ∙ e)),
+      λ more. absurd (omega (
+        arith,
+        more,
+        kept,
+        left,
+        dropped,
+        drops.dropped,
+        drops.read,
+        drops.place,
+        drops.within,
+        c.len-kept.ensures,
+        c.if-bytes-kept.false,
+        c.if-self-kept.false,
+      )),
+    )
+
+pub returns-clause-too_long : goal.returns-clause-too_long
+returns-clause-too_long c =
+    let inside = c.self.inside in
+    let drops = c.drop_read.ensures in
+    let kept = length-bits_in inside.order inside.«data».items in
+    let left = ap (λ (f : Feeding). length f.kept) c.self.view_is ∙ ap length drops.kept
+    ∙ length-drop (8 * drops.bytes) c.args.self.now.kept in
+    let dropped = ap (λ (f : Feeding). f.dropped) c.self.view_is in (
+      λ e. cc,
+      λ more. absurd (omega (
+        arith,
+        more,
+        kept,
+        left,
+        dropped,
+        drops.dropped,
+        drops.read,
+        drops.place,
+        drops.within,
+        c.len-kept.ensures,
+        c.if-bytes-kept.false,
+        c.if-self-kept.false,
+      )),
+    )

@@ -1,0 +1,107 @@
+-- Rows that C reads from data in pieces.
+use Rattle.std.specs.Prelude.{◌≡◌, ◌<◌, ◌⊎◌, ◌↔◌, ◌+◌, ◌*◌, ◌^◌, ◌-◌, ℕ, Bool, true, false, List, [], length, Option, None, Some, Result}
+use Rattle.std.specs.Prelude.{Ok, Err}
+use Rattle.hayro_ccitt.specs.BitOrder.{BitOrder}
+use Rattle.hayro_ccitt.specs.DecodeError.{DecodeError}
+use Rattle.hayro_ccitt.specs.DecodeSettings.{DecodeSettings}
+use Rattle.hayro_ccitt.specs.Bits.{AreWholeBytes, Bits, bits_in}
+use Rattle.hayro_ccitt.specs.RowCursors.{Paused}
+use Rattle.hayro_ccitt.specs.RowFeeds.{Feeding as RowsFed, ComeNext, FeedsNext, HoldsMore, IsFeedOf, KeepsBits, fed_end}
+use Rattle.hayro_ccitt.specs.RowsRead.{ended}
+use Rattle.hayro_ccitt.specs.declared.row_feed.Fed.{Fed}
+use Rattle.hayro_ccitt.specs.declared.row_feed.Fed.TheVariants.{Row, NeedsMore, End}
+use Rattle.hayro_ccitt_c.specs.RowsGiven.{status_of_row}
+use Rattle.hayro_ccitt_c.specs.declared.feeding.Feeding.{Feeding}
+
+-- whether there was a row
+abbrev pub is_fed_row : Result Fed DecodeError → Bool
+is_fed_row (Ok Row) = true
+is_fed_row (Ok NeedsMore) = false
+is_fed_row (Ok End) = false
+is_fed_row (Err error) = false
+
+-- the status of a result: 0 for a row, 7 at the end of the image, 8 if more data is needed
+abbrev pub status_of_fed : Result Fed DecodeError → ℕ
+status_of_fed (Ok Row) = 0
+status_of_fed (Ok NeedsMore) = 8
+status_of_fed (Ok End) = 7
+status_of_fed (Err error) = status_of_row (Err error)
+
+-- What a call that reads the next row leaves: of whatever data those fed are a beginning, the row of the plain reading, its end or
+-- its fault, or nothing is read; and after the end nothing changes. What is kept of the data stays.
+pub record FeedsRow (old new : RowsFed) (answer : Result Fed DecodeError) : Type 0 where
+  pub reads : (whole : Bits) (tried : ℕ) → ended old.rows.stand ≡ None → IsFeedOf whole tried old
+      → FeedsNext whole tried old new answer
+  pub keeps : KeepsBits old new
+  pub over : (end : Result (Unit {0}) DecodeError) → ended old.rows.stand ≡ Some end → (new ≡ old) × (answer ≡ fed_end end)
+
+-- the same, but if the last row is still to be returned nothing is read
+abbrev pub TurnsToFed : Bool → RowsFed → RowsFed → Result Fed DecodeError → Type 0
+TurnsToFed true old new answer = (new ≡ old) × (answer ≡ Ok Row)
+TurnsToFed false old new answer = FeedsRow old new answer
+
+-- What a call leaves that returns the next row: a row that there is no room for is kept, and returned by the next call.
+pub record GivesFed (old new : Feeding) (status : ℕ) : Type 0 where
+  pub answer : Result Fed DecodeError
+  pub turns : TurnsToFed old.is_kept old.rows new.rows answer
+  pub status_is : (status ≡ status_of_fed answer) ⊎ ((status ≡ 5) × (answer ≡ Ok Row))
+  pub kept : (new.is_kept ≡ true) → status ≡ 5
+  pub refused : status ≡ 5 → new.is_kept ≡ true
+  pub black : new.black_is_0 ≡ old.black_is_0
+
+-- where a reading is, as a reader of all data is that came to the same place
+abbrev pub as_paused : RowsFed → Paused
+as_paused feed = record {
+  held = feed.ctx.held;
+  order = feed.order;
+  place = feed.dropped + feed.place;
+  line_start = feed.rows.started_at;
+  damage = feed.rows.damage;
+  cut = feed.rows.cut;
+  missed = feed.rows.missed;
+  stand = feed.rows.stand;
+  ticks = feed.ctx.ticks;
+  space = feed.ctx.space;
+}
+
+-- A reading by these settings of whatever data C will pass, before the first byte, whose packed rows have 0 for black if it says
+-- so.
+pub record IsFeedOpened (settings : DecodeSettings) (order : BitOrder) (black_is_0 : Bool) (opened : Feeding) : Type 0 where
+  pub reading : (whole : Bits) → AreWholeBytes whole → length whole + 64 < 2 ^ 64 → IsFeedOf whole 0 opened.rows
+  pub settings_are : opened.rows.ctx.held.settings ≡ settings
+  pub order_is : opened.rows.order ≡ order
+  pub none_fed : (opened.rows.kept ≡ []) × (opened.rows.dropped ≡ 0) × (opened.rows.finished ≡ false)
+  pub none_read : (opened.rows.ctx.held.taken ≡ 0) × (opened.rows.begun ≡ false)
+  pub none_kept : opened.is_kept ≡ false
+  pub black : opened.black_is_0 ≡ black_is_0
+
+-- The bits of these bytes are fed. Nothing else changes, but that bytes that were read may be dropped.
+pub record IsFed (next : Bits) (old new : RowsFed) : Type 0 where
+  pub reading : (whole : Bits) (tried : ℕ) → IsFeedOf whole tried old → ComeNext whole old next → IsFeedOf whole tried new
+  pub holds : HoldsMore next old new
+  pub same : (new.ctx ≡ old.ctx) × (new.rows ≡ old.rows) × (new.order ≡ old.order) × (new.finished ≡ old.finished)
+
+-- The same of no bytes: the reading is the same.
+pub record IsUnfed (old new : RowsFed) : Type 0 where
+  pub reading : (whole : Bits) (tried : ℕ) → IsFeedOf whole tried old → IsFeedOf whole tried new
+  pub holds : HoldsMore [] old new
+  pub same : (new.ctx ≡ old.ctx) × (new.rows ≡ old.rows) × (new.order ≡ old.order) × (new.finished ≡ old.finished)
+
+-- What a call leaves that is passed the bytes that come next: they are fed, or none of them is, since an allocation failed, all
+-- data would have more than 2^61 - 9 bytes, or it is finished.
+pub record TakesBytes (input : List ℕ) (old new : Feeding) (status : ℕ) : Type 0 where
+  pub statuses : (status ≡ 0) ⊎ (status ≡ 3) ⊎ (status ≡ 4) ⊎ (status ≡ 6)
+  pub fed : status ≡ 0 → IsFed (bits_in old.rows.order input) old.rows new.rows
+  pub unfed : (status ≡ 3) ⊎ (status ≡ 4) → IsUnfed old.rows new.rows
+  pub too_long : (status ≡ 3) ↔ ((old.rows.finished ≡ false)
+      × (2 ^ 64 - 72 < old.rows.dropped + length old.rows.kept + 8 * length input))
+  pub untaken : (status ≡ 6) ↔ (old.rows.finished ≡ true)
+  pub unchanged : status ≡ 6 → new ≡ old
+  pub kept : new.is_kept ≡ old.is_kept
+  pub black : new.black_is_0 ≡ old.black_is_0
+
+-- No bytes follow those that were fed.
+pub record FinishesFeed (old new : Feeding) : Type 0 where
+  pub reading : (whole : Bits) (tried : ℕ) → IsFeedOf whole tried old.rows
+      → length whole ≡ old.rows.dropped + length old.rows.kept → IsFeedOf whole tried new.rows
+  pub same : new ≡ record old { rows = record old.rows { finished = true } }

@@ -1,0 +1,193 @@
+//! A reading of the rows of an image whose data C passes in pieces.
+
+ghost use Rattle.std.specs.Prelude.{◌≡◌, ◌≢◌, ◌<◌, ◌⊎◌, length, not, false, true, IfOk};
+ghost use Rattle.hayro_ccitt.specs.RowFeeds.{unused};
+ghost use Rattle.hayro_ccitt.specs.Rows.{changes};
+ghost use Rattle.hayro_ccitt_c.specs.Encoding.{AreEncoded, HaveNoRoom};
+ghost use Rattle.hayro_ccitt_c.specs.Packing.{bytes_of_row};
+ghost use Rattle.hayro_ccitt_c.specs.RowsFed.{FinishesFeed, GivesFed, IsFeedOpened, TakesBytes, TurnsToFed, as_paused};
+ghost use Rattle.hayro_ccitt_c.specs.RowsFed.{is_fed_row, status_of_fed};
+ghost use Rattle.hayro_ccitt_c.specs.RowsGiven.{IsListed, IsPacked, TellsOf};
+
+use crate::reading::status_of_row;
+use crate::row_outcome::{RowOutcome, damage_told, miss_told};
+use crate::row_room::{list_over, pack_over};
+use hayro_ccitt::bit_reader::BitOrder;
+use hayro_ccitt::{DecodeError, DecodeSettings, Fed, Result, RowFeed};
+use std::alloc::Global;
+
+/// What a handle owns: a reading, whether its last row is still to be returned, and whether 0 stands for black in packed rows.
+#[derive(Drop)]
+pub struct Feeding {
+    pub(crate) rows: RowFeed,
+    pub(crate) is_kept: bool,
+    pub(crate) black_is_0: bool,
+}
+
+/// Returns whether there was a row.
+fn is_fed_row(answer: Result<Fed>) -> bool
+    ensures { result ≡ is_fed_row answer }
+{
+    matches!(answer, Ok(Fed::Row))
+}
+
+/// Returns the status of a result.
+fn status_of_fed(answer: Result<Fed>) -> u32
+    ensures status { result ≡ status_of_fed answer }
+    ensures not_refused { result ≢ 5 }
+    ensures no_row { is_fed_row answer ≡ false → result ≢ 0 }
+{
+    match answer {
+        Ok(Fed::Row) => 0,
+        Ok(Fed::End) => 7,
+        Ok(Fed::NeedsMore) => 8,
+        Err(error) => status_of_row(Err(error)),
+    }
+}
+
+impl Feeding {
+    /// Creates a reading to which nothing was fed. Its only error is `OutOfMemory`.
+    pub(crate) fn new(
+        alloc: Global,
+        order: BitOrder,
+        settings: DecodeSettings,
+        black_is_0: bool,
+    ) -> Result<Feeding>
+        ensures opened { IfOk result (IsFeedOpened settings order black_is_0) }
+    {
+        let rows = RowFeed::new(alloc, order, settings)?;
+        Ok(Feeding {
+            rows,
+            is_kept: false,
+            black_is_0,
+        })
+    }
+
+    /// Feeds the bytes that come next in the data, and returns the status.
+    pub(crate) fn take_bytes(&mut self, bytes: &[u8]) -> u32
+        ensures { TakesBytes bytes.now self.old self.new result }
+    {
+        if self.rows.is_finished() {
+            return 6;
+        }
+        match self.rows.feed(bytes) {
+            Ok(()) => 0,
+            Err(DecodeError::OutOfMemory) => 4,
+            Err(_) => 3,
+        }
+    }
+
+    /// Finishes the data.
+    pub(crate) fn finish(&mut self)
+        ensures { FinishesFeed self.old self.new }
+    {
+        self.rows.finish();
+    }
+
+    /// Reads the row that is to be returned next, unless it was read before.
+    fn come_to_row(&mut self) -> Result<Fed>
+        ensures turns { TurnsToFed self.old.is_kept self.old.rows self.new.rows result }
+        ensures none_kept { self.new.is_kept ≡ false }
+        ensures black { self.new.black_is_0 ≡ self.old.black_is_0 }
+    {
+        if self.is_kept {
+            self.is_kept = false;
+            return Ok(Fed::Row);
+        }
+        self.rows.next_row()
+    }
+
+    /// Writes the last row as a list of its changes, or keeps it if there is no room for it. Returns whether there was.
+    fn list_row(&mut self, list: &mut [u32]) -> bool
+        ensures listed { result ≡ true → IsListed self.old.rows.ctx.held.reference list.old list.new }
+        ensures refused { result ≡ false → length list.new < length (changes self.old.rows.ctx.held.reference) }
+        ensures unwritten { result ≡ false → list.new ≡ list.old }
+        ensures rows { self.new.rows ≡ self.old.rows }
+        ensures black { self.new.black_is_0 ≡ self.old.black_is_0 }
+        ensures kept { self.new.is_kept ≡ not result }
+    {
+        let has_room = list_over(list, self.rows.row());
+        self.is_kept = !has_room;
+        has_room
+    }
+
+    /// Writes the last row packed, or keeps it if there is no room for it. Returns whether there was.
+    fn pack_row(&mut self, bytes: &mut [u8]) -> bool
+        ensures packed { result ≡ true → IsPacked self.old.black_is_0 self.old.rows.ctx.held.settings.columns
+            self.old.rows.ctx.held.reference bytes.old bytes.new }
+        ensures refused { result ≡ false → length bytes.new < bytes_of_row self.old.rows.ctx.held.settings.columns }
+        ensures unwritten { result ≡ false → bytes.new ≡ bytes.old }
+        ensures rows { self.new.rows ≡ self.old.rows }
+        ensures black { self.new.black_is_0 ≡ self.old.black_is_0 }
+        ensures kept { self.new.is_kept ≡ not result }
+    {
+        let columns = self.rows.settings().columns;
+        let has_room = pack_over(bytes, columns, self.rows.row(), self.black_is_0);
+        self.is_kept = !has_room;
+        has_room
+    }
+
+    /// Writes the next row as a list of its changes, and returns the status.
+    pub(crate) fn list_next(&mut self, list: &mut [u32]) -> u32
+        ensures gives { GivesFed self.old self.new result }
+        ensures listed { result ≡ 0 → IsListed self.new.rows.ctx.held.reference list.old list.new }
+        ensures refused { result ≡ 5 → length list.new < length (changes self.new.rows.ctx.held.reference) }
+        ensures unwritten { result ≢ 0 → list.new ≡ list.old }
+    {
+        let answer = self.come_to_row();
+        if !is_fed_row(answer) {
+            return status_of_fed(answer);
+        }
+        if self.list_row(list) { 0 } else { 5 }
+    }
+
+    /// Writes the next row packed, and returns the status.
+    pub(crate) fn pack_next(&mut self, bytes: &mut [u8]) -> u32
+        ensures gives { GivesFed self.old self.new result }
+        ensures packed { result ≡ 0 → IsPacked self.new.black_is_0 self.new.rows.ctx.held.settings.columns
+            self.new.rows.ctx.held.reference bytes.old bytes.new }
+        ensures refused { result ≡ 5 → length bytes.new < bytes_of_row self.new.rows.ctx.held.settings.columns }
+        ensures unwritten { result ≢ 0 → bytes.new ≡ bytes.old }
+    {
+        let answer = self.come_to_row();
+        if !is_fed_row(answer) {
+            return status_of_fed(answer);
+        }
+        if self.pack_row(bytes) { 0 } else { 5 }
+    }
+
+    /// Writes the bytes that were fed and aren't consumed if there is room for them, and returns the status. `count` is how many
+    /// there are.
+    pub(crate) fn give_unused(&self, bytes: &mut [u8], count: &mut usize) -> u32
+        ensures statuses { (result ≡ 0) ⊎ (result ≡ 5) }
+        ensures given { result ≡ 0 → AreEncoded self.now.rows.order (unused self.now.rows) count.new bytes.old bytes.new }
+        ensures refused { result ≡ 5 → HaveNoRoom (unused self.now.rows) count.new (length bytes.new) }
+        ensures unwritten { result ≢ 0 → bytes.new ≡ bytes.old }
+    {
+        let left = self.rows.unused();
+        *count = left.len();
+        if left.len() > bytes.len() {
+            return 5;
+        }
+        bytes[..left.len()].copy_from_slice(left);
+        0
+    }
+
+    /// Returns what C gets of the last row.
+    pub(crate) fn told(&self) -> RowOutcome
+        ensures { TellsOf (as_paused self.now.rows) result }
+    {
+        RowOutcome {
+            rows: self.rows.rows_read(),
+            changes: self.rows.row().len() as u64,
+            line_start: self.rows.line_start() as u64,
+            bytes_read: self.rows.bytes_read() as u64,
+            damaged_rows: self.rows.damaged_rows(),
+            damage: damage_told(self.rows.damage()),
+            missed_eols: self.rows.missed_eols(),
+            cut_rows: self.rows.cut_rows(),
+            is_cut: u64::from(self.rows.is_cut()),
+            missed_eol: miss_told(self.rows.missed_eol()),
+        }
+    }
+}

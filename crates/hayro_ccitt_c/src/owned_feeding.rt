@@ -1,0 +1,124 @@
+//! What a handle owns whose rows come from data in pieces.
+
+ghost use Rattle.std.specs.Prelude.{◌≡◌, ◌≢◌, ◌<◌, ◌⊎◌, IfOk, length, true};
+ghost use Rattle.hayro_ccitt.specs.RowFeeds.{unused};
+ghost use Rattle.hayro_ccitt.specs.Rows.{changes};
+ghost use Rattle.hayro_ccitt_c.specs.Encoding.{AreEncoded, HaveNoRoom};
+ghost use Rattle.hayro_ccitt_c.specs.Owned.{IfFeeding, IfFeedings, is_feeding};
+ghost use Rattle.hayro_ccitt_c.specs.Packing.{bytes_of_row};
+ghost use Rattle.hayro_ccitt_c.specs.RowsFed.{FinishesFeed, GivesFed, IsFeedOpened, TakesBytes, as_paused};
+ghost use Rattle.hayro_ccitt_c.specs.RowsGiven.{IsListed, IsPacked, TellsOf};
+
+use crate::feeding::Feeding;
+use crate::owned::Owned;
+use crate::row_outcome::RowOutcome;
+use hayro_ccitt::DecodeSettings;
+use hayro_ccitt::bit_reader::BitOrder;
+use std::alloc::Global;
+
+impl Owned {
+    /// Creates a reading to which nothing was fed. Its only error is `OutOfMemory`.
+    pub(crate) fn feeding(
+        alloc: Global,
+        order: BitOrder,
+        settings: DecodeSettings,
+        black_is_0: bool,
+    ) -> hayro_ccitt::Result<Box<Owned>>
+        ensures opened { IfOk result (λ made. IfFeeding made.value (IsFeedOpened settings order black_is_0)) }
+        ensures kind { IfOk result (λ made. is_feeding made.value ≡ true) }
+    {
+        let feeding = Feeding::new(alloc, order, settings, black_is_0)?;
+        let held = Box::new(alloc, Owned::Feeding(feeding))?;
+        Ok(held)
+    }
+
+    /// Feeds the bytes that come next in the data, and returns the status.
+    pub(crate) fn take_bytes(&mut self, bytes: &[u8]) -> u32
+        requires feeds { is_feeding self.old ≡ true }
+        ensures takes { IfFeedings self.old self.new (λ old new. TakesBytes bytes.now old new result) }
+        ensures feeds { is_feeding self.new ≡ true }
+    {
+        match self {
+            Owned::Feeding(feeding) => feeding.take_bytes(bytes),
+            Owned::Reading(_) | Owned::Strip(_) => 6,
+        }
+    }
+
+    /// Finishes the data, and returns the status.
+    pub(crate) fn finish_data(&mut self) -> u32
+        requires feeds { is_feeding self.old ≡ true }
+        ensures finishes { IfFeedings self.old self.new (λ old new. FinishesFeed old new) }
+        ensures finished { result ≡ 0 }
+        ensures feeds { is_feeding self.new ≡ true }
+    {
+        match self {
+            Owned::Feeding(feeding) => {
+                feeding.finish();
+                0
+            }
+            Owned::Reading(_) | Owned::Strip(_) => 6,
+        }
+    }
+
+    /// Writes the next row of data in pieces as a list of its changes, and returns the status.
+    pub(crate) fn list_fed(&mut self, list: &mut [u32], outcome: &mut RowOutcome) -> u32
+        requires feeds { is_feeding self.old ≡ true }
+        ensures gives { IfFeedings self.old self.new (λ old new. GivesFed old new result) }
+        ensures listed { result ≡ 0 → IfFeeding self.new (λ feeding.
+            IsListed feeding.rows.ctx.held.reference list.old list.new) }
+        ensures refused { result ≡ 5 → IfFeeding self.new (λ feeding.
+            length list.new < length (changes feeding.rows.ctx.held.reference)) }
+        ensures unwritten { result ≢ 0 → list.new ≡ list.old }
+        ensures told { IfFeeding self.new (λ feeding. TellsOf (as_paused feeding.rows) outcome.new) }
+        ensures feeds { is_feeding self.new ≡ true }
+    {
+        match self {
+            Owned::Feeding(feeding) => {
+                let status = feeding.list_next(list);
+                *outcome = feeding.told();
+                status
+            }
+            Owned::Reading(_) | Owned::Strip(_) => 6,
+        }
+    }
+
+    /// Writes the next row of data in pieces packed, and returns the status.
+    pub(crate) fn pack_fed(&mut self, bytes: &mut [u8], outcome: &mut RowOutcome) -> u32
+        requires feeds { is_feeding self.old ≡ true }
+        ensures gives { IfFeedings self.old self.new (λ old new. GivesFed old new result) }
+        ensures packed { result ≡ 0 → IfFeeding self.new (λ feeding.
+            IsPacked feeding.black_is_0 feeding.rows.ctx.held.settings.columns feeding.rows.ctx.held.reference
+            bytes.old bytes.new) }
+        ensures refused { result ≡ 5 → IfFeeding self.new (λ feeding.
+            length bytes.new < bytes_of_row feeding.rows.ctx.held.settings.columns) }
+        ensures unwritten { result ≢ 0 → bytes.new ≡ bytes.old }
+        ensures told { IfFeeding self.new (λ feeding. TellsOf (as_paused feeding.rows) outcome.new) }
+        ensures feeds { is_feeding self.new ≡ true }
+    {
+        match self {
+            Owned::Feeding(feeding) => {
+                let status = feeding.pack_next(bytes);
+                *outcome = feeding.told();
+                status
+            }
+            Owned::Reading(_) | Owned::Strip(_) => 6,
+        }
+    }
+
+    /// Writes the bytes that were fed and aren't consumed if there is room for them, and returns the status. `count` is how many
+    /// there are.
+    pub(crate) fn give_unused(&self, bytes: &mut [u8], count: &mut usize) -> u32
+        requires feeds { is_feeding self.now ≡ true }
+        ensures statuses { (result ≡ 0) ⊎ (result ≡ 5) }
+        ensures given { result ≡ 0 → IfFeeding self.now (λ feeding.
+            AreEncoded feeding.rows.order (unused feeding.rows) count.new bytes.old bytes.new) }
+        ensures refused { result ≡ 5 → IfFeeding self.now (λ feeding.
+            HaveNoRoom (unused feeding.rows) count.new (length bytes.new)) }
+        ensures unwritten { result ≢ 0 → bytes.new ≡ bytes.old }
+    {
+        match self {
+            Owned::Feeding(feeding) => feeding.give_unused(bytes, count),
+            Owned::Reading(_) | Owned::Strip(_) => 5,
+        }
+    }
+}
