@@ -1,10 +1,10 @@
 -- A page, cut where it ends, is read as its rows.
-use Rattle.hayro_ccitt.proofs.Names.{◌≡◌, ◌≢◌, ℕ, zero, suc, ◌+◌, ◌-◌, ◌*◌, ◌/◌, ◌<◌, ◌≤◌, true, false, Bool, cond, leb, List, []}
-use Rattle.hayro_ccitt.proofs.Names.{Option, Some, None, ◌∷◌, ◌++◌, length, drop, take, refl, sym, ap, subst, ◌∙◌, append_assoc}
-use Rattle.hayro_ccitt.proofs.Names.{append-nil, arith, length-append, length-drop, Bits, Row, eol, after_eol, all_eols, tagged_eols}
-use Rattle.hayro_ccitt.proofs.Names.{eols_here, IsClosedPicture, AreSettings, AreWholeBytes, bits_in, Ok, plain, Err, Result}
+use Rattle.hayro_ccitt.proofs.Names.{◌≡◌, ◌≢◌, ℕ, zero, suc, ◌+◌, ◌-◌, ◌*◌, ◌/◌, ◌<◌, ◌≤◌, true, false, Bool, List, []}
+use Rattle.hayro_ccitt.proofs.Names.{Some, None, ◌∷◌, ◌++◌, length, drop, take, refl, sym, ap, subst, ◌∙◌, append_assoc}
+use Rattle.hayro_ccitt.proofs.Names.{append-nil, arith, length-append, Bits, Row, eol, after_eol, all_eols}
+use Rattle.hayro_ccitt.proofs.Names.{eols_here, IsClosedPicture, AreSettings, bits_in, Ok}
 use Rattle.std.proofs.lemmas.Bool.{lt-leb}
-use Rattle.std.proofs.lemmas.List.{take-append-drop, length-take-le, take_all}
+use Rattle.std.proofs.lemmas.List.{take-append-drop, length-take-le}
 use Rattle.std.proofs.lemmas.Grind.{flat_map-append}
 use Rattle.std.proofs.Math.Seq.{take-append_seam, take-append-add, take-length}
 use Rattle.hayro_ccitt.specs.BitOrder.{BitOrder}
@@ -12,7 +12,7 @@ use Rattle.hayro_ccitt.specs.Bits.{bits_of_byte}
 use Rattle.hayro_ccitt.specs.DecodeSettings.{DecodeSettings}
 use Rattle.hayro_ccitt.specs.EncodingMode.{EncodingMode}
 use Rattle.hayro_ccitt.specs.EncodingMode.TheVariants.{Group4, Group3_1D, Group3_2D}
-use Rattle.hayro_ccitt.specs.Encodings.{ClosesWithEols, PictureT4, tag_of}
+use Rattle.hayro_ccitt.specs.Encodings.{ClosesWithEols}
 use Rattle.hayro_ccitt.specs.EndOfLine.{one_more, past_tag, pass_last_tag}
 use Rattle.hayro_ccitt.specs.Laws.{ReadsClosedPictures}
 use Rattle.hayro_ccitt.proofs.BitReading.BitLists.{length-bits_in, bits_are_whole}

@@ -1,16 +1,14 @@
 -- The first RTC in a page is the one that closes it.
-use Rattle.hayro_ccitt.proofs.Names.{◌≡◌, ◌≢◌, ℕ, zero, suc, ◌+◌, ◌-◌, ◌/◌, ◌<◌, ◌≤◌, true, false, Bool, cond, leb, ltb, ◌&&◌}
-use Rattle.hayro_ccitt.proofs.Names.{Option, Some, None, [], ◌∷◌, ◌++◌, List, length, drop, replicate, refl, sym, ap, subst, ◌∙◌}
+use Rattle.hayro_ccitt.proofs.Names.{◌≡◌, ◌≢◌, ℕ, zero, suc, ◌+◌, ◌/◌, ◌<◌, ◌≤◌, true, false, Bool, cond, leb}
+use Rattle.hayro_ccitt.proofs.Names.{Option, Some, None, [], ◌∷◌, ◌++◌, List, length, drop, replicate, refl, ap, ◌∙◌}
 use Rattle.hayro_ccitt.proofs.Names.{append_assoc, append-nil, arith, inl, inr, cases_lt, le-leb, lt-ltb, le-ltb, cond-false}
-use Rattle.hayro_ccitt.proofs.Names.{cond-true, common_steps, length-drop, All-head, All-tail, Bits, Color, White, Row, HaveWidth}
-use Rattle.hayro_ccitt.proofs.Names.{EncodesLine, EncodesLine1D, EncodesLine2D, EncodesRowsWithEols, Spells, eol, opposite, after_eol}
-use Rattle.hayro_ccitt.proofs.Names.{Pass, Vertical, Horizontal}
+use Rattle.hayro_ccitt.proofs.Names.{cond-true, length-drop, All-head, All-tail, Bits, Color, White, Row, HaveWidth}
+use Rattle.hayro_ccitt.proofs.Names.{EncodesLine, EncodesLine1D, EncodesRowsWithEols, Spells, eol, opposite}
 use Rattle.std.proofs.lemmas.Bool.{and_right, lt-leb}
 use Rattle.hayro_ccitt.specs.EncodingMode.{EncodingMode}
 use Rattle.hayro_ccitt.specs.EncodingMode.TheVariants.{Group4, Group3_1D, Group3_2D}
 use Rattle.hayro_ccitt.specs.Encodings.{ClosesWithEols, PictureT4, tag_of}
 use Rattle.hayro_ccitt.specs.Rows.{white_row}
-use Rattle.hayro_ccitt.specs.Words.{IsWord}
 use Rattle.hayro_ccitt.proofs.BitReading.ZerosInWords.{scan, holds_a_one, word_one}
 use Rattle.hayro_ccitt.proofs.DamagedLines.AnyReference.{Quiet, quiet_append, quiet_run, quiet_line}
 use Rattle.fax_callers.specs.Rtc.{behind_rtc, is_rtc, none_seen, one_more_up_to, rtc_size, size_before, with_one}
@@ -26,7 +24,7 @@ abbrev pub goes_on : Bool → EolsSeen → Bits → Option Bits
 goes_on tags seen here = cond (is_rtc seen) (Some here) (behind_rtc tags seen here)
 
 few_seen : (eols zeros : ℕ) → eols < 6 → is_rtc (seen_with eols zeros false) ≡ false
-few_seen eols zeros lt = rw (lt-leb 6 eols lt) refl
+few_seen eols _ lt = rw (lt-leb 6 eols lt) refl
 
 zero_passed : (tags : Bool) (eols zeros : ℕ) (rest : Bits) → eols < 6 → behind_rtc tags (seen_with eols zeros false) (false ∷ rest)
     ≡ behind_rtc tags (seen_with eols (one_more_up_to 11 zeros) false) rest
@@ -98,7 +96,7 @@ tags_in Group4 = false
 tagged_passed : (encoding : EncodingMode) (eols zeros fill : ℕ) (rest : Bits) → eols < 6 → encoding ≢ Group4
     → behind_rtc (tags_in encoding) (seen_with eols zeros false) (eol fill ++ (tag_of encoding ++ rest))
     ≡ goes_on (tags_in encoding) (seen_with (suc eols) 0 false) rest
-tagged_passed Group4 eols zeros fill rest lt three = absurd (three refl)
+tagged_passed Group4 eols _ fill rest lt three = absurd (three refl)
 tagged_passed Group3_1D eols zeros fill rest lt three = eol_passed false eols zeros fill rest lt
 tagged_passed Group3_2D eols zeros fill rest lt three =
     eol_passed true eols zeros fill (true ∷ rest) lt ∙ tag_passed (suc eols) rest

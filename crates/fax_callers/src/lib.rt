@@ -11,6 +11,7 @@ mod first_rows;
 mod in_step;
 mod once;
 mod pages;
+mod pages_by;
 mod rtc;
 mod strip;
 
@@ -19,5 +20,6 @@ pub use blank::is_blank;
 pub use first_rows::{FirstRows, decode_first_rows};
 pub use in_step::row_in_step;
 pub use once::decode_once;
-pub use pages::{group3_pages, group4_pages, page_end, page_end_by, page_ends, page_ends_by};
+pub use pages::{group4_pages, page_end, page_ends};
+pub use pages_by::{group3_pages, page_end_by, page_ends_by};
 pub use strip::strip_to_bitmap;

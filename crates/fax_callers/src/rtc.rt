@@ -51,7 +51,7 @@ fn with_bit(tags: bool, seen: EolsSeen, bit: bool) -> EolsSeen
             at_tag: false,
         },
         (true, false) => EolsSeen {
-            eols: 0,
+            eols: 0, // the tag of a line
             zeros: 1,
             at_tag: false,
         },

@@ -1,5 +1,5 @@
 use Rattle.fax_callers.proofs.PagesRead.{pages_read}
-use Rattle.fax_callers.proofs.pages.pages_are_read.Goals as goal
+use Rattle.fax_callers.proofs.pages_by.pages_are_read.Goals as goal
 
 pub returns : goal.returns
 returns c = pages_read c.args.settings c.args.order c.pictures.ensures.closed

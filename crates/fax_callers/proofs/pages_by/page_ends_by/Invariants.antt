@@ -1,6 +1,6 @@
 use Rattle.std.proofs.Common.{◌≡◌, ◌≤◌, ◌-◌, length}
 use Rattle.fax_callers.specs.Pages.{PagesEnd}
-use Rattle.fax_callers.proofs.pages.page_ends_by.Given as goal
+use Rattle.fax_callers.proofs.pages_by.page_ends_by.Given as goal
 
 abbrev pub invariant-loop-begin : goal.invariant-loop-begin
 invariant-loop-begin l = PagesEnd l.fn.settings l.order l.«data» 0 l.ends.items l.begin × (l.begin ≤ length l.«data»)

@@ -3,8 +3,8 @@ use Rattle.std.proofs.lemmas.Result.{err_from_is_err_and}
 use Rattle.hayro_ccitt.specs.DecodeSettings.{DecodeSettings}
 use Rattle.fax_callers.specs.Pages.{PageFrom, page_by}
 use Rattle.fax_callers.proofs.PagesCut.{one_page_more, same_pages}
-use Rattle.fax_callers.proofs.pages.page_ends_by.Goals as goal
-use Rattle.fax_callers.proofs.pages.page_ends_by.Goals.{else-loop-begin-test, then-loop-begin-test+in_ok-count+then-count-eq0}
+use Rattle.fax_callers.proofs.pages_by.page_ends_by.Goals as goal
+use Rattle.fax_callers.proofs.pages_by.page_ends_by.Goals.{else-loop-begin-test, then-loop-begin-test+in_ok-count+then-count-eq0}
 
 pub loop-begin-preserved : goal.loop-begin-preserved
 loop-begin-preserved c =

@@ -5,7 +5,7 @@ use Rattle.hayro_ccitt.specs.DecodeSettings.{DecodeSettings}
 use Rattle.hayro_ccitt.specs.Answers.{OnAnswer}
 use Rattle.hayro_ccitt.specs.Context.{Context}
 use Rattle.fax_callers.specs.Pages.{page_by}
-use Rattle.fax_callers.proofs.pages.page_end_by.Goals as goal
+use Rattle.fax_callers.proofs.pages_by.page_end_by.Goals as goal
 
 pub returns-clause-page : goal.returns-clause-page
 returns-clause-page c = subst
