@@ -7,13 +7,13 @@
 ghost use Rattle.std.specs.Prelude.{◌≡◌};
 ghost use Rattle.hayro_ccitt.specs.Rows.{AreChanges};
 
-use crate::cases::{check, first_of};
+use crate::cases::{check, first_of, order_by, pages_by, rows_of, settings_by};
 use crate::same;
 use fax_callers::{
     BlackPixels, FirstRows, count_black, decode_first_rows, decode_once, group4_pages, page_end,
-    page_ends, row_in_step, strip_to_bitmap,
+    page_ends, page_ends_by, row_in_step, strip_to_bitmap,
 };
-use fax_encode::BitmapSink;
+use fax_encode::{BitmapSink, encode};
 use hayro_ccitt::DecodeError::{OutOfMemory, Refused};
 use hayro_ccitt::bit_reader::BitOrder::HighestFirst;
 use hayro_ccitt::{
@@ -39,6 +39,12 @@ fn settings_of_pages(rt: HostRuntime) {
         "group4_pages 8 -",
         ": DecodeSettings { columns: 8, rows: 0, end_of_block: true, end_of_line: false, \
             rows_are_byte_aligned: false, encoding: Group4, strict: true }",
+    );
+    check(
+        &rt,
+        "group3_pages 8 - 2d",
+        ": DecodeSettings { columns: 8, rows: 0, end_of_block: true, end_of_line: true, \
+            rows_are_byte_aligned: false, encoding: Group3_2D, strict: true }",
     );
 }
 
@@ -185,6 +191,79 @@ fn pages(rt: HostRuntime) {
     );
 }
 
+/// A white row of one column is, after an EOL, 000111, and RTC six EOLs. In two-dimensional Group 3 a tag of 1 follows each EOL; or one
+/// of 0 the first, and V0 is 1.
+#[test]
+fn pages_of_any_encoding(rt: HostRuntime) {
+    check(
+        &rt,
+        "",
+        "
+        page_end_by 1 0011C0040040040040040040 1d: Ok(12)
+        page_end_by 1 0011C00400400400400400400011C0040040040040040040 1d: Ok(12)
+        page_ends_by 1 0011C00400400400400400400011C0040040040040040040 1d: Ok([12, 24])
+        page_ends_by 1 008803200002200002200002008803200002200002200002 1d low: Ok([12, 24])
+        page_ends_by 1 0018E003001800C006003001800018E003001800C00600300180 2d: Ok([13, 26])
+        page_ends_by 1 0014006003001800C00600300014006003001800C0060030 2d: Ok([12, 24])
+        // The last page has no RTC.
+        page_end_by 1 0011C0 1d: Err(InvalidCode)
+        page_ends_by 1 0011C00400400400400400400011C0040040 1d: Err(UnexpectedEof)
+        page_ends_by 0 0011C0 1d: Ok([])
+        page_ends_by 8 31C004004031F8008008 g4: Ok([5, 10])
+        ",
+    );
+}
+
+/// Appends the encoding of an image, by the settings that words name, and returns how many bytes there are then.
+fn append_page(
+    rt: &(impl Abort + AllocGlobal),
+    data: &mut Vec<u8>,
+    words: &str,
+    rows: &[Vec<u32>],
+) -> usize {
+    let page = encode(rt.alloc(), 8, rows, settings_by(words)).expect(rt, words);
+    data.extend_from_slice(&page).expect(rt, "memory");
+    data.len()
+}
+
+/// Compares the bitmap of the page that bytes are.
+fn is_page(rt: &(impl Abort + AllocGlobal), words: &str, data: &[u8], expected: &[u8]) {
+    assert!(rt; bits_fit(data));
+    let found = strip_to_bitmap(rt.alloc(), pages_by(8, words), order_by(words), data);
+    let bitmap = found.expect(rt, words);
+    same(rt, bitmap.len(), expected.len());
+    assert!(rt; bitmap.as_slice() == expected, "{words}");
+}
+
+/// Two pages that the encoder makes are found, and the bytes of each are read as its rows.
+#[test]
+fn encoded_pages(rt: HostRuntime) {
+    for words in [
+        "1d eol rtc",
+        "1d eol rtc low",
+        "1d eol fill rtc",
+        "2d eol rtc",
+        "2d eol fill rtc low k=9",
+        "g4 rtc",
+        "g4 rtc low",
+    ] {
+        let mut data = Vec::new(rt.alloc());
+        let first = append_page(&rt, &mut data, words, &rows_of(&rt, "3,5/3,5/white"));
+        let second = append_page(&rt, &mut data, words, &rows_of(&rt, "0/3,5"));
+        assert!(&rt; bits_fit(&data));
+        let found = page_ends_by(rt.alloc(), pages_by(8, words), order_by(words), &data);
+        let ends = found.expect(&rt, words);
+        same(
+            &rt,
+            (words, ends.as_slice()),
+            (words, [first, second].as_slice()),
+        );
+        let (one, two) = data.split_at(first.min(data.len()));
+        is_page(&rt, words, one, &[0x18, 0x18, 0x00]);
+        is_page(&rt, words, two, &[0xFF, 0x18]);
+    }
+}
+
 /// Returns `times` copies of a piece between a start and an end.
 fn repeated(
     rt: &(impl Abort + AllocGlobal),
@@ -265,6 +344,7 @@ fn called(alloc: Global, name: &str) -> Result<(u64, Vec<u8>, Vec<usize>)> {
         "row_in_step" => {
             black = row_in_step(alloc, lines_with_eols(8), &THREE_LINES, 17)?.unwrap_or(0);
         }
+        "page_ends_by" => ends = page_ends_by(alloc, group4_pages(8), HighestFirst, &TWO_PAGES)?,
         _ => ends = page_ends(alloc, 8, HighestFirst, &TWO_PAGES)?,
     }
     Ok((black, bitmap, ends))
@@ -282,5 +362,6 @@ fn refused_memory(rt: HostRuntime) {
     made_with(&rt, "count_black", "Ok((4, [], []))");
     made_with(&rt, "strip_to_bitmap", "Ok((0, [24, 24], []))");
     made_with(&rt, "page_ends", "Ok((0, [], [5, 10]))");
+    made_with(&rt, "page_ends_by", "Ok((0, [], [5, 10]))");
     made_with(&rt, "row_in_step", "Ok((2, [], []))");
 }

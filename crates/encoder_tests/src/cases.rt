@@ -11,8 +11,8 @@
 
 use crate::same;
 use fax_callers::{
-    FirstRows, count_black, decode_first_rows, group4_pages, is_blank, page_end, page_ends,
-    strip_to_bitmap,
+    FirstRows, count_black, decode_first_rows, group3_pages, group4_pages, is_blank, page_end,
+    page_end_by, page_ends, page_ends_by, strip_to_bitmap,
 };
 use fax_encode::{
     BitmapSink, Effort, EncodeError, EncodeSettings, Encoder, bitmap_by_group3, bitmap_by_group4,
@@ -20,7 +20,7 @@ use fax_encode::{
     rows_of_bitmap,
 };
 use hayro_ccitt::bit_reader::BitOrder;
-use hayro_ccitt::{DecoderContext, EncodingMode, bits_fit};
+use hayro_ccitt::{DecodeSettings, DecoderContext, EncodingMode, bits_fit};
 use named_requests::made_at_last;
 use std::alloc::{AllocGlobal, Global};
 use std::fmt::Debug;
@@ -71,6 +71,9 @@ fn found_by(rt: &(impl Abort + AllocGlobal), call: &str) -> String {
             encoded_by(rt, call, name, columns, &[], &bytes_of(rt, image))
         }
         "decode_first_rows" => first_rows_in(rt, call, columns, &bytes_of(rt, image)),
+        "group3_pages" | "page_end_by" | "page_ends_by" => {
+            pages_in(rt, call, name, columns, &bytes_of(rt, image))
+        }
         _ => found_in(rt, name, columns, &bytes_of(rt, image), order_by(call)),
     }
 }
@@ -157,6 +160,32 @@ fn found_in(
         "page_ends" => said(rt, &page_ends(alloc, columns, order, bytes)),
         "strip_to_bitmap" => { bytes_or_error(rt, strip_to_bitmap(alloc, settings, order, bytes)) }
         _ => panic!(rt; "no call is named {name}"),
+    }
+}
+
+/// Returns the settings for pages of the encoding that words name.
+pub fn pages_by(columns: u32, words: &str) -> DecodeSettings {
+    match encoding_by(words) {
+        EncodingMode::Group4 => group4_pages(columns),
+        EncodingMode::Group3_1D => group3_pages(columns, false),
+        EncodingMode::Group3_2D => group3_pages(columns, true),
+    }
+}
+
+/// Writes what the calls that find pages of any encoding return.
+fn pages_in(
+    rt: &(impl Abort + AllocGlobal),
+    call: &str,
+    name: &str,
+    columns: u32,
+    bytes: &[u8],
+) -> String {
+    assert!(rt; bits_fit(bytes));
+    let (alloc, settings, order) = (rt.alloc(), pages_by(columns, call), order_by(call));
+    match name {
+        "group3_pages" => said(rt, &settings),
+        "page_end_by" => said(rt, &page_end_by(alloc, settings, order, bytes)),
+        _ => said(rt, &page_ends_by(alloc, settings, order, bytes)),
     }
 }
 
@@ -289,7 +318,7 @@ fn value_of(rt: &impl Abort, digit: u8) -> u8 {
 }
 
 /// Returns the rows that are parted by slashes; `-` is an image without rows.
-fn rows_of(rt: &(impl Abort + AllocGlobal), image: &str) -> Vec<Vec<u32>> {
+pub fn rows_of(rt: &(impl Abort + AllocGlobal), image: &str) -> Vec<Vec<u32>> {
     let mut rows = Vec::new(rt.alloc());
     if image != "-" {
         for row in image.split('/') {
@@ -356,7 +385,7 @@ fn encoding_by(words: &str) -> EncodingMode {
 }
 
 /// Returns the order of bits that words name.
-fn order_by(words: &str) -> BitOrder {
+pub fn order_by(words: &str) -> BitOrder {
     if has(words, "low") {
         BitOrder::LowestFirst
     } else {

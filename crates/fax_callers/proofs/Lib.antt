@@ -1,5 +1,7 @@
 mod FirstTaken
 mod OnceTaken
 mod PagesCut
+mod PagesRead
+mod RtcFound
 mod RunsCounted
 mod WhiteTaken

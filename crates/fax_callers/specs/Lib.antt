@@ -4,3 +4,4 @@ pub mod FirstRows
 pub mod InStep
 pub mod Pages
 pub mod Readings
+pub mod Rtc

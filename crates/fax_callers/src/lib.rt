@@ -11,6 +11,8 @@ mod first_rows;
 mod in_step;
 mod once;
 mod pages;
+mod pages_by;
+mod rtc;
 mod strip;
 
 pub use black_pixels::{BlackPixels, count_black};
@@ -19,4 +21,5 @@ pub use first_rows::{FirstRows, decode_first_rows};
 pub use in_step::row_in_step;
 pub use once::decode_once;
 pub use pages::{group4_pages, page_end, page_ends};
+pub use pages_by::{group3_pages, page_end_by, page_ends_by};
 pub use strip::strip_to_bitmap;

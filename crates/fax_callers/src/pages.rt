@@ -16,7 +16,7 @@ use std::alloc::Global;
 
 /// A sink that ignores each row.
 #[derive(Drop)]
-struct NoRows;
+pub(crate) struct NoRows;
 
 impl Decoder for NoRows {
     ghost use Rattle.std.specs.Prelude.{false};

@@ -1,0 +1,133 @@
+//! Where a page of Group 3 ends: behind RTC, the first six EOLs in a row.
+
+ghost use Rattle.std.specs.Prelude.{◌≡◌, ◌≤◌, true, None, Some, length, if◌then◌else◌};
+ghost use Rattle.hayro_ccitt.specs.Bits.{BitsFit, bits_in, here};
+ghost use Rattle.fax_callers.specs.Rtc.{behind_rtc, is_rtc, none_seen, one_more_up_to, page_size, rtc_size, with_bit, with_one};
+
+use hayro_ccitt::EncodingMode;
+use hayro_ccitt::bit_reader::{BitOrder, BitReader};
+
+/// What was seen just before a bit: EOLs in a row, at most six; zeros, at most eleven; and whether the bit is a tag.
+#[derive(Copy, Clone)]
+struct EolsSeen {
+    eols: u32,
+    zeros: u32,
+    at_tag: bool,
+}
+
+/// Returns one more, up to a number.
+fn one_more_up_to(most: u32, n: u32) -> u32
+    ensures { result ≡ one_more_up_to most n }
+{
+    if n < most { n + 1 } else { n }
+}
+
+/// Returns what was seen after a one.
+fn with_one(tags: bool, seen: EolsSeen) -> EolsSeen
+    ensures { result ≡ with_one tags seen }
+{
+    if seen.zeros < 11 {
+        return EolsSeen {
+            eols: 0,
+            zeros: 0,
+            at_tag: false,
+        };
+    }
+    EolsSeen {
+        eols: one_more_up_to(6, seen.eols),
+        zeros: 0,
+        at_tag: tags,
+    }
+}
+
+/// Returns what was seen after a bit.
+fn with_bit(tags: bool, seen: EolsSeen, bit: bool) -> EolsSeen
+    ensures { result ≡ with_bit tags seen bit }
+{
+    match (seen.at_tag, bit) {
+        (true, true) => EolsSeen {
+            eols: seen.eols,
+            zeros: 0,
+            at_tag: false,
+        },
+        (true, false) => EolsSeen {
+            eols: 0, // the tag of a line
+            zeros: 1,
+            at_tag: false,
+        },
+        (false, true) => with_one(tags, seen),
+        (false, false) => EolsSeen {
+            eols: seen.eols,
+            zeros: one_more_up_to(11, seen.zeros),
+            at_tag: seen.at_tag,
+        },
+    }
+}
+
+/// Returns whether RTC was seen.
+fn is_rtc(seen: EolsSeen) -> bool
+    ensures { result ≡ is_rtc seen }
+{
+    seen.eols >= 6 && !seen.at_tag
+}
+
+/// Moves behind the first RTC, and returns whether there is one.
+fn pass_rtc(tags: bool, reader: &mut BitReader<'_>) -> bool
+    ensures found { behind_rtc tags none_seen (here reader.old) ≡ (if result then Some (here reader.new) else None) }
+    ensures same_bits { reader.new.bits ≡ reader.old.bits }
+{
+    let mut seen = EolsSeen {
+        eols: 0,
+        zeros: 0,
+        at_tag: false,
+    };
+    'bits: loop {
+        match reader.read_bit() {
+            Err(_) => return false,
+            Ok(bit) => {
+                seen = with_bit(tags, seen, bit == 1);
+                if is_rtc(seen) {
+                    return true;
+                }
+            }
+        }
+    }
+}
+
+/// Creates a reader at the first bit of some data.
+fn reader_of<'a>(order: BitOrder, data: &'a [u8]) -> BitReader<'a>
+    requires fit { BitsFit «data».now }
+    ensures { result ≡ record { bits = bits_in order «data».now; place = 0 } }
+{
+    match order {
+        BitOrder::HighestFirst => BitReader::new(data),
+        BitOrder::LowestFirst => BitReader::new_low_first(data),
+    }
+}
+
+/// Returns how many bytes the first RTC ends within, the last one filled up, or all if there is none.
+fn rtc_size(tags: bool, order: BitOrder, data: &[u8]) -> usize
+    requires fit { BitsFit «data».now }
+    ensures size { result ≡ rtc_size tags (bits_in order «data».now) (length «data».now) }
+    ensures within { result ≤ length «data».now }
+{
+    let mut reader = reader_of(order, data);
+    if !pass_rtc(tags, &mut reader) {
+        return data.len();
+    }
+    reader.bit_pos().div_ceil(8)
+}
+
+/// Returns how many bytes the page at the start of the data may occupy: in Group 3 those up to the end of the first RTC, in
+/// Group 4 all.
+pub(crate) fn page_size(encoding: EncodingMode, order: BitOrder, data: &[u8]) -> usize
+    requires fit { BitsFit «data».now }
+    ensures size { result ≡ page_size encoding order «data».now }
+    ensures within { result ≤ length «data».now }
+{
+    match encoding {
+        EncodingMode::Group4 => data.len(),
+        EncodingMode::Group3_1D => rtc_size(false, order, data),
+        EncodingMode::Group3_2D => rtc_size(true, order, data),
+    }
+}
