@@ -252,7 +252,7 @@ unsafe extern "C" {
         row: *mut Row,
     ) -> u32;
     fn hayro_ccitt_feed_unused(
-        feed: *const Reader,
+        feed: *mut Reader,
         bytes: *mut u8,
         length: usize,
         count: *mut usize,
@@ -431,7 +431,12 @@ impl Feed {
         let mut count = 0;
         // SAFETY: as above.
         unsafe {
-            hayro_ccitt_feed_unused(&self.reader, bytes.as_mut_ptr(), bytes.len(), &mut count)
+            hayro_ccitt_feed_unused(
+                &mut self.reader,
+                bytes.as_mut_ptr(),
+                bytes.len(),
+                &mut count,
+            )
         };
         count
     }

@@ -32,7 +32,7 @@ impl Fed<()> {
 pub enum FeedError {
     /// The data is damaged, or isn't what the settings say. The rows before were returned.
     Data(DecodeError),
-    /// An allocation failed. Nothing was fed or read, and the call can be made again.
+    /// An allocation failed. Nothing is lost, and the call can be made again.
     OutOfMemory,
     /// The data is finished, so nothing can be fed.
     Finished,
