@@ -74,8 +74,8 @@ impl From<ReadError> for io::Error {
 /// more only if these are consumed. Bytes behind an image are looked at as far as they could belong to it:
 ///
 /// - none behind EOFB, if `end_of_block` is set (T.6, 2.4.1.1);
-/// - else zeros, up to the next one, behind the last row or RTC: an EOL could follow, and all EOLs there are the image's, also that
-///   before the first line of another one (T.4, 4.1.2 and 4.1.4);
+/// - else, behind the last row or RTC, zeros up to a one that isn't part of an EOL: all EOLs there are the image's, also that before the
+///   first line of another one (T.4, 4.1.2 and 4.1.4);
 /// - where an EOL is missing or a line is damaged in lenient Group 3 with EOLs, all bytes up to the next EOL, or to the end of the
 ///   data.
 ///

@@ -3,9 +3,9 @@
 #[macro_use]
 mod common;
 
-use common::{Case, Random, Reading, long_data, random_data, resident, stored_cases, strips};
-use hayro_ccitt::{DecodeError, DecodeSettings, EncodingMode, Fed, FeedError, RowFeed};
-use std::process::Command;
+use common::{Case, Panicking, Random, Reading, long_data, random_data, stored_cases, strips};
+use hayro_ccitt::{DecodeError, DecodeSettings, Decoder, EncodingMode, Fed, FeedError, RowFeed};
+use std::panic::{AssertUnwindSafe, catch_unwind};
 
 /// A row of eight pixels with the changes 3 and 5, in Group 4, and EOFB.
 const CLOSED: [u8; 5] = [0x31, 0xC0, 0x04, 0x00, 0x40];
@@ -220,83 +220,24 @@ fn a_fault_stays() {
     assert_eq!(FeedError::from(DecodeError::InvalidCode), fault);
 }
 
+/// Rows may be passed to a sink. If it panics, the feed is behind the row that it got.
 #[test]
-fn no_memory_is_allocated_for_rows_that_do_not_come() {
-    let before = resident();
-    let widest = DecodeSettings {
-        columns: u32::MAX,
-        ..settings(u32::MAX)
-    };
-    let mut feed = RowFeed::new(widest);
-    feed.feed(&[0, 0]).unwrap();
-    assert_eq!(feed.next_packed(), Ok(Fed::NeedsMore));
-    feed.finish();
-    assert!(matches!(feed.next_packed(), Err(FeedError::Data(_))));
-    assert!(resident() < before + 10_000);
-}
-
-#[test]
-fn a_feed_goes_to_threads_and_leaks_nothing() {
-    fn is_thread_safe<
-        T: Send + Sync + Unpin + std::panic::UnwindSafe + std::panic::RefUnwindSafe,
-    >() {
-    }
-    is_thread_safe::<RowFeed>();
-    is_thread_safe::<FeedError>();
-    let quiet = |times: usize| {
-        for _ in 0..times {
-            let mut feed = RowFeed::new(settings(0));
-            // More than is read: some of it is kept.
-            feed.feed(&[&CLOSED[..2], &[0; 20_000]].concat()).unwrap();
-            let row = std::thread::scope(|scope| {
-                let read = scope.spawn(move || list(&mut feed));
-                read.join().unwrap()
-            });
-            assert_eq!(row, Ok(Fed::Row(vec![3, 5])));
-        }
-    };
-    quiet(100);
-    let before = resident();
-    quiet(4000);
-    // The leaks would be 80 MB.
-    assert!(resident() < before + 40_000, "{before} {}", resident());
-}
-
-/// Feeds zeros, which could all be fill, until no memory is left. The feed can be used as before.
-#[test]
-fn a_feed_can_be_used_after_a_failed_allocation() {
-    let name = "a_feed_can_be_used_after_a_failed_allocation";
-    if std::env::var("LITTLE_MEMORY").is_err() {
-        let script = "ulimit -v 400000 && exec \"$0\" --exact --test-threads 1 \"$1\"";
-        let program = std::env::current_exe().unwrap();
-        let words = ["-c", script, program.to_str().unwrap(), name];
-        let status = Command::new("sh")
-            .args(words)
-            .env("LITTLE_MEMORY", "1")
-            .status();
-        assert!(status.unwrap().success());
-        return;
-    }
+fn a_panic_of_a_sink_leaves_the_feed() {
     let mut feed = RowFeed::new(settings(0));
-    feed.feed(&CLOSED[..2]).unwrap();
+    // Three rows with the changes 3 and 5, and EOFB.
+    feed.feed(&[0x31, 0xFF, 0x00, 0x10, 0x01]).unwrap();
+    let mut sink = Panicking(0);
+    let hook = std::panic::take_hook();
+    std::panic::set_hook(Box::new(|_| {}));
+    let caught = catch_unwind(AssertUnwindSafe(|| {
+        while let Ok(Fed::Row(row)) = feed.next_row() {
+            sink.push_row(row);
+        }
+    }));
+    std::panic::set_hook(hook);
+    assert!(caught.is_err());
+    assert_eq!((sink.0, feed.rows_read()), (2, 2));
     assert_eq!(feed.next_row(), Ok(Fed::Row(&[3, 5][..])));
-    let zeros = vec![0; 1 << 23];
-    let fed = (0..100).find(|_| feed.feed(&zeros) == Err(FeedError::OutOfMemory));
-    let fed = fed.expect("an allocation fails");
-    assert!(fed > 0);
-    drop(zeros);
-    // Nothing of the last piece was fed: an EOL after the others is stray, and then EOFB.
-    feed.feed(&[0x01, 0x00, 0x10, 0x31]).unwrap();
     assert_eq!(feed.next_row(), Ok(Fed::End));
-    assert_eq!(feed.bytes_read(), 2 + (fed << 23) + 3);
-    // The row's room isn't there, and later it is.
-    let widest = DecodeSettings {
-        columns: u32::MAX,
-        ..settings(1)
-    };
-    let mut feed = RowFeed::new(widest);
-    feed.feed(&[0x80]).unwrap();
-    assert_eq!(feed.next_packed(), Err(FeedError::OutOfMemory));
-    assert_eq!(feed.next_packed(), Err(FeedError::OutOfMemory));
-    assert_eq!(feed.next_row(), Ok(Fed::Row(&[][..])));
+    assert_eq!((feed.bytes_read(), feed.unused()), (5, vec![]));
 }
