@@ -136,7 +136,8 @@ def compiled_as_the_tarball_says(folder, environment):
 
 def package_of_cargo(folder, environment):
     """`cargo check`, `doc`, `clippy` and `package` work in the unpacked package, without a network."""
-    words = [["check"], ["doc"], ["clippy", "--all-targets", "--", "-D", "warnings"], ["package", "--allow-dirty"]]
+    clippy = ["clippy", "--all-features", "--all-targets", "--", "-D", "warnings"]
+    words = [["check"], ["doc", "--all-features"], clippy, ["package", "--allow-dirty"]]
     for word, *more in words:
         if word != "clippy" or shutil.which("cargo-clippy"):
             run(["cargo", word, "-q", "--offline", *more], cwd=f"{folder}/crate/hayro-ccitt-0.5.0", env=environment)

@@ -6,6 +6,7 @@ import re
 import shutil
 import subprocess
 import tempfile
+import threading
 
 import c_library
 from left_out import leave_out
@@ -110,7 +111,7 @@ def damaged(data):
 
 
 def the_cargo_package():
-    """Its cases, and its example against the C program: on each strip with its first settings, whole and damaged."""
+    """Its cases, and its examples against the C program: on each strip with its first settings, whole and damaged."""
     if not shutil.which("cargo"):
         leave_out("the Cargo package", "cargo")
         return
@@ -118,25 +119,61 @@ def the_cargo_package():
     same = 0
     with tempfile.TemporaryDirectory() as folder:
         cargo = {**os.environ, "CARGO_TARGET_DIR": f"{folder}/target"}
-        for words in (["test", "--release", "--offline", "-q"], ["build", "--release", "--offline", "-q", "--example", "strip_to_pbm"]):
-            done = subprocess.run(["cargo", *words], cwd=PACKAGE, env=cargo, capture_output=True, text=True, check=False)
+        for words in (["test"], ["build", "--examples"]):
+            words = ["cargo", *words, "--all-features", "--release", "--offline", "-q"]
+            done = subprocess.run(words, cwd=PACKAGE, env=cargo, capture_output=True, text=True, check=False)
             assert done.returncode == 0, done.stdout[-2000:] + done.stderr[-2000:]
-        example = f"{folder}/target/release/examples/strip_to_pbm"
+        examples = f"{folder}/target/release/examples"
         in_c = c_library.compiled(f"{folder}/strip_to_pbm", "examples/strip_to_pbm.c", c_library.LIBRARY)
-        for name, strip, mode, columns, _, settings, *_ in manifest():
+        for name, strip, mode, columns, rows, settings, *_ in manifest():
             with open(f"corpus/{strip}", "rb") as file:
                 data = file.read()
             limit, flags = settings.split(",")[0].split(":")
             for bytes_in in (data, *damaged(data)):
-                done = [
-                    subprocess.run([tool, mode, columns, limit, flags], input=bytes_in, capture_output=True, check=False, timeout=60)
-                    for tool in (example, in_c)
-                ]
-                answers = [(one.returncode, one.stdout) for one in done]
-                assert answers[0] == answers[1], f"{name} {limit}:{flags}: {done[0].stderr!r}, {done[1].stderr!r}"
-                same += 1
+                whole = [pbm_by(tool, [mode, columns, limit, flags], bytes_in) for tool in (f"{examples}/strip_to_pbm", in_c)]
+                assert whole[0] == whole[1], f"{name} {limit}:{flags}"
+                by_rows = [pbm_by(tool, [mode, columns, rows, flags], bytes_in) for tool in (f"{examples}/rows_to_pbm", in_c)]
+                by_rows[1] = filled_up(by_rows[1], int(columns), int(rows))
+                assert by_rows[0] == by_rows[1], f"{name} {rows}:{flags}"
+                same += 2
+        rows_come_before_the_data_ends(f"{examples}/rows_to_pbm")
     assert same > 0
     print(f"  the stored cases, and {same} runs as in C")
+
+
+def pbm_by(tool, words, data):
+    """The status and the picture of an example."""
+    done = subprocess.run([tool, *words], input=data, capture_output=True, check=False, timeout=60)
+    return done.returncode, done.stdout
+
+
+def filled_up(answer, columns, rows):
+    """An answer whose picture has white rows below, up to this number."""
+    status, picture = answer
+    header, size, packed = picture.split(b"\n", 2)
+    assert int(size.split()[1]) <= rows
+    return status, b"%s\n%d %d\n" % (header, columns, rows) + packed.ljust((columns + 7) // 8 * rows, b"\0")
+
+
+def rows_come_before_the_data_ends(example):
+    """The example writes the rows of half a page's data before it gets the other half."""
+    with open("corpus/strips/page/gs-g4", "rb") as file:
+        data = file.read()
+    with open("corpus/pictures/page", "rb") as file:
+        picture = b"P4\n1240 1754\n" + file.read()
+    words = [example, "g4", "1240", "1754", "b"]
+    with subprocess.Popen(words, stdin=subprocess.PIPE, stdout=subprocess.PIPE) as running:
+        impatient = threading.Timer(60, running.kill)
+        impatient.start()
+        running.stdin.write(data[: len(data) // 2])
+        running.stdin.flush()
+        early = running.stdout.read(len(picture) // 4)
+        assert early == picture[: len(early)] and len(early) == len(picture) // 4
+        running.stdin.write(data[len(data) // 2 :])
+        running.stdin.close()
+        assert early + running.stdout.read() == picture
+        impatient.cancel()
+    assert running.returncode == 0
 
 
 CHECKS = [commands_of_the_pages, the_cargo_package]

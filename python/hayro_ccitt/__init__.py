@@ -25,6 +25,7 @@ from .errors import (
     Overflow,
     UnexpectedEof,
 )
+from .feeding import RowFeed, RowsFrom, rows_from
 
 __version__ = "0.6.0"
 __all__ = [
@@ -39,11 +40,14 @@ __all__ = [
     "NotWholeRows",
     "Overflow",
     "Picture",
+    "RowFeed",
     "Rows",
+    "RowsFrom",
     "UnexpectedEof",
     "decode",
     "encode",
     "from_pdf",
     "from_tiff",
     "rows",
+    "rows_from",
 ]

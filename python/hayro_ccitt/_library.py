@@ -3,7 +3,7 @@ import ctypes
 import os
 from ctypes import POINTER, c_size_t, c_uint8, c_uint32, c_uint64, c_void_p
 
-OK, UNEXPECTED_EOF, INVALID_CODE, OVERFLOW, OUT_OF_MEMORY, REFUSED, NOT_TAKEN, NO_ROW = range(8)
+OK, UNEXPECTED_EOF, INVALID_CODE, OVERFLOW, OUT_OF_MEMORY, REFUSED, NOT_TAKEN, NO_ROW, NEEDS_MORE = range(9)
 GROUP_4, GROUP_3_1D, GROUP_3_2D = range(3)
 END_OF_BLOCK, END_OF_LINE, ALIGNED_ROWS, STRICT, LOW_FIRST, EOLS_END_AT_BYTES, SHORTEST = (1 << bit for bit in range(7))
 # Flags of decoding have numbers of their own, and that of 0 for black has one of each.
@@ -24,6 +24,8 @@ class Outcome(ctypes.Structure):
 
 
 class Reader(ctypes.Structure):
+    """hayro_ccitt_reader; and hayro_ccitt_row_feed, whose fields are of the same types."""
+
     _fields_ = [("reading", c_void_p), ("nowhere", c_void_p), ("is_open", c_uint8)]
 
 
@@ -50,6 +52,12 @@ CALLS = {
     "hayro_ccitt_open": [*DATA, POINTER(Settings), POINTER(Reader)],
     "hayro_ccitt_next_packed": [*DATA, POINTER(Reader), c_void_p, c_size_t, POINTER(Row)],
     "hayro_ccitt_close": [POINTER(Reader)],
+    "hayro_ccitt_feed_open": [POINTER(Settings), POINTER(Reader)],
+    "hayro_ccitt_feed": [POINTER(Reader), *DATA],
+    "hayro_ccitt_feed_finish": [POINTER(Reader)],
+    "hayro_ccitt_feed_next_packed": [POINTER(Reader), c_void_p, c_size_t, POINTER(Row)],
+    "hayro_ccitt_feed_unused": [POINTER(Reader), c_void_p, c_size_t, POINTER(c_size_t)],
+    "hayro_ccitt_feed_close": [POINTER(Reader)],
     "fax_encode_bitmap": [*DATA, POINTER(EncodeSettings), c_void_p, c_size_t, POINTER(EncodeOutcome)],
 }
 

@@ -3,12 +3,13 @@ from __future__ import annotations
 
 import ctypes
 import threading
-from typing import Iterator, NamedTuple, Union
+from typing import Iterator, NamedTuple, TypeVar, Union
 
 from . import _library as c
 from .errors import DecodeError, InvalidCode, Overflow, UnexpectedEof
 
 Data = Union[bytes, bytearray, memoryview]
+Self = TypeVar("Self", bound="Reading")
 FAULTS = {
     c.UNEXPECTED_EOF: (UnexpectedEof, "unexpected end of input"),
     c.INVALID_CODE: (InvalidCode, "invalid CCITT code sequence"),
@@ -151,34 +152,17 @@ def rows(
     return Rows(bytes_of(data), columns, settings)
 
 
-class Rows(Iterator[memoryview]):
-    """The rows of an image, read one at a time by `rows`. Its numbers are those of the rows read so far."""
+class Reading:
+    """What readers of rows have in common. Its numbers are those of the rows read so far."""
 
-    def __init__(self, data: bytes, columns: int, settings: c.Settings):
+    _close = c.LIBRARY.hayro_ccitt_close
+
+    def __init__(self, columns: int):
         self._reader = c.Reader()
         self._lock = threading.Lock()
-        self._data = data
         self._bitmap = room_for((columns + 7) // 8)
         self._row = c.Row()
         self._lent = memoryview(self._bitmap).cast("B").toreadonly()
-        check(c.LIBRARY.hayro_ccitt_open(data, len(data), settings, self._reader))
-
-    def __iter__(self) -> Rows:
-        return self
-
-    def __next__(self) -> memoryview:
-        with self._lock:
-            if not self._reader.is_open:
-                raise StopIteration
-            room = len(self._lent)
-            status = c.LIBRARY.hayro_ccitt_next_packed(self._data, len(self._data), self._reader, self._bitmap, room, self._row)
-            if status == c.OK:
-                return self._lent
-        self.close()
-        if status == c.NO_ROW:
-            raise StopIteration
-        check(status)
-        raise fault_of(status, self._row.line_start, None)
 
     @property
     def rows_read(self) -> int:
@@ -212,11 +196,11 @@ class Rows(Iterator[memoryview]):
         return found and found[0]
 
     def close(self) -> None:
-        """Frees the reader. It is freed after the last row, too."""
+        """Frees the reader."""
         with self._lock:
-            c.LIBRARY.hayro_ccitt_close(self._reader)
+            self._close(self._reader)
 
-    def __enter__(self) -> Rows:
+    def __enter__(self: Self) -> Self:
         return self
 
     def __exit__(self, *_: object) -> None:
@@ -225,7 +209,33 @@ class Rows(Iterator[memoryview]):
     def __del__(self) -> None:
         # Nothing else has a reference, so no call is running.
         if hasattr(self, "_reader"):
-            c.LIBRARY.hayro_ccitt_close(self._reader)
+            self._close(self._reader)
+
+
+class Rows(Reading, Iterator[memoryview]):
+    """The rows of an image, read one at a time by `rows`. After the last one the reader is freed."""
+
+    def __init__(self, data: bytes, columns: int, settings: c.Settings):
+        super().__init__(columns)
+        self._data = data
+        check(c.LIBRARY.hayro_ccitt_open(data, len(data), settings, self._reader))
+
+    def __iter__(self) -> Rows:
+        return self
+
+    def __next__(self) -> memoryview:
+        with self._lock:
+            if not self._reader.is_open:
+                raise StopIteration
+            room = len(self._lent)
+            status = c.LIBRARY.hayro_ccitt_next_packed(self._data, len(self._data), self._reader, self._bitmap, room, self._row)
+            if status == c.OK:
+                return self._lent
+        self.close()
+        if status == c.NO_ROW:
+            raise StopIteration
+        check(status)
+        raise fault_of(status, self._row.line_start, None)
 
 
 def bytes_of(data: Data) -> bytes:

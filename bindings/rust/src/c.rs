@@ -11,6 +11,7 @@ pub(crate) const OUT_OF_MEMORY: u32 = 4;
 pub(crate) const REFUSED: u32 = 5;
 pub(crate) const NOT_TAKEN: u32 = 6;
 pub(crate) const NO_ROW: u32 = 7;
+pub(crate) const NEEDS_MORE: u32 = 8;
 
 const LOW_FIRST: u32 = 16;
 const BLACK_IS_0: u32 = 32;
@@ -122,12 +123,28 @@ pub(crate) struct Row {
     pub(crate) missed_eol: u64,
 }
 
-/// `hayro_ccitt_reader`.
+/// `hayro_ccitt_reader`; and `hayro_ccitt_row_feed`, whose fields are of the same types.
 #[repr(C)]
 struct Reader {
     reading: *mut c_void,
     nowhere: *mut c_void,
     is_open: u8,
+}
+
+// SAFETY: the reading that the pointer owns is used through this value alone, and its memory may be freed by any thread.
+unsafe impl Send for Reader {}
+// SAFETY: through a shared reference nothing is read.
+unsafe impl Sync for Reader {}
+
+impl Reader {
+    /// Creates a reader that isn't open.
+    fn closed() -> Self {
+        Self {
+            reading: core::ptr::null_mut(),
+            nowhere: core::ptr::null_mut(),
+            is_open: 0,
+        }
+    }
 }
 
 /// `fax_encode_settings`.
@@ -219,6 +236,28 @@ unsafe extern "C" {
         row: *mut Row,
     ) -> u32;
     fn hayro_ccitt_close(reader: *mut Reader) -> u32;
+    fn hayro_ccitt_feed_open(settings: *const Settings, feed: *mut Reader) -> u32;
+    fn hayro_ccitt_feed(feed: *mut Reader, bytes: *const u8, length: usize) -> u32;
+    fn hayro_ccitt_feed_finish(feed: *mut Reader) -> u32;
+    fn hayro_ccitt_feed_next_changes(
+        feed: *mut Reader,
+        changes: *mut u32,
+        changes_length: usize,
+        row: *mut Row,
+    ) -> u32;
+    fn hayro_ccitt_feed_next_packed(
+        feed: *mut Reader,
+        packed: *mut u8,
+        packed_length: usize,
+        row: *mut Row,
+    ) -> u32;
+    fn hayro_ccitt_feed_unused(
+        feed: *mut Reader,
+        bytes: *mut u8,
+        length: usize,
+        count: *mut usize,
+    ) -> u32;
+    fn hayro_ccitt_feed_close(feed: *mut Reader) -> u32;
     fn fax_encode_bitmap(
         bitmap: *const u8,
         bitmap_length: usize,
@@ -276,21 +315,12 @@ pub(crate) struct Rows<'a> {
     pub(crate) row: Row,
 }
 
-// SAFETY: the reading that the pointer owns is used through this value alone, and its memory may be freed by any thread.
-unsafe impl Send for Rows<'_> {}
-// SAFETY: through a shared reference only plain numbers are read.
-unsafe impl Sync for Rows<'_> {}
-
 impl<'a> Rows<'a> {
     /// Opens a reader, or returns the status.
     pub(crate) fn open(data: &'a [u8], settings: &Settings) -> Result<Self, u32> {
         let mut rows = Self {
             data,
-            reader: Reader {
-                reading: core::ptr::null_mut(),
-                nowhere: core::ptr::null_mut(),
-                is_open: 0,
-            },
+            reader: Reader::closed(),
             row: Row::default(),
         };
         // SAFETY: pointers of references and slices are not null and valid for their lengths, and the reader is all zeros.
@@ -335,5 +365,86 @@ impl Drop for Rows<'_> {
     fn drop(&mut self) {
         // SAFETY: the reader is as the last call left it. A reader that isn't open stays as it is.
         unsafe { hayro_ccitt_close(&mut self.reader) };
+    }
+}
+
+/// An open reader of the rows of data that comes in pieces. It is closed when it is dropped.
+pub(crate) struct Feed {
+    reader: Reader,
+    /// The outcome of the last call that read.
+    pub(crate) row: Row,
+}
+
+impl Feed {
+    /// Opens a reader, or returns the status.
+    pub(crate) fn open(settings: &Settings) -> Result<Self, u32> {
+        let mut feed = Self {
+            reader: Reader::closed(),
+            row: Row::default(),
+        };
+        // SAFETY: pointers of references are not null and valid, and the reader is all zeros.
+        let status = unsafe { hayro_ccitt_feed_open(settings, &mut feed.reader) };
+        if status == OK { Ok(feed) } else { Err(status) }
+    }
+
+    /// Feeds the bytes that come next, and returns the status.
+    pub(crate) fn feed(&mut self, bytes: &[u8]) -> u32 {
+        // SAFETY: as above, also for slices and their lengths; the reader is as the last call left it.
+        unsafe { hayro_ccitt_feed(&mut self.reader, bytes.as_ptr(), bytes.len()) }
+    }
+
+    /// Finishes the data. It fails only where no reader is open.
+    pub(crate) fn finish(&mut self) {
+        // SAFETY: as above.
+        unsafe { hayro_ccitt_feed_finish(&mut self.reader) };
+    }
+
+    /// Lists the changes of the next row, and returns the status.
+    #[inline]
+    pub(crate) fn next_changes(&mut self, changes: &mut [u32]) -> u32 {
+        // SAFETY: as above.
+        unsafe {
+            hayro_ccitt_feed_next_changes(
+                &mut self.reader,
+                changes.as_mut_ptr(),
+                changes.len(),
+                &mut self.row,
+            )
+        }
+    }
+
+    /// Packs the next row, and returns the status.
+    pub(crate) fn next_packed(&mut self, packed: &mut [u8]) -> u32 {
+        // SAFETY: as above.
+        unsafe {
+            hayro_ccitt_feed_next_packed(
+                &mut self.reader,
+                packed.as_mut_ptr(),
+                packed.len(),
+                &mut self.row,
+            )
+        }
+    }
+
+    /// Copies the bytes that were fed and aren't consumed if there is room for all of them, and returns how many there are.
+    pub(crate) fn unused(&mut self, bytes: &mut [u8]) -> usize {
+        let mut count = 0;
+        // SAFETY: as above.
+        unsafe {
+            hayro_ccitt_feed_unused(
+                &mut self.reader,
+                bytes.as_mut_ptr(),
+                bytes.len(),
+                &mut count,
+            )
+        };
+        count
+    }
+}
+
+impl Drop for Feed {
+    fn drop(&mut self) {
+        // SAFETY: the reader is as the last call left it.
+        unsafe { hayro_ccitt_feed_close(&mut self.reader) };
     }
 }

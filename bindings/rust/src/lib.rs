@@ -2,7 +2,8 @@
 //! and PDF documents.
 //!
 //! [`decode`] takes encoded data and a [`DecoderContext`], and passes each row to a [`Decoder`] as the positions at which its
-//! colour changes. [`decode_packed`] returns a bitmap instead, and [`encode_bitmap`] encodes one.
+//! colour changes. [`decode_packed`] returns a bitmap instead, and [`encode_bitmap`] encodes one. [`RowReader`] reads one row at a
+//! time, [`RowFeed`] from data that comes in pieces, and `RowsFrom`, with the feature `std`, from any `BufRead`.
 //!
 //! The names are those of the crate `hayro-ccitt` 0.5.0, and a program that uses that crate needs no change. What runs is a C
 //! library that is proved: for every input its rows, results and byte counts are those that a formalization of T.4 and T.6
@@ -41,24 +42,34 @@
 //!
 //! # Differences from that crate
 //!
-//! If an allocation fails, the program ends, as with a [`Vec`].
-//! `decode_low_first`, [`decode_packed`], [`decode_packed_into`], [`RowReader`], [`DecoderContext::damaged_rows`], [`DecoderContext::missed_eols`],
-//! [`DecoderContext::cut_rows`], [`DecoderContext::fault_start`], [`encode_bitmap`] and [`encode_bitmap_from`] are added. The package is `no_std`, and needs an allocator and a C compiler.
+//! If an allocation fails, the program ends, as with a [`Vec`]; a [`RowFeed`] returns an error instead.
+//! `decode_low_first`, [`decode_packed`], [`decode_packed_into`], [`RowReader`], [`RowFeed`], `RowsFrom`, [`DecoderContext::damaged_rows`],
+//! [`DecoderContext::missed_eols`], [`DecoderContext::cut_rows`], [`DecoderContext::fault_start`], [`encode_bitmap`] and
+//! [`encode_bitmap_from`] are added. The package is `no_std` without the feature `std`, and needs an allocator and a C compiler.
 
 #![no_std]
 #![warn(missing_docs)]
 #![deny(unsafe_op_in_unsafe_fn)]
 
 extern crate alloc;
+#[cfg(feature = "std")]
+extern crate std;
 
 mod c;
 mod encoding;
 mod packed_into;
+mod row_feed;
 mod row_reader;
+#[cfg(feature = "std")]
+mod rows_from;
+mod told;
 
 pub use encoding::{EncodeError, EncodeSettings, encode_bitmap, encode_bitmap_from};
 pub use packed_into::{IntoError, PackedLayout, decode_packed_into, decode_packed_into_low_first};
+pub use row_feed::{Fed, FeedError, RowFeed};
 pub use row_reader::RowReader;
+#[cfg(feature = "std")]
+pub use rows_from::{ReadError, RowsFrom};
 
 use alloc::alloc::{Layout, handle_alloc_error};
 use alloc::vec::Vec;

@@ -1,6 +1,7 @@
 //! Rows one at a time.
 
-use crate::{DecodeError, DecodeSettings, Result, c, error_of, open_rows, usize_of, zeros};
+use crate::told::told_of_rows;
+use crate::{DecodeSettings, Result, c, error_of, open_rows, usize_of, zeros};
 use alloc::vec::Vec;
 
 /// Reads the rows of an image one at a time, in memory for a row, however long the image is.
@@ -107,57 +108,5 @@ impl<'a> RowReader<'a> {
         }
     }
 
-    /// Returns the number of rows read so far.
-    pub fn rows_read(&self) -> u64 {
-        self.rows.row.rows
-    }
-
-    /// Returns the offset in bits at which the line of the last row begins, after its EOL. After an error, returns that of the line
-    /// that couldn't be read, or the offset at which strict data lacks an EOL.
-    pub fn line_start(&self) -> usize {
-        usize_of(self.rows.row.line_start)
-    }
-
-    /// Returns the number of bytes consumed so far; at the end of the image, what [`decode`](crate::decode) returns.
-    pub fn bytes_read(&self) -> usize {
-        usize_of(self.rows.row.bytes_read)
-    }
-
-    /// Returns the number of rows read so far whose line was damaged and repaired.
-    pub fn damaged_rows(&self) -> u64 {
-        self.rows.row.damaged_rows
-    }
-
-    /// Returns the number of rows read so far, not repaired, after which other bits were passed up to the next EOL, or none was
-    /// left. What follows the last row is read by the next call.
-    pub fn missed_eols(&self) -> u64 {
-        self.rows.row.missed_eols
-    }
-
-    /// Returns the offset in bits at which the last call of [`next_row`](Self::next_row) missed an EOL, after the row that had been the
-    /// last one before.
-    pub fn missed_eol(&self) -> Option<usize> {
-        match self.rows.row.missed_eol {
-            0 => None,
-            place => Some(usize_of(place)),
-        }
-    }
-
-    /// Returns the number of rows read so far in which a run was cut at the row's end, where a strict reading fails.
-    pub fn cut_rows(&self) -> u64 {
-        self.rows.row.cut_rows
-    }
-
-    /// Returns whether a run of the last row was cut at the row's end.
-    pub fn is_cut(&self) -> bool {
-        self.rows.row.is_cut != 0
-    }
-
-    /// Returns the fault of the last row if its line was damaged and repaired.
-    pub fn damage(&self) -> Option<DecodeError> {
-        match self.rows.row.damage as u32 {
-            c::OK => None,
-            status => Some(error_of(status)),
-        }
-    }
+    told_of_rows!(|self| self.rows.row);
 }

@@ -3,10 +3,10 @@
 
 mod common;
 
-use common::{Panicking, settings_of};
+use common::{Case, Panicking, ROOT, long_data, stored_cases, strips};
 use hayro_ccitt::{
-    DecodeError, DecodeSettings, Decoder, DecoderContext, EncodeSettings, EncodingMode, RowReader,
-    decode, decode_low_first, decode_packed, decode_packed_low_first, encode_bitmap,
+    DecodeError, DecodeSettings, Decoder, DecoderContext, EncodingMode, RowReader, decode,
+    decode_low_first, decode_packed, decode_packed_low_first,
 };
 use std::collections::BTreeSet;
 use std::fmt::Write as _;
@@ -14,129 +14,6 @@ use std::fs;
 use std::panic::{AssertUnwindSafe, catch_unwind};
 use std::path::Path;
 use std::process::{Command, Stdio};
-
-const ROOT: &str = "../..";
-
-/// A case: the words MODE COLUMNS ROWS FLAGS, and the data.
-struct Case {
-    words: String,
-    data: Vec<u8>,
-}
-
-impl Case {
-    fn is_low_first(&self) -> bool {
-        self.words.ends_with('r')
-    }
-
-    fn settings(&self) -> DecodeSettings {
-        settings_of(&self.words)
-    }
-
-    fn line(&self) -> String {
-        let digits: String = self.data.iter().map(|byte| format!("{byte:02x}")).collect();
-        let digits = if digits.is_empty() { "-" } else { &digits };
-        format!("{} {digits}\n", self.words)
-    }
-}
-
-/// The flags with `r`, which says that the lowest bit comes first, as the last letter.
-fn with_r_last(words: &str) -> String {
-    if words.contains('r') {
-        words.replace('r', "") + "r"
-    } else {
-        words.to_string()
-    }
-}
-
-/// The data whole, with a byte inverted at three places, and cut.
-fn damaged(data: &[u8]) -> Vec<Vec<u8>> {
-    let mut all = vec![data.to_vec(), data[..data.len() / 2].to_vec()];
-    for part in 1..4 {
-        let mut other = data.to_vec();
-        other[data.len() * part / 4] ^= 0xFF;
-        all.push(other);
-    }
-    all
-}
-
-fn strips() -> Vec<Case> {
-    let manifest = fs::read_to_string(format!("{ROOT}/corpus/manifest.tsv")).unwrap();
-    let mut cases = Vec::new();
-    for line in manifest.lines().filter(|line| !line.starts_with('#')) {
-        let fields: Vec<&str> = line.split('\t').collect();
-        let data = fs::read(format!("{ROOT}/corpus/{}", fields[1])).unwrap();
-        // Of the page, whose rows are many, the first settings.
-        let most = if fields[3] == "1240" { 1 } else { 20 };
-        for setting in fields[5].split(',').take(most) {
-            let (limit, flags) = setting.split_once(':').unwrap();
-            let words = with_r_last(&format!("{} {} {limit} {flags}", fields[2], fields[3]));
-            cases.extend(damaged(&data).into_iter().map(|data| Case {
-                words: words.clone(),
-                data,
-            }));
-        }
-    }
-    cases
-}
-
-/// The stored cases whose data is written without repetitions, and that aren't too wide.
-fn stored_cases() -> Vec<Case> {
-    let stored = fs::read_to_string(format!("{ROOT}/corpus/cases.tsv")).unwrap();
-    let lines = stored.lines().filter(|line| !line.starts_with('#'));
-    let cases = lines.filter_map(|line| {
-        let [words, digits, _] = line.split('\t').collect::<Vec<_>>()[..] else {
-            panic!("{line}")
-        };
-        let wide = words.split(' ').nth(1)?.parse::<u32>().ok()? > 1 << 16;
-        let digits = if digits == "-" { "" } else { digits };
-        if wide || digits.contains(['*', '+']) {
-            return None;
-        }
-        let bytes = (0..digits.len()).step_by(2);
-        let data = bytes.map(|at| u8::from_str_radix(&digits[at..at + 2], 16).unwrap());
-        Some(Case {
-            words: with_r_last(words),
-            data: data.collect(),
-        })
-    });
-    cases.collect()
-}
-
-/// Data longer than 65,536 bytes: 1200 rows, half of which have pixels that alternate, in each encoding, with a row limit and without.
-fn long_data() -> Vec<Case> {
-    let encodings = [
-        ("g4", EncodingMode::Group4),
-        ("1d", EncodingMode::Group3_1D),
-        ("2d", EncodingMode::Group3_2D),
-    ];
-    encodings
-        .into_iter()
-        .flat_map(|(mode, encoding)| {
-            let settings = EncodeSettings {
-                columns: 1000,
-                encoding,
-                k: 2,
-                end_of_line: encoding != EncodingMode::Group4,
-                eols_end_at_bytes: false,
-                rows_are_byte_aligned: false,
-                end_of_block: true,
-                low_first: false,
-                shortest: false,
-            };
-            let row = |byte: u8| vec![byte; 125];
-            let bitmap = [row(0xAA), row(0), row(0xCC), row(0xFF)]
-                .concat()
-                .repeat(300);
-            let data = encode_bitmap(&bitmap, settings).unwrap();
-            assert!(data.len() > 1 << 16);
-            let flags = if mode == "g4" { "b" } else { "bl" };
-            [0, 1200].map(|limit| Case {
-                words: format!("{mode} 1000 {limit} {flags}"),
-                data: data.clone(),
-            })
-        })
-        .collect()
-}
 
 /// The answers of the C program, one for each case.
 fn in_c(cases: &[Case]) -> Vec<String> {

@@ -3,7 +3,7 @@
 
 mod common;
 
-use common::Panicking;
+use common::{Panicking, resident};
 use hayro_ccitt::{
     DecodeError, DecodeSettings, Decoder, DecoderContext, EncodeError, EncodeSettings,
     EncodingMode, RowReader, decode, decode_low_first, decode_packed, decode_packed_low_first,
@@ -245,16 +245,6 @@ fn what_has_no_encoding() {
         Err(EncodeError::NotWholeRows)
     );
     assert_eq!(encode_bitmap(&[0], no_k), Err(EncodeError::NoEncoding));
-}
-
-/// The memory of this process in kilobytes.
-fn resident() -> usize {
-    let status = std::fs::read_to_string("/proc/self/status").unwrap();
-    let line = status
-        .lines()
-        .find(|line| line.starts_with("VmRSS:"))
-        .unwrap();
-    line.split_whitespace().nth(1).unwrap().parse().unwrap()
 }
 
 #[test]

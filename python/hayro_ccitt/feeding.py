@@ -1,0 +1,199 @@
+"""Rows from data that comes in pieces."""
+from __future__ import annotations
+
+import ctypes
+import threading
+from typing import Iterator, Protocol
+
+from . import _library as c
+from .decoding import Data, Reading, bytes_of, check, fault_of, room_for, settings_of
+
+# The most bytes that are read of a file at once.
+PIECE = 1 << 16
+
+
+class File(Protocol):
+    """What `rows_from` reads: a binary file, a pipe, or the file of a socket."""
+
+    def read(self, size: int, /) -> bytes | None: ...
+
+
+class Feeding(Reading):
+    """What readers of data in pieces have in common."""
+
+    _close = c.LIBRARY.hayro_ccitt_feed_close
+
+    def __init__(self, columns: int, settings: c.Settings):
+        super().__init__(columns)
+        self._ended = False
+        check(c.LIBRARY.hayro_ccitt_feed_open(settings, self._reader))
+
+    @property
+    def ended(self) -> bool:
+        """Whether the image has ended."""
+        return self._ended
+
+    @property
+    def unused(self) -> bytes:
+        """The bytes that were fed and aren't consumed, from `bytes_read` on. At the end of the image they are what follows it. There are
+        none once the reader is closed."""
+        count = ctypes.c_size_t()
+        with self._lock:
+            c.LIBRARY.hayro_ccitt_feed_unused(self._reader, None, 0, count)
+            copy = room_for(count.value)
+            c.LIBRARY.hayro_ccitt_feed_unused(self._reader, copy, count.value, count)
+        return copy.raw
+
+    def _feed(self, data: Data) -> None:
+        fed = bytes_of(data)
+        with self._lock:
+            status = c.LIBRARY.hayro_ccitt_feed(self._reader, fed, len(fed))
+        if status == c.NOT_TAKEN:
+            raise ValueError("the data is finished, or the reader is closed")
+        check(status)
+        if status != c.OK:
+            raise fault_of(status, self.line_start, None)
+
+    def _finish(self) -> None:
+        with self._lock:
+            c.LIBRARY.hayro_ccitt_feed_finish(self._reader)
+
+    def _next(self) -> memoryview | None:
+        """The next row, if there is one that no data that follows can change."""
+        with self._lock:
+            if not self._reader.is_open:
+                return None
+            status = c.LIBRARY.hayro_ccitt_feed_next_packed(self._reader, self._bitmap, len(self._lent), self._row)
+        if status == c.OK:
+            return self._lent
+        self._ended = status == c.NO_ROW
+        if status in (c.NO_ROW, c.NEEDS_MORE):
+            return None
+        check(status)
+        raise fault_of(status, self.line_start, None)
+
+
+class RowFeed(Feeding):
+    """Reads the rows of an image from data that comes in pieces, each as soon as no data that follows can change it. The arguments are
+    those of `decode`.
+
+        feed = RowFeed(columns=8, k=-1)
+        for piece in pieces:
+            feed.feed(piece)
+            for row in feed:
+                show(row)
+        feed.finish()
+        for row in feed:
+            show(row)
+
+    Each iteration goes over the rows that are known and that weren't read, and ends where more data is needed, or at the end of the
+    image, when `ended` is true. The rows are those of `rows` for all the data, and lent as there: a `memoryview` that is valid until
+    the next row is read. It raises the faults of `rows`, after which each further iteration raises the same; and `MemoryError`, after
+    which the call can be made again.
+
+    Raises:
+        ValueError, MemoryError: as `decode`.
+    """
+
+    def __init__(
+        self,
+        columns: int = 1728,
+        rows: int = 0,
+        *,
+        k: int = 0,
+        end_of_line: bool = False,
+        encoded_byte_align: bool = False,
+        end_of_block: bool = True,
+        black_is_1: bool = False,
+        low_first: bool = False,
+        strict: bool = False,
+    ):
+        settings = settings_of(columns, rows, k, end_of_line, encoded_byte_align, end_of_block, black_is_1, low_first, strict)
+        super().__init__(columns, settings)
+
+    def feed(self, data: Data) -> None:
+        """Feeds the bytes that come next in the data. They are copied.
+
+        Raises:
+            ValueError: the data is finished, or the reader is closed.
+            MemoryError: an allocation failed. Nothing is fed, and the call can be made again.
+        """
+        self._feed(data)
+
+    def finish(self) -> None:
+        """Finishes the data: no bytes follow those that were fed."""
+        self._finish()
+
+    def __iter__(self) -> Iterator[memoryview]:
+        while (row := self._next()) is not None:
+            yield row
+
+
+def rows_from(
+    file: File,
+    columns: int = 1728,
+    rows: int = 0,
+    *,
+    k: int = 0,
+    end_of_line: bool = False,
+    encoded_byte_align: bool = False,
+    end_of_block: bool = True,
+    black_is_1: bool = False,
+    low_first: bool = False,
+    strict: bool = False,
+    before: Data = b"",
+) -> RowsFrom:
+    """Reads an image from a file one row at a time, each as soon as no data that follows can change it. The other arguments are those
+    of `decode`. The rows are those of `rows`, and lent as there.
+
+    Args:
+        file: what the data is read from, by `read1` or else `read`, 64 KiB at most at a time, until the image ends.
+        before: bytes that come before those of the file: the `unused` of an image before this one.
+
+    More than the image may have been read of the file: `unused` has the bytes behind it. What is next in the file follows them.
+
+    Raises:
+        ValueError, MemoryError: as `decode`. The faults are raised by the iterator, after the rows before them; it also raises what
+            reading the file does, and `BlockingIOError` where the file has no bytes yet. After that and a `MemoryError` it can be used
+            on.
+    """
+    settings = settings_of(columns, rows, k, end_of_line, encoded_byte_align, end_of_block, black_is_1, low_first, strict)
+    return RowsFrom(file, bytes_of(before), columns, settings)
+
+
+class RowsFrom(Feeding, Iterator[memoryview]):
+    """The rows of an image, read one at a time from a file by `rows_from`."""
+
+    def __init__(self, file: File, before: bytes, columns: int, settings: c.Settings):
+        super().__init__(columns, settings)
+        self._turn = threading.Lock()
+        self._read = getattr(file, "read1", file.read)
+        self._piece = before  # what was read of the file and not fed
+
+    @property
+    def unused(self) -> bytes:
+        """The bytes that were read of the file and aren't consumed, from `bytes_read` on. At the end of the image they are what follows
+        it, before what is next in the file. There are none once the reader is closed."""
+        return super().unused + self._piece
+
+    def __iter__(self) -> RowsFrom:
+        return self
+
+    def __next__(self) -> memoryview:
+        with self._turn:
+            while (row := self._next()) is None:
+                if self._ended or not self._reader.is_open:
+                    raise StopIteration
+                self._feed_more()
+            return row
+
+    def _feed_more(self) -> None:
+        piece = self._piece or self._read(PIECE)
+        if piece is None:
+            raise BlockingIOError("the file has no bytes yet")
+        if not piece:
+            self._finish()
+            return
+        self._piece = piece
+        self._feed(piece)
+        self._piece = b""

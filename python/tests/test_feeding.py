@@ -1,0 +1,290 @@
+"""Rows from data in pieces, and from files: those of `rows` for all the data, and what follows the image."""
+import io
+import os
+import random
+import subprocess
+import sys
+import threading
+
+import pytest
+from conftest import ROOT, damaged, keys_of, stored_cases, strips
+
+import hayro_ccitt
+from hayro_ccitt import DecodeError, InvalidCode, RowFeed, rows_from
+
+PAGE = {"columns": 33, "k": -1, "black_is_1": True}
+
+
+def told(reader):
+    return reader.rows_read, reader.line_start, reader.bytes_read, reader.damage, reader.is_cut, reader.fault
+
+
+def read(rows, found):
+    """Adds the rows of an iteration, each with what is told of it. Returns the fault that ends it, or None."""
+    try:
+        for row in rows:
+            found.append((bytes(row), told(rows)))
+    except DecodeError as fault:
+        return type(fault), fault.fault_start
+    return None
+
+
+def by_rows(data, keys):
+    rows = hayro_ccitt.rows(data, **keys)
+    found = []
+    return found, read(rows, found), told(rows)
+
+
+def in_pieces(data, keys, cuts):
+    """The same, by a RowFeed."""
+    feed, found, fed = RowFeed(**keys), [], 0
+    while True:
+        fault = read(feed, found)
+        if fault or feed.ended:
+            break
+        assert fed <= len(data)
+        piece = data[fed : fed + next(cuts)]
+        feed.feed(piece)
+        if fed == len(data):
+            feed.finish()
+            fed += 1
+        fed += len(piece)
+    assert fault == read(feed, found)
+    assert feed.unused == data[feed.bytes_read : fed]
+    return found, fault, told(feed)
+
+
+def every(size):
+    while True:
+        yield size
+
+
+def cases():
+    for words, data, _ in strips():
+        if " 1240 " not in words:
+            yield from ((words, part) for part in damaged(data))
+    yield from stored_cases()
+
+
+def test_pieces_have_the_rows_of_the_whole():
+    chance = random.Random(1)
+    faults = 0
+    for at, (words, data) in enumerate(cases()):
+        keys = keys_of(words)
+        expected = by_rows(data, keys)
+        size = (1, 2, 3, 7, 64, 4096)[at % 6]
+        assert in_pieces(data, keys, every(size)) == expected, (size, words, data.hex())
+        cuts = iter(lambda: chance.choice((0, 1, 2, 5, 11, 400)), -1)
+        assert in_pieces(data, keys, cuts) == expected, (words, data.hex())
+        faults += expected[1] is not None
+    assert faults > 100
+
+
+class Trickle(io.RawIOBase):
+    """A raw file that gives a few bytes at a time, and at every third time none yet."""
+
+    def __init__(self, data, size, waits=False):
+        self.data, self.size, self.waits, self.asked = io.BytesIO(data), size, waits, 0
+
+    def readable(self):
+        return True
+
+    def read(self, size=-1):
+        self.asked += 1
+        if self.waits and self.asked % 3 == 0:
+            return None
+        return self.data.read(min(size, self.size))
+
+    def readinto(self, buffer):
+        piece = self.data.read(min(len(buffer), self.size))
+        buffer[: len(piece)] = piece
+        return len(piece)
+
+
+def test_files_have_the_rows_of_the_whole():
+    for at, (words, data) in enumerate(cases()):
+        keys, data = keys_of(words), data + (b"", b"\x80", bytes(9), b"\0\x10\x01\x07")[at % 4]
+        file = (io.BytesIO(data), Trickle(data, 3), io.BufferedReader(Trickle(data, 5)), io.BytesIO(data))[at // 4 % 4]
+        rows, found = rows_from(file, **keys), []
+        assert (found, read(rows, found), told(rows)) == by_rows(data, keys), (words, data.hex())
+        assert rows.unused + (file.read(len(data)) if not isinstance(file, Trickle) else file.data.read()) == data[rows.bytes_read :]
+        assert rows.ended == (read(rows, found) is None)
+
+
+def test_a_page_comes_from_a_file(tmp_path):
+    words, data, bits = next(strip for strip in strips() if " 1240 " in strip[0])
+    path = tmp_path / "page"
+    path.write_bytes(data)
+    for buffering in (-1, 0, 512):
+        with open(path, "rb", buffering=buffering) as file, rows_from(file, **keys_of(words)) as rows:
+            assert b"".join(map(bytes, rows)) == bits and rows.ended
+
+
+def pages():
+    bitmaps = [bytes(at * 37 % 251 for at in range(5 * rows)) for rows in (20, 1, 7)]
+    return [hayro_ccitt.encode(bitmap, 33, k=-1, black_is_1=True) for bitmap in bitmaps]
+
+
+def test_pages_follow_one_another():
+    data = pages()
+    for size in (1, 2, 3, 7, 64, 4096):
+        file, unused, seen = Trickle(b"".join(data) + b"end", size), b"", []
+        for page in data:
+            rows = rows_from(file, **PAGE, before=unused)
+            seen.append([bytes(row) for row in rows])
+            assert rows.bytes_read == len(page)
+            unused = rows.unused
+        assert seen == [[bytes(row) for row in hayro_ccitt.rows(page, **PAGE)] for page in data]
+        assert unused + file.data.read() == b"end"
+
+
+def test_rows_come_as_soon_as_they_are_known():
+    # A row, and EOFB.
+    feed, known = RowFeed(8, k=-1), []
+    for byte in b"\x31\xc0\x04\x00\x40\x07":
+        feed.feed(bytes([byte]))
+        known.append([bytes(row) for row in feed])
+    assert known == [[], [b"\xe7"], [], [], [], []]
+    assert feed.ended and (feed.bytes_read, feed.unused) == (5, b"\x07")
+    # From a pipe whose other end is open.
+    out, into = os.pipe()
+    with open(out, "rb") as file, open(into, "wb", buffering=0) as other:
+        rows = rows_from(file, 8, k=-1)
+        other.write(b"\x31\xc0")
+        assert bytes(next(rows)) == b"\xe7"
+        other.write(b"\x04\x00\x40\x07")
+        assert list(rows) == [] and rows.ended and rows.unused == b"\x07"
+
+
+def test_a_file_may_have_no_bytes_yet():
+    data = pages()[0]
+    rows, found, waited = rows_from(Trickle(data, 4, waits=True), **PAGE), [], 0
+    while not rows.ended:
+        try:
+            found += map(bytes, rows)
+        except BlockingIOError:
+            waited += 1
+    # What a list that isn't finished had isn't lost in the reader: it is counted.
+    assert rows.rows_read == 20 and waited > 5
+
+
+def test_what_a_file_raises_is_passed_on():
+    class Broken(io.RawIOBase):
+        times = 0
+
+        def read(self, size=-1):
+            self.times += 1
+            if self.times == 2:
+                raise OSError("broken")
+            return b"\x31" if self.times == 1 else b"\xc0\x04\x00\x40\x07" if self.times == 3 else b""
+
+    rows = rows_from(Broken(), 8, k=-1)
+    with pytest.raises(OSError, match="broken"):
+        next(rows)
+    assert (rows.bytes_read, rows.unused) == (0, b"\x31")
+    assert [bytes(row) for row in rows] == [b"\xe7"]
+    assert (rows.bytes_read, rows.unused) == (5, b"\x07")
+    with pytest.raises(TypeError):
+        next(rows_from(io.StringIO("31"), 8, k=-1))
+    for columns, rows in ((-1, 0), (8, 1 << 32)):
+        with pytest.raises(ValueError):
+            RowFeed(columns, rows)
+        with pytest.raises(ValueError):
+            rows_from(io.BytesIO(), columns, rows)
+
+
+def test_a_fault_stays():
+    feed = RowFeed(8, k=-1)
+    feed.feed(memoryview(b"\x31-\xc0-\x00-")[::2])
+    assert [bytes(row) for row in feed] == [b"\xe7"] and not feed.ended
+    feed.finish()
+    for _ in range(2):
+        with pytest.raises(InvalidCode) as caught:
+            list(feed)
+        assert (caught.value.fault_start, caught.value.picture) == (10, None)
+    assert not feed.ended
+
+
+def test_a_feed_is_finished_and_closed():
+    feed = RowFeed(8, 1, k=-1)
+    feed.feed(b"\x31\xf8")
+    feed.finish()
+    with pytest.raises(ValueError):
+        feed.feed(b"")
+    assert [bytes(row) for row in feed] == [b"\xe7"]
+    feed.close()
+    feed.close()
+    assert list(feed) == [] and feed.unused == b"" and (feed.rows_read, feed.ended) == (1, True)
+    with pytest.raises(ValueError):
+        feed.feed(b"\0")
+    with rows_from(io.BytesIO(b"\x31\xf8"), 8, k=-1) as rows:
+        assert bytes(next(rows)) == b"\xe7"
+        with pytest.raises(TypeError):
+            next(rows)[0] = 0
+    assert list(rows) == [] and not rows.ended
+    for other in (2, "31", None, [0x31]):
+        with pytest.raises(TypeError):
+            RowFeed(8).feed(other)
+
+
+def test_threads():
+    words, data, bits = next(strip for strip in strips() if " 1240 " in strip[0])
+    rows, read = rows_from(Trickle(data, 1000), **keys_of(words)), []
+    threads = [threading.Thread(target=lambda: read.extend(1 for _ in rows)) for _ in range(4)]
+    for thread in threads:
+        thread.start()
+    for thread in threads:
+        thread.join()
+    assert len(read) == rows.rows_read == 1754
+
+
+# Zeros are fed, which could all be fill, until no memory is left.
+LITTLE_MEMORY = """
+import io, resource, sys
+import hayro_ccitt
+
+_, most = resource.getrlimit(resource.RLIMIT_AS)
+with open("/proc/self/statm") as file:
+    now = int(file.read().split()[0]) * resource.getpagesize()
+resource.setrlimit(resource.RLIMIT_AS, (now + (64 << 20), most))
+feed = hayro_ccitt.RowFeed(8, k=-1)
+feed.feed(b"\\x31\\xc0")
+assert [bytes(row) for row in feed] == [b"\\xe7"]
+zeros, fed = bytes(1 << 22), 0
+try:
+    while True:
+        feed.feed(zeros)
+        fed += len(zeros)
+except MemoryError:
+    pass
+del zeros
+feed.feed(b"\\x01\\x00\\x10\\x31")
+assert list(feed) == [] and feed.ended and feed.bytes_read == 2 + fed + 3, (fed, feed.bytes_read)
+assert fed > 1 << 22
+feed.close()
+
+class Zeros:
+    def __init__(self):
+        self.given = self.failed = 0
+    def read(self, size):
+        self.given += 1
+        return b"\\x31\\xc0" if self.given == 1 else b"\\x01\\x00\\x10" if self.failed else bytes(1 << 22)
+
+file = Zeros()
+rows = hayro_ccitt.rows_from(file, 8, k=-1)
+assert bytes(next(rows)) == b"\\xe7"
+try:
+    next(rows)
+    assert False
+except MemoryError:
+    file.failed = file.given
+# The piece that wasn't fed isn't lost.
+resource.setrlimit(resource.RLIMIT_AS, (most, most))
+assert list(rows) == [] and rows.ended and rows.bytes_read == 2 + ((file.failed - 1) << 22) + 3
+"""
+
+
+def test_a_failed_allocation_loses_nothing():
+    environment = {**os.environ, "PYTHONPATH": str(ROOT / "python")}
+    done = subprocess.run([sys.executable, "-c", LITTLE_MEMORY], env=environment, capture_output=True, text=True, check=False)
+    assert done.returncode == 0, done.stderr
