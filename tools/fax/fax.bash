@@ -7,10 +7,10 @@ _fax()
         -f|--format) COMPREPLY=($(compgen -W 'pbm png tiff pdf' -- "$word")) ;;
         -e|--encode) COMPREPLY=($(compgen -W 'g4 1d 2d shortest' -- "$word")) ;;
         -m|--mode) COMPREPLY=($(compgen -W 'g4 1d 2d' -- "$word")) ;;
-        -p|--pages|-w|--width|-r|--rows|-F|--flags) ;;
+        -p|--pages|-w|--width|-r|--rows|-H|--height|-F|--flags) ;;
         *)
             if [[ $word == -* ]]; then
-                COMPREPLY=($(compgen -W '--output --format --pages --encode --copy --check --mode --width --rows --flags --help --version' -- "$word"))
+                COMPREPLY=($(compgen -W '--output --format --pages --encode --copy --check --mode --width --rows --height --flags --help --version' -- "$word"))
             else
                 compopt -o filenames
                 mapfile -t COMPREPLY < <(compgen -f -- "$word")

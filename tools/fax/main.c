@@ -1,12 +1,15 @@
+#define _POSIX_C_SOURCE 200809L
 /* fax: reads fax pages, and writes them as pictures or documents. `fax --help` says how it is called. */
 #include "damage.h"
 #include "options.h"
-#include "sink.h"
+#include "piped_in.h"
+#include "rows_out.h"
 #include "source.h"
 #include "tell.h"
 #include <errno.h>
 #include <stdlib.h>
 #include <string.h>
+#include <unistd.h>
 
 typedef struct {
     const options *wanted;
@@ -155,6 +158,92 @@ static int do_pages(run *of)
     return worse(status, tell_what_is_left(of, done));
 }
 
+/* Reads a piece of standard input, which may be short. Returns 0 at its end, and after an error, which is noted. */
+static size_t read_piece(uint8_t *into, size_t room, int *error)
+{
+    ssize_t got = read(STDIN_FILENO, into, room);
+    while (got < 0 && errno == EINTR)
+        got = read(STDIN_FILENO, into, room);
+    *error = got < 0 ? errno : 0;
+    return got < 0 ? 0 : (size_t)got;
+}
+
+/* Reads the rows of standard input to its end. What is known of them is written before it waits. */
+static int read_rows(piped *from, span first, rows_out *to, int *error)
+{
+    static uint8_t piece[1 << 16];
+    int is_taken = feed_piped(from, first);
+    for (size_t size = 1; is_taken && size && flush_rows(to);) {
+        size = read_piece(piece, sizeof piece, error);
+        span bytes = {piece, size};
+        is_taken = size ? feed_piped(from, bytes) : !*error && finish_piped(from);
+    }
+    return is_taken && !to->has_failed && !*error;
+}
+
+/* Writes the picture of rows that were read, and tells their damage. Returns the page's status. */
+static int do_rows(run *of, piped *from, rows_out *to)
+{
+    page it = {.number = 1, .image = 1};
+    describe_piped(from, &it);
+    if (!it.refused[0] && (to->is_too_large || is_too_large(it.columns, it.rows)))
+        refuse(&it, "a picture of %lu columns and %lu rows is too large", (unsigned long)it.columns, (unsigned long)it.rows);
+    int status = tell_page(of, &it, &from->found);
+    if (!end_rows(to, from->lenient.row.rows))
+        status = CANNOT_GO_ON;
+    picture drawn = {it.columns, it.rows, from->width, to->kept.at};
+    if (!it.refused[0] && !to->height && !write_drawn(of, &it, &drawn, to->is_only))
+        status = CANNOT_GO_ON;
+    return status;
+}
+
+/* Does the page of raw data on standard input, of which the first bytes were read. Its rows are read as they come. */
+static int do_piped(run *of, span first)
+{
+    const raw_form *form = &of->wanted->raw;
+    rows_out to = {.to = &of->out, .number = of->pictures + !of->wanted->is_fax2pbm, .is_only = of->wanted->count <= 1,
+                   .columns = form->settings.columns, .height = form->has_height ? form->settings.rows : 0};
+    row_taker taker = {put_row, &to};
+    piped from;
+    int error = 0, status;
+    of->from.kind = RAW_FILE;
+    show_progress(of->name, 1);
+    if (open_piped(&from, form, taker) && read_rows(&from, behind_digifax(first), &to, &error)) {
+        status = do_rows(of, &from, &to);
+    } else {
+        if (error || !to.has_failed)
+            tell(of->name, "%s", error ? strerror(error) : "out of memory");
+        end_rows(&to, to.height);
+        status = CANNOT_GO_ON;
+    }
+    of->pictures++;
+    release(&to.kept);
+    close_piped(&from);
+    return status;
+}
+
+/* Whether standard input, which begins so, is raw data that is written as PBM, so that its rows can be read as they come. */
+static int is_piped(const options *wanted, span first)
+{
+    enum kind kind;
+    const hayro_ccitt_settings *raw = &wanted->raw.settings;
+    return wanted->format == PBM && !wanted->is_check && is_wanted(wanted, 1) && kind_of(first, wanted->is_raw, &kind)
+        && kind == RAW_FILE && raw->columns <= WIDEST && !is_too_large(raw->columns, wanted->raw.has_height ? raw->rows : 1);
+}
+
+/* Reads the first bytes of standard input. Returns 0 if that failed, with errno or the buffer's failure. */
+static int read_first(buffer *into)
+{
+    int error = 0;
+    size_t got = 1;
+    while (got && into->length < FIRST_BYTES && room_for(into, FIRST_BYTES)) {
+        got = read_piece(into->at + into->length, FIRST_BYTES - into->length, &error);
+        into->length += got;
+    }
+    errno = error;
+    return !error && !into->has_failed;
+}
+
 static int do_file(run *of, const char *path)
 {
     buffer file = {NULL, 0, 0, 0};
@@ -162,7 +251,13 @@ static int do_file(run *of, const char *path)
     FILE *in = is_standard ? stdin : fopen(path, "rb");
     of->name = is_standard ? "standard input" : path;
     errno = 0;
-    int was_read = in && read_all(in, &file);
+    int was_read = in && (!is_standard || read_first(&file));
+    if (was_read && is_standard && is_piped(of->wanted, bytes_in(&file))) {
+        int status = do_piped(of, bytes_in(&file));
+        release(&file);
+        return status;
+    }
+    was_read = was_read && read_all(in, &file);
     if (!was_read)
         tell(of->name, "%s", file.has_failed ? "out of memory" : errno ? strerror(errno) : "can't be read");
     if (in && !is_standard)
@@ -171,7 +266,7 @@ static int do_file(run *of, const char *path)
         release(&file);
         return CANNOT_GO_ON;
     }
-    if (!open_source(&of->from, file, of->wanted->is_raw, of->wanted->raw)) {
+    if (!open_source(&of->from, file, of->wanted->is_raw, &of->wanted->raw)) {
         tell(of->name, "%s", of->from.why);
         return NOT_WHOLE;
     }

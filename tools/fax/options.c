@@ -25,6 +25,8 @@ static const char help[] =
     "  -m, --mode MODE         g4, 1d or 2d: Group 4, or Group 3 of one or two dimensions\n"
     "  -w, --width COLUMNS     the width in pixels (1728)\n"
     "  -r, --rows ROWS         the largest number of rows (0: no limit)\n"
+    "  -H, --height ROWS       the height, where it is known: rows that are missing are white; those of standard input are written to\n"
+    "                          PBM as they come\n"
     "  -F, --flags FLAGS       letters: b (EOFB or RTC may end the data), l (an EOL precedes each line), a (rows are aligned to\n"
     "                          bytes), s (strict), r (the lowest bit of each byte comes first), or - for none (b)\n"
     "\n"
@@ -39,7 +41,7 @@ static const char help_of_fax2pbm[] =
     "\n"
     "  -o NAME      writes page 0 to NAME-0.pbm, and so on\n"
     "  -p PAGES     only these pages; the first one is 0\n"
-    "  -m MODE, -w COLUMNS, -r ROWS   describe raw data, as for fax; so does\n"
+    "  -m MODE, -w COLUMNS, -r ROWS, -H ROWS   describe raw data, as for fax; so does\n"
     "  -f FLAGS     which is -F of fax\n"
     "\n"
     "The status is that of fax.\n";
@@ -49,7 +51,7 @@ static const struct option words_known[] = {
     {"encode", required_argument, NULL, 'e'}, {"copy", no_argument, NULL, 'y'}, {"check", no_argument, NULL, 'c'},
     {"help", no_argument, NULL, 'h'}, {"version", no_argument, NULL, 'V'}, {"mode", required_argument, NULL, 'm'},
     {"width", required_argument, NULL, 'w'}, {"rows", required_argument, NULL, 'r'}, {"flags", required_argument, NULL, 'F'},
-    {NULL, 0, NULL, 0},
+    {"height", required_argument, NULL, 'H'}, {NULL, 0, NULL, 0},
 };
 
 /* Reads a number of 32 bits. Returns what follows it, or null. */
@@ -113,7 +115,7 @@ static int read_mode(const char *text, options *into)
     static const char *const modes[] = {"g4", "1d", "2d"};
     for (uint32_t i = 0; i < 3; i++)
         if (!strcmp(text, modes[i])) {
-            into->raw.encoding = i;
+            into->raw.settings.encoding = i;
             into->is_raw = 1;
             return 1;
         }
@@ -155,11 +157,15 @@ static int read_option(int option, const char *word, options *into, int *has_for
     case 'm':
         return read_mode(word, into);
     case 'w':
-        return read_whole_number(word, &into->raw.columns) && into->raw.columns;
+        return read_whole_number(word, &into->raw.settings.columns) && into->raw.settings.columns;
     case 'r':
-        return read_whole_number(word, &into->raw.rows);
+        into->has_limit = 1;
+        return read_whole_number(word, &into->raw.settings.rows);
+    case 'H':
+        into->raw.has_height = 1;
+        return read_whole_number(word, &into->raw.settings.rows) && into->raw.settings.rows;
     case 'F':
-        return read_flags(word, &into->raw.flags);
+        return read_flags(word, &into->raw.settings.flags);
     }
     return 0;
 }
@@ -185,6 +191,7 @@ static int is_possible(const options *it)
 {
     const char *why = it->format == PNG && !has_png() ? "it was built without zlib, which PNG needs"
         : it->is_copy && it->how ? "--copy and --encode exclude each other"
+        : it->has_limit && it->raw.has_height ? "--rows and --height exclude each other"
         : NULL;
     if (why)
         fprintf(stderr, "%s: %s\n", it->program, why);
@@ -193,13 +200,13 @@ static int is_possible(const options *it)
 
 int read_options(int count, char **words, options *into, int *status)
 {
-    static const options usual = {.raw = {1728, 0, HAYRO_CCITT_GROUP_3_1D, HAYRO_CCITT_END_OF_BLOCK, 0}};
+    static const options usual = {.raw = {{1728, 0, HAYRO_CCITT_GROUP_3_1D, HAYRO_CCITT_END_OF_BLOCK, 0}, 0}};
     const char *slash = count ? strrchr(words[0], '/') : NULL;
     int option, has_format = 0;
     *into = usual;
     into->program = slash ? slash + 1 : count ? words[0] : "fax";
     into->is_fax2pbm = !strcmp(into->program, "fax2pbm");
-    const char *letters = into->is_fax2pbm ? "o:p:m:w:r:f:h" : "o:f:p:e:m:w:r:F:h";
+    const char *letters = into->is_fax2pbm ? "o:p:m:w:r:H:f:h" : "o:f:p:e:m:w:r:H:F:h";
     *status = CANNOT_GO_ON;
     while ((option = getopt_long(count, words, letters, words_known, NULL)) != -1) {
         if (option == 'h' || option == 'V') {

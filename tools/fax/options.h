@@ -2,7 +2,7 @@
 #ifndef FAX_OPTIONS_H
 #define FAX_OPTIONS_H
 
-#include "hayro_ccitt.h"
+#include "plain_in.h"
 #include "strip.h"
 
 enum format { PBM, PNG, TIFF, PDF };
@@ -19,7 +19,8 @@ typedef struct {
     int is_check;
     int is_copy;           /* whether strips are copied without reading them */
     int is_raw;            /* whether a file that isn't known is raw data */
-    hayro_ccitt_settings raw;
+    int has_limit;         /* whether the most rows of raw data are given */
+    raw_form raw;
     const way *how;        /* how pages are encoded again, or null */
     char **names;          /* of the files */
     int count;

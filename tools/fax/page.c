@@ -3,9 +3,8 @@
 #include <stdlib.h>
 #include <string.h>
 
-/* A picture of more bytes, of which rows are missing, has a false height; and one of more columns, which isn't whole, a false
- * width. */
-enum { LARGE = 1 << 26, WIDEST = 1 << 20 };
+/* A picture of more bytes, of which rows are missing, has a false height. */
+enum { LARGE = 1 << 26 };
 
 void allow(allowance *it, uint64_t bytes)
 {
@@ -266,7 +265,7 @@ int decode_page(page *it, allowance *left, picture *into, damage *found)
         it->drawn = NULL;
         return 1;
     }
-    uint32_t rows = most_rows(it);
+    uint32_t rows = it->has_height ? it->rows : most_rows(it);
     if (is_too_large(it->columns, rows)) {
         refuse(it, "a picture of %lu columns and %lu rows is too large", (unsigned long)it->columns, (unsigned long)rows);
         return 0;
@@ -279,7 +278,7 @@ int decode_page(page *it, allowance *left, picture *into, damage *found)
         end = decode_parts(it, left, into, found);
     }
     refuse_lost(it, into->bytes && !found->is_out_of_memory, end, left, found);
-    int has_false_height = rows < it->rows || (found->missing.count && into->width * rows > LARGE);
+    int has_false_height = !it->has_height && (rows < it->rows || (found->missing.count && into->width * rows > LARGE));
     if (has_false_height) /* the picture has only the rows that were decoded */
         into->rows = (uint32_t)end;
     if (it->refused[0]) {

@@ -24,6 +24,9 @@ typedef struct {
     hayro_ccitt_settings settings; /* of a page whose height isn't known, `rows` is 0 */
 } part;
 
+/* A picture of more columns, which isn't whole, has a false width. */
+enum { WIDEST = 1 << 20 };
+
 typedef struct {
     unsigned number; /* of the page in its file; the first one is 1 */
     unsigned image;  /* of the picture in its file; the first one is 1 */
@@ -32,6 +35,7 @@ typedef struct {
     char note[160];      /* what else is to be told, or empty */
     int note_status;     /* DAMAGED or NOT_WHOLE if it tells of a fault */
     uint32_t columns, rows;
+    int has_height;      /* whether the picture has so many rows, whatever the data */
     part *parts;
     size_t count;
     unsigned orientation;          /* as TIFF's tag 274 says */

@@ -9,30 +9,39 @@ int is_digifax(span file)
     return file.length >= 64 && begins_with(file, digifax, sizeof digifax);
 }
 
-void lay_out_raw(span file, hayro_ccitt_settings settings, page *into)
+span behind_digifax(span file)
+{
+    return is_digifax(file) ? part_of_span(file, 64, file.length) : file;
+}
+
+void describe_raw(const raw_form *form, uint32_t status, uint64_t rows, page *into)
+{
+    /* Without a row limit, data that isn't closed ends where the next line would begin. */
+    int is_open = status == HAYRO_CCITT_UNEXPECTED_EOF && !form->settings.rows;
+    into->kind = "stream";
+    if (rows == 0 || rows > UINT32_MAX)
+        refuse(into, rows ? "it has too many rows" : "no row can be decoded: %s", meaning(status));
+    if (status != HAYRO_CCITT_OK && !is_open) {
+        snprintf(into->note, sizeof into->note, "%s after %lu rows", meaning(status), (unsigned long)rows);
+        into->note_status = NOT_WHOLE;
+    }
+    if (is_open)
+        snprintf(into->note, sizeof into->note, "%s after %lu rows, without RTC or EOFB", meaning(status), (unsigned long)rows);
+    into->columns = form->settings.columns;
+    into->rows = form->has_height ? form->settings.rows : (uint32_t)rows;
+    into->has_height = form->has_height;
+}
+
+void lay_out_raw(span file, const raw_form *form, page *into)
 {
     hayro_ccitt_outcome outcome;
     part *only = new_parts(into, 1);
-    if (is_digifax(file))
-        file = part_of_span(file, 64, file.length);
-    into->kind = "stream";
     if (!only)
         return;
-    uint32_t status = hayro_ccitt_measure(file.at, file.length, &settings, &outcome);
-    if (outcome.rows == 0 || outcome.rows > UINT32_MAX)
-        refuse(into, outcome.rows ? "it has too many rows" : "no row can be decoded: %s", meaning(status));
-    /* Without a row limit, data that isn't closed ends where the next line would begin. */
-    if (status != HAYRO_CCITT_OK && !(status == HAYRO_CCITT_UNEXPECTED_EOF && !settings.rows)) {
-        snprintf(into->note, sizeof into->note, "%s after %lu rows", meaning(status), (unsigned long)outcome.rows);
-        into->note_status = NOT_WHOLE;
-    }
-    if (status == HAYRO_CCITT_UNEXPECTED_EOF && !settings.rows)
-        snprintf(into->note, sizeof into->note, "%s after %lu rows, without RTC or EOFB", meaning(status),
-                 (unsigned long)outcome.rows);
-    into->columns = settings.columns;
-    into->rows = (uint32_t)outcome.rows;
-    only->data = file;
-    only->settings = settings;
+    only->data = behind_digifax(file);
+    uint32_t status = hayro_ccitt_measure(only->data.at, only->data.length, &form->settings, &outcome);
+    describe_raw(form, status, outcome.rows, into);
+    only->settings = form->settings;
     only->settings.rows = into->rows;
 }
 

@@ -47,17 +47,17 @@ static int is_closed(FILE *out, const char *name, int is_written)
     return is_written;
 }
 
-int put_picture(sink *to, const page *from, const picture *drawn, unsigned number, int is_only)
+int open_picture(sink *to, unsigned number, int is_only, picture_file *it)
 {
     const options *wanted = to->wanted;
-    char name[4096] = "";
     const char *ending = wanted->is_fax2pbm ? ".pbm" : wanted->output ? wanted->output + wanted->stem : "";
-    int length = 0, is_turned = from->orientation > 4 && from->orientation <= 8;
+    int length = 0;
+    it->name[0] = 0;
     if (wanted->output && is_only)
-        length = snprintf(name, sizeof name, "%s", wanted->output);
+        length = snprintf(it->name, sizeof it->name, "%s", wanted->output);
     else if (wanted->output)
-        length = snprintf(name, sizeof name, "%.*s-%u%s", (int)wanted->stem, wanted->output, number, ending);
-    if (length >= (int)sizeof name) {
+        length = snprintf(it->name, sizeof it->name, "%.*s-%u%s", (int)wanted->stem, wanted->output, number, ending);
+    if (length >= (int)sizeof it->name) {
         tell(wanted->output, "the name is too long");
         return 0;
     }
@@ -65,13 +65,24 @@ int put_picture(sink *to, const page *from, const picture *drawn, unsigned numbe
         tell(NULL, "standard output takes one PNG picture; -p chooses a page");
         return 0;
     }
-    FILE *out = opened(wanted->output ? name : NULL);
-    if (!out)
+    it->out = opened(it->name[0] ? it->name : NULL);
+    to->pictures += it->out != NULL;
+    return it->out != NULL;
+}
+
+int close_picture(picture_file *it, int is_written)
+{
+    return is_closed(it->out, it->name[0] ? it->name : NULL, is_written);
+}
+
+int put_picture(sink *to, const page *from, const picture *drawn, unsigned number, int is_only)
+{
+    picture_file file;
+    int is_turned = from->orientation > 4 && from->orientation <= 8;
+    if (!open_picture(to, number, is_only, &file))
         return 0;
-    to->pictures++;
     double across = is_turned ? from->down_inch : from->across_inch, down = is_turned ? from->across_inch : from->down_inch;
-    return is_closed(out, wanted->output ? name : NULL,
-                     wanted->format == PNG ? write_png(out, drawn, across, down) : write_pbm(out, drawn));
+    return close_picture(&file, to->wanted->format == PNG ? write_png(file.out, drawn, across, down) : write_pbm(file.out, drawn));
 }
 
 int close_sink(sink *it)

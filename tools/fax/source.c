@@ -34,30 +34,39 @@ static const char *name_of(span file)
     return "not a TIFF, PDF or PBM file";
 }
 
-int open_source(source *it, buffer file, int is_raw, hayro_ccitt_settings raw)
+int kind_of(span first, int is_raw, enum kind *kind)
+{
+    if (is_tiff(first) && first.length >= 8)
+        *kind = TIFF_FILE;
+    else if (is_pdf(first))
+        *kind = PDF_FILE;
+    else if (is_pbm(first))
+        *kind = PBM_FILE;
+    else if (is_raw || is_digifax(first))
+        *kind = RAW_FILE;
+    else
+        return 0;
+    return 1;
+}
+
+int open_source(source *it, buffer file, int is_raw, const raw_form *raw)
 {
     span all = bytes_in(&file);
     const char *why = NULL;
     memset(it, 0, sizeof *it);
     it->file = file;
-    it->raw = raw;
+    it->raw = *raw;
+    it->rest = all;
     it->left.left = 1 << 24;
     allow(&it->left, file.length);
-    if (is_tiff(all) && all.length >= 8) {
-        it->kind = TIFF_FILE;
+    if (!kind_of(all, is_raw, &it->kind)) {
+        snprintf(it->why, sizeof it->why, "it is %s; -m says how raw fax data is encoded", name_of(all));
+    } else if (it->kind == TIFF_FILE) {
         why = open_tiff(&it->directories, all) ? NULL : "out of memory";
-    } else if (is_pdf(all)) {
-        it->kind = PDF_FILE;
+    } else if (it->kind == PDF_FILE) {
         allow(&it->left, 4 * (uint64_t)file.length); /* its text may be compressed well */
         if (open_pdf(&it->images, all, &it->left, &why))
             why = NULL;
-    } else if (is_pbm(all)) {
-        it->kind = PBM_FILE;
-        it->rest = all;
-    } else if (is_raw || is_digifax(all)) {
-        it->kind = RAW_FILE;
-    } else {
-        snprintf(it->why, sizeof it->why, "it is %s; -m says how raw fax data is encoded", name_of(all));
     }
     if (why)
         snprintf(it->why, sizeof it->why, "%s", why);
@@ -90,7 +99,7 @@ int next_page(source *from, page *into)
     case RAW_FILE:
         if (into->number > 1)
             return 0;
-        lay_out_raw(bytes_in(&from->file), from->raw, into);
+        lay_out_raw(bytes_in(&from->file), &from->raw, into);
         return 1;
     }
     return 0;

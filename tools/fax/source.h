@@ -12,7 +12,7 @@ typedef struct {
     enum kind kind;
     buffer file;
     allowance left;
-    hayro_ccitt_settings raw;
+    raw_form raw;
     tiff directories;
     pdf_pages images;
     span rest;          /* of a file of PBM pictures */
@@ -20,9 +20,12 @@ typedef struct {
     char why[160];      /* why it can't be read, or empty */
 } source;
 
-/* Takes the bytes of a file, and says by the first of them what it is; raw data only if `is_raw`. Returns 0 if it can't be read,
- * which `why` says. */
-int open_source(source *it, buffer file, int is_raw, hayro_ccitt_settings raw);
+/* What a file is, by its first 1,024 bytes, or all; raw data only if `is_raw`. Returns 0 if that isn't known. */
+enum { FIRST_BYTES = 1024 };
+int kind_of(span first, int is_raw, enum kind *kind);
+
+/* Takes the bytes of a file. Returns 0 if it can't be read, which `why` says. */
+int open_source(source *it, buffer file, int is_raw, const raw_form *raw);
 void close_source(source *it);
 
 /* Lays out the next page. Returns 0 if there is none. */
