@@ -1,5 +1,5 @@
 -- Rows that C reads from data in pieces.
-use Rattle.std.specs.Prelude.{◌≡◌, ◌<◌, ◌⊎◌, ◌↔◌, ◌+◌, ◌*◌, ◌^◌, ◌-◌, ℕ, Bool, true, false, List, [], length, Option, None, Some, Result}
+use Rattle.std.specs.Prelude.{◌≡◌, ◌<◌, ◌⊎◌, ◌↔◌, ◌+◌, ◌*◌, ◌^◌, ◌-◌, ℕ, Bool, true, false, List, [], length, None, Some, Result}
 use Rattle.std.specs.Prelude.{Ok, Err}
 use Rattle.hayro_ccitt.specs.BitOrder.{BitOrder}
 use Rattle.hayro_ccitt.specs.DecodeError.{DecodeError}
@@ -27,8 +27,8 @@ status_of_fed (Ok NeedsMore) = 8
 status_of_fed (Ok End) = 7
 status_of_fed (Err error) = status_of_row (Err error)
 
--- What a call that reads the next row leaves: of whatever data those fed are a beginning, the row of the plain reading, its end or
--- its fault, or nothing is read; and after the end nothing changes. What is kept of the data stays.
+-- What a call that reads the next row leaves: of whatever data those fed are a beginning, the row of the plain reading, its
+-- end or its fault, or nothing is read; and after the end nothing changes. What is kept of the data stays.
 pub record FeedsRow (old new : RowsFed) (answer : Result Fed DecodeError) : Type 0 where
   pub reads : (whole : Bits) (tried : ℕ) → ended old.rows.stand ≡ None → IsFeedOf whole tried old
       → FeedsNext whole tried old new answer

@@ -1,14 +1,14 @@
 -- Rows from data that comes in pieces: the bits that a feed holds once more bytes are fed.
-use Rattle.hayro_ccitt.proofs.Names.{◌≡◌, ◌∙◌, ◌++◌, ◌+◌, ◌*◌, ◌≤◌, ℕ, [], ap, sym, arith, length, drop, drop-drop, Bits, subst, length-append}
-use Rattle.hayro_ccitt.proofs.Names.{◌-◌, length-drop}
+use Rattle.hayro_ccitt.proofs.Names.{◌≡◌, ◌∙◌, ◌++◌, ◌+◌, ◌*◌, ◌≤◌, ℕ, [], ap, sym, arith, length, drop, drop-drop, Bits}
+use Rattle.hayro_ccitt.proofs.Names.{◌-◌, length-append, length-drop, subst}
 use Rattle.std.specs.Prelude.{◌/◌}
 use Rattle.std.proofs.lemmas.List.{append-nil, drop-append-le}
 use Rattle.hayro_ccitt.specs.RowFeeds.{DropsRead, Feeding, HoldsMore}
 
 -- what is behind an offset of the bits that are left, once bytes before it are dropped and bits are appended
-behind : (kept next : Bits) (dropped offset : ℕ) → offset ≤ length (drop dropped kept)
+behind_dropped : (kept next : Bits) (dropped offset : ℕ) → offset ≤ length (drop dropped kept)
     → drop offset (drop dropped kept ++ next) ≡ drop (dropped + offset) kept ++ next
-behind kept next dropped offset within =
+behind_dropped kept next dropped offset within =
     drop-append-le offset (drop dropped kept) next within ∙ ap (λ (b : Bits). b ++ next) (drop-drop offset dropped kept)
 
 -- bytes that were read are dropped, and bits are appended to the whole bytes that are left
@@ -16,10 +16,10 @@ pub holds_more : {old mid new : Feeding} (next : Bits) (bytes : ℕ) → DropsRe
     → new ≡ record mid { kept = mid.kept ++ next } → HoldsMore next old new
 holds_more {old} {mid} {new} next bytes drops whole is = subst (HoldsMore next old) (sym is) (record {
   unread = ap (λ (b : Bits). drop mid.place (b ++ next)) drops.kept
-      ∙ behind old.kept next (8 * drops.bytes) mid.place (omega (arith, drops.within, drops.place, drops.read, long))
+      ∙ behind_dropped old.kept next (8 * drops.bytes) mid.place (omega (arith, drops.within, drops.place, drops.read, long))
       ∙ ap (λ (n : ℕ). drop n old.kept ++ next) (omega (arith, drops.place));
   left = ap (λ (b : Bits). drop (8 * ((mid.place + 7) / 8)) (b ++ next)) drops.kept
-      ∙ behind old.kept next (8 * drops.bytes) (8 * ((mid.place + 7) / 8))
+      ∙ behind_dropped old.kept next (8 * drops.bytes) (8 * ((mid.place + 7) / 8))
       (omega (arith, drops.within, drops.place, drops.read, long, whole, ap length drops.kept))
       ∙ ap (λ (n : ℕ). drop n old.kept ++ next) (omega (arith, drops.place));
   fed = omega (arith, length-append mid.kept next, drops.dropped, drops.read, drops.within, ap length drops.kept, long);
