@@ -1,6 +1,7 @@
 pub mod FeedsOn
 pub mod FirstGaps
 pub mod GapsPassed
+pub mod GapsSeen
 pub mod LinesRead
 pub mod RowByRow
 pub mod RowsAgain

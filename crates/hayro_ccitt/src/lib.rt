@@ -35,6 +35,7 @@ pub mod changes;
 pub mod context;
 pub mod group3;
 pub mod group4;
+mod gap_look;
 mod in_step;
 pub mod laws;
 mod locality;
