@@ -3,6 +3,7 @@ pub mod FirstGaps
 pub mod GapsPassed
 pub mod GapsSeen
 pub mod LinesRead
+pub mod LooksKept
 pub mod RowByRow
 pub mod RowsAgain
 pub mod RowsFed

@@ -4,6 +4,7 @@ use Rattle.fax_bits.specs.declared.settings.DecodeSettings.{DecodeSettings}
 use Rattle.fax_bits.specs.declared.settings.EncodingMode.{EncodingMode}
 use Rattle.fax_bits.specs.declared.settings.EncodingMode.TheVariants.{Group4, Group3_1D, Group3_2D}
 use Rattle.hayro_ccitt.specs.Bits.{Bits}
+use Rattle.hayro_ccitt.specs.Context.{Held}
 use Rattle.hayro_ccitt.specs.PlainReading.{limit_met}
 use Rattle.hayro_ccitt.specs.declared.gap_look.GapLook.{GapLook}
 use Rattle.hayro_ccitt.specs.declared.gap_look.GapRules.{GapRules}
@@ -36,6 +37,11 @@ rules_behind_row settings taken has_eols = record {
 abbrev pub first_rules : EncodingMode → Bool → GapRules
 first_rules encoding end_of_block =
     record { has_tags = false; ends_at_two = ends_at_two encoding end_of_block; seeks = false }
+
+-- once what is before the first line was passed, or before
+abbrev pub rules_for : Bool → Held → GapRules
+rules_for true held = rules_behind_row held.settings held.taken held.has_eols
+rules_for false held = first_rules held.settings.encoding held.settings.end_of_block
 
 -- ---- What is found
 

@@ -26,6 +26,7 @@ pub(crate) enum GapStage {
 }
 
 /// On what a look at a gap depends.
+#[derive(Drop)]
 pub(crate) struct GapRules {
     /// A tag follows each EOL (T.4, 4.2.2).
     pub(crate) has_tags: bool,

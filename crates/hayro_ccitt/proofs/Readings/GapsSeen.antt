@@ -1,8 +1,9 @@
 -- A gap that is looked at bit by bit: it is found to be settled exactly if its definition says so.
 use Rattle.hayro_ccitt.proofs.Names.{◌≡◌, ◌∙◌, ◌+◌, ◌≤◌, ◌<◌, ◌++◌, ◌∷◌, ◌&&◌, ◌||◌, [], ℕ, zero, suc, Bool, true, false, not}
 use Rattle.hayro_ccitt.proofs.Names.{cond, leb, eqb, replicate, Option, None, Some, refl, sym, ap, arith, length, length-append}
+use Rattle.std.proofs.Math.Seq.{drop-append-add}
 use Rattle.std.proofs.lemmas.Bool.{leb-false, lt-leb}
-use Rattle.hayro_ccitt.proofs.Names.{append-nil, append_assoc, length-replicate, ne_eqb, Bits, EncodingMode, Group4, Group3_1D, Group3_2D, DecodeSettings}
+use Rattle.hayro_ccitt.proofs.Names.{append-nil, append_assoc, drop, length-replicate, ne_eqb, Bits, EncodingMode, Group4, Group3_1D, Group3_2D, DecodeSettings}
 use Rattle.hayro_ccitt.proofs.Names.{after_eol, all_eols, next_eol, tagged_eols, at_end, eols_by, eols_here, limit_met, misses_eol}
 use Rattle.hayro_ccitt.specs.EndOfLine.{eols, eols_with_tags, one_more, past_tag, pass_last_tag}
 use Rattle.hayro_ccitt.specs.GapsContinued.{holds_one, behind_line_tag, eols_are_settled, eols_here_are_settled}
@@ -509,10 +510,9 @@ zeros_behind-zeros : (seen n : ℕ) → zeros_behind seen (replicate n false) �
 zeros_behind-zeros seen zero = omega arith
 zeros_behind-zeros seen (suc n) = omega (arith, zeros_behind-zeros (suc seen) n)
 
-stage_behind-zeros : (rules : GapRules) (stage : GapStage) (seen n : ℕ)
-    → stage_behind rules stage seen (replicate n false) ≡ stage
-stage_behind-zeros rules stage seen zero = refl
-stage_behind-zeros rules stage seen (suc n) = stage_behind-zeros rules stage (suc seen) n
+stage_behind-zeros : (by : GapRules) (stage : GapStage) (seen n : ℕ) → stage_behind by stage seen (replicate n false) ≡ stage
+stage_behind-zeros by stage seen zero = refl
+stage_behind-zeros by stage seen (suc n) = stage_behind-zeros by stage (suc seen) n
 
 pub looks_at_zeros : (n : ℕ) {rules : GapRules} {old mid : GapLook} {here from : Bits} → LooksTo rules old mid here from
     → from ≡ replicate n false
@@ -547,3 +547,76 @@ looks_at_run n {rules} {old} {mid} looks is =
       zeros = sym (zeros_behind-zeros mid.zeros n) ∙ on.zeros;
       bits = omega (arith, on.bits, length-replicate n false);
     })
+
+-- the bits looked at later are those behind
+pub looks_then : {rules : GapRules} {old mid new : GapLook} {here from rest : Bits} → LooksTo rules old mid here from
+    → LooksTo rules mid new from rest → LooksTo rules old new here rest
+looks_then {rules} {old} {mid} {new} {here} {from} {rest} first next =
+    let both = looks_more next.looked first next.are in
+    record {
+      looked = both.looked;
+      are = both.are;
+      stage = next.stage ∙ both.stage;
+      zeros = next.zeros ∙ both.zeros;
+      bits = omega (arith, next.bits, both.bits);
+    }
+
+-- more bits come
+pub seen_longer : {rules : GapRules} {look : GapLook} {here : Bits} (more : Bits) → IsSeen rules look here
+    → IsSeen rules look (here ++ more)
+seen_longer more (rest, looks) = (rest ++ more, record {
+  looked = looks.looked;
+  are = ap (λ (b : Bits). b ++ more) looks.are ∙ append_assoc looks.looked rest more;
+  stage = looks.stage;
+  zeros = looks.zeros;
+  bits = looks.bits;
+})
+
+-- of no bits
+pub none_seen : (rules : GapRules) (here : Bits) → IsSeen rules nothing_seen here
+none_seen rules here = (here, nothing_looked rules nothing_seen here)
+
+only_settled : (stage : GapStage) → is_settled stage ≡ true → stage ≡ Settled
+only_settled Start is = absurd cc
+only_settled Damage is = absurd cc
+only_settled BehindEol is = absurd cc
+only_settled BehindTag is = absurd cc
+only_settled Settled is = refl
+
+-- what a look found is so of all bits, if it found a settled gap or all bits were looked at
+pub found_settled : {rules : GapRules} {look : GapLook} {here rest : Bits} → LooksTo rules nothing_seen look here rest
+    → (settled : Bool) → settled ≡ is_settled look.stage → (settled ≡ false → rest ≡ [])
+    → is_settled (stage_behind rules Start 0 here) ≡ settled
+found_settled {rules} {look} {here} {rest} looks settled is all =
+    ap (λ (b : Bits). is_settled (stage_behind rules Start 0 b)) looks.are
+    ∙ ap is_settled (stage_behind-append rules Start 0 looks.looked rest)
+    ∙ ap (λ (s : GapStage). is_settled (stage_behind rules s (zeros_behind 0 looks.looked) rest)) (sym looks.stage)
+    ∙ by_answer settled is all
+  where
+    by_answer : (b : Bool) → b ≡ is_settled look.stage → (b ≡ false → rest ≡ [])
+        → is_settled (stage_behind rules look.stage (zeros_behind 0 looks.looked) rest) ≡ b
+    by_answer true is all =
+        ap (λ (s : GapStage). is_settled (stage_behind rules s (zeros_behind 0 looks.looked) rest))
+        (only_settled look.stage (sym is)) ∙ settled_stays rules (zeros_behind 0 looks.looked) rest
+    by_answer false is all =
+        ap (λ (b : Bits). is_settled (stage_behind rules look.stage (zeros_behind 0 looks.looked) b)) (all refl) ∙ sym is
+
+pub no_bits : (bits : Bits) → length bits ≡ 0 → bits ≡ []
+no_bits [] e = refl
+no_bits (bit ∷ bits) e = absurd (omega (arith, e))
+
+-- the rest is behind the bits looked at
+pub rest_is : {rules : GapRules} {look : GapLook} {here rest : Bits} → LooksTo rules nothing_seen look here rest
+    → drop look.bits here ≡ rest
+rest_is {rules} {look} {here} {rest} looks =
+    let all : look.bits ≡ length looks.looked + 0 = omega (arith, looks.bits) in
+    ap (drop look.bits) looks.are ∙ ap (λ (n : ℕ). drop n (looks.looked ++ rest)) all
+    ∙ drop-append-add looks.looked rest 0
+
+-- no more bits than there are were looked at, and no more zeros
+pub looked_within : {rules : GapRules} {look : GapLook} {here rest : Bits} → LooksTo rules nothing_seen look here rest
+    → (look.bits + length rest ≡ length here) × (look.zeros ≤ look.bits)
+looked_within {rules} {look} {here} {rest} looks = (
+  omega (arith, looks.bits, ap length looks.are, length-append looks.looked rest),
+  omega (arith, looks.bits, looks.zeros, few_zeros 0 looks.looked),
+)
