@@ -87,7 +87,8 @@ fn stage_after(rules: &GapRules, stage: GapStage, zeros: usize) -> GapStage
         GapStage::Start => GapStage::Settled,
         GapStage::Damage if zeros >= 11 => GapStage::BehindEol,
         GapStage::Damage => GapStage::Damage,
-        GapStage::BehindEol | GapStage::BehindTag if zeros >= 11 && !rules.ends_at_two => GapStage::BehindEol,
+        GapStage::BehindEol | GapStage::BehindTag if zeros >= 11 && !rules.ends_at_two =>
+            GapStage::BehindEol,
         GapStage::BehindEol if zeros == 0 && rules.has_tags => GapStage::BehindTag,
         GapStage::BehindEol | GapStage::BehindTag | GapStage::Settled => GapStage::Settled,
     }
@@ -107,7 +108,12 @@ impl GapLook {
 
     /// Looks on at the bits here, and returns whether nothing that follows can change the gap; else all bits were looked at.
     /// Each bit that is looked at is a tick.
-    pub(crate) fn look_on(&mut self, rules: &GapRules, reader: &BitReader<'_>, ticks: &mut Ticks) -> bool
+    pub(crate) fn look_on(
+        &mut self,
+        rules: &GapRules,
+        reader: &BitReader<'_>,
+        ticks: &mut Ticks,
+    ) -> bool
         requires zeros { self.old.zeros ≤ self.old.bits }
         requires before { self.old.bits ≤ reader.now.place }
         ensures looks { LooksOn rules.now self.old self.new (here reader.now) }

@@ -33,9 +33,9 @@ pub mod codes {
 
 pub mod changes;
 pub mod context;
+mod gap_look;
 pub mod group3;
 pub mod group4;
-mod gap_look;
 mod in_step;
 pub mod laws;
 mod locality;

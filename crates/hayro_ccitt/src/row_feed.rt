@@ -446,6 +446,7 @@ impl RowFeed {
             → IsFeedOf whole tried self.new) }
         ensures same { (self.new.ctx ≡ self.old.ctx) × (self.new.rows ≡ self.old.rows) × (self.new.order ≡ self.old.order)
             × (self.new.finished ≡ self.old.finished) }
+        ensures looked { self.new.looked ≡ self.old.looked }
         ensures only { IfErr result (λ e. (e ≡ DecodeError.OutOfMemory) ⊎ (e ≡ DecodeError.Overflow)) }
         ensures too_long { result ≡ Err DecodeError.Overflow
             → 2 ^ 64 - 72 < self.old.dropped + length self.old.kept + 8 * length bytes.now }

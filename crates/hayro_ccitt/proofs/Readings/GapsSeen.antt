@@ -1,14 +1,14 @@
 -- A gap that is looked at bit by bit: it is found to be settled exactly if its definition says so.
-use Rattle.hayro_ccitt.proofs.Names.{◌≡◌, ◌∙◌, ◌+◌, ◌≤◌, ◌<◌, ◌++◌, ◌∷◌, ◌&&◌, ◌||◌, [], ℕ, zero, suc, Bool, true, false, not}
+use Rattle.hayro_ccitt.proofs.Names.{◌≡◌, ◌∙◌, ◌+◌, ◌≤◌, ◌++◌, ◌∷◌, ◌&&◌, ◌||◌, [], ℕ, zero, suc, Bool, true, false, not}
 use Rattle.hayro_ccitt.proofs.Names.{cond, leb, eqb, replicate, Option, None, Some, refl, sym, ap, arith, length, length-append}
 use Rattle.std.proofs.Math.Seq.{drop-append-add}
 use Rattle.std.proofs.lemmas.Bool.{leb-false, lt-leb}
 use Rattle.hayro_ccitt.proofs.Names.{append-nil, append_assoc, drop, length-replicate, ne_eqb, Bits, EncodingMode, Group4, Group3_1D, Group3_2D, DecodeSettings}
-use Rattle.hayro_ccitt.proofs.Names.{after_eol, all_eols, next_eol, tagged_eols, at_end, eols_by, eols_here, limit_met, misses_eol}
+use Rattle.hayro_ccitt.proofs.Names.{after_eol, all_eols, next_eol, at_end, eols_by, limit_met}
 use Rattle.hayro_ccitt.specs.EndOfLine.{eols, eols_with_tags, one_more, past_tag, pass_last_tag}
-use Rattle.hayro_ccitt.specs.GapsContinued.{holds_one, behind_line_tag, eols_are_settled, eols_here_are_settled}
+use Rattle.hayro_ccitt.specs.GapsContinued.{holds_one, eols_are_settled}
 use Rattle.hayro_ccitt.specs.GapsContinued.{next_eols_are_settled, gap_is_settled, first_gap_is_settled}
-use Rattle.hayro_ccitt.specs.GapsSeen.{IsSeen, LooksOn, LooksTo, ends_at_two, first_rules, has_tags, is_settled, nothing_seen}
+use Rattle.hayro_ccitt.specs.GapsSeen.{IsSeen, LooksTo, ends_at_two, first_rules, has_tags, is_settled, nothing_seen}
 use Rattle.hayro_ccitt.specs.GapsSeen.{one_eol_more, rules_behind_row, stage_after, stage_behind, zeros_behind}
 use Rattle.hayro_ccitt.specs.declared.gap_look.GapLook.{GapLook}
 use Rattle.hayro_ccitt.specs.declared.gap_look.GapRules.{GapRules}
@@ -564,13 +564,16 @@ looks_then {rules} {old} {mid} {new} {here} {from} {rest} first next =
 -- more bits come
 pub seen_longer : {rules : GapRules} {look : GapLook} {here : Bits} (more : Bits) → IsSeen rules look here
     → IsSeen rules look (here ++ more)
-seen_longer more (rest, looks) = (rest ++ more, record {
-  looked = looks.looked;
-  are = ap (λ (b : Bits). b ++ more) looks.are ∙ append_assoc looks.looked rest more;
-  stage = looks.stage;
-  zeros = looks.zeros;
-  bits = looks.bits;
-})
+seen_longer more (rest, looks) = (
+  rest ++ more,
+  record {
+    looked = looks.looked;
+    are = ap (λ (b : Bits). b ++ more) looks.are ∙ append_assoc looks.looked rest more;
+    stage = looks.stage;
+    zeros = looks.zeros;
+    bits = looks.bits;
+  },
+)
 
 -- of no bits
 pub none_seen : (rules : GapRules) (here : Bits) → IsSeen rules nothing_seen here

@@ -1,4 +1,4 @@
-use Rattle.hayro_ccitt.proofs.Names.{◌≡◌, ◌∙◌, ap, refl, not, Bool, ◌&&◌, here, DecodeSettings}
+use Rattle.hayro_ccitt.proofs.Names.{◌∙◌, ap, refl, not, Bool, ◌&&◌, here, DecodeSettings}
 use Rattle.hayro_ccitt.proofs.Readings.GapsSeen.{first_gap_seen}
 use Rattle.hayro_ccitt.specs.GapsSeen.{first_rules, is_settled, stage_behind}
 use Rattle.hayro_ccitt.specs.declared.gap_look.GapRules.{GapRules}

@@ -1,4 +1,4 @@
-use Rattle.hayro_ccitt.proofs.Names.{◌≡◌, ◌∙◌, ap, not, Bool, ◌&&◌, here}
+use Rattle.hayro_ccitt.proofs.Names.{◌∙◌, ap, not, Bool, ◌&&◌, here}
 use Rattle.hayro_ccitt.proofs.Readings.GapsSeen.{gap_seen}
 use Rattle.hayro_ccitt.specs.GapsSeen.{is_settled, stage_behind}
 use Rattle.hayro_ccitt.specs.declared.gap_look.GapRules.{GapRules}

@@ -1,5 +1,5 @@
-use Rattle.hayro_ccitt.proofs.Names.{◌≡◌, ◌∙◌, ◌+◌, ◌&&◌, ap, sym, arith, length, drop, length-drop, drop-drop, not, Bool, Bits, BitsAt, ℕ, subst, length-append}
-use Rattle.hayro_ccitt.proofs.Names.{here, []}
+use Rattle.hayro_ccitt.proofs.Names.{◌≡◌, ◌∙◌, ◌+◌, ◌&&◌, ap, sym, arith, length, drop, length-drop, drop-drop, not, Bool, Bits, ℕ, subst, length-append}
+use Rattle.hayro_ccitt.proofs.Names.{here}
 use Rattle.hayro_ccitt.specs.GapsSeen.{LooksTo, nothing_seen, is_settled, stage_behind}
 use Rattle.hayro_ccitt.specs.declared.gap_look.GapStage.TheVariants.{Start}
 use Rattle.hayro_ccitt.proofs.Readings.GapsSeen.{found_settled, looked_within, looks_then, no_bits, rest_is}

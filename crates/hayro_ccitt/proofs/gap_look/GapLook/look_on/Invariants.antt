@@ -1,4 +1,4 @@
-use Rattle.hayro_ccitt.proofs.Names.{◌≡◌, ◌≤◌, ◌+◌, ℕ, length, here}
+use Rattle.hayro_ccitt.proofs.Names.{◌≡◌, ◌≤◌, ◌+◌, length, here}
 use Rattle.hayro_ccitt.specs.GapsSeen.{LooksTo}
 use Rattle.hayro_ccitt.proofs.gap_look.GapLook.look_on.Given as goal
 

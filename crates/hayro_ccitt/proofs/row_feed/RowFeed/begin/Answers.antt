@@ -169,7 +169,7 @@ pub front_waits-requires : goal.front_waits-requires
 front_waits-requires c =
     let begun = ap (λ (f : Feeding). f.begun) c.self.view_is ∙ c.requires in
     let place : record { bits = bits_in c.self.inside.order c.self.inside.«data».items; place = c.self.inside.place }
-        ≡ c.placed_at-reader.result =
+    ≡ c.placed_at-reader.result =
     sym (c.placed_at-reader.ensures ∙ ap (λ (items : List ℕ). record {
       bits = bits_in c.self.inside.order items;
       place = c.self.inside.place;

@@ -59,7 +59,7 @@ pub come_to_settled_line-line-requires-clause-seen : goal.come_to_settled_line-l
 come_to_settled_line-line-requires-clause-seen c =
     let begun = ap (λ (f : Feeding). f.begun) c.self.view_is ∙ c.requires.begun in
     let place : record { bits = bits_in c.self.inside.order c.self.inside.«data».items; place = c.self.inside.place }
-        ≡ c.placed_at-reader.result =
+    ≡ c.placed_at-reader.result =
     sym (c.placed_at-reader.ensures ∙ ap (λ (items : List ℕ). record {
       bits = bits_in c.self.inside.order items;
       place = c.self.inside.place;
