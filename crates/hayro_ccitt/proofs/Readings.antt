@@ -2,7 +2,9 @@ pub mod BitsHeld
 pub mod FeedsOn
 pub mod FirstGaps
 pub mod GapsPassed
+pub mod GapsSeen
 pub mod LinesRead
+pub mod LooksKept
 pub mod RowByRow
 pub mod RowsAgain
 pub mod RowsFed

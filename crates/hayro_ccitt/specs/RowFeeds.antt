@@ -1,6 +1,6 @@
 -- Rows from data that comes in pieces: what is kept of it, what is seen of a reading, and which data it is a reading of.
-use Rattle.std.specs.Prelude.{◌≡◌, ◌≢◌, ◌≤◌, ◌<◌, ◌+◌, ◌*◌, ◌/◌, ◌^◌, ℕ, Bool, true, false, ◌++◌, [], not, max, drop, length}
-use Rattle.std.specs.Prelude.{Option, None, Some, Result, Ok, Err, IfErr}
+use Rattle.std.specs.Prelude.{◌≡◌, ◌≢◌, ◌≤◌, ◌<◌, ◌+◌, ◌*◌, ◌/◌, ◌^◌, ℕ, Bool, true, false, ◌++◌, [], not, ◌&&◌, max, drop}
+use Rattle.std.specs.Prelude.{length, Option, None, Some, Result, Ok, Err, IfErr}
 use Rattle.fax_bits.specs.declared.bit_reader.BitOrder.{BitOrder}
 use Rattle.fax_bits.specs.declared.codes.Color.TheVariants.{White}
 use Rattle.fax_bits.specs.declared.error.DecodeError.{DecodeError}
@@ -15,6 +15,8 @@ use Rattle.hayro_ccitt.specs.Bits.{AreWholeBytes, Bits, BitsAt, bits_in, here}
 use Rattle.hayro_ccitt.specs.Context.{Context, fresh, redrawn}
 use Rattle.hayro_ccitt.specs.Continuations.{is_short}
 use Rattle.hayro_ccitt.specs.GapsContinued.{first_gap_is_settled, gap_is_settled}
+use Rattle.hayro_ccitt.specs.GapsSeen.{IsSeen, nothing_seen, rules_for}
+use Rattle.hayro_ccitt.specs.declared.gap_look.GapLook.{GapLook}
 use Rattle.hayro_ccitt.specs.PlainReading.{line_here}
 use Rattle.hayro_ccitt.specs.RowsRead.{IsStanding, IsStandingAtLine, ReachesNextLine, ReadsNext, RowsRead, ended, is_at_line}
 use Rattle.hayro_ccitt.specs.RowsRead.{seen}
@@ -24,7 +26,8 @@ use Rattle.hayro_ccitt.specs.RowsTried.{CanCome, IsLeft, TriesRow, no_memory}
 
 -- the context, what is kept between two rows, the order of the bits, whether what is before the first line was passed,
 -- whether the
--- data is finished, the bits kept of it, how many bits came before them, and the offset of the next bit among those kept
+-- data is finished, the bits kept of it, how many bits came before them, the offset of the next bit among those kept, and how
+-- many bits from there on were looked at since the gap before the next line is sought
 pub record Feeding : Type 0 where
   pub ctx : Context
   pub rows : RowState
@@ -34,6 +37,7 @@ pub record Feeding : Type 0 where
   pub kept : Bits
   pub dropped : ℕ
   pub place : ℕ
+  pub looked : ℕ
 
 abbrev pub feeding_of : Inside → Feeding
 feeding_of f = record {
@@ -45,6 +49,7 @@ feeding_of f = record {
   kept = bits_in f.order f.«data».items;
   dropped = f.dropped;
   place = f.place;
+  looked = f.look.bits;
 }
 
 -- the next bit is among those kept, or just after them, offsets fit, and nothing was read yet if nothing has begun
@@ -55,6 +60,8 @@ pub record IsKept (f : Inside) : Type 0 where
   pub start : f.begun ≡ false → f.place ≡ 0
   pub unended : f.begun ≡ false → ended f.rows.stand ≡ None
   pub rows : f.begun ≡ false → is_at_line f.rows.stand ≡ false
+  pub seen : IsSeen (rules_for f.begun f.ctx.held) f.look (drop f.place (bits_in f.order f.«data».items))
+  pub line : is_at_line f.rows.stand ≡ true → f.look ≡ nothing_seen
 
 -- what was read of these bits
 abbrev pub fed_over : Bits → Feeding → RowsRead
@@ -107,6 +114,7 @@ pub record StaysThere (old new : RowsRead) : Type 0 where
   pub cut : new.cut ≡ old.cut
   pub line_start : new.line_start ≡ old.line_start
   pub unended : new.end ≡ None
+  pub line : old.at_line ≡ true → new.at_line ≡ true
 
 -- What is next can be changed by data that follows: what is before the first line, the gap, or the line, which is short
 -- (T.4, 4.1 and
@@ -117,6 +125,13 @@ IsOpenAt true AtLine ctx next = is_short (line_here ctx.held.settings ctx.held.r
 IsOpenAt true BehindRow ctx next = gap_is_settled ctx.held.settings ctx.held.taken ctx.held.has_eols next ≡ false
 IsOpenAt true AtEnd ctx next = ⊥
 IsOpenAt true (AtFault error) ctx next = ⊥
+
+-- Of a gap that begins these bits some were looked at before, and so many more now, each counted once: as far as is needed to
+-- know that nothing that follows changes it, or all there are. None are at a line, nor in data that is finished.
+pub record LooksAhead (is_last at_line : Bool) (looked : ℕ) (gap : Bits) (counted : ℕ) : Type 0 where
+  pub line : at_line ≡ true → counted ≡ 0
+  pub finished : is_last ≡ true → counted ≡ 0
+  pub within : 0 < counted → counted + looked ≤ length gap
 
 -- What a call that reads the next row leaves, of whatever data those fed are a beginning: the next row of its plain reading,
 -- its end
@@ -134,6 +149,11 @@ pub record FeedsNext (whole : Bits) (tried : ℕ) (old new : Feeding) (answer : 
       → HasBlack (front_of (line_here new.ctx.held.settings new.ctx.held.reference (drop new.place new.kept)))
   pub extra : ℕ
   pub stands : IsFeedOf whole (tried + extra) new
+  -- of this so much for bits of the gap that weren't looked at before; where the gap waits, those looked at are kept
+  pub gap : ℕ
+  pub part : gap ≤ extra
+  pub looks : LooksAhead old.finished (old.begun && is_at_line old.rows.stand) old.looked (drop old.place old.kept) gap
+  pub looked : answer ≡ Ok Fed.NeedsMore → is_at_line new.rows.stand ≡ false → gap + old.looked ≡ new.looked
 
 -- ---- The steps of a call: not part of the trusted specification
 
@@ -144,9 +164,13 @@ came (Ok (Some line)) = Ok line
 came (Err error) = Err error
 
 -- the gap before the next line is passed, if there is one here, and no data that follows can change it
-pub record ComesOn (is_last : Bool) (gap_start : ℕ) (rows kept : RowState) (old new : Context) (before after : BitsAt)
-    (answer : Result (Option Bool) DecodeError) : Type 0 where
+pub record ComesOn (is_last : Bool) (gap_start : ℕ) (rows kept : RowState) (look kept_look : GapLook) (old new : Context)
+    (before after : BitsAt) (answer : Result (Option Bool) DecodeError) : Type 0 where
   pub extra : ℕ
+  pub looks : LooksAhead is_last (is_at_line rows.stand) look.bits (here before) extra
+  pub looked : answer ≡ Ok None → (extra + look.bits ≡ kept_look.bits)
+      × IsSeen (rules_for true old.held) kept_look (here before)
+  pub none_looked : answer ≢ Ok None → kept_look ≡ nothing_seen
   pub same_bits : after.bits ≡ before.bits
   pub within : after.place ≤ length after.bits
   pub space : new.space ≡ old.space
@@ -209,6 +233,8 @@ line_first (AtFault error) = Err error
 -- what is before the first line is passed, if no data that follows can change it
 pub record Begins (old new : Feeding) (answer : Bool) : Type 0 where
   pub extra : ℕ
+  pub looks : LooksAhead old.finished false old.looked (drop old.place old.kept) extra
+  pub looked : answer ≡ false → extra + old.looked ≡ new.looked
   pub keeps : KeepsBits old new
   pub begun : new.begun ≡ answer
   pub space : new.ctx.space ≡ old.ctx.space
@@ -223,6 +249,8 @@ pub record Begins (old new : Feeding) (answer : Bool) : Type 0 where
 -- so is the gap before the next line
 pub record ComesInFeed (old new : Feeding) (answer : Result (Option Bool) DecodeError) : Type 0 where
   pub extra : ℕ
+  pub looks : LooksAhead old.finished (is_at_line old.rows.stand) old.looked (drop old.place old.kept) extra
+  pub looked : answer ≡ Ok None → extra + old.looked ≡ new.looked
   pub keeps : KeepsBits old new
   pub begun : new.begun ≡ true
   pub space : new.ctx.space ≡ old.ctx.space
@@ -296,6 +324,7 @@ pub record DropsRead (old new : Feeding) : Type 0 where
   pub kept : new.kept ≡ drop (8 * bytes) old.kept
   pub dropped : new.dropped ≡ old.dropped + 8 * bytes
   pub place : new.place + 8 * bytes ≡ old.place
+  pub looked : new.looked ≡ old.looked
   pub within : old.place ≤ length old.kept
   pub ctx : new.ctx ≡ old.ctx
   pub rows : new.rows ≡ old.rows

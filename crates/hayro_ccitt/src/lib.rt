@@ -33,6 +33,7 @@ pub mod codes {
 
 pub mod changes;
 pub mod context;
+mod gap_look;
 pub mod group3;
 pub mod group4;
 mod in_step;

@@ -6,6 +6,7 @@ ghost use Rattle.std.specs.Prelude.{IfOk, IfErr, OnErr, OnOk, IsOkUnless, Result
 ghost use Rattle.hayro_ccitt.specs.Bits.{AreWholeBytes, Bits, bits_in, here};
 ghost use Rattle.hayro_ccitt.specs.Context.{fresh};
 ghost use Rattle.hayro_ccitt.specs.GapsContinued.{first_gap_is_settled, gap_is_settled};
+ghost use Rattle.hayro_ccitt.specs.GapsSeen.{IsSeen, is_settled, nothing_seen, rules_for, stage_behind};
 ghost use Rattle.hayro_ccitt.specs.RowsRead.{at_end_of_rows, ended, is_at_line};
 ghost use Rattle.hayro_ccitt.specs.RowsTried.{IsLeft};
 ghost use Rattle.hayro_ccitt.specs.RowFeeds.{Begins, ComeNext, ComesInFeed, DropsRead, ReadsInFeed, ComesOn, FeedsNext};
@@ -14,11 +15,12 @@ ghost use Rattle.hayro_ccitt.specs.RowFeeds.{HoldsMore, some_line, unused};
 ghost use Rattle.hayro_ccitt.specs.Rows.{AreChanges, changes};
 
 use crate::context::DecoderContext;
+use crate::gap_look::{GapLook, GapRules, GapStage, first_rules, rules_behind_row};
 use crate::row_reader::{RowState, Stand, first_stand, has_ended, is_at_line};
-use crate::rows::{gap_is_settled, try_row};
-use crate::{DecodeError, EncodingMode, Result};
+use crate::rows::try_row;
+use crate::{DecodeError, Result};
 use fax_bits::DecodeSettings;
-use fax_bits::bit_reader::{BitOrder, BitReader, copy, placed_at};
+use fax_bits::bit_reader::{BitOrder, BitReader, at_bit, placed_at};
 use std::alloc::Global;
 use std::marker::Model;
 
@@ -36,40 +38,70 @@ pub enum Fed {
 /// The most bytes whose bits have offsets that fit, with 64 bits more.
 const MOST_BYTES: usize = (usize::MAX - 64) / 8;
 
-/// Returns whether the gap here must wait for more data.
-fn gap_waits(ctx: &mut DecoderContext, reader: &BitReader<'_>, is_last: bool) -> bool
+/// Looks on at the gap that begins here, by these rules, and returns whether it must wait for more data.
+fn look_waits(
+    ctx: &mut DecoderContext,
+    look: &mut GapLook,
+    rules: &GapRules,
+    reader: &BitReader<'_>,
+    is_last: bool,
+) -> bool
+    requires seen { IsSeen rules.now look.old (here reader.now) }
+    ensures waits { result ≡ (not is_last && not (is_settled (stage_behind rules.now GapStage.Start 0 (here reader.now)))) }
+    ensures held { ctx.new.held ≡ ctx.old.held }
+    ensures looked { ctx.new.ticks + look.old.bits ≡ ctx.old.ticks + look.new.bits }
+    ensures onward { look.old.bits ≤ look.new.bits }
+    ensures unlooked { is_last ≡ true → ctx.new.ticks ≡ ctx.old.ticks }
+    ensures seen { IsSeen rules.now look.new (here reader.now) }
+    ensures space { ctx.new.space ≡ ctx.old.space }
+{
+    if is_last {
+        return false;
+    }
+    let ahead = at_bit(reader, reader.bit_pos() + look.bits);
+    !look.look_on(rules, &ahead, ctx.ticks())
+}
+
+/// Looks on at the gap that begins here, and returns whether it must wait for more data.
+fn gap_waits(
+    ctx: &mut DecoderContext,
+    look: &mut GapLook,
+    reader: &BitReader<'_>,
+    is_last: bool,
+) -> bool
+    requires seen { IsSeen (rules_for true ctx.old.held) look.old (here reader.now) }
     ensures waits { result ≡ (not is_last && not (gap_is_settled ctx.old.held.settings ctx.old.held.taken ctx.old.held.has_eols
         (here reader.now))) }
     ensures held { ctx.new.held ≡ ctx.old.held }
-    ensures counts { ctx.old.ticks ≤ ctx.new.ticks }
+    ensures looked { ctx.new.ticks + look.old.bits ≡ ctx.old.ticks + look.new.bits }
+    ensures onward { look.old.bits ≤ look.new.bits }
+    ensures unlooked { is_last ≡ true → ctx.new.ticks ≡ ctx.old.ticks }
+    ensures seen { IsSeen (rules_for true ctx.old.held) look.new (here reader.now) }
     ensures space { ctx.new.space ≡ ctx.old.space }
 {
-    if is_last {
-        return false;
-    }
-    !gap_is_settled(ctx, reader)
+    let rules = rules_behind_row(ctx);
+    look_waits(ctx, look, &rules, reader, is_last)
 }
 
-/// Returns whether what is before the first line must wait for more data.
-fn front_waits(ctx: &mut DecoderContext, reader: &BitReader<'_>, is_last: bool) -> bool
-    requires fresh { ctx.old.held ≡ fresh ctx.old.held.settings }
+/// Looks on at what is before the first line, and returns whether it must wait for more data.
+fn front_waits(
+    ctx: &mut DecoderContext,
+    look: &mut GapLook,
+    reader: &BitReader<'_>,
+    is_last: bool,
+) -> bool
+    requires seen { IsSeen (rules_for false ctx.old.held) look.old (here reader.now) }
     ensures waits { result ≡ (not is_last && not (first_gap_is_settled ctx.old.held.settings.encoding ctx.old.held.settings
         (here reader.now))) }
     ensures held { ctx.new.held ≡ ctx.old.held }
-    ensures counts { ctx.old.ticks ≤ ctx.new.ticks }
+    ensures looked { ctx.new.ticks + look.old.bits ≡ ctx.old.ticks + look.new.bits }
+    ensures onward { look.old.bits ≤ look.new.bits }
+    ensures unlooked { is_last ≡ true → ctx.new.ticks ≡ ctx.old.ticks }
+    ensures seen { IsSeen (rules_for false ctx.old.held) look.new (here reader.now) }
     ensures space { ctx.new.space ≡ ctx.old.space }
 {
-    if is_last {
-        return false;
-    }
-    match ctx.settings().encoding {
-        EncodingMode::Group4 => !gap_is_settled(ctx, reader),
-        EncodingMode::Group3_1D | EncodingMode::Group3_2D => {
-            let mut ahead = copy(reader);
-            ahead.read_eol_if_available(ctx.ticks());
-            !ahead.holds_one()
-        }
-    }
+    let rules = first_rules(ctx.settings());
+    look_waits(ctx, look, &rules, reader, is_last)
 }
 
 /// Returns whether a line is here behind a gap that was passed.
@@ -135,21 +167,25 @@ impl RowState {
     pub(crate) fn come_to_settled_line(
         &mut self,
         ctx: &mut DecoderContext,
+        look: &mut GapLook,
         reader: &mut BitReader<'_>,
         is_last: bool,
         gap_start: usize,
     ) -> Result<Option<bool>>
-        requires { ended self.old.stand ≡ None }
-        ensures { ComesOn is_last gap_start self.old self.new ctx.old ctx.new reader.old reader.new result }
+        requires unended { ended self.old.stand ≡ None }
+        requires seen { IsSeen (rules_for true ctx.old.held) look.old (here reader.old) }
+        requires line { is_at_line self.old.stand ≡ true → look.old ≡ nothing_seen }
+        ensures { ComesOn is_last gap_start self.old self.new look.old look.new ctx.old ctx.new reader.old reader.new result }
     {
         // An offset is known to be within the data once it is read.
         let _start = reader.bit_pos();
         if is_at_line(self.stand) {
             return Ok(Some(true));
         }
-        if gap_waits(ctx, reader, is_last) {
+        if gap_waits(ctx, look, reader, is_last) {
             return Ok(None);
         }
+        *look = GapLook::new();
         some_line(self.pass_gap_here(ctx, reader, gap_start))
     }
 
@@ -212,6 +248,8 @@ pub struct RowFeed {
     /// How many bits came before them.
     dropped: usize,
     place: usize,
+    /// How far the gap that is next was looked at.
+    look: GapLook,
 }
 
 impl Model for RowFeed {
@@ -250,6 +288,7 @@ impl RowFeed {
             data: Vec::new(alloc),
             dropped: 0,
             place: 0,
+            look: GapLook::new(),
         })
     }
 
@@ -259,9 +298,10 @@ impl RowFeed {
         ensures { Begins self.old self.new result }
     {
         let mut reader = placed_at(&self.data, self.order, self.place);
-        if front_waits(&mut self.ctx, &reader, self.is_last) {
+        if front_waits(&mut self.ctx, &mut self.look, &reader, self.is_last) {
             return false;
         }
+        self.look = GapLook::new();
         self.rows.stand = first_stand(&mut self.ctx, &mut reader);
         self.place = reader.bit_pos();
         self.begun = true;
@@ -277,9 +317,13 @@ impl RowFeed {
     {
         let mut reader = placed_at(&self.data, self.order, self.place);
         let gap_start = self.dropped + self.place;
-        let line = self
-            .rows
-            .come_to_settled_line(&mut self.ctx, &mut reader, self.is_last, gap_start);
+        let line = self.rows.come_to_settled_line(
+            &mut self.ctx,
+            &mut self.look,
+            &mut reader,
+            self.is_last,
+            gap_start,
+        );
         self.place = reader.bit_pos();
         line
     }
@@ -402,6 +446,7 @@ impl RowFeed {
             → IsFeedOf whole tried self.new) }
         ensures same { (self.new.ctx ≡ self.old.ctx) × (self.new.rows ≡ self.old.rows) × (self.new.order ≡ self.old.order)
             × (self.new.finished ≡ self.old.finished) }
+        ensures looked { self.new.looked ≡ self.old.looked }
         ensures only { IfErr result (λ e. (e ≡ DecodeError.OutOfMemory) ⊎ (e ≡ DecodeError.Overflow)) }
         ensures held { OnOk result (HoldsMore (bits_in self.old.order bytes.now) self.old self.new) }
         ensures kept { OnErr result (HoldsMore [] self.old self.new) }

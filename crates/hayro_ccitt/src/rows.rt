@@ -7,7 +7,6 @@ ghost use Rattle.hayro_ccitt.specs.Answers.{IsFault, IsRepairable, RepairStoresC
 ghost use Rattle.hayro_ccitt.specs.Bits.{BitsAt, here};
 ghost use Rattle.hayro_ccitt.specs.Context.{Context, after_repair, redrawn};
 ghost use Rattle.hayro_ccitt.specs.Decoding.{ReadsLine, TakesOneRow, cuts_with, gap_said, repairs_behind, with_row_taken};
-ghost use Rattle.hayro_ccitt.specs.GapsContinued.{behind_line_tag, eols_are_settled, gap_is_settled};
 ghost use Rattle.hayro_ccitt.specs.PlainReading.{eols_by, eols_here, is_end_of_block, is_over, gap_behind_row, row_of_line};
 ghost use Rattle.hayro_ccitt.specs.PlainReading.{behind_row, limit_met, line_here};
 ghost use Rattle.hayro_ccitt.specs.Rows.{changes};
@@ -209,64 +208,6 @@ pub(crate) fn pass_gap(ctx: &mut DecoderContext, reader: &mut BitReader<'_>) -> 
     }
     let count = read_eols(ctx, reader);
     Ok(is_over(ctx, reader, count))
-}
-
-/// Returns a reader of the bits behind a tag of one here, if it is the next line's: if this number of EOLs, which come
-/// before it,
-/// are no RTC (T.4, 4.2.2 and 4.2.4).
-fn behind_line_tag<'a>(reader: &BitReader<'a>, count: usize) -> BitReader<'a>
-    ensures { here result ≡ behind_line_tag (count, here reader.now) }
-{
-    if count == 0 {
-        return copy(reader);
-    }
-    if count >= 6 {
-        return copy(reader);
-    }
-    let mut behind = copy(reader);
-    match behind.read_bit() {
-        Ok(1) => behind,
-        Ok(_) | Err(_) => copy(reader),
-    }
-}
-
-/// Returns whether this number of EOLs, which were read, are all that can be here, whatever bits follow those that are left:
-/// the
-/// two of EOFB (T.6, 2.4.1.1) were read, or a one is left that isn't part of an EOL (T.4, 4.1.2 and 4.2.2).
-fn eols_are_settled(ctx: &DecoderContext, reader: &BitReader<'_>, count: usize) -> bool
-    ensures { result ≡ eols_are_settled ctx.now.held.settings.encoding ctx.now.held.settings.end_of_block
-        (count, here reader.now) }
-{
-    match ctx.settings().encoding {
-        EncodingMode::Group4 => ctx.settings().end_of_block && count >= 2 || reader.holds_one(),
-        EncodingMode::Group3_1D => reader.holds_one(),
-        EncodingMode::Group3_2D => behind_line_tag(reader, count).holds_one(),
-    }
-}
-
-/// Returns whether no data that follows can change the gap here: neither the EOLs here, nor, where a lenient reading misses
-/// one,
-/// those that come next (T.4, 4.1.2, T.6, 2.4.1.1). Each bit that is looked at is a tick.
-pub(crate) fn gap_is_settled(ctx: &mut DecoderContext, reader: &BitReader<'_>) -> bool
-    ensures settled { result ≡ gap_is_settled ctx.old.held.settings ctx.old.held.taken ctx.old.held.has_eols (here reader.now) }
-    ensures held { ctx.new.held ≡ ctx.old.held }
-    ensures counts { ctx.old.ticks ≤ ctx.new.ticks }
-    ensures work { ctx.new.ticks ≤ ctx.old.ticks + 5 * length (here reader.now) + 4 }
-    ensures space { ctx.new.space ≡ ctx.old.space }
-{
-    let mut ahead = copy(reader);
-    let count = read_eols(ctx, &mut ahead);
-    if !eols_are_settled(ctx, &ahead, count) {
-        return false;
-    }
-    if count > 0 || !ctx.has_eols() || limit_met(ctx) || ahead.at_end() || ctx.settings().strict {
-        return true;
-    }
-    if !ahead.skip_to_eol(ctx.ticks()) {
-        return false;
-    }
-    let count = read_eols(ctx, &mut ahead);
-    eols_are_settled(ctx, &ahead, count)
 }
 
 /// Decodes the line here as `decode_2d_line` does, and so as a line of T.6 data. It is a call, so that tagged one-dimensional

@@ -212,7 +212,7 @@ no_line_tag count (true ∷ rest) many = rw (le-ltb count 6 many) (either_way (l
     either_way false = refl
 
 -- the bits behind the last tag, whether it is a line's or that of RTC
-last_tag_tested : (found : ℕ × Bits) → behind_line_tag (pass_last_tag found) ≡ behind_first_tag found
+pub last_tag_tested : (found : ℕ × Bits) → behind_line_tag (pass_last_tag found) ≡ behind_first_tag found
 last_tag_tested (zero, []) = refl
 last_tag_tested (suc count, []) = refl
 last_tag_tested (zero, false ∷ rest) = refl

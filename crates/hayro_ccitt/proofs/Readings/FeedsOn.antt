@@ -2,7 +2,7 @@
 use Rattle.hayro_ccitt.proofs.Names.{◌≡◌, ◌≢◌, ◌∙◌, ◌+◌, ◌-◌, ◌*◌, ◌≤◌, [], ℕ, Bool, true, false, Result, Ok, Err, None, Some}
 use Rattle.hayro_ccitt.proofs.Names.{Option, refl, sym, ap}
 use Rattle.hayro_ccitt.proofs.Names.{subst, arith, length, drop, cond, Bits, BitsAt, Held, Context, DecodeError, White, redrawn}
-use Rattle.hayro_ccitt.proofs.Names.{front_of, here}
+use Rattle.hayro_ccitt.proofs.Names.{front_of, here, ◌&&◌}
 use Rattle.hayro_ccitt.proofs.Names.{IsStanding, IsStandingAtLine, ReachesNextLine, ReadsNext, is_at_line, seen, line_here}
 use Rattle.hayro_ccitt.proofs.Names.{DecodeSettings, Stand, AtLine, BehindRow, AtEnd, AtFault, MissIsTold, missed_before, ended}
 use Rattle.hayro_ccitt.proofs.Names.{is_some, ◌++◌, ◌⊎◌, inl, inr}
@@ -23,7 +23,8 @@ use Rattle.hayro_ccitt.specs.Continuations.{is_short}
 use Rattle.hayro_ccitt.specs.GapsContinued.{first_gap_is_settled, gap_is_settled}
 use Rattle.hayro_ccitt.specs.RowsTried.{CanCome, IsLeft, StandsFirst}
 use Rattle.hayro_ccitt.specs.RowFeeds.{ComesInFeed, ComesOn, Feeding, IsFeedOf, KeepsBits, LieIn, ReadsInFeed, StandsIn}
-use Rattle.hayro_ccitt.specs.RowFeeds.{TriesLine, came, fed_over}
+use Rattle.hayro_ccitt.specs.RowFeeds.{HasNone, LooksAhead, TriesLine, came, fed_over}
+use Rattle.hayro_ccitt.specs.declared.gap_look.GapLook.{GapLook}
 use Rattle.hayro_ccitt.specs.RowFeeds.{ComeNext, DropsRead, FeedsNext, IsAtFront, IsOpenAt, StaysThere, fed_none}
 use Rattle.hayro_ccitt.specs.RowFeeds.{fed_row, is_left, line_first}
 use Rattle.fax_bits.specs.declared.error.DecodeError.TheVariants.{InvalidCode, OutOfMemory}
@@ -65,10 +66,16 @@ module _ (old new : Feeding) (before after : BitsAt) (before_is : before ≡ rec
   place_is = omega (arith, keeps.dropped, ends)
 
   -- a gap is passed
-  pub feed_comes : (answer : Result (Option Bool) DecodeError)
-      → ComesOn old.finished at old.rows new.rows old.ctx new.ctx before after answer → ComesInFeed old new answer
-  feed_comes answer on = record {
+  pub feed_comes : (look kept_look : GapLook) → old.looked ≡ look.bits → new.looked ≡ kept_look.bits
+      → (answer : Result (Option Bool) DecodeError)
+      → ComesOn old.finished at old.rows new.rows look kept_look old.ctx new.ctx before after answer
+      → ComesInFeed old new answer
+  feed_comes look kept_look was is answer on = record {
     extra = on.extra;
+    looks = subst (λ (n : ℕ). LooksAhead old.finished (is_at_line old.rows.stand) n (drop old.place old.kept) on.extra) (sym was)
+        (subst (λ (b : BitsAt). LooksAhead old.finished (is_at_line old.rows.stand) look.bits (here b) on.extra) before_is
+        on.looks);
+    looked = λ e. omega (arith, was, is, (on.looked e).0);
     keeps = keeps;
     begun = still;
     space = on.space;
@@ -403,9 +410,10 @@ none_behind (Err error) other reached = record {
 
 -- a line was reached, and the call went on from there
 pub feeds_on : {whole : Bits} {tried : ℕ} (more : ℕ) {old mid new : Feeding} {answer : Result Fed DecodeError}
+    → LooksAhead old.finished (old.begun && is_at_line old.rows.stand) old.looked (drop old.place old.kept) more
     → ReachesNextLine (fed_over whole old) (fed_over whole mid) (Ok true) → FeedsNext whole (tried + more) mid new answer
     → FeedsNext whole tried old new answer
-feeds_on {whole} {tried} more {old} {mid} {new} {answer} reached next = record {
+feeds_on {whole} {tried} more {old} {mid} {new} {answer} looks reached next = record {
   row = λ e. reads_on (fed_over whole old) (fed_over whole mid) (fed_over whole new) (Ok true) reached (next.row e);
   end = λ e. reads_on (fed_over whole old) (fed_over whole mid) (fed_over whole new) (Ok false) reached (next.end e);
   fault = IfErr-weaker answer _ _ (λ e known fault.
@@ -422,12 +430,18 @@ feeds_on {whole} {tried} more {old} {mid} {new} {answer} reached next = record {
         cut = stays.cut ∙ reached.last.2;
         line_start = stays.line_start ∙ reached.last_start;
         unended = stays.unended;
+        line = λ line. stays.line (reached.line refl);
       };
   unsettled = next.unsettled;
   memory = next.memory;
   extra = more + next.extra;
   stands = let same : (tried + more) + next.extra ≡ tried + (more + next.extra) = omega arith in
       subst (λ (n : ℕ). IsFeedOf whole n new) same next.stands;
+  gap = more;
+  part = omega arith;
+  looks = looks;
+  looked = λ e away.
+      let stays = next.none (subst HasNone (sym e) refl) in absurd (false≢true (sym away ∙ stays.line (reached.line refl)));
 }
 
 -- at a line, and behind a row, nothing has ended
@@ -469,10 +483,22 @@ line_left {whole} {old} {new} answer reads left line =
       cut = ap (λ (r : RowState). r.cut) stays.0;
       line_start = ap (λ (r : RowState). r.started_at) stays.0;
       unended = ap (λ (r : RowState). ended r.stand) stays.0 ∙ at_line_unended old.rows.stand line;
+      line = λ e. ap (λ (r : RowState). is_at_line r.stand) stays.0 ∙ line;
     }
 
 next_is : {old new : Feeding} → KeepsBits old new → new.place ≡ old.place → drop old.place old.kept ≡ drop new.place new.kept
 next_is {old} {new} keeps place = ap (λ (n : ℕ). drop n old.kept) (sym place) ∙ ap (drop new.place) (sym keeps.kept)
+
+-- at a line no gap is looked at
+none_looked : (finished line : Bool) (looked : ℕ) (gap : Bits) → LooksAhead finished line looked gap 0
+none_looked finished line looked gap =
+    record { line = λ e. refl; finished = λ e. refl; within = λ some. absurd (omega (arith, some)) }
+
+-- once begun
+looks_begun : (begun : Bool) {finished line : Bool} {looked counted : ℕ} {gap : Bits} → begun ≡ true
+    → LooksAhead finished line looked gap counted → LooksAhead finished (begun && line) looked gap counted
+looks_begun true is looks = looks
+looks_begun false is looks = absurd (false≢true is)
 
 -- the line is read, or left
 pub line_feeds : {whole : Bits} {tried : ℕ} {old new : Feeding} (answer : Result Bool DecodeError) → ReadsInFeed old new answer
@@ -487,6 +513,10 @@ line_feeds {whole} {tried} {old} {new} (Ok true) reads begun line feed = record 
   memory = λ e. cc;
   extra = reads.extra;
   stands = reads.stands whole tried feed;
+  gap = 0;
+  part = omega arith;
+  looks = none_looked old.finished (old.begun && is_at_line old.rows.stand) old.looked (drop old.place old.kept);
+  looked = λ e. cc;
 }
 line_feeds {whole} {tried} {old} {new} (Ok false) reads begun line feed = record {
   row = λ e. cc;
@@ -503,6 +533,10 @@ line_feeds {whole} {tried} {old} {new} (Ok false) reads begun line feed = record
   memory = λ e. cc;
   extra = reads.extra;
   stands = reads.stands whole tried feed;
+  gap = 0;
+  part = omega arith;
+  looks = none_looked old.finished (old.begun && is_at_line old.rows.stand) old.looked (drop old.place old.kept);
+  looked = λ e away. absurd (false≢true (sym away ∙ ap (λ (r : RowState). is_at_line r.stand) (reads.left refl).0 ∙ line));
 }
 line_feeds {whole} {tried} {old} {new} (Err error) reads begun line feed = record {
   row = λ e. cc;
@@ -516,6 +550,10 @@ line_feeds {whole} {tried} {old} {new} (Err error) reads begun line feed = recor
       (next_is reads.keeps (reads.left is).1) (reads.memory (ap (λ (x : DecodeError). Err x) is));
   extra = reads.extra;
   stands = reads.stands whole tried feed;
+  gap = 0;
+  part = omega arith;
+  looks = none_looked old.finished (old.begun && is_at_line old.rows.stand) old.looked (drop old.place old.kept);
+  looked = λ e. cc;
 }
 
 -- no line is reached: more data is needed, or it is the end
@@ -539,6 +577,7 @@ gap_feeds {whole} {tried} {old} {new} (Ok None) comes other begun unended feed =
         cut = ap (λ (r : RowState). r.cut) w.2;
         line_start = ap (λ (r : RowState). r.started_at) w.2;
         unended = ap (λ (r : RowState). ended r.stand) w.2 ∙ unended;
+        line = λ e. ap (λ (r : RowState). is_at_line r.stand) w.2 ∙ e;
       };
       unsettled = λ e. (
         comes.keeps.finished ∙ w.4,
@@ -551,6 +590,10 @@ gap_feeds {whole} {tried} {old} {new} (Ok None) comes other begun unended feed =
       memory = λ e. cc;
       extra = comes.extra;
       stands = comes.waiting whole tried refl feed;
+      gap = comes.extra;
+      part = omega arith;
+      looks = looks_begun old.begun begun comes.looks;
+      looked = λ e away. comes.looked refl;
     }
 gap_feeds {whole} {tried} {old} {new} (Ok (Some true)) comes other begun unended feed = absurd (other refl)
 gap_feeds {whole} {tried} {old} {new} (Ok (Some false)) comes other begun unended feed = record {
@@ -562,6 +605,10 @@ gap_feeds {whole} {tried} {old} {new} (Ok (Some false)) comes other begun unende
   memory = λ e. cc;
   extra = comes.extra;
   stands = comes.stands whole tried (λ is. cc) feed;
+  gap = comes.extra;
+  part = omega arith;
+  looks = looks_begun old.begun begun comes.looks;
+  looked = λ e. cc;
 }
 gap_feeds {whole} {tried} {old} {new} (Err error) comes other begun unended feed = record {
   row = λ e. cc;
@@ -573,6 +620,10 @@ gap_feeds {whole} {tried} {old} {new} (Err error) comes other begun unended feed
       let never : InvalidCode ≡ OutOfMemory = sym comes.only_code ∙ is in absurd cc;
   extra = comes.extra;
   stands = comes.stands whole tried (λ is. cc) feed;
+  gap = comes.extra;
+  part = omega arith;
+  looks = looks_begun old.begun begun comes.looks;
+  looked = λ e. cc;
 }
 
 -- there is room for the row of a line
@@ -607,13 +658,13 @@ reached_fits {whole} {tried} {old} {new} answer comes is feed =
 
 pub reached_on : {whole : Bits} {tried : ℕ} {old mid new : Feeding} (line : Result (Option Bool) DecodeError)
     (row : Result Bool DecodeError) → (comes : ComesInFeed old mid line) → line ≡ Ok (Some true) → ReadsInFeed mid new row
-    → IsFeedOf whole tried old → FeedsNext whole tried old new (fed_row row)
-reached_on {whole} {tried} {old} {mid} {new} line row comes is reads feed =
+    → old.begun ≡ true → IsFeedOf whole tried old → FeedsNext whole tried old new (fed_row row)
+reached_on {whole} {tried} {old} {mid} {new} line row comes is reads begun feed =
     let some : line ≢ Ok None = λ none. let never = sym is ∙ none in absurd cc in
     let reached = subst (λ (r : Result (Option Bool) DecodeError). ReachesNextLine (fed_over whole old) (fed_over whole mid)
     (came r))
     is (comes.comes whole tried some feed) in
-    feeds_on comes.extra reached (line_feeds row reads comes.begun (comes.line is) (comes.stands whole tried some feed))
+    feeds_on comes.extra (looks_begun old.begun begun comes.looks) reached (line_feeds row reads comes.begun (comes.line is) (comes.stands whole tried some feed))
 
 -- ---- More data
 

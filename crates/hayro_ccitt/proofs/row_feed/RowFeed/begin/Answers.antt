@@ -2,10 +2,14 @@ use Rattle.hayro_ccitt.proofs.Names.{◌≡◌, ◌∙◌, ◌+◌, ◌-◌, ◌
 use Rattle.hayro_ccitt.proofs.Names.{Bits, bits_in, List}
 use Rattle.hayro_ccitt.proofs.Names.{Held, here, drop, false≢true, fresh}
 use Rattle.hayro_ccitt.proofs.BitReading.BitLists.{length-bits_in}
+use Rattle.hayro_ccitt.proofs.Names.{◌≤◌}
+use Rattle.hayro_ccitt.proofs.Readings.GapsSeen.{looked_within}
+use Rattle.hayro_ccitt.specs.GapsSeen.{IsSeen, rules_for}
+use Rattle.hayro_ccitt.proofs.Readings.LooksKept.{fresh_look, seen_begun, seen_there}
 use Rattle.hayro_ccitt.proofs.Readings.FeedsOn.{at_front, front_fed, front_reaches}
 use Rattle.hayro_ccitt.proofs.Readings.RowsFed.{waits_for, waits_not}
 use Rattle.hayro_ccitt.specs.GapsContinued.{first_gap_is_settled}
-use Rattle.hayro_ccitt.specs.RowFeeds.{Feeding, StandsIn}
+use Rattle.hayro_ccitt.specs.RowFeeds.{Feeding, StandsIn, feeding_of}
 use Rattle.hayro_ccitt.proofs.row_feed.RowFeed.begin.Goals.{After-front_waits, After-bit_pos-self-inside}
 use Rattle.hayro_ccitt.proofs.row_feed.RowFeed.begin.Goals as goal
 
@@ -24,6 +28,18 @@ starts : (c : After-front_waits) → here c.placed_at-reader.result ≡ c.placed
 starts c = ap (λ (n : ℕ). drop n c.placed_at-reader.result.bits) (ap (λ (b : BitsAt). b.place) (front_is c)
     ∙ c.self.invariant.start (begun_not c))
 
+-- no more bits than there are were looked at
+front_within : (c : After-front_waits)
+    → c.front_waits.new.ctx.ticks - c.self.inside.ctx.ticks + c.self.inside.look.bits
+    ≤ length (drop c.self.inside.place (bits_in c.self.inside.order c.self.inside.«data».items))
+front_within c = omega (
+  arith,
+  c.front_waits.ensures.looked,
+  c.front_waits.ensures.onward,
+  (looked_within c.front_waits.ensures.seen.1).0,
+  ap (λ (b : BitsAt). length (here b)) (front_is c),
+)
+
 pub returns-then-front_waits : goal.returns-then-front_waits
 returns-then-front_waits c =
     let at = (goal.at.returns-then-front_waits c).After-front_waits in
@@ -32,12 +48,18 @@ returns-then-front_waits c =
     (here c.placed_at-reader.result)) (sym c.front_waits.ensures.waits ∙ c.if-front_waits.true) in
     rw (← c.self.view_is) (record {
       extra = c.front_waits.new.ctx.ticks - c.self.inside.ctx.ticks;
+      looks = record {
+        line = λ e. absurd (false≢true e);
+        finished = λ e. absurd (false≢true (sym waits.0 ∙ e));
+        within = λ some. front_within at;
+      };
+      looked = λ e. omega (arith, c.front_waits.ensures.looked, c.front_waits.ensures.onward);
       keeps = record { order = refl; finished = refl; kept = refl; dropped = refl };
       begun = begun_not at;
       space = c.front_waits.ensures.space;
       waits = λ e. (
         c.front_waits.ensures.held,
-        omega (arith, c.front_waits.ensures.counts),
+        omega (arith, c.front_waits.ensures.looked, c.front_waits.ensures.onward),
         refl,
         refl,
         waits.0,
@@ -60,7 +82,7 @@ returns-then-front_waits c =
                 })) (sym (begun_not at)) (record {
                   fresh = c.front_waits.ensures.held ∙ front.fresh
                       ∙ ap (λ (h : Held). fresh h.settings) (sym c.front_waits.ensures.held);
-                  ticks = omega (arith, front.ticks, c.front_waits.ensures.counts);
+                  ticks = omega (arith, front.ticks, c.front_waits.ensures.looked, c.front_waits.ensures.onward);
                   state = front.state;
                   start = front.start;
                 });
@@ -83,6 +105,8 @@ invariant_of-self-2 c =
       start = λ e. absurd (false≢true (sym e));
       unended = λ e. absurd (false≢true (sym e));
       rows = λ e. absurd (false≢true (sym e));
+      seen = fresh_look _ _ c.new-self-inside.ensures;
+      line = λ e. c.new-self-inside.ensures;
     }
 
 pub returns : goal.returns
@@ -94,21 +118,38 @@ returns c =
     let more = mid.ticks - inside.ctx.ticks in
     let stood = c.first_stand-self-inside in
     let same = c.front_waits.ensures.held in
-    let ticks : mid.ticks ≡ inside.ctx.ticks + more = omega (arith, c.front_waits.ensures.counts) in
+    let ticks : mid.ticks ≡ inside.ctx.ticks + more = omega (arith, c.front_waits.ensures.looked, c.front_waits.ensures.onward) in
     let closed = waits_not inside.is_last (first_gap_is_settled held.settings.encoding held.settings
     (here c.placed_at-reader.result)) (sym c.front_waits.ensures.waits ∙ c.if-front_waits.false) in
     let settled = subst (λ (h : Held). (inside.is_last ≡ true) ⊎ (first_gap_is_settled h.settings.encoding h.settings
     c.placed_at-reader.result.bits ≡ true)) (sym same) (subst (λ (b : Bits). (inside.is_last ≡ true)
     ⊎ (first_gap_is_settled held.settings.encoding held.settings b ≡ true)) (starts at) closed) in
     let settings_are = stood.ensures.settings in
+    let now : Feeding = record {
+      ctx = stood.new.ctx;
+      rows = record inside.rows { stand = stood.result };
+      order = inside.order;
+      begun = true;
+      finished = inside.is_last;
+      kept = bits_in inside.order inside.«data».items;
+      dropped = inside.dropped;
+      place = c.bit_pos-self-inside.result;
+      looked = 0;
+    } in
     rw (← c.self.view_is) (record {
       extra = more;
+      looks = record {
+        line = λ e. absurd (false≢true e);
+        finished = λ e. omega (arith, c.front_waits.ensures.unlooked e);
+        within = λ some. front_within at;
+      };
+      looked = λ e. cc;
       keeps = record { order = refl; finished = refl; kept = refl; dropped = refl };
       begun = refl;
       space = stood.ensures.space ∙ c.front_waits.ensures.space;
       waits = λ e. cc;
       unfailed = λ e. stood.ensures.unfailed;
-      passes = λ whole tried e feed. front_reaches _ _ mid c.placed_at-reader.result stood.new.reader stood.result more
+      passes = λ whole tried e feed. front_reaches (feeding_of inside) now mid c.placed_at-reader.result stood.new.reader stood.result more
           (front_is at) (record { order = refl; finished = refl; kept = refl; dropped = refl })
           c.bit_pos-self-inside.ensures.place
           refl refl same ticks stood.ensures.first stood.ensures.none_taken settings_are stood.ensures.first.counts
@@ -123,3 +164,32 @@ returns c =
           stood.ensures.at_line settled feed (at_front inside.begun tried inside.rows inside.ctx
           (record { bits = whole; place = inside.dropped + inside.place }) (begun_not at) feed.stands);
     })
+
+pub front_waits-requires : goal.front_waits-requires
+front_waits-requires c =
+    let begun = ap (λ (f : Feeding). f.begun) c.self.view_is ∙ c.requires in
+    let place : record { bits = bits_in c.self.inside.order c.self.inside.«data».items; place = c.self.inside.place }
+    ≡ c.placed_at-reader.result =
+    sym (c.placed_at-reader.ensures ∙ ap (λ (items : List ℕ). record {
+      bits = bits_in c.self.inside.order items;
+      place = c.self.inside.place;
+    }) c.deref.ensures.value) in
+    record { seen = seen_begun _ begun (seen_there (ap here place) c.self.invariant.seen) }
+
+pub invariant_of-self : goal.invariant_of-self
+invariant_of-self c =
+    let at = (goal.at.invariant_of-self c).After-front_waits in
+    let same = c.front_waits.ensures.held in
+    let old = c.self.invariant in
+    record {
+      within = old.within;
+      fit = old.fit;
+      fresh = λ e. same ∙ old.fresh e ∙ ap (λ (h : Held). fresh h.settings) (sym same);
+      start = old.start;
+      unended = old.unended;
+      rows = old.rows;
+      seen = seen_begun _ (sym (begun_not at)) (subst (λ (h : Held). IsSeen (rules_for false h) c.front_waits.new.look
+          (drop c.self.inside.place (bits_in c.self.inside.order c.self.inside.«data».items))) (sym same)
+          (seen_there (ap here (front_is at)) c.front_waits.ensures.seen));
+      line = λ e. absurd (false≢true (sym (old.rows (begun_not at)) ∙ e));
+    }

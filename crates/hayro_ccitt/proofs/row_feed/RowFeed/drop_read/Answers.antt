@@ -1,31 +1,66 @@
-use Rattle.hayro_ccitt.proofs.Names.{◌≡◌, ◌∙◌, ◌++◌, ◌-◌, ◌/◌, ap, refl, arith, length, length-drop, drop, take, bits_in, ℕ}
+use Rattle.hayro_ccitt.proofs.Names.{◌≡◌, ◌∙◌, ◌++◌, ◌+◌, ◌-◌, ◌*◌, ◌/◌, ap, sym, refl, arith, length, length-drop}
+use Rattle.hayro_ccitt.proofs.Names.{drop, drop-drop, take, bits_in, List, ℕ}
 use Rattle.std.proofs.Math.Seq.{take-append_seam}
 use Rattle.hayro_ccitt.proofs.BitReading.BitLists.{length-bits_in}
 use Rattle.hayro_ccitt.proofs.Readings.FeedsOn.{bits-dropped}
+use Rattle.hayro_ccitt.proofs.Readings.LooksKept.{seen_there}
+use Rattle.hayro_ccitt.proofs.row_feed.RowFeed.drop_read.Goals.{After-truncate}
 use Rattle.hayro_ccitt.proofs.row_feed.RowFeed.drop_read.Goals as goal
+
+-- the bytes that are left
+module _ (c : After-truncate) where
+  abbrev bytes : ℕ
+  bytes = c.self.inside.place / 8
+
+  abbrev items : List ℕ
+  items = c.self.inside.«data».items
+
+  pub items_left : c.truncate.new.self.items ≡ drop bytes items
+  items_left =
+      let left : c.len.result - bytes ≡ length (drop bytes items) = omega (
+        arith,
+        c.len.ensures,
+        c.rotate_left.ensures.len,
+        length-drop bytes items,
+      ) in
+      c.truncate.ensures.items ∙ ap (take (c.len.result - bytes)) c.rotate_left.ensures.items
+      ∙ ap (λ (n : ℕ). take n (drop bytes items ++ take bytes items)) left
+      ∙ take-append_seam (drop bytes items) (take bytes items)
+
+  pub bits_left : bits_in c.self.inside.order c.truncate.new.self.items ≡ drop (8 * bytes) (bits_in c.self.inside.order items)
+  bits_left = ap (bits_in c.self.inside.order) items_left ∙ bits-dropped c.self.inside.order bytes items
+
+pub invariant_of-self : goal.invariant_of-self
+invariant_of-self c =
+    let at = (goal.at.invariant_of-self c).After-truncate in
+    let inside = c.self.inside in
+    let bits = bits_in inside.order inside.«data».items in
+    let place = inside.place - inside.place / 8 * 8 in
+    let there : 8 * (inside.place / 8) + place ≡ inside.place = omega arith in
+    let kept = ap length (items_left at) ∙ length-drop (inside.place / 8) inside.«data».items in
+    record {
+      within = omega (arith, kept, c.self.invariant.within);
+      fit = omega (arith, kept, c.self.invariant.within, c.self.invariant.fit);
+      fresh = c.self.invariant.fresh;
+      start = λ e. omega (arith, c.self.invariant.start e);
+      unended = c.self.invariant.unended;
+      rows = c.self.invariant.rows;
+      seen = seen_there (sym (ap (drop place) (bits_left at) ∙ drop-drop place (8 * (inside.place / 8)) bits
+          ∙ ap (λ (n : ℕ). drop n bits) there)) c.self.invariant.seen;
+      line = c.self.invariant.line;
+    }
 
 pub returns : goal.returns
 returns c =
-    let order = c.self.inside.order in
-    let items = c.self.inside.«data».items in
-    let bytes = c.self.inside.place / 8 in
-    let left : c.len.result - bytes ≡ length (drop bytes items) = omega (
-      arith,
-      c.len.ensures,
-      c.rotate_left.ensures.len,
-      length-drop bytes items,
-    ) in
-    let kept : c.truncate.new.self.items ≡ drop bytes items =
-    c.truncate.ensures.items ∙ ap (take (c.len.result - bytes)) c.rotate_left.ensures.items
-    ∙ ap (λ (n : ℕ). take n (drop bytes items ++ take bytes items)) left
-    ∙ take-append_seam (drop bytes items) (take bytes items) in
+    let at = (goal.at.returns c).After-truncate in
     rw (← c.self.view_is) (record {
-      bytes = bytes;
+      bytes = c.self.inside.place / 8;
       read = omega arith;
-      kept = ap (bits_in order) kept ∙ bits-dropped order bytes items;
+      kept = bits_left at;
       dropped = omega arith;
       place = omega arith;
-      within = omega (arith, c.self.invariant.within, length-bits_in order items);
+      looked = refl;
+      within = omega (arith, c.self.invariant.within, length-bits_in c.self.inside.order c.self.inside.«data».items);
       ctx = refl;
       rows = refl;
       order = refl;

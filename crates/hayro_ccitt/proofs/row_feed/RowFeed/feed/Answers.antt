@@ -4,7 +4,9 @@ use Rattle.fax_bits.specs.declared.error.DecodeError.TheVariants.{OutOfMemory, O
 use Rattle.hayro_ccitt.proofs.Names.{Err, Result, ◌+◌, ◌-◌, ◌<◌, arith, length, length-drop, refl}
 use Rattle.std.specs.Prelude.{◌^◌}
 use Rattle.hayro_ccitt.proofs.Readings.BitsHeld.{holds_more, holds_none}
+use Rattle.hayro_ccitt.proofs.Names.{drop, length-append}
 use Rattle.hayro_ccitt.proofs.Readings.FeedsOn.{come_next, drops_read, feeds_more}
+use Rattle.hayro_ccitt.proofs.Readings.LooksKept.{seen_more, seen_there}
 use Rattle.std.proofs.lemmas.List.Concat.{flat_map-append}
 use Rattle.fax_bits.specs.declared.bit_reader.BitOrder.{BitOrder}
 use Rattle.hayro_ccitt.specs.Bits.{bits_of_byte}
@@ -31,6 +33,7 @@ returns-in_err-extend_from_slice-clause-refused c =
       kept = bits_in inside.order inside.«data».items;
       dropped = inside.dropped;
       place = inside.place;
+      looked = inside.look.bits;
     } in
     let same = ap (λ (items : List ℕ). record view { kept = bits_in inside.order items })
     c.in_err-extend_from_slice.ensures.items
@@ -50,6 +53,7 @@ returns-clause-fed c whole tried feed come =
       kept = bits_in inside.order inside.«data».items;
       dropped = inside.dropped;
       place = inside.place;
+      looked = inside.look.bits;
     } in
     let order : c.args.self.now.order ≡ inside.order
     = sym c.drop_read.ensures.order ∙ ap (λ (f : Feeding). f.order) (sym c.self.view_is) in
@@ -213,3 +217,30 @@ returns-clause-too_long c =
         c.if-self-kept.false,
       )),
     )
+
+pub invariant_of-self-2 : goal.invariant_of-self-2
+invariant_of-self-2 c =
+    let inside = c.self.inside in
+    let old = c.self.invariant in
+    let items = c.in_ok-extend_from_slice.ensures.items in
+    let longer = ap length items ∙ length-append inside.«data».items c.args.bytes.now in
+    record {
+      within = omega (arith, longer, old.within);
+      fit = omega (
+        arith,
+        longer,
+        old.fit,
+        c.len-kept.ensures,
+        c.if-bytes-kept.false,
+        c.if-self-kept.false,
+      );
+      fresh = old.fresh;
+      start = old.start;
+      unended = old.unended;
+      rows = old.rows;
+      seen = seen_there (ap (drop inside.place) (sym (ap (bits_in inside.order) items
+          ∙ flat_map-append (bits_of_byte inside.order) inside.«data».items c.args.bytes.now)))
+          (seen_more inside.place (bits_in inside.order inside.«data».items) (bits_in inside.order c.args.bytes.now)
+          (omega (arith, old.within, length-bits_in inside.order inside.«data».items)) old.seen);
+      line = old.line;
+    }

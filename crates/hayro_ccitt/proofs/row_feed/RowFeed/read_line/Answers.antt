@@ -1,6 +1,8 @@
 use Rattle.hayro_ccitt.proofs.Names.{◌≡◌, ◌∙◌, ap, sym, refl, arith, length, false≢true, true, BitsAt, bits_in, is_at_line}
 use Rattle.hayro_ccitt.proofs.Names.{List, ℕ}
 use Rattle.hayro_ccitt.proofs.BitReading.BitLists.{length-bits_in}
+use Rattle.hayro_ccitt.proofs.Readings.LooksKept.{fresh_look}
+use Rattle.hayro_ccitt.specs.GapsSeen.{nothing_seen}
 use Rattle.hayro_ccitt.proofs.Readings.FeedsOn.{feed_reads}
 use Rattle.hayro_ccitt.specs.RowFeeds.{Feeding}
 use Rattle.hayro_ccitt.proofs.row_feed.RowFeed.read_line.Goals.{After-try_line-row}
@@ -16,6 +18,11 @@ line_is_at c = c.placed_at-reader.ensures ∙ ap (λ (items : List ℕ). record 
   bits = bits_in c.self.inside.order items;
   place = c.self.inside.place;
 }) c.deref.ensures.value
+
+-- of the gap behind the line nothing was seen
+at_line_fresh : (c : After-try_line-row) → c.self.inside.look ≡ nothing_seen
+at_line_fresh c =
+    c.self.invariant.line (ap (λ (f : Feeding). is_at_line f.rows.stand) c.self.view_is ∙ c.requires.line)
 
 pub invariant_of-self : goal.invariant_of-self
 invariant_of-self c =
@@ -33,6 +40,8 @@ invariant_of-self c =
       start = λ e. absurd (false≢true (sym e ∙ line_begun at));
       unended = λ e. absurd (false≢true (sym e ∙ line_begun at));
       rows = λ e. absurd (false≢true (sym e ∙ line_begun at));
+      seen = fresh_look _ _ (at_line_fresh at);
+      line = λ e. at_line_fresh at;
     }
 
 pub returns : goal.returns

@@ -16,4 +16,4 @@ returns-then-not-can_take_row-clause-reads c whole tried feed =
 pub returns-clause-reads : goal.returns-clause-reads
 returns-clause-reads c whole tried feed =
     rw c.fed_row.ensures (reached_on c.come_to_line-line.result c.read_line-row.result c.come_to_line-line.ensures
-    (c.is_some_line.ensures.here c.if-not-is_some_line.false) c.read_line-row.ensures feed)
+    (c.is_some_line.ensures.here c.if-not-is_some_line.false) c.read_line-row.ensures c.requires.begun feed)

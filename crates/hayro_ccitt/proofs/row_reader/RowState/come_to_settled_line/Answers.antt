@@ -1,5 +1,7 @@
 use Rattle.hayro_ccitt.proofs.Names.{◌≡◌, ◌∙◌, ◌+◌, ◌-◌, ◌⊎◌, ap, sym, subst, refl, true, inl, ℕ}
 use Rattle.hayro_ccitt.proofs.Names.{arith, [], Ok, here, Held, IsStanding, ReachesNextLine, is_at_line, seen}
+use Rattle.hayro_ccitt.proofs.Names.{false≢true}
+use Rattle.hayro_ccitt.proofs.Readings.GapsSeen.{looked_within}
 use Rattle.hayro_ccitt.proofs.Readings.RowsFed.{gap_step_stands, gap_step_reaches, stays_at_line, stands_later, waits_for}
 use Rattle.hayro_ccitt.proofs.Readings.RowsFed.{waits_not, passed_some, said_code, said_line}
 use Rattle.hayro_ccitt.specs.declared.row_reader.RowState.{RowState}
@@ -11,6 +13,9 @@ returns-then-is_at_line c =
     let line = sym c.is_at_line.ensures ∙ c.if-is_at_line.true in
     record {
       extra = 0;
+      looks = record { line = λ e. refl; finished = λ e. refl; within = λ some. absurd (omega (arith, some)) };
+      looked = λ e. cc;
+      none_looked = λ e. c.requires.line line;
       same_bits = refl;
       within = omega (arith, c.bit_pos-start.ensures.place, c.bit_pos-start.ensures.within);
       space = refl;
@@ -34,12 +39,24 @@ returns-then-gap_waits c =
     (sym c.gap_waits.ensures.waits ∙ c.if-gap_waits.true) in
     record {
       extra = c.gap_waits.new.ctx.ticks - c.args.ctx.now.ticks;
+      looks = record {
+        line = λ e. absurd (false≢true (sym c.if-is_at_line.false ∙ c.is_at_line.ensures ∙ e));
+        finished = λ e. absurd (false≢true (sym unsettled.0 ∙ e));
+        within = λ some. omega (
+          arith,
+          c.gap_waits.ensures.looked,
+          c.gap_waits.ensures.onward,
+          (looked_within c.gap_waits.ensures.seen.1).0,
+        );
+      };
+      looked = λ e. (omega (arith, c.gap_waits.ensures.looked, c.gap_waits.ensures.onward), c.gap_waits.ensures.seen);
+      none_looked = λ passed. absurd (passed refl);
       same_bits = refl;
       within = omega (arith, c.bit_pos-start.ensures.place, c.bit_pos-start.ensures.within);
       space = c.gap_waits.ensures.space;
       waits = λ e. (
         c.gap_waits.ensures.held,
-        omega (arith, c.gap_waits.ensures.counts),
+        omega (arith, c.gap_waits.ensures.looked, c.gap_waits.ensures.onward),
         refl,
         refl,
         unsettled.0,
@@ -67,9 +84,21 @@ returns c =
     let gap = c.pass_gap_here.ensures in
     let rows = c.args.self.now in
     let answer = c.pass_gap_here.result in
-    let ticks : mid.ticks ≡ old.ticks + more = omega (arith, c.gap_waits.ensures.counts) in
+    let ticks : mid.ticks ≡ old.ticks + more = omega (arith, c.gap_waits.ensures.looked, c.gap_waits.ensures.onward) in
     record {
       extra = more;
+      looks = record {
+        line = λ e. absurd (false≢true (sym no_line ∙ e));
+        finished = λ e. omega (arith, c.gap_waits.ensures.unlooked e);
+        within = λ some. omega (
+          arith,
+          c.gap_waits.ensures.looked,
+          c.gap_waits.ensures.onward,
+          (looked_within c.gap_waits.ensures.seen.1).0,
+        );
+      };
+      looked = λ e. absurd (passed_some answer (sym c.some_line.ensures ∙ e));
+      none_looked = λ e. c.new.ensures;
       same_bits = gap.same_bits;
       within = gap.within;
       space = gap.space ∙ c.gap_waits.ensures.space;
@@ -77,11 +106,11 @@ returns c =
       comes = λ from whole dropped passed lie starts stands. rw c.some_line.ensures (gap_step_reaches c.args.is_last
           c.args.gap_start rows c.pass_gap_here.new.self old mid c.pass_gap_here.new.ctx c.args.reader.now
           c.pass_gap_here.new.reader
-          answer more same ticks gap settled c.requires no_line from whole dropped lie starts stands);
+          answer more same ticks gap settled c.requires.unended no_line from whole dropped lie starts stands);
       stands = λ from whole dropped passed lie starts stands. gap_step_stands c.args.is_last
           c.args.gap_start rows c.pass_gap_here.new.self old mid c.pass_gap_here.new.ctx c.args.reader.now
           c.pass_gap_here.new.reader
-          answer more same ticks gap settled c.requires no_line from whole dropped lie starts stands;
+          answer more same ticks gap settled c.requires.unended no_line from whole dropped lie starts stands;
       line = λ e. ap (λ (r : RowState). is_at_line r.stand) gap.kept_is
           ∙ said_line gap.over answer gap.said (sym c.some_line.ensures ∙ e);
       only_code = rw c.some_line.ensures (said_code gap.over answer gap.said (gap.passes [] (inl refl)).only_code);
