@@ -10,7 +10,7 @@ use Rattle.hayro_ccitt.proofs.Readings.LooksKept.{seen_more, seen_there}
 use Rattle.std.proofs.lemmas.List.Concat.{flat_map-append}
 use Rattle.fax_bits.specs.declared.bit_reader.BitOrder.{BitOrder}
 use Rattle.hayro_ccitt.specs.Bits.{bits_of_byte}
-use Rattle.hayro_ccitt.specs.RowFeeds.{Feeding, IsFeedOf}
+use Rattle.hayro_ccitt.specs.RowFeeds.{Feeding, IsFeedOf, feeding_of}
 use Rattle.hayro_ccitt.proofs.BitReading.BitLists.{length-bits_in}
 use Rattle.hayro_ccitt.proofs.row_feed.RowFeed.feed.Goals.{then-bytes-kept-via-then-bytes-kept}
 use Rattle.hayro_ccitt.proofs.row_feed.RowFeed.feed.Goals.{then-bytes-kept-via-else-bytes-kept+then-self-kept}
@@ -24,17 +24,7 @@ pub returns-in_err-extend_from_slice-clause-refused :
 returns-in_err-extend_from_slice-clause-refused c =
     let answer = err_from_is_err_and c.from_residual.result c.from_residual.ensures.1 in
     let inside = c.self.inside in
-    let view : Feeding = record {
-      ctx = inside.ctx;
-      rows = inside.rows;
-      order = inside.order;
-      begun = inside.begun;
-      finished = inside.is_last;
-      kept = bits_in inside.order inside.«data».items;
-      dropped = inside.dropped;
-      place = inside.place;
-      looked = inside.look.bits;
-    } in
+    let view = feeding_of inside in
     let same = ap (λ (items : List ℕ). record view { kept = bits_in inside.order items })
     c.in_err-extend_from_slice.ensures.items
     ∙ c.self.view_is in
@@ -44,17 +34,7 @@ pub returns-clause-fed : goal.returns-clause-fed
 returns-clause-fed c whole tried feed come =
     let inside = c.self.inside in
     let mid = c.drop_read.new.self in
-    let view : Feeding = record {
-      ctx = inside.ctx;
-      rows = inside.rows;
-      order = inside.order;
-      begun = inside.begun;
-      finished = inside.is_last;
-      kept = bits_in inside.order inside.«data».items;
-      dropped = inside.dropped;
-      place = inside.place;
-      looked = inside.look.bits;
-    } in
+    let view = feeding_of inside in
     let order : c.args.self.now.order ≡ inside.order
     = sym c.drop_read.ensures.order ∙ ap (λ (f : Feeding). f.order) (sym c.self.view_is) in
     let next = bits_in c.args.self.now.order c.args.bytes.now in
@@ -81,16 +61,7 @@ pub returns-in_err-extend_from_slice-clause-kept : goal.returns-in_err-extend_fr
 returns-in_err-extend_from_slice-clause-kept c =
     let answer = err_from_is_err_and c.from_residual.result c.from_residual.ensures.1 in
     let inside = c.self.inside in
-    let view : Feeding = record {
-      ctx = inside.ctx;
-      rows = inside.rows;
-      order = inside.order;
-      begun = inside.begun;
-      finished = inside.is_last;
-      kept = bits_in inside.order inside.«data».items;
-      dropped = inside.dropped;
-      place = inside.place;
-    } in
+    let view = feeding_of inside in
     let same = ap (λ (items : List ℕ). record view { kept = bits_in inside.order items })
     c.in_err-extend_from_slice.ensures.items
     ∙ c.self.view_is in
@@ -101,16 +72,7 @@ returns-in_err-extend_from_slice-clause-kept c =
 pub returns-clause-held : goal.returns-clause-held
 returns-clause-held c =
     let inside = c.self.inside in
-    let view : Feeding = record {
-      ctx = inside.ctx;
-      rows = inside.rows;
-      order = inside.order;
-      begun = inside.begun;
-      finished = inside.is_last;
-      kept = bits_in inside.order inside.«data».items;
-      dropped = inside.dropped;
-      place = inside.place;
-    } in
+    let view = feeding_of inside in
     let order : c.args.self.now.order ≡ inside.order
     = sym c.drop_read.ensures.order ∙ ap (λ (f : Feeding). f.order) (sym c.self.view_is) in
     let next = bits_in c.args.self.now.order c.args.bytes.now in
