@@ -1,3 +1,4 @@
+pub mod BlackGoesOn
 pub mod FeedsOn
 pub mod FirstGaps
 pub mod GapsPassed

@@ -10,12 +10,12 @@ use Rattle.hayro_ccitt.specs.declared.row_feed.RowFeed.TheInside.{Inside}
 use Rattle.hayro_ccitt.specs.declared.row_reader.RowState.{RowState}
 use Rattle.hayro_ccitt.specs.declared.row_reader.Stand.{Stand}
 use Rattle.hayro_ccitt.specs.declared.row_reader.Stand.TheVariants.{AtLine, BehindRow, AtEnd, AtFault}
-use Rattle.hayro_ccitt.specs.Answers.{HasBlack, IsFault, front_of}
+use Rattle.hayro_ccitt.specs.Answers.{IsFault, PaintsBlack}
 use Rattle.hayro_ccitt.specs.Bits.{AreWholeBytes, Bits, BitsAt, bits_in, here}
 use Rattle.hayro_ccitt.specs.Context.{Context, fresh, redrawn}
 use Rattle.hayro_ccitt.specs.Continuations.{is_short}
 use Rattle.hayro_ccitt.specs.GapsContinued.{first_gap_is_settled, gap_is_settled}
-use Rattle.hayro_ccitt.specs.PlainReading.{line_here}
+use Rattle.hayro_ccitt.specs.PlainReading.{line_here, lines_of}
 use Rattle.hayro_ccitt.specs.RowsRead.{IsStanding, IsStandingAtLine, ReachesNextLine, ReadsNext, RowsRead, ended, is_at_line}
 use Rattle.hayro_ccitt.specs.RowsRead.{seen}
 use Rattle.hayro_ccitt.specs.RowsTried.{CanCome, IsLeft, TriesRow, no_memory}
@@ -130,8 +130,7 @@ pub record FeedsNext (whole : Bits) (tried : ℕ) (old new : Feeding) (answer : 
   pub none : HasNone answer → StaysThere (fed_over whole old) (fed_over whole new)
   pub unsettled : answer ≡ Ok Fed.NeedsMore
       → (new.finished ≡ false) × IsOpenAt new.begun new.rows.stand new.ctx (drop new.place new.kept)
-  pub memory : answer ≡ Err OutOfMemory
-      → HasBlack (front_of (line_here new.ctx.held.settings new.ctx.held.reference (drop new.place new.kept)))
+  pub memory : answer ≡ Err OutOfMemory → PaintsBlack (lines_of new.ctx.held.settings whole) new.ctx.held.taken
   pub extra : ℕ
   pub stands : IsFeedOf whole (tried + extra) new
 
@@ -245,8 +244,8 @@ pub record ReadsInFeed (old new : Feeding) (answer : Result Bool DecodeError) : 
   pub left : IsLeft answer → (new.rows ≡ old.rows) × (new.place ≡ old.place) × (new.ctx.held ≡ redrawn old.ctx.held [] White)
   pub unsettled : answer ≡ Ok false → (old.finished ≡ false)
       × (is_short (line_here new.ctx.held.settings new.ctx.held.reference (drop old.place old.kept)) ≡ true)
-  pub memory : answer ≡ Err OutOfMemory
-      → HasBlack (front_of (line_here new.ctx.held.settings new.ctx.held.reference (drop old.place old.kept)))
+  pub memory : (whole : Bits) (tried : ℕ) → answer ≡ Err OutOfMemory → IsFeedOf whole tried old
+      → PaintsBlack (lines_of new.ctx.held.settings whole) new.ctx.held.taken
   pub reads : (whole : Bits) (tried : ℕ) → (IsLeft answer → ⊥) → IsFeedOf whole tried old
       → ReadsNext (fed_over whole old) (fed_over whole new) answer
   pub stands : (whole : Bits) (tried : ℕ) → IsFeedOf whole tried old → IsFeedOf whole (tried + extra) new
@@ -270,6 +269,10 @@ fed_end (Ok x) = Ok Fed.End
 fed_end (Err error) = Err error
 
 -- ---- More data
+
+-- how many bits were fed
+abbrev pub fed_bits : Feeding → ℕ
+fed_bits feed = feed.dropped + length feed.kept
 
 -- these bits are those of the whole data that come next, and whole bytes follow them
 pub record ComeNext (whole : Bits) (feed : Feeding) (next : Bits) : Type 0 where

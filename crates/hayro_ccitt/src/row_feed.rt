@@ -9,7 +9,7 @@ ghost use Rattle.hayro_ccitt.specs.GapsContinued.{first_gap_is_settled, gap_is_s
 ghost use Rattle.hayro_ccitt.specs.RowsRead.{at_end_of_rows, ended, is_at_line};
 ghost use Rattle.hayro_ccitt.specs.RowsTried.{IsLeft};
 ghost use Rattle.hayro_ccitt.specs.RowFeeds.{Begins, ComeNext, ComesInFeed, DropsRead, ReadsInFeed, ComesOn, FeedsNext};
-ghost use Rattle.hayro_ccitt.specs.RowFeeds.{IsFeedOf, KeepsBits, TriesLine, fed_end, fed_none, fed_row, is_left, line_answer};
+ghost use Rattle.hayro_ccitt.specs.RowFeeds.{IsFeedOf, KeepsBits, TriesLine, fed_bits, fed_end, fed_none, fed_row, is_left, line_answer};
 ghost use Rattle.hayro_ccitt.specs.RowFeeds.{some_line};
 ghost use Rattle.hayro_ccitt.specs.Rows.{changes};
 
@@ -403,6 +403,8 @@ impl RowFeed {
         ensures same { (self.new.ctx ≡ self.old.ctx) × (self.new.rows ≡ self.old.rows) × (self.new.order ≡ self.old.order)
             × (self.new.finished ≡ self.old.finished) }
         ensures only { IfErr result (λ e. (e ≡ DecodeError.OutOfMemory) ⊎ (e ≡ DecodeError.Overflow)) }
+        ensures counts { OnOk result (fed_bits self.new ≡ fed_bits self.old + 8 * length bytes.now) }
+        ensures fit { OnOk result (fed_bits self.new + 64 < 2 ^ 64) }
         ensures too_long { result ≡ Err DecodeError.Overflow
             → 2 ^ 64 - 72 < self.old.dropped + length self.old.kept + 8 * length bytes.now }
     {

@@ -1,10 +1,10 @@
 use Rattle.hayro_ccitt.proofs.Names.{◌≡◌, ◌∙◌, ◌++◌, ◌*◌, ap, sym, subst, bits_in, Bits, List, ℕ, err_from_is_err_and}
-use Rattle.hayro_ccitt.proofs.Names.{arith, length, length-drop}
-use Rattle.hayro_ccitt.proofs.Readings.FeedsOn.{come_next, drops_read, feeds_more}
+use Rattle.hayro_ccitt.proofs.Names.{arith, length, length-append, length-drop}
+use Rattle.hayro_ccitt.proofs.Readings.FeedsOn.{come_next, drops_none_fed, drops_read, feeds_more}
 use Rattle.std.proofs.lemmas.List.Concat.{flat_map-append}
 use Rattle.fax_bits.specs.declared.bit_reader.BitOrder.{BitOrder}
 use Rattle.hayro_ccitt.specs.Bits.{bits_of_byte}
-use Rattle.hayro_ccitt.specs.RowFeeds.{Feeding, IsFeedOf}
+use Rattle.hayro_ccitt.specs.RowFeeds.{Feeding, IsFeedOf, fed_bits}
 use Rattle.hayro_ccitt.proofs.BitReading.BitLists.{length-bits_in}
 use Rattle.hayro_ccitt.proofs.row_feed.RowFeed.feed.Goals.{then-bytes-kept-via-then-bytes-kept}
 use Rattle.hayro_ccitt.proofs.row_feed.RowFeed.feed.Goals.{then-bytes-kept-via-else-bytes-kept+then-self-kept}
@@ -93,3 +93,30 @@ returns-then-bytes-kept-clause-too_long c e =
         w.if-self-kept,
       )
     ]
+
+pub returns-clause-counts : goal.returns-clause-counts
+returns-clause-counts c =
+    let inside = c.self.inside in
+    omega (
+      arith,
+      drops_none_fed c.drop_read.ensures,
+      ap fed_bits c.self.view_is,
+      length-bits_in inside.order inside.«data».items,
+      length-bits_in inside.order c.extend_from_slice.new.self.items,
+      ap length c.in_ok-extend_from_slice.ensures.items,
+      length-append inside.«data».items c.args.bytes.now,
+    )
+
+pub returns-clause-fit : goal.returns-clause-fit
+returns-clause-fit c =
+    let inside = c.self.inside in
+    omega (
+      arith,
+      length-bits_in inside.order inside.«data».items,
+      length-bits_in inside.order c.extend_from_slice.new.self.items,
+      ap length c.in_ok-extend_from_slice.ensures.items,
+      length-append inside.«data».items c.args.bytes.now,
+      c.len-kept.ensures,
+      c.if-bytes-kept.false,
+      c.if-self-kept.false,
+    )
