@@ -10,7 +10,7 @@ use Rattle.hayro_ccitt.specs.declared.row_feed.RowFeed.TheInside.{Inside}
 use Rattle.hayro_ccitt.specs.declared.row_reader.RowState.{RowState}
 use Rattle.hayro_ccitt.specs.declared.row_reader.Stand.{Stand}
 use Rattle.hayro_ccitt.specs.declared.row_reader.Stand.TheVariants.{AtLine, BehindRow, AtEnd, AtFault}
-use Rattle.hayro_ccitt.specs.Answers.{IsFault, PaintsBlack}
+use Rattle.hayro_ccitt.specs.Answers.{PaintsBlack}
 use Rattle.hayro_ccitt.specs.Bits.{AreWholeBytes, Bits, BitsAt, bits_in, here}
 use Rattle.hayro_ccitt.specs.Context.{Context, fresh, redrawn}
 use Rattle.hayro_ccitt.specs.Continuations.{is_short}
@@ -126,7 +126,7 @@ IsOpenAt true (AtFault error) ctx next = ⊥
 pub record FeedsNext (whole : Bits) (tried : ℕ) (old new : Feeding) (answer : Result Fed DecodeError) : Type 0 where
   pub row : answer ≡ Ok Fed.Row → ReadsNext (fed_over whole old) (fed_over whole new) (Ok true)
   pub end : answer ≡ Ok Fed.End → ReadsNext (fed_over whole old) (fed_over whole new) (Ok false)
-  pub fault : IfErr answer (λ e. IsFault e → ReadsNext (fed_over whole old) (fed_over whole new) (Err e))
+  pub fault : IfErr answer (λ e. e ≢ OutOfMemory → ReadsNext (fed_over whole old) (fed_over whole new) (Err e))
   pub none : HasNone answer → StaysThere (fed_over whole old) (fed_over whole new)
   pub unsettled : answer ≡ Ok Fed.NeedsMore
       → (new.finished ≡ false) × IsOpenAt new.begun new.rows.stand new.ctx (drop new.place new.kept)

@@ -404,7 +404,7 @@ impl RowFeed {
             × (self.new.finished ≡ self.old.finished) }
         ensures only { IfErr result (λ e. (e ≡ DecodeError.OutOfMemory) ⊎ (e ≡ DecodeError.Overflow)) }
         ensures counts { OnOk result (fed_bits self.new ≡ fed_bits self.old + 8 * length bytes.now) }
-        ensures fit { OnOk result (fed_bits self.new + 64 < 2 ^ 64) }
+        ensures fit { result ≢ Err DecodeError.Overflow → fed_bits self.old + 8 * length bytes.now + 64 < 2 ^ 64 }
         ensures too_long { result ≡ Err DecodeError.Overflow
             → 2 ^ 64 - 72 < self.old.dropped + length self.old.kept + 8 * length bytes.now }
     {

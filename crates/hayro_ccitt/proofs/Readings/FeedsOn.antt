@@ -7,7 +7,7 @@ use Rattle.hayro_ccitt.proofs.Names.{IsStanding, IsStandingAtLine, ReachesNextLi
 use Rattle.hayro_ccitt.proofs.Names.{DecodeSettings, Stand, AtLine, BehindRow, AtEnd, AtFault, MissIsTold, missed_before, ended}
 use Rattle.hayro_ccitt.proofs.Names.{is_some, ◌++◌, ◌⊎◌, inl, inr}
 use Rattle.hayro_ccitt.proofs.Names.{ReaderStands, DamageIsCounted, WorkIsPaid, IsPaid, HasEnded, HasFailed, sum_by, take}
-use Rattle.hayro_ccitt.proofs.Names.{words_of, IfErr, IfOk, OnErr, failed_at, IfErr-weaker, RowsRead, IsFault, false≢true, ◌<◌}
+use Rattle.hayro_ccitt.proofs.Names.{words_of, IfErr, IfOk, OnErr, failed_at, IfErr-weaker, RowsRead, false≢true, ◌<◌}
 use Rattle.hayro_ccitt.proofs.Names.{List, zero, suc, ◌∷◌, append_assoc, bits_in, length-append, length-drop, HighestFirst}
 use Rattle.hayro_ccitt.proofs.Names.{LowestFirst}
 use Rattle.std.proofs.Math.Seq.{drop-append-add}
@@ -527,7 +527,7 @@ line_feeds {whole} {tried} {old} {new} (Ok false) reads begun line feed = record
 line_feeds {whole} {tried} {old} {new} (Err error) reads begun line feed = record {
   row = λ e. cc;
   end = λ e. cc;
-  fault = λ fault. reads.reads whole tried (λ left. subst IsFault left fault) feed;
+  fault = λ other. reads.reads whole tried other feed;
   none = λ left. line_left (Err error) reads left line;
   unsettled = λ e. cc;
   memory = λ e.
@@ -584,7 +584,7 @@ gap_feeds {whole} {tried} {old} {new} (Ok (Some false)) comes other begun unende
 gap_feeds {whole} {tried} {old} {new} (Err error) comes other begun unended feed = record {
   row = λ e. cc;
   end = λ e. cc;
-  fault = λ fault. none_behind (Err error) (λ is. cc) (comes.comes whole tried (λ is. cc) feed);
+  fault = λ other. none_behind (Err error) (λ is. cc) (comes.comes whole tried (λ is. cc) feed);
   none = λ left. let never : InvalidCode ≡ OutOfMemory = sym comes.only_code ∙ left in absurd cc;
   unsettled = λ e. cc;
   memory = λ e. let is : error ≡ OutOfMemory = cc in
