@@ -6,5 +6,7 @@ pub mod Outputs
 pub mod PackedRuns
 pub mod ProgramRuns
 pub mod RowsInTurn
+pub mod RowsPut
+pub mod RowsUnderWay
 pub mod RunsByRow
 pub mod Texts
