@@ -46,10 +46,10 @@ pub use Rattle.hayro_ccitt.specs.DecodeError.TheVariants.{InvalidCode, OutOfMemo
 pub use Rattle.hayro_ccitt.specs.DecodeError.TheVariants.{UnexpectedEof}
 pub use Rattle.hayro_ccitt.specs.DecodeSettings.{DecodeSettings}
 pub use Rattle.hayro_ccitt.specs.EncodingMode.TheVariants.{Group3_1D, Group3_2D, Group4}
-pub use Rattle.std.proofs.Common.{Bool, Err, IfOk, IfSome, List, None, Ok, OnErr, OnOk, Option, Result, Some, [], ap, append-nil}
+pub use Rattle.std.proofs.Common.{Bool, cond, Err, IfOk, IfSome, List, None, Ok, OnErr, OnOk, Option, Result, Some, [], ap, append-nil}
 pub use Rattle.std.proofs.Common.{append_assoc, arith, drop, drop_of_length-le, false, get_or, inl, inr, length, length-append}
 pub use Rattle.std.proofs.Common.{length-drop, map, refl, rules, set, string_bytes, subst, suc, sym, take, take-append-drop}
-pub use Rattle.std.proofs.Common.{take_all, true, zero, ℕ, ◌++◌, ◌+◌, ◌-◌, ◌/◌, ◌<◌, ◌^◌, ◌∙◌, ◌∷◌, ◌≡◌, ◌≢◌, ◌≤◌, ◌↔◌}
+pub use Rattle.std.proofs.Common.{take_all, true, zero, ℕ, ◌*◌, ◌++◌, ◌+◌, ◌-◌, ◌/◌, ◌<◌, ◌^◌, ◌∙◌, ◌∷◌, ◌≡◌, ◌≢◌, ◌≤◌, ◌↔◌}
 pub use Rattle.std.proofs.KnownBytes.{Appends-nil, Appends-trans}
 pub use Rattle.std.proofs.lemmas.Fmt.{decimal_digit, decimal_nonempty, decimal_step, length-decimal-le}
 pub use Rattle.std.proofs.lemmas.Grind.{drop-set_at, flat_map-append}

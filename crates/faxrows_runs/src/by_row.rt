@@ -79,10 +79,10 @@ fn put_all_rows<R: Read, W: Write>(
 {
     let mut piece = [0u8; PIECE];
     loop {
-        if let Some(outcome) = put_rows(rows, waiting, writer)? {
-            return Ok(outcome);
+        match put_rows(rows, waiting, writer)? {
+            Some(outcome) => return Ok(outcome),
+            None => flush(waiting, writer)?,
         }
-        flush(waiting, writer)?;
         feed_piece(rows, reader, &mut piece)?;
     }
 }
