@@ -135,3 +135,18 @@ module _ {R W : Type 0} {settings : DecodeSettings} {order : BitOrder} {reader :
         subst (Appends (bytes_before writer) (bytes_after writer)) (sym p.2)
             (Appends-trans (bytes_before writer) second (bytes_after writer) p.0 left p.1 wrote),
       )) kept
+
+-- a result that is an error
+pub as_fault : {R W : Type 0} {settings : DecodeSettings} {order : BitOrder} {reader : Used R} {writer : Used W}
+    (result : Result Done RunFault) (fault : RunFault) → result ≡ Err fault
+    → WritesAsRead IsTextByRow settings order reader writer (Err fault)
+    → WritesAsRead IsTextByRow settings order reader writer result
+as_fault {settings = settings} {order = order} {reader = reader} {writer = writer} result fault e writes =
+    subst (WritesAsRead IsTextByRow settings order reader writer) (sym e) writes
+
+-- or a good end
+pub as_done : {R W : Type 0} {settings : DecodeSettings} {order : BitOrder} {reader : Used R} {writer : Used W}
+    (done other : Done) → done ≡ other → WritesAsRead IsTextByRow settings order reader writer (Ok other)
+    → WritesAsRead IsTextByRow settings order reader writer (Ok done)
+as_done {settings = settings} {order = order} {reader = reader} {writer = writer} done other e writes =
+    subst (λ (d : Done). WritesAsRead IsTextByRow settings order reader writer (Ok d)) (sym e) writes
