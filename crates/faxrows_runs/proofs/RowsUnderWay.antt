@@ -10,7 +10,8 @@ use Rattle.std.proofs.KnownBytes.{Appends-nil, Consumes-nil, Consumes-trans}
 use Rattle.std.proofs.Math.Seq.{drop-append_seam}
 use Rattle.std.proofs.lemmas.List.Concat.{flat_map-append}
 use Rattle.std.specs.Io.KnownBytes.{Consumes, IsAtEnd}
-use Rattle.hayro_ccitt.specs.Bits.{bits_of_byte}
+use Rattle.faxrows_runs.proofs.Names.{Arguments, RunsAsRead, arguments_of_words}
+use Rattle.hayro_ccitt.specs.Bits.{AreWholeBytes, bits_of_byte}
 use Rattle.hayro_ccitt.proofs.BitReading.BitLists.{bits_are_whole, length-bits_in}
 
 -- ---- Bits of bytes
@@ -350,3 +351,39 @@ way_begun bytes reader start {feed} {waits} new empty = record {
             ([], Appends-nil start, sym empty);
       };
 }
+
+-- a feed to which nothing was fed
+pub new_feed : {feed : Feeding}
+    → ((whole : Bits) → AreWholeBytes whole → length whole + 64 < 2 ^ 64 → IsFeedOf whole 0 feed)
+    → (feed.kept ≡ []) × (feed.finished ≡ false) → feed.ctx.held.taken ≡ 0 → IsNewFeed feed
+new_feed reading none taken = record {
+  none_fed = omega (arith, (reading [] refl (omega arith)).lie.within, ap length none.0);
+  none_read = taken;
+  unfinished = none.1;
+  reads = reading;
+}
+
+-- ---- A run
+
+module _ {R W T : Type 0} (IsText : DecodeSettings → Bits → T → List ℕ → Type 0) (words : List (List ℕ)) (reader : Used R)
+    (writer : Used W) where
+  -- whose words mean nothing
+  pub bad_words : arguments_of_words words ≡ None → reader.after ≡ reader.before → writer.after ≡ writer.before
+      → RunsAsRead {T = T} IsText words reader writer (Err BadArguments)
+  bad_words e unread unwritten = record {
+    bad_arguments = (λ is. e, λ none. refl);
+    unused = λ is. (unread, unwritten);
+    writes = subst (λ (meant : Option Arguments). IfSome meant (λ meant. WritesAsRead {T = T} IsText meant.settings meant.order
+        reader writer (Err BadArguments))) (sym e) tt;
+  }
+
+  -- whose words mean these arguments
+  pub good_words : (arguments : Arguments) (result : Result T RunFault) → arguments_of_words words ≡ Some arguments
+      → WritesAsRead IsText arguments.settings arguments.order reader writer result
+      → RunsAsRead IsText words reader writer result
+  good_words arguments result e writes = record {
+    bad_arguments = (λ is. absurd (writes.not_arguments is), λ none. let never = sym e ∙ none in cc);
+    unused = λ is. absurd (writes.not_arguments is);
+    writes = subst (λ (meant : Option Arguments). IfSome meant (λ meant. WritesAsRead IsText meant.settings meant.order
+        reader writer result)) (sym e) writes;
+  }
