@@ -9,8 +9,15 @@ import refusals
 CANNOT_READ, CANNOT_WRITE = b"faxrows: cannot read\n", b"faxrows: cannot write\n"
 
 
+def is_front_of_rows(answer, text):
+    """The reader failed, and the lines of the first rows were written."""
+    status, written, error = answer
+    rows = text[: text.rindex(b"\n", 0, -1) + 1]
+    return (status, error) == (3, CANNOT_READ) and rows.startswith(written) and (not written or written.endswith(b"\n"))
+
+
 def each_read_and_write():
-    """A reader of one byte at a time, and one that fails at each of its reads; writers that write one byte or three at a time, that
+    """A reader of one byte at a time, and one that fails at each of its reads, before which `-i` writes the rows so far; writers that write one byte or three at a time, that
     fail at each write, and that write nothing there. None is called again after it failed; one that a signal interrupts is, up to a
     thousand times."""
     readers = writers = 0
@@ -33,7 +40,11 @@ def each_read_and_write():
                     assert run(all_words, data, READ_BYTES=3, WRITE_BYTES=3, INTERRUPTED=times) == whole, (all_words, times)
                 assert run(all_words, data, INTERRUPTED=1001) == (3, b"", CANNOT_READ), all_words
                 for number in range(1, len(data) + 2):
-                    assert run(all_words, data, READ_BYTES=1, READ_FAILS=number) == (3, b"", CANNOT_READ), (all_words, number)
+                    answer = run(all_words, data, READ_BYTES=1, READ_FAILS=number)
+                    if first == "-i ":
+                        assert answer == whole or is_front_of_rows(answer, text), (all_words, number, answer)
+                    else:
+                        assert answer == (3, b"", CANNOT_READ), (all_words, number)
                     readers += 1
                 assert run(all_words, data, READ_BYTES=1, READ_FAILS=len(data) + 2) == whole, "it reads after the end"
                 for most in (1, 3):
@@ -56,42 +67,42 @@ def each_read_and_write():
 
 
 def readers_without_end():
-    """Input without an end, in 64 MB of memory: an allocation failure, and nothing is written."""
+    """Input without an end, in 64 MB of memory: an allocation failure, and nothing is written; with `-i` the fault."""
     runs = 0
-    for words in ("g4 8 0 -", "1d 8 1 l", "2d 4294967295 0 bls", "-o g4 8 1 -", "-i g4 8 1 -"):
+    for words in ("g4 8 0 -", "1d 8 1 l", "2d 4294967295 0 bls", "-o g4 8 1 -", "-d g4 8 1 -"):
         with open("/dev/zero", "rb") as zeros:
             done = subprocess.run(
                 [program.PROGRAM, *words.split()], stdin=zeros, capture_output=True, preexec_fn=refusals.limit_memory, timeout=60, check=False
             )
         assert (done.returncode, done.stdout, done.stderr) == (3, b"", b"faxrows: out of memory\n"), (words, done)
         runs += 1
-    print(f"  {runs} readers without end")
+    with open("/dev/zero", "rb") as zeros:
+        done = subprocess.run([program.PROGRAM, "-i", "g4", "8", "1", "-"], stdin=zeros, capture_output=True, timeout=60, check=False)
+    assert (done.returncode, done.stdout, done.stderr) == (1, b"error: invalid CCITT code sequence\n", b""), done
+    print(f"  {runs} readers without end, and one of which no more is read than to the fault")
 
 
 def writes_in_pieces():
-    """Row by row text is written in pieces of at most 64 KiB, a line in two of them too: a writer that fails at its second
-    write has exactly the first piece."""
+    """Row by row text is written in pieces of at most 64 KiB, a line in two of them too, and all rows so far before a read: a
+    writer that fails at its second write has exactly the first piece, and one that fails at its third all rows."""
     rows = 20000
     text, data = b"r 3 5\n" * rows + b"ok 20000\n", b"\x31\xc0" + b"\xe0" * (rows - 1)
-    runs = 0
+    fronts = []
     with tempfile.TemporaryDirectory() as folder:
         variables = {**os.environ, "LD_PRELOAD": refusals.shim(folder, "devices")}
         whole = program.run("-i g4 8 0 a".split(), data, env=variables)
         last = whole.stdout[6 * rows :]
         assert (whole.returncode, whole.stdout[: 6 * rows]) == (0, text[: 6 * rows]), whole.stdout[:60]
         assert last == b"ok %d\n" % len(data), last
-        previous = 0
-        for number in range(1, 4):
+        for number in range(1, 5):
             done = program.run("-i g4 8 0 a".split(), data, env={**variables, "WRITE_FAILS": str(number)})
             if done.returncode == 0:
                 break
             assert (done.returncode, done.stderr) == (3, CANNOT_WRITE), done.returncode
             assert whole.stdout.startswith(done.stdout), number
-            assert number == 1 or 65536 - 30 < len(done.stdout) - previous <= 65536, (number, len(done.stdout))
-            previous = len(done.stdout)
-            runs += 1
-    assert runs == 2, runs
-    print(f"  {runs} writers that fail within {len(text)} bytes")
+            fronts.append(len(done.stdout))
+    assert fronts[0] == 0 and 65536 - 30 < fronts[1] <= 65536 and fronts[2:] == [6 * rows], fronts
+    print(f"  {len(fronts)} writers that fail within {len(text)} bytes")
 
 
 CHECKS = [each_read_and_write, readers_without_end, writes_in_pieces]

@@ -2,6 +2,7 @@
 bytes: exact ones, but where a decoder asks for room for a window's changes, the most. The bytes of all allocations are added up, so
 a list that grows from 16 bytes to 64 has requested 112. No list of the decoder is larger than is proved."""
 import os
+import subprocess
 import sys
 import tempfile
 
@@ -140,6 +141,20 @@ def runs_of_the_program():
     print(f"  {runs} runs with few allocations")
 
 
+def piped_rows():
+    """With `-i` 20 MB through a pipe take at most 2 MB more than a byte."""
+    most = []
+    for size in (1, 20_000_000):
+        data = subprocess.Popen(["sh", "-c", f"head -c {size} /dev/zero | tr '\\0' '\\200'"], stdout=subprocess.PIPE)
+        run = subprocess.Popen([program.PROGRAM, "-i", "g4", "8", "0", "a"], stdin=data.stdout, stdout=subprocess.DEVNULL)
+        data.stdout.close()
+        _, status, usage = os.wait4(run.pid, 0)
+        assert (status, data.wait()) == (0, 0), size
+        most.append(usage.ru_maxrss)
+    assert most[1] <= most[0] + 2048, most
+    print(f"  {most[1]} KB, and {most[0]} KB for a byte")
+
+
 def no_larger_list(library, words, data):
     """Decodes data, and returns the bytes of the largest list."""
     library.refuse(0)
@@ -169,4 +184,4 @@ def bounded_lists():
     print(f"  {strip_count} strips, with lists of at most {most} bytes, and {shapes} cases")
 
 
-CHECKS = [white_data, equal_rows, encoded_rows, runs_of_the_program, bounded_lists]
+CHECKS = [white_data, equal_rows, encoded_rows, runs_of_the_program, piped_rows, bounded_lists]

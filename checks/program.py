@@ -2,6 +2,7 @@
 import os
 import random
 import re
+import select
 import subprocess
 import tempfile
 
@@ -342,6 +343,16 @@ def a_file_and_a_pipe():
     assert piped.stdout == b"r 3 5\nok 2\n", piped
 
 
+def rows_of_an_open_pipe():
+    """With `-i` a row is written while the pipe with its data is open, and the run ends with the image though it still is."""
+    with subprocess.Popen([PROGRAM, "-i", "g4", "8", "0", "b"], stdin=subprocess.PIPE, stdout=subprocess.PIPE, bufsize=0) as done:
+        for data, line in (("31C0", b"r 3 5\n"), ("040040", b"ok 5\n")):
+            done.stdin.write(bytes.fromhex(data))
+            assert select.select([done.stdout], [], [], 60)[0], f"no line after {data}"
+            assert done.stdout.readline() == line, data
+        assert done.wait(timeout=60) == 0
+
+
 def long_data():
     """A hundred thousand rows, and a wide one."""
     for first in ([], ["-i"]):
@@ -410,6 +421,7 @@ CHECKS = [
     flips_are_told,
     devices_that_fail,
     a_file_and_a_pipe,
+    rows_of_an_open_pipe,
     long_data,
     refused_memory,
 ]

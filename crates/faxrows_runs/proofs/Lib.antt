@@ -5,6 +5,9 @@ pub mod Names
 pub mod Outputs
 pub mod PackedRuns
 pub mod ProgramRuns
+pub mod ReadToEnd
 pub mod RowsInTurn
+pub mod RowsPut
+pub mod RowsUnderWay
 pub mod RunsByRow
 pub mod Texts

@@ -20,18 +20,25 @@ pub use Rattle.faxrows_runs.specs.Runs.{EndsAfter, IsRowsText, IsTextOfEnd, IsTe
 pub use Rattle.faxrows_runs.specs.Runs.{done_of_kind, outcome_of}
 pub use Rattle.faxrows_runs.specs.Runs.{rows_of, text_after, whole_text}
 pub use Rattle.faxrows_runs.specs.RunsByRow.{EndsByRow, IsTextByRow, IsTextWithoutMemory}
+pub use Rattle.faxrows_runs.specs.RowsFed.{FeedsNone, FeedsPiece, HasPut, IsBegunBy, IsNewFeed, IsReadToEnd, IsUnderWay, PutsRows}
+pub use Rattle.faxrows_runs.specs.RunsAsRead.{MayBe, OnData, RunsAsRead, WritesAsRead}
 pub use Rattle.faxrows_runs.specs.Text.{line_of_outcome, line_of_row, lines_of_rows, text_of, text_of_change}
 pub use Rattle.faxrows_runs.specs.declared.arguments.Arguments.{Arguments}
 pub use Rattle.faxrows_runs.specs.declared.program.Done.{Done}
 pub use Rattle.faxrows_runs.specs.declared.program.Done.TheVariants.{Faulty, Good, Memory}
 pub use Rattle.hayro_ccitt.specs.Answers.{IsFault, meaning_after}
 pub use Rattle.hayro_ccitt.specs.Bits.{Bits, BitsFit, bits_in, bits_of}
-pub use Rattle.hayro_ccitt.specs.Context.{Held}
+pub use Rattle.hayro_ccitt.specs.BitOrder.{BitOrder}
+pub use Rattle.hayro_ccitt.specs.Context.{Context, Held}
 pub use Rattle.hayro_ccitt.specs.Faults.{kind_of}
 pub use Rattle.hayro_ccitt.specs.Damage.{cut_in, cuts_by_line, fault_in, misses_by_line, missed_before, repairs_by_line, start_in}
 pub use Rattle.hayro_ccitt.specs.Decoding.{SinkState, StopsShort, TakesRows}
 pub use Rattle.hayro_ccitt.specs.PlainReading.{failed_at, line_starts, lines_of, plain}
 pub use Rattle.hayro_ccitt.specs.Rows.{HaveWidth, Row, changes}
+pub use Rattle.hayro_ccitt.specs.Answers.{PaintsBlack}
+pub use Rattle.hayro_ccitt.specs.RowFeeds.{ComeNext, Feeding, FeedsNext, IsFeedOf, KeepsBits, StandsIn, fed_bits, fed_end, fed_over}
+pub use Rattle.hayro_ccitt.specs.declared.row_feed.Fed.{Fed}
+pub use Rattle.hayro_ccitt.specs.RowsRead.{ReaderStands, ended}
 pub use Rattle.hayro_ccitt.specs.RowsRead.{HasFailed, ReadsNext, RowsRead, at_end_of_rows}
 pub use Rattle.hayro_ccitt.specs.BitOrder.TheVariants.{HighestFirst, LowestFirst}
 pub use Rattle.hayro_ccitt.specs.DecodeError.{DecodeError}
@@ -39,10 +46,10 @@ pub use Rattle.hayro_ccitt.specs.DecodeError.TheVariants.{InvalidCode, OutOfMemo
 pub use Rattle.hayro_ccitt.specs.DecodeError.TheVariants.{UnexpectedEof}
 pub use Rattle.hayro_ccitt.specs.DecodeSettings.{DecodeSettings}
 pub use Rattle.hayro_ccitt.specs.EncodingMode.TheVariants.{Group3_1D, Group3_2D, Group4}
-pub use Rattle.std.proofs.Common.{Bool, Err, IfOk, IfSome, List, None, Ok, OnErr, OnOk, Option, Result, Some, [], ap, append-nil}
+pub use Rattle.std.proofs.Common.{Bool, cond, Err, IfOk, IfSome, List, None, Ok, OnErr, OnOk, Option, Result, Some, [], ap, append-nil}
 pub use Rattle.std.proofs.Common.{append_assoc, arith, drop, drop_of_length-le, false, get_or, inl, inr, length, length-append}
 pub use Rattle.std.proofs.Common.{length-drop, map, refl, rules, set, string_bytes, subst, suc, sym, take, take-append-drop}
-pub use Rattle.std.proofs.Common.{take_all, true, zero, ℕ, ◌++◌, ◌+◌, ◌-◌, ◌/◌, ◌<◌, ◌^◌, ◌∙◌, ◌∷◌, ◌≡◌, ◌≢◌, ◌≤◌, ◌↔◌}
+pub use Rattle.std.proofs.Common.{take_all, true, zero, ℕ, ◌*◌, ◌++◌, ◌+◌, ◌-◌, ◌/◌, ◌<◌, ◌^◌, ◌∙◌, ◌∷◌, ◌≡◌, ◌≢◌, ◌≤◌, ◌↔◌}
 pub use Rattle.std.proofs.KnownBytes.{Appends-nil, Appends-trans}
 pub use Rattle.std.proofs.lemmas.Fmt.{decimal_digit, decimal_nonempty, decimal_step, length-decimal-le}
 pub use Rattle.std.proofs.lemmas.Grind.{drop-set_at, flat_map-append}

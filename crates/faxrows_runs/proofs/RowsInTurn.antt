@@ -67,7 +67,7 @@ ended_by settings bits taken error failed fault =
     (failed.all fault ∙ sym (length-map (plain settings bits).rows changes), failed.fault fault)
 
 -- a reading that has failed, after at most all rows, ends like this
-failed_so : (settings : DecodeSettings) (bits : Bits) (taken : ℕ) (error : DecodeError) → HasFailed settings bits taken error
+pub failed_so : (settings : DecodeSettings) (bits : Bits) (taken : ℕ) (error : DecodeError) → HasFailed settings bits taken error
     → taken ≤ length (rows_of settings bits) → EndsAfter settings bits taken (Err error)
 failed_so settings bits taken error failed within =
     by_kind (λ error. HasFailed settings bits taken error → EndsAfter settings bits taken (Err error))

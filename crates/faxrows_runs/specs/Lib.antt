@@ -4,6 +4,8 @@ pub mod DamageText
 pub mod Output
 pub mod PackedRuns
 pub mod ProgramRuns
+pub mod RowsFed
 pub mod Runs
+pub mod RunsAsRead
 pub mod RunsByRow
 pub mod Text

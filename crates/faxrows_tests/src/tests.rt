@@ -332,44 +332,100 @@ fn knows_bad_words(rt: HostRuntime) {
     check(&rt, "run_by_row", BAD_WORDS);
 }
 
-/// Makes a run with a reader that fails at some reads, and compares how it ends, what it writes, and how many bytes were read.
+/// Makes a run with a reader that supplies one byte a read and fails at some reads, and compares how it ends, what it writes, and
+/// how many bytes were read.
 fn reads(
     rt: &(impl Abort + AllocGlobal),
-    fail_from: usize,
-    fail_until: usize,
+    name: &str,
+    line: &str,
+    input: Vec<u8>,
+    fails: (usize, usize),
     expected: (&str, usize),
 ) {
-    let words = words_of(rt, "g4 8 1 -");
+    let words = words_of(rt, line);
     let mut reader = Device::new(Dripping {
-        bytes: bytes_of(rt, "31C0"),
+        bytes: input,
         place: 0,
         calls: Calls {
             made: 0,
-            fail_from,
-            fail_until,
+            fail_from: fails.0,
+            fail_until: fails.1,
         },
     });
     let mut writer = Device::new(Vec::new(rt.alloc()));
-    let answer = made(rt, "run", &words, &mut reader, &mut writer);
+    let answer = made(rt, name, &words, &mut reader, &mut writer);
     let found = told(rt, answer, &writer.into_inner());
     same(rt, (found.as_str(), reader.into_inner().place), expected);
 }
 
+/// Makes a run with a reader that fails at a read, once or for ever, and compares as [`reads`] does.
+fn fails_at_read(
+    rt: &(impl Abort + AllocGlobal),
+    name: &str,
+    line: &str,
+    digits: &str,
+    from: usize,
+    expected: (&str, usize),
+) {
+    for until in [from + 1, usize::MAX] {
+        let input = bytes_of(rt, digits);
+        reads(rt, name, line, input, (from, until), expected);
+    }
+}
+
 #[test]
 fn fails_at_each_read(rt: HostRuntime) {
-    for fail_from in 0..3usize {
-        reads(
-            &rt,
-            fail_from,
-            fail_from + 1,
-            (r#"Err(Read) """#, fail_from),
-        );
-        reads(&rt, fail_from, usize::MAX, (r#"Err(Read) """#, fail_from));
+    for from in 0..3usize {
+        let failed = (r#"Err(Read) """#, from);
+        fails_at_read(&rt, "run", "g4 8 1 -", "31C0", from, failed);
     }
-    for fail_from in 3..5usize {
+    for from in 3..5usize {
         let good = (r#"Ok(Good) "r 3 5\nok 2\n""#, 2);
-        reads(&rt, fail_from, fail_from + 1, good);
-        reads(&rt, fail_from, usize::MAX, good);
+        fails_at_read(&rt, "run", "g4 8 1 -", "31C0", from, good);
+    }
+}
+
+/// How a run row by row over three rows of one, two and one bytes ends, and what it writes, if it fails at each read in turn.
+const ROWS_BEFORE_A_FAULT: &str = r#"
+    Err(Read) ""
+    Err(Read) ""
+    Err(Read) "r 3 5\n"
+    Err(Read) "r 3 5\nr 3 5\n"
+    Err(Read) "r 3 5\nr 3 5\nr 3 5\n"
+    Ok(Good) "r 3 5\nr 3 5\nr 3 5\nok 4\n"
+"#;
+
+/// Row by row each row is written before more is read.
+#[test]
+fn writes_rows_before_a_read_fails(rt: HostRuntime) {
+    let mut from = 0usize;
+    for outcome in ROWS_BEFORE_A_FAULT.trim().lines() {
+        let expected = (outcome.trim_start(), from.min(4));
+        fails_at_read(&rt, "run_by_row", "g4 8 0 a", "31C0E0E0", from, expected);
+        from = from.saturating_add(1);
+    }
+    same(&rt, from, 6);
+}
+
+/// Runs row by row, each with the number of bytes that are read: what follows EOFB or the last row isn't read.
+const READ_SO_FAR: &str = r#"
+    g4 8 0 b: 31C0040040FFFF: Ok(Good) "r 3 5\nok 5\n": 5
+    g4 8 1 -: 31C0FFFF: Ok(Good) "r 3 5\nok 2\n": 2
+    g4 8 0 b: 31C0: Ok(Good) "r 3 5\nok 2\n": 2
+    g4 0 0 -: 31C0: Ok(Good) "ok 0\n": 0
+    1d 8 0 l: 0019800C700033: Ok(Good) "r\nr 3 5\nr\nok 7\n": 7
+    g4 8 0 s: 20: Ok(Faulty) "error: unexpected end of input\n": 1
+"#;
+
+#[test]
+fn reads_no_more_than_the_image(rt: HostRuntime) {
+    for case in READ_SO_FAR.trim().lines() {
+        let (line, rest) = case.trim_start().split_once(": ").expect(&rt, case);
+        let (digits, rest) = rest.split_once(": ").expect(&rt, case);
+        let (told, read) = rest.split_once(": ").expect(&rt, case);
+        let read = read.parse().expect(&rt, case);
+        let input = bytes_of(&rt, digits);
+        reads(&rt, "run_by_row", line, input, (usize::MAX, usize::MAX), (told, read));
     }
 }
 

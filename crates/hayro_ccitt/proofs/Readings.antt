@@ -1,4 +1,5 @@
 pub mod BitsHeld
+pub mod BlackGoesOn
 pub mod FeedsOn
 pub mod FirstGaps
 pub mod GapsPassed

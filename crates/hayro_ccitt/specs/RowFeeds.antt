@@ -10,14 +10,14 @@ use Rattle.hayro_ccitt.specs.declared.row_feed.RowFeed.TheInside.{Inside}
 use Rattle.hayro_ccitt.specs.declared.row_reader.RowState.{RowState}
 use Rattle.hayro_ccitt.specs.declared.row_reader.Stand.{Stand}
 use Rattle.hayro_ccitt.specs.declared.row_reader.Stand.TheVariants.{AtLine, BehindRow, AtEnd, AtFault}
-use Rattle.hayro_ccitt.specs.Answers.{HasBlack, IsFault, front_of}
+use Rattle.hayro_ccitt.specs.Answers.{HasBlack, PaintsBlack, front_of}
 use Rattle.hayro_ccitt.specs.Bits.{AreWholeBytes, Bits, BitsAt, bits_in, here}
 use Rattle.hayro_ccitt.specs.Context.{Context, fresh, redrawn}
 use Rattle.hayro_ccitt.specs.Continuations.{is_short}
 use Rattle.hayro_ccitt.specs.GapsContinued.{first_gap_is_settled, gap_is_settled}
 use Rattle.hayro_ccitt.specs.GapsSeen.{IsSeen, nothing_seen, rules_for}
 use Rattle.hayro_ccitt.specs.declared.gap_look.GapLook.{GapLook}
-use Rattle.hayro_ccitt.specs.PlainReading.{line_here}
+use Rattle.hayro_ccitt.specs.PlainReading.{line_here, lines_of}
 use Rattle.hayro_ccitt.specs.RowsRead.{IsStanding, IsStandingAtLine, ReachesNextLine, ReadsNext, RowsRead, ended, is_at_line}
 use Rattle.hayro_ccitt.specs.RowsRead.{seen}
 use Rattle.hayro_ccitt.specs.RowsTried.{CanCome, IsLeft, TriesRow, no_memory}
@@ -141,12 +141,13 @@ pub record LooksAhead (is_last at_line : Bool) (looked : ℕ) (gap : Bits) (coun
 pub record FeedsNext (whole : Bits) (tried : ℕ) (old new : Feeding) (answer : Result Fed DecodeError) : Type 0 where
   pub row : answer ≡ Ok Fed.Row → ReadsNext (fed_over whole old) (fed_over whole new) (Ok true)
   pub end : answer ≡ Ok Fed.End → ReadsNext (fed_over whole old) (fed_over whole new) (Ok false)
-  pub fault : IfErr answer (λ e. IsFault e → ReadsNext (fed_over whole old) (fed_over whole new) (Err e))
+  pub fault : IfErr answer (λ e. e ≢ OutOfMemory → ReadsNext (fed_over whole old) (fed_over whole new) (Err e))
   pub none : HasNone answer → StaysThere (fed_over whole old) (fed_over whole new)
   pub unsettled : answer ≡ Ok Fed.NeedsMore
       → (new.finished ≡ false) × IsOpenAt new.begun new.rows.stand new.ctx (drop new.place new.kept)
   pub memory : answer ≡ Err OutOfMemory
       → HasBlack (front_of (line_here new.ctx.held.settings new.ctx.held.reference (drop new.place new.kept)))
+  pub paints : answer ≡ Err OutOfMemory → PaintsBlack (lines_of new.ctx.held.settings whole) new.ctx.held.taken
   pub extra : ℕ
   pub stands : IsFeedOf whole (tried + extra) new
   -- of this so much for bits of the gap that weren't looked at before; where the gap waits, those looked at are kept
@@ -275,6 +276,8 @@ pub record ReadsInFeed (old new : Feeding) (answer : Result Bool DecodeError) : 
       × (is_short (line_here new.ctx.held.settings new.ctx.held.reference (drop old.place old.kept)) ≡ true)
   pub memory : answer ≡ Err OutOfMemory
       → HasBlack (front_of (line_here new.ctx.held.settings new.ctx.held.reference (drop old.place old.kept)))
+  pub paints : (whole : Bits) (tried : ℕ) → answer ≡ Err OutOfMemory → IsFeedOf whole tried old
+      → PaintsBlack (lines_of new.ctx.held.settings whole) new.ctx.held.taken
   pub reads : (whole : Bits) (tried : ℕ) → (IsLeft answer → ⊥) → IsFeedOf whole tried old
       → ReadsNext (fed_over whole old) (fed_over whole new) answer
   pub stands : (whole : Bits) (tried : ℕ) → IsFeedOf whole tried old → IsFeedOf whole (tried + extra) new
@@ -299,6 +302,10 @@ fed_end (Err error) = Err error
 
 -- ---- More data
 
+-- how many bits were fed
+abbrev pub fed_bits : Feeding → ℕ
+fed_bits feed = feed.dropped + length feed.kept
+
 -- the bits of the bytes that were fed and aren't consumed: a byte of which a bit was read is
 abbrev pub unused : Feeding → Bits
 unused feed = drop (8 * ((feed.place + 7) / 8)) feed.kept
@@ -307,7 +314,7 @@ unused feed = drop (8 * ((feed.place + 7) / 8)) feed.kept
 pub record HoldsMore (next : Bits) (old new : Feeding) : Type 0 where
   pub unread : drop new.place new.kept ≡ drop old.place old.kept ++ next
   pub left : unused new ≡ unused old ++ next
-  pub fed : new.dropped + length new.kept ≡ old.dropped + length old.kept + length next
+  pub fed : fed_bits new ≡ fed_bits old + length next
   pub place : new.dropped + new.place ≡ old.dropped + old.place
   pub begun : new.begun ≡ old.begun
 

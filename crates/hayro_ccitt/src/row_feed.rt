@@ -10,7 +10,7 @@ ghost use Rattle.hayro_ccitt.specs.GapsSeen.{IsSeen, is_settled, nothing_seen, r
 ghost use Rattle.hayro_ccitt.specs.RowsRead.{at_end_of_rows, ended, is_at_line};
 ghost use Rattle.hayro_ccitt.specs.RowsTried.{IsLeft};
 ghost use Rattle.hayro_ccitt.specs.RowFeeds.{Begins, ComeNext, ComesInFeed, DropsRead, ReadsInFeed, ComesOn, FeedsNext};
-ghost use Rattle.hayro_ccitt.specs.RowFeeds.{IsFeedOf, KeepsBits, TriesLine, fed_end, fed_none, fed_row, is_left, line_answer};
+ghost use Rattle.hayro_ccitt.specs.RowFeeds.{IsFeedOf, KeepsBits, TriesLine, fed_bits, fed_end, fed_none, fed_row, is_left, line_answer};
 ghost use Rattle.hayro_ccitt.specs.RowFeeds.{HoldsMore, some_line, unused};
 ghost use Rattle.hayro_ccitt.specs.Rows.{AreChanges, changes};
 
@@ -451,7 +451,9 @@ impl RowFeed {
         ensures held { OnOk result (HoldsMore (bits_in self.old.order bytes.now) self.old self.new) }
         ensures kept { OnErr result (HoldsMore [] self.old self.new) }
         ensures too_long { (result ≡ Err DecodeError.Overflow)
-            ↔ (2 ^ 64 - 72 < self.old.dropped + length self.old.kept + 8 * length bytes.now) }
+            ↔ (2 ^ 64 - 72 < fed_bits self.old + 8 * length bytes.now) }
+        ensures counts { OnOk result (fed_bits self.new ≡ fed_bits self.old + 8 * length bytes.now) }
+        ensures fit { result ≢ Err DecodeError.Overflow → fed_bits self.old + 8 * length bytes.now + 64 < 2 ^ 64 }
     {
         self.drop_read();
         let kept = self.data.len();

@@ -2,23 +2,24 @@
 use Rattle.hayro_ccitt.proofs.Names.{◌≡◌, ◌≢◌, ◌∙◌, ◌+◌, ◌-◌, ◌*◌, ◌≤◌, [], ℕ, Bool, true, false, Result, Ok, Err, None, Some}
 use Rattle.hayro_ccitt.proofs.Names.{Option, refl, sym, ap}
 use Rattle.hayro_ccitt.proofs.Names.{subst, arith, length, drop, cond, Bits, BitsAt, Held, Context, DecodeError, White, redrawn}
-use Rattle.hayro_ccitt.proofs.Names.{front_of, here, ◌&&◌}
+use Rattle.hayro_ccitt.proofs.Names.{front_of, here, lines_of, ◌&&◌}
 use Rattle.hayro_ccitt.proofs.Names.{IsStanding, IsStandingAtLine, ReachesNextLine, ReadsNext, is_at_line, seen, line_here}
 use Rattle.hayro_ccitt.proofs.Names.{DecodeSettings, Stand, AtLine, BehindRow, AtEnd, AtFault, MissIsTold, missed_before, ended}
 use Rattle.hayro_ccitt.proofs.Names.{is_some, ◌++◌, ◌⊎◌, inl, inr}
 use Rattle.hayro_ccitt.proofs.Names.{ReaderStands, DamageIsCounted, WorkIsPaid, IsPaid, HasEnded, HasFailed, sum_by, take}
-use Rattle.hayro_ccitt.proofs.Names.{words_of, IfErr, IfOk, OnErr, failed_at, IfErr-weaker, RowsRead, IsFault, false≢true, ◌<◌}
+use Rattle.hayro_ccitt.proofs.Names.{words_of, IfErr, IfOk, OnErr, failed_at, IfErr-weaker, RowsRead, false≢true, ◌<◌}
 use Rattle.hayro_ccitt.proofs.Names.{List, zero, suc, ◌∷◌, append_assoc, bits_in, length-append, length-drop, HighestFirst}
 use Rattle.hayro_ccitt.proofs.Names.{LowestFirst}
 use Rattle.std.proofs.Math.Seq.{drop-append-add}
 use Rattle.fax_bits.specs.declared.bit_reader.BitOrder.{BitOrder}
 use Rattle.hayro_ccitt.specs.Bits.{bits_of_byte}
 use Rattle.std.specs.Prelude.{◌^◌}
-use Rattle.hayro_ccitt.proofs.Readings.RowByRow.{at_line_stands, begun_is, few, reads_on}
+use Rattle.hayro_ccitt.proofs.Readings.RowByRow.{at_line_stands, begun_is, few, paints_at_line, reads_on}
 use Rattle.hayro_ccitt.proofs.Readings.RowsFed.{stands_later, left_is, left_not, from_place, place_within}
 use Rattle.hayro_ccitt.proofs.Work.RoomTaken.{row_enough}
 use Rattle.hayro_ccitt.specs.declared.row_reader.RowState.{RowState}
-use Rattle.hayro_ccitt.specs.Answers.{HasBlack}
+use Rattle.hayro_ccitt.proofs.Readings.BlackGoesOn.{black_goes_on}
+use Rattle.hayro_ccitt.specs.Answers.{HasBlack, PaintsBlack}
 use Rattle.hayro_ccitt.specs.Continuations.{is_short}
 use Rattle.hayro_ccitt.specs.GapsContinued.{first_gap_is_settled, gap_is_settled}
 use Rattle.hayro_ccitt.specs.RowsTried.{CanCome, IsLeft, StandsFirst}
@@ -26,7 +27,7 @@ use Rattle.hayro_ccitt.specs.RowFeeds.{ComesInFeed, ComesOn, Feeding, IsFeedOf, 
 use Rattle.hayro_ccitt.specs.RowFeeds.{HasNone, LooksAhead, TriesLine, came, fed_over}
 use Rattle.hayro_ccitt.specs.declared.gap_look.GapLook.{GapLook}
 use Rattle.hayro_ccitt.specs.RowFeeds.{ComeNext, DropsRead, FeedsNext, IsAtFront, IsOpenAt, StaysThere, fed_none}
-use Rattle.hayro_ccitt.specs.RowFeeds.{fed_row, is_left, line_first}
+use Rattle.hayro_ccitt.specs.RowFeeds.{fed_bits, fed_row, is_left, line_first}
 use Rattle.fax_bits.specs.declared.error.DecodeError.TheVariants.{InvalidCode, OutOfMemory}
 use Rattle.hayro_ccitt.specs.declared.row_feed.Fed.{Fed}
 
@@ -148,6 +149,26 @@ module _ (old new : Feeding) (before after : BitsAt) (before_is : before ≡ rec
           (seen new.rows new.ctx (record { bits = whole; place = old.dropped + after.place })) answer) mid_is
           (tries.reads tried whole old.dropped read (lies feed) starts begins_there))
 
+      -- the line there paints a black pixel, whatever bits follow those kept
+      line_paints : answer ≡ Err OutOfMemory → PaintsBlack (lines_of new.ctx.held.settings whole) new.ctx.held.taken
+      line_paints e =
+          let left : IsLeft answer = subst IsLeft (sym e) refl in
+          let stays = (tries.tried.left left) ∙ ap (λ (h : Held). redrawn h [] White) same in
+          let lie = lies feed in
+          let within : before.place ≤ length before.bits = omega (
+            arith,
+            tries.within,
+            ap (λ (b : BitsAt). b.place) (tries.left left).1,
+            ap (λ (b : BitsAt). length b.bits) (tries.left left).1,
+          ) in
+          let there = ap (λ (n : ℕ). drop n whole) starts ∙ from_place lie before.place within in
+          let black = subst (λ (h : Held). HasBlack (front_of (line_here h.settings h.reference (here before)))) same
+          (tries.tried.memory e) in
+          subst (λ (h : Held). PaintsBlack (lines_of h.settings whole) h.taken) (sym stays)
+          (paints_at_line (at_line_stands old.rows.stand old.ctx.held.settings whole old.ctx.held at line (stood feed).0)
+          (subst (λ (b : Bits). HasBlack (front_of (line_here old.ctx.held.settings old.ctx.held.reference b))) (sym there)
+          (black_goes_on old.ctx.held.settings old.ctx.held.reference (here before) lie.more black)))
+
       line_stays_fed : (b : Bool) → is_left answer ≡ b
           → IsFeedOf whole (tried + cond b (new.ctx.ticks - old.ctx.ticks) 0) new
       line_stays_fed true left_so =
@@ -182,6 +203,7 @@ module _ (old new : Feeding) (before after : BitsAt) (before_is : before ≡ rec
       );
       memory = λ e. same_line (λ s r b. HasBlack (front_of (line_here s r b))) (subst IsLeft (sym e) refl)
           (tries.tried.memory e);
+      paints = λ whole tried e feed. line_paints feed e;
       reads = λ whole tried read feed. line_fed feed read;
       stands = λ whole tried feed. line_stays_fed feed (is_left answer) refl;
       most = omega (
@@ -434,6 +456,7 @@ feeds_on {whole} {tried} more {old} {mid} {new} {answer} looks reached next = re
       };
   unsettled = next.unsettled;
   memory = next.memory;
+  paints = next.paints;
   extra = more + next.extra;
   stands = let same : (tried + more) + next.extra ≡ tried + (more + next.extra) = omega arith in
       subst (λ (n : ℕ). IsFeedOf whole n new) same next.stands;
@@ -511,6 +534,7 @@ line_feeds {whole} {tried} {old} {new} (Ok true) reads begun line feed = record 
   none = λ left. cc;
   unsettled = λ e. cc;
   memory = λ e. cc;
+  paints = λ e. cc;
   extra = reads.extra;
   stands = reads.stands whole tried feed;
   gap = 0;
@@ -531,6 +555,7 @@ line_feeds {whole} {tried} {old} {new} (Ok false) reads begun line feed = record
         (sym (next_is reads.keeps (reads.left refl).1)) ∙ (reads.unsettled refl).1),
   );
   memory = λ e. cc;
+  paints = λ e. cc;
   extra = reads.extra;
   stands = reads.stands whole tried feed;
   gap = 0;
@@ -541,13 +566,15 @@ line_feeds {whole} {tried} {old} {new} (Ok false) reads begun line feed = record
 line_feeds {whole} {tried} {old} {new} (Err error) reads begun line feed = record {
   row = λ e. cc;
   end = λ e. cc;
-  fault = λ fault. reads.reads whole tried (λ left. subst IsFault left fault) feed;
+  fault = λ other. reads.reads whole tried other feed;
   none = λ left. line_left (Err error) reads left line;
   unsettled = λ e. cc;
   memory = λ e.
       let is : error ≡ OutOfMemory = cc in
       subst (λ (b : Bits). HasBlack (front_of (line_here new.ctx.held.settings new.ctx.held.reference b)))
       (next_is reads.keeps (reads.left is).1) (reads.memory (ap (λ (x : DecodeError). Err x) is));
+  paints = λ e.
+      let is : error ≡ OutOfMemory = cc in reads.paints whole tried (ap (λ (x : DecodeError). Err x) is) feed;
   extra = reads.extra;
   stands = reads.stands whole tried feed;
   gap = 0;
@@ -588,6 +615,7 @@ gap_feeds {whole} {tried} {old} {new} (Ok None) comes other begun unended feed =
             (sym (next_is comes.keeps w.3)) ∙ w.6),
       );
       memory = λ e. cc;
+      paints = λ e. cc;
       extra = comes.extra;
       stands = comes.waiting whole tried refl feed;
       gap = comes.extra;
@@ -603,6 +631,7 @@ gap_feeds {whole} {tried} {old} {new} (Ok (Some false)) comes other begun unende
   none = λ left. cc;
   unsettled = λ e. cc;
   memory = λ e. cc;
+  paints = λ e. cc;
   extra = comes.extra;
   stands = comes.stands whole tried (λ is. cc) feed;
   gap = comes.extra;
@@ -613,10 +642,12 @@ gap_feeds {whole} {tried} {old} {new} (Ok (Some false)) comes other begun unende
 gap_feeds {whole} {tried} {old} {new} (Err error) comes other begun unended feed = record {
   row = λ e. cc;
   end = λ e. cc;
-  fault = λ fault. none_behind (Err error) (λ is. cc) (comes.comes whole tried (λ is. cc) feed);
+  fault = λ other. none_behind (Err error) (λ is. cc) (comes.comes whole tried (λ is. cc) feed);
   none = λ left. let never : InvalidCode ≡ OutOfMemory = sym comes.only_code ∙ left in absurd cc;
   unsettled = λ e. cc;
   memory = λ e. let is : error ≡ OutOfMemory = cc in
+      let never : InvalidCode ≡ OutOfMemory = sym comes.only_code ∙ is in absurd cc;
+  paints = λ e. let is : error ≡ OutOfMemory = cc in
       let never : InvalidCode ≡ OutOfMemory = sym comes.only_code ∙ is in absurd cc;
   extra = comes.extra;
   stands = comes.stands whole tried (λ is. cc) feed;
@@ -736,17 +767,19 @@ feeds_more {whole} {tried} {old} {new} next is unfinished feed come = subst (IsF
     rest_is : drop (old.dropped + length old.kept) whole ≡ feed.lie.more
     rest_is = from_place feed.lie (length old.kept) (omega arith) ∙ ap (λ (b : Bits). b ++ feed.lie.more) (drop-all old.kept)
 
+-- dropping bytes that were read leaves the count of those fed
+pub drops_none_fed : {old new : Feeding} → DropsRead old new → fed_bits new ≡ fed_bits old
+drops_none_fed {old} {new} drops =
+    omega (arith, drops.dropped, drops.read, drops.within, ap length drops.kept, length-drop (8 * drops.bytes) old.kept)
+
 -- they come next also once bytes are dropped
 pub come_next : {whole : Bits} {old new : Feeding} {next : Bits} → DropsRead old new → ComeNext whole old next
     → ComeNext whole new next
 come_next {whole} {old} {new} drops come = record {
   rest = come.rest;
-  bits = ap (λ (n : ℕ). drop n whole) same ∙ come.bits;
+  bits = ap (λ (n : ℕ). drop n whole) (drops_none_fed drops) ∙ come.bits;
   bytes = come.bytes;
 }
-  where
-    same : new.dropped + length new.kept ≡ old.dropped + length old.kept
-    same = omega (arith, drops.dropped, drops.read, drops.within, ap length drops.kept, length-drop (8 * drops.bytes) old.kept)
 
 -- the data is finished
 pub feed_finished : {whole : Bits} {tried : ℕ} {old new : Feeding} → new ≡ record old { finished = true }

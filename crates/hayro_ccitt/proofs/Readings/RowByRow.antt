@@ -20,6 +20,8 @@ use Rattle.hayro_ccitt.proofs.Names.{IsWhole, IsFault, cut_by_turn, cuts_by_line
 use Rattle.hayro_ccitt.proofs.Names.{cuts_run}
 use Rattle.hayro_ccitt.proofs.Names.{strict_line_of_turn}
 use Rattle.hayro_ccitt.proofs.Names.{HasEnded, HasFailed, MissIsTold, context_at, missed_before, missed_since, start_in}
+use Rattle.hayro_ccitt.specs.Answers.{HasBlack, PaintsBlack}
+use Rattle.hayro_ccitt.proofs.Names.{front_of}
 use Rattle.hayro_ccitt.proofs.Readings.GapsAndRows.{first_gap_t4}
 use Rattle.hayro_ccitt.proofs.Readings.Repeated.{reaches_on}
 use Rattle.hayro_ccitt.proofs.Readings.DamageCounted.{repaired_counts, repaired_none, missed_counts, missed_none, missed_starts}
@@ -367,6 +369,19 @@ isnt_read {settings} {bits} {held} stands {new} {e = e} takes =
         not_refused = λ is. turn.not_refused (ap (λ (x : DecodeError). Err x) is);
       },
       λ wide fault. whole fault,
+    )
+
+-- if a black pixel of it is painted there, the line with the index of the row paints it
+pub paints_at_line : {settings : DecodeSettings} {bits : Bits} {held : Held} {here : Bits}
+    → StandsAtLine settings bits held here → HasBlack (front_of (line_here held.settings held.reference here))
+    → PaintsBlack (lines_of settings bits) held.taken
+paints_at_line {settings} {bits} {held} {here} stands black =
+    let so_far = stands.so_far in (
+      line_of_turn settings so_far,
+      ap (λ (h : Held). slice_get (lines_of settings bits) h.taken) stands.held_is
+          ∙ given_there settings stands.wide bits stands.begins stands.reaches (line_of_turn settings),
+      subst (λ (b : Bits). HasBlack (front_of (line_here settings (row_before settings.columns so_far.rows) b))) stands.rest_is
+          (subst (λ (h : Held). HasBlack (front_of (line_here h.settings h.reference here))) stands.held_is black),
     )
 
 -- if a line is here, the invariant says so

@@ -30,7 +30,7 @@ isnt_short line (Err OutOfMemory) front rest drawn other = λ fault. absurd faul
 isnt_short line (Err Refused) front rest drawn other = λ fault. absurd fault
 
 -- a line with more bits behind it has the same front, is as broken, and counts as the same damage
-same_front : (more : Bits) (line : Line) → front_of (line_before more line) ≡ front_of line
+pub same_front : (more : Bits) (line : Line) → front_of (line_before more line) ≡ front_of line
 same_front more (Line.whole row rest) = refl
 same_front more (Line.broken front fault) = refl
 

@@ -5,15 +5,16 @@ use Rattle.hayro_ccitt.proofs.Names.{Err, Result, ◌+◌, ◌-◌, ◌<◌, ari
 use Rattle.std.specs.Prelude.{◌^◌}
 use Rattle.hayro_ccitt.proofs.Readings.BitsHeld.{holds_more, holds_none}
 use Rattle.hayro_ccitt.proofs.Names.{drop, length-append}
-use Rattle.hayro_ccitt.proofs.Readings.FeedsOn.{come_next, drops_read, feeds_more}
+use Rattle.hayro_ccitt.proofs.Readings.FeedsOn.{come_next, drops_none_fed, drops_read, feeds_more}
 use Rattle.hayro_ccitt.proofs.Readings.LooksKept.{seen_more, seen_there}
 use Rattle.std.proofs.lemmas.List.Concat.{flat_map-append}
 use Rattle.fax_bits.specs.declared.bit_reader.BitOrder.{BitOrder}
 use Rattle.hayro_ccitt.specs.Bits.{bits_of_byte}
-use Rattle.hayro_ccitt.specs.RowFeeds.{Feeding, IsFeedOf, feeding_of}
+use Rattle.hayro_ccitt.specs.RowFeeds.{Feeding, IsFeedOf, fed_bits, feeding_of}
 use Rattle.hayro_ccitt.proofs.BitReading.BitLists.{length-bits_in}
 use Rattle.hayro_ccitt.proofs.row_feed.RowFeed.feed.Goals.{then-bytes-kept-via-then-bytes-kept}
 use Rattle.hayro_ccitt.proofs.row_feed.RowFeed.feed.Goals.{then-bytes-kept-via-else-bytes-kept+then-self-kept}
+use Rattle.hayro_ccitt.proofs.row_feed.RowFeed.feed.Goals.{After-extend_from_slice}
 use Rattle.hayro_ccitt.proofs.row_feed.RowFeed.feed.Goals as goal
 
 pub returns-then-bytes-kept-clause-refused : goal.returns-then-bytes-kept-clause-refused
@@ -206,3 +207,35 @@ invariant_of-self-2 c =
           (omega (arith, old.within, length-bits_in inside.order inside.«data».items)) old.seen);
       line = old.line;
     }
+
+pub returns-clause-counts : goal.returns-clause-counts
+returns-clause-counts c =
+    let inside = c.self.inside in
+    omega (
+      arith,
+      drops_none_fed c.drop_read.ensures,
+      ap fed_bits c.self.view_is,
+      length-bits_in inside.order inside.«data».items,
+      length-bits_in inside.order c.extend_from_slice.new.self.items,
+      ap length c.in_ok-extend_from_slice.ensures.items,
+      length-append inside.«data».items c.args.bytes.now,
+    )
+
+-- the bits fit, where the bytes are no more than there is room for
+fits : (c : After-extend_from_slice) → fed_bits c.args.self.now + 8 * length c.args.bytes.now + 64 < 2 ^ 64
+fits c = omega (
+  arith,
+  drops_none_fed c.drop_read.ensures,
+  ap fed_bits c.self.view_is,
+  length-bits_in c.self.inside.order c.self.inside.«data».items,
+  c.len-kept.ensures,
+  c.if-bytes-kept.false,
+  c.if-self-kept.false,
+)
+
+pub returns-in_err-extend_from_slice-clause-fit : goal.returns-in_err-extend_from_slice-clause-fit
+returns-in_err-extend_from_slice-clause-fit c = λ e.
+    fits (goal.at.returns-in_err-extend_from_slice-clause-fit c).After-extend_from_slice
+
+pub returns-clause-fit : goal.returns-clause-fit
+returns-clause-fit c = λ e. fits (goal.at.returns-clause-fit c).After-extend_from_slice
