@@ -2,6 +2,7 @@ pub mod ContextView
 pub mod Contract
 pub mod DrawnModes
 pub mod Lending
+pub mod LineParts
 pub mod RowCursors
 pub mod RowFeeds
 pub mod RowsRead
@@ -37,6 +38,7 @@ pub use Rattle.fax_reading.specs.Encodings
 pub use Rattle.fax_reading.specs.GapsContinued
 pub use Rattle.fax_reading.specs.Laws
 pub use Rattle.fax_reading.specs.Lines
+pub use Rattle.fax_reading.specs.LinesGoOn
 pub use Rattle.fax_reading.specs.Locality
 pub use Rattle.fax_reading.specs.LocalityByK
 pub use Rattle.fax_reading.specs.Pictures
