@@ -2,6 +2,7 @@ pub mod FeedsOn
 pub mod FirstGaps
 pub mod GapsPassed
 pub mod LinesRead
+pub mod PartsFed
 pub mod RowByRow
 pub mod RowsAgain
 pub mod RowsFed

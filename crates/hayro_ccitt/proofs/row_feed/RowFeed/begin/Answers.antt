@@ -3,6 +3,7 @@ use Rattle.hayro_ccitt.proofs.Names.{Bits, bits_in, List}
 use Rattle.hayro_ccitt.proofs.Names.{Held, here, drop, false≢true, fresh}
 use Rattle.hayro_ccitt.proofs.BitReading.BitLists.{length-bits_in}
 use Rattle.hayro_ccitt.proofs.Readings.FeedsOn.{at_front, front_fed, front_reaches}
+use Rattle.hayro_ccitt.proofs.Readings.PartsFed.{none_kept, unbegun_none}
 use Rattle.hayro_ccitt.proofs.Readings.RowsFed.{waits_for, waits_not}
 use Rattle.hayro_ccitt.specs.GapsContinued.{first_gap_is_settled}
 use Rattle.hayro_ccitt.specs.RowFeeds.{Feeding, StandsIn}
@@ -83,6 +84,9 @@ invariant_of-self-2 c =
       start = λ e. absurd (false≢true (sym e));
       unended = λ e. absurd (false≢true (sym e));
       rows = λ e. absurd (false≢true (sym e));
+      part = none_kept c.self.inside.part _ _ _ _ _ _ _ _ _
+          (unbegun_none c.self.inside.part _ _ _ _ _ (begun_not at) c.self.invariant.part)
+          c.self.invariant.part;
     }
 
 pub returns : goal.returns
@@ -101,6 +105,18 @@ returns c =
     c.placed_at-reader.result.bits ≡ true)) (sym same) (subst (λ (b : Bits). (inside.is_last ≡ true)
     ⊎ (first_gap_is_settled held.settings.encoding held.settings b ≡ true)) (starts at) closed) in
     let settings_are = stood.ensures.settings in
+    let fed : Feeding = record {
+      ctx = stood.new.ctx;
+      rows = record inside.rows { stand = stood.result };
+      order = inside.order;
+      begun = true;
+      finished = inside.is_last;
+      kept = bits_in inside.order inside.«data».items;
+      dropped = inside.dropped;
+      place = c.bit_pos-self-inside.result;
+      part = inside.part;
+      line_read = inside.line_read;
+    } in
     rw (← c.self.view_is) (record {
       extra = more;
       keeps = record { order = refl; finished = refl; kept = refl; dropped = refl };
@@ -108,7 +124,7 @@ returns c =
       space = stood.ensures.space ∙ c.front_waits.ensures.space;
       waits = λ e. cc;
       unfailed = λ e. stood.ensures.unfailed;
-      passes = λ whole tried e feed. front_reaches _ _ mid c.placed_at-reader.result stood.new.reader stood.result more
+      passes = λ whole tried e feed. front_reaches _ fed mid c.placed_at-reader.result stood.new.reader stood.result more
           (front_is at) (record { order = refl; finished = refl; kept = refl; dropped = refl })
           c.bit_pos-self-inside.ensures.place
           refl refl same ticks stood.ensures.first stood.ensures.none_taken settings_are stood.ensures.first.counts

@@ -27,6 +27,8 @@ returns-in_err-extend_from_slice-clause-refused c =
       kept = bits_in inside.order inside.«data».items;
       dropped = inside.dropped;
       place = inside.place;
+      part = inside.part;
+      line_read = inside.line_read;
     } in
     let same = ap (λ (items : List ℕ). record view { kept = bits_in inside.order items })
     c.in_err-extend_from_slice.ensures.items
@@ -46,6 +48,8 @@ returns-clause-fed c whole tried feed come =
       kept = bits_in inside.order inside.«data».items;
       dropped = inside.dropped;
       place = inside.place;
+      part = inside.part;
+      line_read = inside.line_read;
     } in
     let order : c.args.self.now.order ≡ inside.order
     = sym c.drop_read.ensures.order ∙ ap (λ (f : Feeding). f.order) (sym c.self.view_is) in
