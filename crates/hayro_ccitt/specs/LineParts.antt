@@ -1,14 +1,13 @@
 -- A line that is read a word at a time and not drawn, in data of which more may come: what is kept of it.
-use Rattle.std.specs.Prelude.{◌≡◌, ◌≤◌, ◌+◌, ◌*◌, ℕ, Bool, true, false, [], ◌++◌, length, List, Option, None, Some}
-use Rattle.fax_bits.specs.declared.error.DecodeError.TheVariants.{InvalidCode}
+use Rattle.std.specs.Prelude.{◌≡◌, ◌≤◌, ◌+◌, ◌*◌, ℕ, Bool, true, false, ◌++◌, length, Option, None, Some}
 use Rattle.fax_bits.specs.declared.settings.DecodeSettings.{DecodeSettings}
 use Rattle.fax_bits.specs.declared.codes.Color.{Color}
-use Rattle.std.specs.Prelude.{Result, Ok, Err}
+use Rattle.std.specs.Prelude.{Ok}
 use Rattle.hayro_ccitt.specs.declared.line_parts.KeptPart.{KeptPart}
 use Rattle.hayro_ccitt.specs.declared.line_parts.KeptRun.{KeptRun}
 use Rattle.hayro_ccitt.specs.declared.line_parts.Word.{Word}
 use Rattle.hayro_ccitt.specs.Bits.{Bits, BitsAt, here}
-use Rattle.hayro_ccitt.specs.Context.{ArePassed, Context, Held}
+use Rattle.hayro_ccitt.specs.Context.{ArePassed, Context}
 use Rattle.hayro_ccitt.specs.Continuations.{is_short}
 use Rattle.hayro_ccitt.specs.Lines.{Line, Pen}
 use Rattle.hayro_ccitt.specs.LinesGoOn.{LinePart, line_from_part, read_on}

@@ -175,11 +175,7 @@ fn add_mode(ctx: &mut DecoderContext, part: &mut KeptPart, mode: Mode) -> Word
 }
 
 /// Goes on behind a mode that is read here.
-fn read_mode(
-    ctx: &mut DecoderContext,
-    reader: &mut BitReader<'_>,
-    part: &mut KeptPart,
-) -> Word
+fn read_mode(ctx: &mut DecoderContext, reader: &mut BitReader<'_>, part: &mut KeptPart) -> Word
     requires lawful { IsLawfulPart ctx.old.held.settings ctx.old.held.reference part.old }
     requires run { part.old.run ≡ None }
     requires mode { part.old.is_2d ≡ true }
@@ -255,11 +251,7 @@ fn read_run(
 
 /// Goes on behind the word that is next, unless the row is full. Behind a run of a one-dimensional line the next one is begun
 /// first, which reads nothing.
-fn read_on(
-    ctx: &mut DecoderContext,
-    reader: &mut BitReader<'_>,
-    part: &mut KeptPart,
-) -> Word
+fn read_on(ctx: &mut DecoderContext, reader: &mut BitReader<'_>, part: &mut KeptPart) -> Word
     requires lawful { IsLawfulPart ctx.old.held.settings ctx.old.held.reference part.old }
     ensures reads { ReadsWord part.old part.new ctx.old ctx.new reader.old reader.new result }
     ensures smaller { result ≡ Word.GoesOn
@@ -296,10 +288,7 @@ fn first_part(is_2d: bool) -> KeptPart
 
 /// Reads the tag of the line here, if it has one (T.4, 4.2.2), and returns the part from which it goes on. Returns `None` if the tag
 /// is missing.
-pub(crate) fn begin_part(
-    ctx: &mut DecoderContext,
-    reader: &mut BitReader<'_>,
-) -> Option<KeptPart>
+pub(crate) fn begin_part(ctx: &mut DecoderContext, reader: &mut BitReader<'_>) -> Option<KeptPart>
     ensures begins { IfSome result (λ part. IsPartOf ctx.old.held.settings ctx.old.held.reference (here reader.old) part
         (here reader.new)) }
     ensures lawful { IfSome result (λ part. IsLawfulPart ctx.old.held.settings ctx.old.held.reference part) }

@@ -1,8 +1,8 @@
 -- Parts of lines, of whose fronts only the number of pixels is known.
-use Rattle.hayro_ccitt.proofs.Names.{◌≡◌, ◌≢◌, ◌∙◌, ◌+◌, ◌-◌, ◌*◌, ◌<◌, ◌≤◌, ℕ, Bool, true, false, [], ◌++◌, length, min, Result, Ok, Err}
-use Rattle.hayro_ccitt.proofs.Names.{replicate, length-append, length-replicate, append-nil, cond, ltb, leb, ◌&&◌, refl, sym, ap, subst, arith}
+use Rattle.hayro_ccitt.proofs.Names.{◌≡◌, ◌≢◌, ◌∙◌, ◌+◌, ◌-◌, ◌*◌, ◌<◌, ◌≤◌, ℕ, Bool, true, false, [], ◌++◌, length, min, Ok, Err}
+use Rattle.hayro_ccitt.proofs.Names.{replicate, length-append, length-replicate, append-nil, ltb, leb, ◌&&◌, refl, sym, ap, subst, arith}
 use Rattle.hayro_ccitt.proofs.Names.{Option, Some, None, Bits, Color, DecodeError, DecodeSettings, Row, is_black, paint, Line, Turn, line_here}
-use Rattle.hayro_ccitt.proofs.Names.{lt-ltb, le-leb, common_steps, Mode, read_code, mode_codes, codes_of, ArePassed, InvalidCode, List, changes, get_or}
+use Rattle.hayro_ccitt.proofs.Names.{lt-ltb, le-leb, common_steps, Mode, read_code, mode_codes, codes_of, ArePassed, InvalidCode, List, changes}
 use Rattle.hayro_ccitt.proofs.Names.{White, line_1d, line_2d, line_by, start, not, EncodingMode, Group3_2D, BitsAt, Context}
 use Rattle.hayro_ccitt.proofs.Names.{here, length-drop}
 use Rattle.hayro_ccitt.proofs.Names.{Pass, Vertical, b1, b2, right_of, right_of_painted, opposite, ℤ, pos, ◌+ℤ◌, ◌∷◌}
@@ -27,20 +27,34 @@ fits_painted false room count le = refl
 pub paints_all : (settings : DecodeSettings) (front : Row) (color : Color) (count painted : ℕ) → length front ≡ painted
     → painted ≤ settings.columns → count ≤ settings.columns - painted → PaintsTo settings front color count (painted + count)
 paints_all settings front color count painted is within le =
-    let fits : count ≤ settings.columns - length front = omega (arith, is, le) in
-    (front ++ replicate (min count (settings.columns - length front)) (is_black color),
-    omega (arith, is, le, within, length-append front (replicate (min count (settings.columns - length front)) (is_black color)),
-    length-replicate (min count (settings.columns - length front)) (is_black color)),
-    rw (fits_painted settings.strict (settings.columns - length front) count fits) refl)
+    let fits : count ≤ settings.columns - length front = omega (arith, is, le) in (
+      front ++ replicate (min count (settings.columns - length front)) (is_black color),
+      omega (
+        arith,
+        is,
+        le,
+        within,
+        length-append front (replicate (min count (settings.columns - length front)) (is_black color)),
+        length-replicate (min count (settings.columns - length front)) (is_black color),
+      ),
+      rw (fits_painted settings.strict (settings.columns - length front) count fits) refl,
+    )
 
 pub paints_row : (settings : DecodeSettings) (front : Row) (color : Color) (count painted : ℕ) → length front ≡ painted
     → painted ≤ settings.columns → settings.columns - painted < count → settings.strict ≡ false
     → PaintsTo settings front color count settings.columns
-paints_row settings front color count painted is within gt lenient =
-    (front ++ replicate (min count (settings.columns - length front)) (is_black color),
-    omega (arith, is, gt, within, length-append front (replicate (min count (settings.columns - length front)) (is_black color)),
-    length-replicate (min count (settings.columns - length front)) (is_black color)),
-    rw lenient refl)
+paints_row settings front color count painted is within gt lenient = (
+  front ++ replicate (min count (settings.columns - length front)) (is_black color),
+  omega (
+    arith,
+    is,
+    gt,
+    within,
+    length-append front (replicate (min count (settings.columns - length front)) (is_black color)),
+    length-replicate (min count (settings.columns - length front)) (is_black color),
+  ),
+  rw lenient refl,
+)
 
 -- ---- The line that begins some bits goes on from a part of it
 
@@ -91,8 +105,12 @@ reads_some settings reference old new rest after goes =
     let front : Row = replicate old.painted false in
     let leads = goes.leads front (length-replicate old.painted false) in
     let on = subst (LeadsOn (part_at old front rest)) leads.2 (part_leads_on settings reference (part_at old front rest)) in
-    omega (arith, on.1, left_at old.run old.is_2d (pen_of_part old front rest),
-    left_at new.run new.is_2d (pen_of_part new leads.0 after))
+    omega (
+      arith,
+      on.1,
+      left_at old.run old.is_2d (pen_of_part old front rest),
+      left_at new.run new.is_2d (pen_of_part new leads.0 after),
+    )
 
 -- ---- What a word leads to
 

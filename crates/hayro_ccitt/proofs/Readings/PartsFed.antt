@@ -1,16 +1,15 @@
 -- What is kept of a short line in data that comes in pieces.
-use Rattle.hayro_ccitt.proofs.Names.{◌≡◌, ◌≢◌, ◌∙◌, ◌+◌, ◌-◌, ◌*◌, ◌≤◌, ◌++◌, ◌⊎◌, [], ℕ, Bool, true, false, Result, Ok, Err, None, Some}
+use Rattle.hayro_ccitt.proofs.Names.{◌≡◌, ◌∙◌, ◌+◌, ◌-◌, ◌*◌, ◌≤◌, ◌++◌, [], ℕ, Bool, true, false, Result, Ok, None, Some}
 use Rattle.hayro_ccitt.proofs.Names.{Option, refl, sym, ap, subst, arith, length, drop, Bits, BitsAt, Held, Context, DecodeError, White}
 use Rattle.hayro_ccitt.proofs.Names.{redrawn, here, Stand, false≢true, is_at_line, length-append, length-drop, append_assoc, drop-drop}
-use Rattle.hayro_ccitt.proofs.Names.{changes, line_here, is_some, inl, inr}
+use Rattle.hayro_ccitt.proofs.Names.{changes, line_here, is_some}
 use Rattle.std.proofs.lemmas.List.{drop-append-le}
 use Rattle.hayro_ccitt.specs.declared.line_parts.KeptPart.{KeptPart}
-use Rattle.hayro_ccitt.specs.declared.row_reader.RowState.{RowState}
 use Rattle.hayro_ccitt.specs.Continuations.{is_short}
 use Rattle.hayro_ccitt.specs.LinesGoOn.{line_from_part}
-use Rattle.hayro_ccitt.specs.LineParts.{ContinuesLine, IsLawfulPart, IsPartOf, part_at}
-use Rattle.hayro_ccitt.specs.RowFeeds.{Feeding, IsFeedOf, LineGoesOn, PartIsKept, ReadsInFeed, Scans, ScansLine, StandsIn}
-use Rattle.hayro_ccitt.specs.RowFeeds.{StaysShort, fed_over, line_of_feed, most_for_line, paid_by, paid_for_line}
+use Rattle.hayro_ccitt.specs.LineParts.{ContinuesLine, IsPartOf, part_at}
+use Rattle.hayro_ccitt.specs.RowFeeds.{Feeding, IsFeedOf, LineGoesOn, PartIsKept, ReadsInFeed, Scans, StandsIn}
+use Rattle.hayro_ccitt.specs.RowFeeds.{StaysShort, fed_over, line_of_feed, most_for_line, paid_by}
 use Rattle.hayro_ccitt.specs.Answers.{HasBlack}
 use Rattle.hayro_ccitt.proofs.Names.{RowsRead, ReadsNext, front_of}
 use Rattle.hayro_ccitt.proofs.Readings.RowsFed.{stands_later}
@@ -191,8 +190,12 @@ scanned_before {old} {mid} {new} answer scans begun reads =
       stands = λ whole tried feed.
           let same : (tried + more) + reads.extra ≡ tried + (more + reads.extra) = omega arith in
           subst (λ (n : ℕ). IsFeedOf whole n new) same (reads.stands whole (tried + more) (scanned_fed scans begun feed));
-      most = omega (arith, reads.most, ap (λ (f : Feeding). f.ctx.space) frame,
-          ap (λ (f : Feeding). f.ctx.held.settings.columns) frame);
+      most = omega (
+        arith,
+        reads.most,
+        ap (λ (f : Feeding). f.ctx.space) frame,
+        ap (λ (f : Feeding). f.ctx.held.settings.columns) frame,
+      );
     }
 
 -- the line was left, since it is short, and is read on

@@ -1,4 +1,4 @@
-use Rattle.hayro_ccitt.proofs.Names.{◌≡◌, ℤ, SFits, Bits, Vertical, subst, rules, to_z, of_z, to_z-of_z, w8}
+use Rattle.hayro_ccitt.proofs.Names.{ℤ, SFits, Bits, Vertical, subst, rules, to_z-of_z, w8}
 use Rattle.hayro_ccitt.specs.LineParts.{GoesOnBy, pen_of_part}
 use Rattle.hayro_ccitt.specs.LinesGoOn.{mode_added}
 use Rattle.hayro_ccitt.proofs.line_parts.add_mode.Goals as goal

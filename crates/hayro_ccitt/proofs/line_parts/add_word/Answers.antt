@@ -1,4 +1,4 @@
-use Rattle.hayro_ccitt.proofs.Names.{◌≡◌, ◌<◌, ◌≤◌, ◌+◌, ℕ, arith, common_steps, refl, Err, subst, sym, []}
+use Rattle.hayro_ccitt.proofs.Names.{◌≡◌, ◌<◌, ◌+◌, ℕ, arith, common_steps, refl, Err, subst, []}
 use Rattle.hayro_ccitt.specs.Rows.{paint}
 use Rattle.fax_bits.specs.declared.error.DecodeError.TheVariants.{InvalidCode}
 use Rattle.fax_bits.proofs.CodeWords.ReadRuns.{some_where}

@@ -1,8 +1,5 @@
-use Rattle.hayro_ccitt.proofs.Names.{◌≡◌, ◌≢◌, ◌∙◌, ◌++◌, ◌∷◌, [], ap, sym, subst, refl, arith, here, line_by, line_here, Bits, Bool, true, false, not, eqb}
-use Rattle.hayro_ccitt.proofs.Names.{DecodeSettings, EncodingMode, Group3_1D, Group3_2D, Group4, Row, start, length, White, None, ltb, ℕ}
-use Rattle.hayro_ccitt.specs.declared.line_parts.KeptPart.{KeptPart}
-use Rattle.hayro_ccitt.specs.LinesGoOn.{LinePart, line_from_part}
-use Rattle.hayro_ccitt.specs.LineParts.{IsPartOf}
+use Rattle.hayro_ccitt.proofs.Names.{◌∙◌, ◌++◌, ap, sym, here, line_by, true, false, eqb}
+use Rattle.hayro_ccitt.proofs.Names.{DecodeSettings, EncodingMode}
 use Rattle.hayro_ccitt.proofs.DrawingLines.PartsOfLines.{begins_by, begins_tagged}
 use Rattle.hayro_ccitt.proofs.line_parts.begin_part.Goals as goal
 

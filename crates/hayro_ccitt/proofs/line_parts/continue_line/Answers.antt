@@ -1,4 +1,4 @@
-use Rattle.hayro_ccitt.proofs.Names.{◌≡◌, ◌∙◌, ap, sym, subst, refl, arith, Context, BitsAt, Bits, length, ℕ}
+use Rattle.hayro_ccitt.proofs.Names.{◌≡◌, ◌∙◌, ap, subst, arith, Context, Bits, ℕ}
 use Rattle.hayro_ccitt.specs.declared.line_parts.Word.{Word}
 use Rattle.hayro_ccitt.specs.LineParts.{ReadsWord}
 use Rattle.hayro_ccitt.proofs.DrawingLines.PartsOfLines.{WentOn, ends_with_word, lacks_word, went_on}

@@ -43,10 +43,13 @@ returns-clause-goes c = λ rest.
           let goes = pass_goes c.args.ctx.now.held.settings c.args.ctx.now.held.reference front c.args.part.now.color rest
           c.saturating_sub.result c.paint.new.part.painted (counted at front is)
           (subst (λ (s : DecodeSettings). PaintsTo s front c.args.part.now.color c.saturating_sub.result
-          c.paint.new.part.painted) (same_settings at) (c.if-not-paint.ensures.painted refl front is)) in
-          (goes.0, goes.1, goes.2 ∙ ap Turn.next (at_mode_is c.paint.new.part goes.0 c.args.part.now.color rest
-          (ap (λ (p : KeptPart). p.run) c.paint.ensures.frame ∙ c.requires.run)
-          (ap (λ (p : KeptPart). p.is_2d) c.paint.ensures.frame ∙ c.requires.mode)
-          (ap (λ (p : KeptPart). p.color) c.paint.ensures.frame)));
+          c.paint.new.part.painted) (same_settings at) (c.if-not-paint.ensures.painted refl front is)) in (
+            goes.0,
+            goes.1,
+            goes.2 ∙ ap Turn.next (at_mode_is c.paint.new.part goes.0 c.args.part.now.color rest
+                (ap (λ (p : KeptPart). p.run) c.paint.ensures.frame ∙ c.requires.run)
+                (ap (λ (p : KeptPart). p.is_2d) c.paint.ensures.frame ∙ c.requires.mode)
+                (ap (λ (p : KeptPart). p.color) c.paint.ensures.frame)),
+          );
       lawful = lawful at;
     }

@@ -1,9 +1,8 @@
-use Rattle.hayro_ccitt.proofs.Names.{◌≡◌, ◌∙◌, ap, sym, subst, refl, arith, here, Option, DecodeSettings, None, Turn, Bool, false, true}
+use Rattle.hayro_ccitt.proofs.Names.{ap, sym, subst, refl, arith, here, Option, DecodeSettings, false}
 use Rattle.hayro_ccitt.specs.declared.line_parts.KeptRun.{KeptRun}
-use Rattle.hayro_ccitt.specs.declared.line_parts.Word.{Word}
 use Rattle.hayro_ccitt.specs.LineParts.{EndsLine, GoesOnBy, part_at, part_by, pen_of_part}
 use Rattle.hayro_ccitt.specs.LinesGoOn.{read_on}
-use Rattle.hayro_ccitt.proofs.DrawingLines.PartsOfLines.{full_ends, reads_some, run_begun}
+use Rattle.hayro_ccitt.proofs.DrawingLines.PartsOfLines.{full_ends, reads_some}
 use Rattle.hayro_ccitt.proofs.line_parts.read_on.Goals as goal
 
 pub returns-in-Some-clause-smaller : goal.returns-in-Some-clause-smaller
@@ -23,8 +22,12 @@ returns-then-part-settings-clause-reads c =
       goes = record {
         leads = λ front is. subst (λ (r : Option KeptRun). EndsLine false (read_on held.settings held.reference
             (part_by r part.is_2d (pen_of_part part front before))).turn) (sym c.in_default.is)
-            (full_ends held.settings held.reference front part.color before part.is_2d (omega (arith, is,
-            c.if-part-settings.true, ap (λ (s : DecodeSettings). s.columns) c.settings.ensures.value)));
+            (full_ends held.settings held.reference front part.color before part.is_2d (omega (
+              arith,
+              is,
+              c.if-part-settings.true,
+              ap (λ (s : DecodeSettings). s.columns) c.settings.ensures.value,
+            )));
         lawful = record { within = c.requires.lawful.within; passed = c.requires.lawful.passed };
       };
       frame = refl;

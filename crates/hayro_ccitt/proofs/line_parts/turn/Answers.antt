@@ -1,10 +1,10 @@
 use Rattle.hayro_ccitt.proofs.Names.{◌≡◌, ◌∙◌, ◌-◌, ◌+ℤ◌, ℕ, pos, ap, sym, subst, refl, arith, length, Row, Context, DecodeSettings, Turn}
-use Rattle.hayro_ccitt.proofs.Names.{b1, right_of_painted, opposite, Result, Ok, Err, DecodeError, Color, ℤ, to_z, of_z, to_z-of_z, w8, SFits, rules}
+use Rattle.hayro_ccitt.proofs.Names.{b1, right_of_painted, opposite, Err, Color, ℤ, to_z, of_z, to_z-of_z, w8, SFits, rules}
 use Rattle.hayro_ccitt.specs.declared.line_parts.KeptPart.{KeptPart}
 use Rattle.hayro_ccitt.specs.LineParts.{PaintsTo, IsLawfulPart}
 use Rattle.hayro_ccitt.specs.Lines.{place_from}
 use Rattle.hayro_ccitt.specs.Rows.{paint}
-use Rattle.fax_bits.specs.declared.error.DecodeError.TheVariants.{InvalidCode, Overflow}
+use Rattle.fax_bits.specs.declared.error.DecodeError.TheVariants.{InvalidCode}
 use Rattle.hayro_ccitt.proofs.DrawingLines.PartsOfLines.{at_mode_is, lawful_behind, turn_ends, turn_goes, turn_unpainted}
 use Rattle.hayro_ccitt.proofs.line_parts.turn.Goals.{After-paint, After-vertical_place}
 use Rattle.hayro_ccitt.proofs.line_parts.turn.Goals as goal
@@ -74,11 +74,14 @@ returns-clause-goes c = λ rest.
           (sym (offset_is (goal.at.returns-clause-goes c).After-vertical_place)) ∙ c.in-Some.ensures.place)
           (subst (λ (n : ℕ). PaintsTo c.args.ctx.now.held.settings front color (c.in-Some.place - n) part.painted) (sym is)
           (subst (λ (s : DecodeSettings). PaintsTo s front color (c.in-Some.place - c.args.part.now.painted) part.painted)
-          (same_settings at) (c.if-not-paint.ensures.painted refl front is))) in
-          (goes.0, goes.1, goes.2 ∙ ap Turn.next (at_mode_is (record part { color = c.opposite-part.result }) goes.0
-          (opposite color) rest
-          (ap (λ (p : KeptPart). p.run) c.paint.ensures.frame ∙ c.requires.run)
-          (ap (λ (p : KeptPart). p.is_2d) c.paint.ensures.frame ∙ c.requires.mode)
-          (c.opposite-part.ensures ∙ ap (λ (p : KeptPart). opposite p.color) c.paint.ensures.frame)));
+          (same_settings at) (c.if-not-paint.ensures.painted refl front is))) in (
+            goes.0,
+            goes.1,
+            goes.2 ∙ ap Turn.next (at_mode_is (record part { color = c.opposite-part.result }) goes.0
+                (opposite color) rest
+                (ap (λ (p : KeptPart). p.run) c.paint.ensures.frame ∙ c.requires.run)
+                (ap (λ (p : KeptPart). p.is_2d) c.paint.ensures.frame ∙ c.requires.mode)
+                (c.opposite-part.ensures ∙ ap (λ (p : KeptPart). opposite p.color) c.paint.ensures.frame)),
+          );
       lawful = record { within = there.within; passed = there.passed };
     }

@@ -1,4 +1,4 @@
-use Rattle.hayro_ccitt.proofs.Names.{◌≡◌, ◌∙◌, ap, sym, subst, List, ℕ, ArePassed, Context, changes, right_of_painted, b1, b2, pixels}
+use Rattle.hayro_ccitt.proofs.Names.{◌≡◌, ◌∙◌, ap, sym, subst, List, ℕ, ArePassed, Context, changes}
 use Rattle.hayro_ccitt.proofs.Names.{get_or, ◌+◌}
 use Rattle.hayro_ccitt.proofs.PixelRows.ChangesAndPixels.{changes-pixels}
 use Rattle.hayro_ccitt.proofs.context.DecoderContext.places_behind.Goals.{After-as_slice}

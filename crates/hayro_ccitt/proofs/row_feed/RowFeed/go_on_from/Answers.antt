@@ -1,5 +1,5 @@
-use Rattle.hayro_ccitt.proofs.Names.{◌≡◌, ◌∙◌, ◌+◌, ◌-◌, ◌*◌, ap, sym, subst, refl, arith, length, length-drop, drop, false≢true, true, BitsAt}
-use Rattle.hayro_ccitt.proofs.Names.{Bits, bits_in, List, ℕ, Some, Context, false, Bool}
+use Rattle.hayro_ccitt.proofs.Names.{◌≡◌, ◌∙◌, ◌+◌, ◌-◌, ◌*◌, ap, sym, subst, arith, length, length-drop, drop, false≢true}
+use Rattle.hayro_ccitt.proofs.Names.{bits_in, List, ℕ, Some, Context}
 use Rattle.hayro_ccitt.proofs.BitReading.BitLists.{length-bits_in}
 use Rattle.hayro_ccitt.proofs.Readings.PartsFed.{part_reached, said_short, scan_most, scan_work}
 use Rattle.hayro_ccitt.specs.RowFeeds.{Feeding, LineGoesOn, feeding_of}
@@ -15,15 +15,28 @@ kept c = subst (λ (f : Feeding). LineGoesOn f.begun f.rows.stand f.ctx.held (dr
 pub overflow_add-self-inside : goal.overflow_add-self-inside
 overflow_add-self-inside c =
     let at = (goal.at.overflow_add-self-inside c).After-deref in
-    omega (arith, c.self.invariant.fit, c.self.invariant.within, (kept at).within, length-bits_in c.self.inside.order
-    c.self.inside.«data».items, length-drop c.self.inside.place (bits_in c.self.inside.order c.self.inside.«data».items))
+    omega (
+      arith,
+      c.self.invariant.fit,
+      c.self.invariant.within,
+      (kept at).within,
+      length-bits_in c.self.inside.order
+          c.self.inside.«data».items,
+      length-drop c.self.inside.place (bits_in c.self.inside.order c.self.inside.«data».items),
+    )
 
 pub placed_at-reader-requires-clause-within : goal.placed_at-reader-requires-clause-within
 placed_at-reader-requires-clause-within c =
     let at = (goal.at.placed_at-reader-requires-clause-within c).After-deref in
-    omega (arith, c.self.invariant.within, (kept at).within, length-bits_in c.self.inside.order
-    c.self.inside.«data».items, length-drop c.self.inside.place (bits_in c.self.inside.order c.self.inside.«data».items),
-    ap length c.deref.ensures.value)
+    omega (
+      arith,
+      c.self.invariant.within,
+      (kept at).within,
+      length-bits_in c.self.inside.order
+          c.self.inside.«data».items,
+      length-drop c.self.inside.place (bits_in c.self.inside.order c.self.inside.«data».items),
+      ap length c.deref.ensures.value,
+    )
 
 starts_at : (c : After-continue_line-is_short) → c.placed_at-reader.result
     ≡ record { bits = bits_in c.self.inside.order c.self.inside.«data».items; place = c.self.inside.place + c.args.read }
@@ -66,25 +79,27 @@ returns-then-is_short c =
     let within : inside.place ≤ length (bits_in inside.order inside.«data».items)
     = omega (arith, c.self.invariant.within, length-bits_in inside.order inside.«data».items) in
     let part = on.new.part in
-    rw (← c.self.view_is) (record { scans = record {
+    rw (← c.self.view_is) (record {
       scans = record {
-        frame = ap (λ (x : Context). record (feeding_of inside) {
-          ctx = x;
-          part = Some part;
-          line_read = c.bit_pos.result - inside.place;
-        }) on.ensures.frame;
-        counts = on.ensures.counts;
+        scans = record {
+          frame = ap (λ (x : Context). record (feeding_of inside) {
+            ctx = x;
+            part = Some part;
+            line_read = c.bit_pos.result - inside.place;
+          }) on.ensures.frame;
+          counts = on.ensures.counts;
+        };
+        said = said_short (feeding_of inside) (scanned at) c.args.part part c.args.read c.placed_at-reader.result on.new.reader
+            on.result (starts_at at) within on.ensures was;
+        none = λ e. absurd (false≢true (sym e ∙ c.if-is_short.true));
+        work = λ e. subst (λ (n : ℕ). on.new.ctx.ticks + (c.args.part.passed + 2 * c.args.read)
+            ≤ inside.ctx.ticks + (part.passed + 2 * (n - inside.place)) + 2) (sym c.bit_pos.ensures.place)
+            (scan_work (feeding_of inside) (scanned at) c.args.part part c.args.read c.placed_at-reader.result on.new.reader
+            on.result (starts_at at) within on.ensures was (omega (arith, c.bit_pos.ensures.place, c.bit_pos.ensures.within)));
+        most = scan_most (feeding_of inside) (scanned at) c.args.part part c.args.read c.placed_at-reader.result on.new.reader
+            on.result (starts_at at) within on.ensures was;
       };
-      said = said_short (feeding_of inside) (scanned at) c.args.part part c.args.read c.placed_at-reader.result on.new.reader
-          on.result (starts_at at) within on.ensures was;
-      none = λ e. absurd (false≢true (sym e ∙ c.if-is_short.true));
-      work = λ e. subst (λ (n : ℕ). on.new.ctx.ticks + (c.args.part.passed + 2 * c.args.read)
-          ≤ inside.ctx.ticks + (part.passed + 2 * (n - inside.place)) + 2) (sym c.bit_pos.ensures.place)
-          (scan_work (feeding_of inside) (scanned at) c.args.part part c.args.read c.placed_at-reader.result on.new.reader
-          on.result (starts_at at) within on.ensures was (omega (arith, c.bit_pos.ensures.place, c.bit_pos.ensures.within)));
-      most = scan_most (feeding_of inside) (scanned at) c.args.part part c.args.read c.placed_at-reader.result on.new.reader
-          on.result (starts_at at) within on.ensures was;
-    } })
+    })
 
 pub returns-else-is_short : goal.returns-else-is_short
 returns-else-is_short c =
@@ -95,15 +110,17 @@ returns-else-is_short c =
     let within : inside.place ≤ length (bits_in inside.order inside.«data».items)
     = omega (arith, c.self.invariant.within, length-bits_in inside.order inside.«data».items) in
     let part = on.new.part in
-    rw (← c.self.view_is) (record { scans = record {
+    rw (← c.self.view_is) (record {
       scans = record {
-        frame = ap (λ (x : Context). record (feeding_of inside) { ctx = x }) on.ensures.frame;
-        counts = on.ensures.counts;
+        scans = record {
+          frame = ap (λ (x : Context). record (feeding_of inside) { ctx = x }) on.ensures.frame;
+          counts = on.ensures.counts;
+        };
+        said = said_short (feeding_of inside) (scanned at) c.args.part part c.args.read c.placed_at-reader.result on.new.reader
+            on.result (starts_at at) within on.ensures was;
+        none = λ e. ap (λ (f : Feeding). f.part) c.self.view_is ∙ c.requires.none_kept;
+        work = λ e. absurd (false≢true (sym c.if-is_short.false ∙ e));
+        most = scan_most (feeding_of inside) (scanned at) c.args.part part c.args.read c.placed_at-reader.result on.new.reader
+            on.result (starts_at at) within on.ensures was;
       };
-      said = said_short (feeding_of inside) (scanned at) c.args.part part c.args.read c.placed_at-reader.result on.new.reader
-          on.result (starts_at at) within on.ensures was;
-      none = λ e. ap (λ (f : Feeding). f.part) c.self.view_is ∙ c.requires.none_kept;
-      work = λ e. absurd (false≢true (sym c.if-is_short.false ∙ e));
-      most = scan_most (feeding_of inside) (scanned at) c.args.part part c.args.read c.placed_at-reader.result on.new.reader
-          on.result (starts_at at) within on.ensures was;
-    } })
+    })

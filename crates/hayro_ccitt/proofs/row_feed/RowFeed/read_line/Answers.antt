@@ -1,4 +1,4 @@
-use Rattle.hayro_ccitt.proofs.Names.{◌≡◌, sym, subst, Result, Ok, Bool, DecodeError, false}
+use Rattle.hayro_ccitt.proofs.Names.{sym, subst, Ok, false}
 use Rattle.hayro_ccitt.proofs.Readings.PartsFed.{scanned_after, scanned_before, stays_short}
 use Rattle.hayro_ccitt.specs.RowFeeds.{ReadsInFeed, StaysShort}
 use Rattle.hayro_ccitt.proofs.row_feed.RowFeed.read_line.Goals as goal
