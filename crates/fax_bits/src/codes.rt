@@ -616,6 +616,26 @@ impl<'a> BitReader<'a> {
     }
 }
 
+/// Reads a word of a run of a colour, a make-up word or a terminating one (T.4, 4.1.1), which is one tick.
+///
+/// # Errors
+///
+/// `UnexpectedEof` if the data ends inside a word, and `InvalidCode` if there is none. The offset is then unspecified.
+pub fn read_word(
+    reader: &mut BitReader<'_>,
+    color: Color,
+    tables: &Tables,
+    ticks: &mut Ticks,
+) -> Result<u16>
+    ensures word { MatchResult result
+        (λ n. read_code (codes_of color) (here reader.old) ≡ Ok (n, here reader.new))
+        (λ e. read_code (codes_of color) (here reader.old) ≡ Err e) }
+    ensures same_bits { reader.new.bits ≡ reader.old.bits }
+    ensures ticks { ticks.new ≡ ticks.old + 1 }
+{
+    reader.decode_word(color, tables, ticks)
+}
+
 /// Consumes V0 if it is here, and returns whether it is; otherwise nothing changes.
 #[inline(always)]
 pub fn pass_v0(reader: &mut BitReader<'_>) -> bool

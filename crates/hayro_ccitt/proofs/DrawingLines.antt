@@ -1,3 +1,4 @@
+pub mod PartsOfLines
 pub mod UsualModes
 pub mod UsualStrokes
 pub mod WhiteRows

@@ -6,6 +6,7 @@ pub mod GapsPassed
 pub mod GapsSeen
 pub mod LinesRead
 pub mod LooksKept
+pub mod PartsFed
 pub mod RowByRow
 pub mod RowsAgain
 pub mod RowsFed

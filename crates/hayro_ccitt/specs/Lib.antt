@@ -3,6 +3,7 @@ pub mod Contract
 pub mod DrawnModes
 pub mod GapsSeen
 pub mod Lending
+pub mod LineParts
 pub mod RowCursors
 pub mod RowFeeds
 pub mod RowsRead
@@ -38,6 +39,7 @@ pub use Rattle.fax_reading.specs.Encodings
 pub use Rattle.fax_reading.specs.GapsContinued
 pub use Rattle.fax_reading.specs.Laws
 pub use Rattle.fax_reading.specs.Lines
+pub use Rattle.fax_reading.specs.LinesGoOn
 pub use Rattle.fax_reading.specs.Locality
 pub use Rattle.fax_reading.specs.LocalityByK
 pub use Rattle.fax_reading.specs.Pictures

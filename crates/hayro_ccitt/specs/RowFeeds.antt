@@ -1,10 +1,11 @@
 -- Rows from data that comes in pieces: what is kept of it, what is seen of a reading, and which data it is a reading of.
-use Rattle.std.specs.Prelude.{◌≡◌, ◌≢◌, ◌≤◌, ◌<◌, ◌+◌, ◌*◌, ◌/◌, ◌^◌, ℕ, Bool, true, false, ◌++◌, [], not, ◌&&◌, max, drop}
+use Rattle.std.specs.Prelude.{◌≡◌, ◌≢◌, ◌≤◌, ◌<◌, ◌+◌, ◌*◌, ◌/◌, ◌^◌, ℕ, Bool, true, false, ◌++◌, [], not, ◌&&◌, max, drop, ◌⊎◌}
 use Rattle.std.specs.Prelude.{length, Option, None, Some, Result, Ok, Err, IfErr}
 use Rattle.fax_bits.specs.declared.bit_reader.BitOrder.{BitOrder}
 use Rattle.fax_bits.specs.declared.codes.Color.TheVariants.{White}
 use Rattle.fax_bits.specs.declared.error.DecodeError.{DecodeError}
 use Rattle.fax_bits.specs.declared.error.DecodeError.TheVariants.{InvalidCode, OutOfMemory}
+use Rattle.hayro_ccitt.specs.declared.line_parts.KeptPart.{KeptPart}
 use Rattle.hayro_ccitt.specs.declared.row_feed.Fed.{Fed}
 use Rattle.hayro_ccitt.specs.declared.row_feed.RowFeed.TheInside.{Inside}
 use Rattle.hayro_ccitt.specs.declared.row_reader.RowState.{RowState}
@@ -12,12 +13,15 @@ use Rattle.hayro_ccitt.specs.declared.row_reader.Stand.{Stand}
 use Rattle.hayro_ccitt.specs.declared.row_reader.Stand.TheVariants.{AtLine, BehindRow, AtEnd, AtFault}
 use Rattle.hayro_ccitt.specs.Answers.{HasBlack, PaintsBlack, front_of}
 use Rattle.hayro_ccitt.specs.Bits.{AreWholeBytes, Bits, BitsAt, bits_in, here}
-use Rattle.hayro_ccitt.specs.Context.{Context, fresh, redrawn}
+use Rattle.hayro_ccitt.specs.Context.{Context, Held, fresh, redrawn}
 use Rattle.hayro_ccitt.specs.Continuations.{is_short}
 use Rattle.hayro_ccitt.specs.GapsContinued.{first_gap_is_settled, gap_is_settled}
 use Rattle.hayro_ccitt.specs.GapsSeen.{IsSeen, nothing_seen, rules_for}
 use Rattle.hayro_ccitt.specs.declared.gap_look.GapLook.{GapLook}
+use Rattle.hayro_ccitt.specs.LineParts.{IsLawfulPart, IsPartOf}
+use Rattle.hayro_ccitt.specs.Lines.{Line}
 use Rattle.hayro_ccitt.specs.PlainReading.{line_here, lines_of}
+use Rattle.hayro_ccitt.specs.Rows.{changes}
 use Rattle.hayro_ccitt.specs.RowsRead.{IsStanding, IsStandingAtLine, ReachesNextLine, ReadsNext, RowsRead, ended, is_at_line}
 use Rattle.hayro_ccitt.specs.RowsRead.{seen}
 use Rattle.hayro_ccitt.specs.RowsTried.{CanCome, IsLeft, TriesRow, no_memory}
@@ -26,8 +30,9 @@ use Rattle.hayro_ccitt.specs.RowsTried.{CanCome, IsLeft, TriesRow, no_memory}
 
 -- the context, what is kept between two rows, the order of the bits, whether what is before the first line was passed,
 -- whether the
--- data is finished, the bits kept of it, how many bits came before them, the offset of the next bit among those kept, and how
--- many bits from there on were looked at since the gap before the next line is sought
+-- data is finished, the bits kept of it, how many bits came before them, the offset of the next bit among those kept, how many
+-- bits from there on were looked at since the gap before the next line is sought, the part of the line there from which it goes
+-- on, if it was found to be short, and how many of its bits were read
 pub record Feeding : Type 0 where
   pub ctx : Context
   pub rows : RowState
@@ -38,6 +43,8 @@ pub record Feeding : Type 0 where
   pub dropped : ℕ
   pub place : ℕ
   pub looked : ℕ
+  pub part : Option KeptPart
+  pub line_read : ℕ
 
 abbrev pub feeding_of : Inside → Feeding
 feeding_of f = record {
@@ -50,7 +57,22 @@ feeding_of f = record {
   dropped = f.dropped;
   place = f.place;
   looked = f.look.bits;
+  part = f.part;
+  line_read = f.line_read;
 }
+
+-- the line that begins these bits is short, and goes on from this part of it, of which so many bits were read
+pub record LineGoesOn (begun : Bool) (stand : Stand) (held : Held) (here : Bits) (read : ℕ) (part : KeptPart) : Type 0 where
+  pub is_begun : begun ≡ true
+  pub at_line : is_at_line stand ≡ true
+  pub none_drawn : redrawn held [] White ≡ held
+  pub within : read ≤ length here
+  pub lawful : IsLawfulPart held.settings held.reference part
+  pub line : IsPartOf held.settings held.reference here part (drop read here)
+
+abbrev pub PartIsKept : Option KeptPart → Bool → Stand → Held → Bits → ℕ → Type 0
+PartIsKept None begun stand held here read = read ≡ 0
+PartIsKept (Some part) begun stand held here read = LineGoesOn begun stand held here read part
 
 -- the next bit is among those kept, or just after them, offsets fit, and nothing was read yet if nothing has begun
 pub record IsKept (f : Inside) : Type 0 where
@@ -62,6 +84,7 @@ pub record IsKept (f : Inside) : Type 0 where
   pub rows : f.begun ≡ false → is_at_line f.rows.stand ≡ false
   pub seen : IsSeen (rules_for f.begun f.ctx.held) f.look (drop f.place (bits_in f.order f.«data».items))
   pub line : is_at_line f.rows.stand ≡ true → f.look ≡ nothing_seen
+  pub part : PartIsKept f.part f.begun f.rows.stand f.ctx.held (drop f.place (bits_in f.order f.«data».items)) f.line_read
 
 -- what was read of these bits
 abbrev pub fed_over : Bits → Feeding → RowsRead
@@ -283,6 +306,55 @@ pub record ReadsInFeed (old new : Feeding) (answer : Result Bool DecodeError) : 
   pub stands : (whole : Bits) (tried : ℕ) → IsFeedOf whole tried old → IsFeedOf whole (tried + extra) new
   pub most : new.ctx.space ≤ max old.ctx.space (2 * old.ctx.held.settings.columns + 66)
 
+-- a short line is read on: nothing changes but the count of work, and what is kept of the line
+pub record Scans (old new : Feeding) : Type 0 where
+  pub frame : new ≡ record old {
+    ctx = record old.ctx { ticks = new.ctx.ticks };
+    part = new.part;
+    line_read = new.line_read;
+  }
+  pub counts : old.ctx.ticks ≤ new.ctx.ticks
+
+-- the line that is here
+abbrev pub line_of_feed : Feeding → Line
+line_of_feed feed = line_here feed.ctx.held.settings feed.ctx.held.reference (drop feed.place feed.kept)
+
+-- what was counted for a line that is short, at most: its bits that were read, and the changes of the reference row
+abbrev pub paid_by : Option KeptPart → ℕ → ℕ
+paid_by None read = 0
+paid_by (Some part) read = part.passed + 2 * read
+
+abbrev pub paid_for_line : Feeding → ℕ
+paid_for_line feed = paid_by feed.part feed.line_read
+
+-- the most of it
+abbrev pub most_for_line : Feeding → ℕ
+most_for_line feed = length (changes feed.ctx.held.reference) + 2 * length (drop feed.place feed.kept)
+
+-- from a part with so many changes passed and bits read on
+pub record ScansLine (passed read : ℕ) (old new : Feeding) (short : Bool) : Type 0 where
+  pub scans : Scans old new
+  pub said : is_short (line_of_feed old) ≡ short
+  pub none : short ≡ false → new.part ≡ None
+  pub work : short ≡ true → new.ctx.ticks + (passed + 2 * read) ≤ old.ctx.ticks + paid_for_line new + 2
+  pub most : new.ctx.ticks + (passed + 2 * read) ≤ old.ctx.ticks + most_for_line old + 2
+
+-- from the part that is kept, if one is
+pub record StaysShort (old new : Feeding) (short : Bool) : Type 0 where
+  pub scans : Scans old new
+  pub said : short ≡ true
+      → (is_short (line_of_feed old) ≡ true) × (old.finished ≡ false) × (redrawn old.ctx.held [] White ≡ old.ctx.held)
+  pub settled : short ≡ false → old.part ≢ None → (old.finished ≡ true) ⊎ (is_short (line_of_feed old) ≡ false)
+  pub none : short ≡ false → new.part ≡ None
+  pub unkept : old.part ≡ None → (short ≡ false) × (new.ctx.ticks ≡ old.ctx.ticks)
+  pub work : short ≡ true → new.ctx.ticks + paid_for_line old ≤ old.ctx.ticks + paid_for_line new + 2
+  pub most : new.ctx.ticks + paid_for_line old ≤ old.ctx.ticks + most_for_line old + 2
+
+-- from the start of the line, which is short
+pub record KeepsPart (old new : Feeding) : Type 0 where
+  pub scans : Scans old new
+  pub work : is_short (line_of_feed old) ≡ true → new.ctx.ticks ≤ old.ctx.ticks + paid_for_line new + 2
+
 -- what a call answers where a line was tried
 abbrev pub fed_row : Result Bool DecodeError → Result Fed DecodeError
 fed_row (Ok true) = Ok Fed.Row
@@ -338,3 +410,5 @@ pub record DropsRead (old new : Feeding) : Type 0 where
   pub order : new.order ≡ old.order
   pub begun : new.begun ≡ old.begun
   pub finished : new.finished ≡ old.finished
+  pub part : new.part ≡ old.part
+  pub line_read : new.line_read ≡ old.line_read

@@ -1,15 +1,16 @@
 //! What a decoder keeps from line to line, and the lines themselves.
 
 ghost use Rattle.std.specs.Prelude.{◌≡◌, ◌+◌, ◌-◌, ◌*◌, ◌^◌, ◌<◌, ◌≤◌, ◌⊎◌, ◌↔◌, ℕ, Ok, Err, OnOk, OnErr, IfOk, IfErr, true};
-ghost use Rattle.std.specs.Prelude.{false, suc, max, vec_capacity};
+ghost use Rattle.std.specs.Prelude.{false, suc, max, vec_capacity, MatchResult};
 ghost use Rattle.std.specs.Prelude.{◌||◌, IsOkUnless, IsTrue, if◌then◌else◌, is_some, option_map, length, get_or, []};
 ghost use Rattle.hayro_ccitt.specs.LocalityByK.{behind_mode};
 ghost use Rattle.hayro_ccitt.specs.{Ticks.run_found, Work.mode_found};
-ghost use Rattle.hayro_ccitt.specs.Runs.{read_run};
+ghost use Rattle.hayro_ccitt.specs.Runs.{codes_of, read_run};
 ghost use Rattle.hayro_ccitt.specs.Rows.{AreChanges, right_of, b1, b2, changes, opposite};
 ghost use Rattle.hayro_ccitt.specs.Bits.{here};
 ghost use Rattle.hayro_ccitt.specs.Context.{redrawn, painted_front, taken_row, after_repair, passed_changes, with_missed};
-ghost use Rattle.hayro_ccitt.specs.Context.{exceeds, with_cut};
+ghost use Rattle.hayro_ccitt.specs.CodeReading.{read_code};
+ghost use Rattle.hayro_ccitt.specs.Context.{ArePassed, exceeds, right_of_painted, with_cut};
 ghost use Rattle.hayro_ccitt.specs.UsualModes.{GoesOn2d};
 ghost use Rattle.hayro_ccitt.specs.UsualRuns.{GoesOn};
 ghost use Rattle.hayro_ccitt.specs.RowsRead.{RepeatsWhite};
@@ -29,7 +30,7 @@ use crate::{DecodeError, Decoder, Result};
 use fax_bits::bit_reader::{
     BitOrder, BitReader, BitsAtHand, at_hand, go_to, none_at_hand, window_at_hand,
 };
-use fax_bits::codes::{Color, Mode, Ticks, pass_v0};
+use fax_bits::codes::{Color, Mode, Ticks, pass_v0, read_word};
 use fax_bits::tables::Tables;
 use fax_bits::{DecodeSettings, EncodingMode};
 use std::alloc::Global;
@@ -609,6 +610,48 @@ impl DecoderContext {
         self.decoded_rows -= 1;
         self.damaged_rows = damaged_rows;
         self.cut_rows = cut_rows;
+    }
+
+    /// Reads a word of a run of a colour without drawing it, as [`read_word`] does.
+    pub(crate) fn read_word(&mut self, color: Color, reader: &mut BitReader<'_>) -> Result<u16>
+        ensures word { MatchResult result
+            (λ n. read_code (codes_of color) (here reader.old) ≡ Ok (n, here reader.new))
+            (λ e. read_code (codes_of color) (here reader.old) ≡ Err e) }
+        ensures same_bits { reader.new.bits ≡ reader.old.bits }
+        ensures frame { self.new ≡ record self.old { ticks = self.old.ticks + 1 } }
+    {
+        read_word(reader, color, &self.tables, &mut self.ticks)
+    }
+
+    /// Returns b1 and b2 of a row of which this many pixels are painted, and whose next ones have this colour (T.4, 4.2.1.1).
+    /// `passed` is how many changes of the reference row are known not to be right of a0; afterwards it is the number of all such
+    /// changes.
+    pub(crate) fn places_behind(
+        &mut self,
+        painted: u32,
+        color: Color,
+        passed: &mut usize,
+    ) -> (u32, u32)
+        requires { ArePassed (changes self.old.held.reference) painted passed.old }
+        ensures b1 { result.0 ≡ b1 self.old.held.reference (right_of_painted painted) color }
+        ensures b2 { result.1 ≡ b2 self.old.held.reference (right_of_painted painted) color }
+        ensures passed { ArePassed (changes self.old.held.reference) painted passed.new }
+        ensures frame { self.new ≡ record self.old { ticks = self.new.ticks } }
+        ensures forward { passed.old ≤ passed.new }
+        ensures work { self.new.ticks + passed.old ≡ self.old.ticks + passed.new + 1 }
+    {
+        let index = b1_index(
+            self.ref_changes.as_slice(),
+            painted,
+            color,
+            self.settings.columns,
+            passed,
+            &mut self.ticks,
+        );
+        (
+            self.reference_change(index),
+            self.reference_change(index + 1),
+        )
     }
 
     /// Passes a run of a colour without drawing it, and returns its length. If there is none, it returns `None`, and the

@@ -38,6 +38,7 @@ pub mod group3;
 pub mod group4;
 mod in_step;
 pub mod laws;
+mod line_parts;
 mod locality;
 mod modes;
 mod push_rows;

@@ -4,23 +4,25 @@ ghost use Rattle.std.specs.Prelude.{◌≡◌, ◌≢◌, ◌≤◌, ◌<◌, �
 ghost use Rattle.std.specs.Prelude.{Some, Ok, Err, ◌⊎◌, ◌↔◌, ◌-◌};
 ghost use Rattle.std.specs.Prelude.{IfOk, IfErr, OnErr, OnOk, IsOkUnless, Result, length, max, drop};
 ghost use Rattle.hayro_ccitt.specs.Bits.{AreWholeBytes, Bits, bits_in, here};
-ghost use Rattle.hayro_ccitt.specs.Context.{fresh};
+ghost use Rattle.hayro_ccitt.specs.Context.{fresh, redrawn};
 ghost use Rattle.hayro_ccitt.specs.GapsContinued.{first_gap_is_settled, gap_is_settled};
 ghost use Rattle.hayro_ccitt.specs.GapsSeen.{IsSeen, is_settled, nothing_seen, rules_for, stage_behind};
 ghost use Rattle.hayro_ccitt.specs.RowsRead.{at_end_of_rows, ended, is_at_line};
 ghost use Rattle.hayro_ccitt.specs.RowsTried.{IsLeft};
 ghost use Rattle.hayro_ccitt.specs.RowFeeds.{Begins, ComeNext, ComesInFeed, DropsRead, ReadsInFeed, ComesOn, FeedsNext};
 ghost use Rattle.hayro_ccitt.specs.RowFeeds.{IsFeedOf, KeepsBits, TriesLine, fed_bits, fed_end, fed_none, fed_row, is_left, line_answer};
-ghost use Rattle.hayro_ccitt.specs.RowFeeds.{HoldsMore, some_line, unused};
+ghost use Rattle.hayro_ccitt.specs.RowFeeds.{HoldsMore, KeepsPart, LineGoesOn, ScansLine, StaysShort, some_line, unused};
 ghost use Rattle.hayro_ccitt.specs.Rows.{AreChanges, changes};
 
 use crate::context::DecoderContext;
 use crate::gap_look::{GapLook, GapRules, GapStage, first_rules, rules_behind_row};
+use crate::line_parts::{KeptPart, begin_part, continue_line};
 use crate::row_reader::{RowState, Stand, first_stand, has_ended, is_at_line};
 use crate::rows::try_row;
 use crate::{DecodeError, Result};
 use fax_bits::DecodeSettings;
 use fax_bits::bit_reader::{BitOrder, BitReader, at_bit, placed_at};
+use fax_bits::codes::Color;
 use std::alloc::Global;
 use std::marker::Model;
 
@@ -129,6 +131,14 @@ fn line_answer(row: &Result<bool>) -> Result<()>
         Ok(_) => Ok(()),
         Err(error) => Err(*error),
     }
+}
+
+/// Returns whether a line was left since data that follows can change it.
+fn is_unsettled(row: &Result<bool>) -> bool
+    ensures short { result ≡ true → row.now ≡ Ok false }
+    ensures other { result ≡ false → row.now ≢ Ok false }
+{
+    matches!(row, Ok(false))
 }
 
 /// Returns whether a line is here.
@@ -250,6 +260,10 @@ pub struct RowFeed {
     place: usize,
     /// How far the gap that is next was looked at.
     look: GapLook,
+    /// Where the line here goes on that was found to be short, or `None` at its start, or where no line is known to be here.
+    part: Option<KeptPart>,
+    /// How many bits of that line were read.
+    line_read: usize,
 }
 
 impl Model for RowFeed {
@@ -289,6 +303,8 @@ impl RowFeed {
             dropped: 0,
             place: 0,
             look: GapLook::new(),
+            part: None,
+            line_read: 0,
         })
     }
 
@@ -313,7 +329,9 @@ impl RowFeed {
     fn come_to_line(&mut self) -> Result<Option<bool>>
         requires begun { self.old.begun ≡ true }
         requires unended { ended self.old.rows.stand ≡ None }
-        ensures { ComesInFeed self.old self.new result }
+        requires none_kept { self.old.part ≡ None }
+        ensures comes { ComesInFeed self.old self.new result }
+        ensures none_kept { self.new.part ≡ None }
     {
         let mut reader = placed_at(&self.data, self.order, self.place);
         let gap_start = self.dropped + self.place;
@@ -328,13 +346,15 @@ impl RowFeed {
         line
     }
 
-    /// Reads the line here, if no data that follows can change it, and returns whether it was read.
-    fn read_line(&mut self) -> Result<bool>
+    /// Reads the line here from its start, if no data that follows can change it, and returns whether it was read.
+    fn read_whole_line(&mut self) -> Result<bool>
         requires begun { self.old.begun ≡ true }
         requires rows { self.old.ctx.held.taken + 1 < 2 ^ 64 }
         requires damaged { self.old.ctx.held.repairs.rows ≤ self.old.ctx.held.taken }
         requires line { is_at_line self.old.rows.stand ≡ true }
-        ensures { ReadsInFeed self.old self.new result }
+        requires none_kept { self.old.part ≡ None }
+        ensures reads { ReadsInFeed self.old self.new result }
+        ensures none_kept { self.new.part ≡ None }
     {
         let mut reader = placed_at(&self.data, self.order, self.place);
         let line_start = self.dropped + self.place;
@@ -343,6 +363,74 @@ impl RowFeed {
             .rows
             .try_line(&mut self.ctx, &mut reader, self.is_last, line_start);
         self.place = reader.bit_pos();
+        row
+    }
+
+    /// Reads on from a part of the line here, of which so many bits were read, and returns whether the line is short. If it is, the
+    /// part from which it goes on is kept.
+    fn go_on_from(&mut self, part: KeptPart, read: usize) -> bool
+        requires none_kept { self.old.part ≡ None }
+        requires part { LineGoesOn self.old.begun self.old.rows.stand self.old.ctx.held (drop self.old.place self.old.kept) read
+            part }
+        ensures scans { ScansLine part.passed read self.old self.new result }
+    {
+        let mut part = part;
+        let mut reader = placed_at(&self.data, self.order, self.place + read);
+        let is_short = continue_line(&mut self.ctx, &mut reader, &mut part);
+        if is_short {
+            self.line_read = reader.bit_pos() - self.place;
+            self.part = Some(part);
+        }
+        is_short
+    }
+
+    /// Returns whether the line here is known to be short: whether it goes on from a part that was kept, and still is short.
+    fn is_still_short(&mut self) -> bool
+        ensures { StaysShort self.old self.new result }
+    {
+        let Some(part) = self.part else {
+            return false;
+        };
+        let read = self.line_read;
+        self.part = None;
+        self.line_read = 0;
+        if self.is_last {
+            return false;
+        }
+        self.go_on_from(part, read)
+    }
+
+    /// Keeps the part from which the line here goes on, which is short.
+    fn keep_part(&mut self)
+        requires none_kept { self.old.part ≡ None }
+        requires begun { self.old.begun ≡ true }
+        requires line { is_at_line self.old.rows.stand ≡ true }
+        requires none_drawn { redrawn self.old.ctx.held [] Color.White ≡ self.old.ctx.held }
+        ensures { KeepsPart self.old self.new }
+    {
+        let mut reader = placed_at(&self.data, self.order, self.place);
+        if let Some(part) = begin_part(&mut self.ctx, &mut reader) {
+            let read = reader.bit_pos() - self.place;
+            self.go_on_from(part, read);
+        }
+    }
+
+    /// Reads the line here, if no data that follows can change it, and returns whether it was read. A line that is short goes on
+    /// from where it was short in the call before.
+    fn read_line(&mut self) -> Result<bool>
+        requires begun { self.old.begun ≡ true }
+        requires rows { self.old.ctx.held.taken + 1 < 2 ^ 64 }
+        requires damaged { self.old.ctx.held.repairs.rows ≤ self.old.ctx.held.taken }
+        requires line { is_at_line self.old.rows.stand ≡ true }
+        ensures { ReadsInFeed self.old self.new result }
+    {
+        if self.is_still_short() {
+            return Ok(false);
+        }
+        let row = self.read_whole_line();
+        if is_unsettled(&row) {
+            self.keep_part();
+        }
         row
     }
 
@@ -357,6 +445,21 @@ impl RowFeed {
         rows < u64::MAX && self.ctx.damaged_rows() <= rows
     }
 
+    /// Reads the row of the line here.
+    fn read_here(&mut self) -> Result<Fed>
+        requires begun { self.old.begun ≡ true }
+        requires line { is_at_line self.old.rows.stand ≡ true }
+        ensures reads { (whole : Bits) (tried : ℕ) → IsFeedOf whole tried self.old
+            → FeedsNext whole tried self.old self.new result }
+        ensures keeps { KeepsBits self.old self.new }
+    {
+        if !self.can_take_row() {
+            return Err(DecodeError::UnexpectedEof);
+        }
+        let row = self.read_line();
+        fed_row(row)
+    }
+
     /// Reads the next row behind the first line's start.
     fn read_on(&mut self) -> Result<Fed>
         requires begun { self.old.begun ≡ true }
@@ -365,15 +468,14 @@ impl RowFeed {
             → FeedsNext whole tried self.old self.new result }
         ensures keeps { KeepsBits self.old self.new }
     {
+        if self.part.is_some() {
+            return self.read_here();
+        }
         let line = self.come_to_line();
         if !is_some_line(&line) {
             return fed_none(line);
         }
-        if !self.can_take_row() {
-            return Err(DecodeError::UnexpectedEof);
-        }
-        let row = self.read_line();
-        fed_row(row)
+        self.read_here()
     }
 
     /// Reads the first row, behind what is before it.

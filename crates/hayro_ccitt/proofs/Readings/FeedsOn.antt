@@ -680,22 +680,17 @@ first_line_is BehindRow is reached = reached
 first_line_is AtEnd is reached = absurd cc
 first_line_is (AtFault error) is reached = absurd cc
 
--- a line was reached, and there is room for its row
-pub reached_fits : {whole : Bits} {tried : ℕ} {old new : Feeding} (answer : Result (Option Bool) DecodeError)
-    → (comes : ComesInFeed old new answer) → answer ≡ Ok (Some true) → IsFeedOf whole tried old
-    → (new.ctx.held.taken + 1 < 2 ^ 64) × (new.ctx.held.repairs.rows ≤ new.ctx.held.taken)
-reached_fits {whole} {tried} {old} {new} answer comes is feed =
-    row_fits comes.begun (comes.line is) (comes.stands whole tried (λ none. let never = sym is ∙ none in absurd cc) feed)
-
-pub reached_on : {whole : Bits} {tried : ℕ} {old mid new : Feeding} (line : Result (Option Bool) DecodeError)
-    (row : Result Bool DecodeError) → (comes : ComesInFeed old mid line) → line ≡ Ok (Some true) → ReadsInFeed mid new row
-    → old.begun ≡ true → IsFeedOf whole tried old → FeedsNext whole tried old new (fed_row row)
-reached_on {whole} {tried} {old} {mid} {new} line row comes is reads begun feed =
+-- a line was reached, and is read
+pub reached_here : {whole : Bits} {tried : ℕ} {old mid new : Feeding} {answer : Result Fed DecodeError}
+    (line : Result (Option Bool) DecodeError) → (comes : ComesInFeed old mid line) → line ≡ Ok (Some true)
+    → ((tried : ℕ) → IsFeedOf whole tried mid → FeedsNext whole tried mid new answer) → old.begun ≡ true
+    → IsFeedOf whole tried old → FeedsNext whole tried old new answer
+reached_here {whole} {tried} {old} {mid} {new} line comes is reads begun feed =
     let some : line ≢ Ok None = λ none. let never = sym is ∙ none in absurd cc in
     let reached = subst (λ (r : Result (Option Bool) DecodeError). ReachesNextLine (fed_over whole old) (fed_over whole mid)
     (came r))
     is (comes.comes whole tried some feed) in
-    feeds_on comes.extra (looks_begun old.begun begun comes.looks) reached (line_feeds row reads comes.begun (comes.line is) (comes.stands whole tried some feed))
+    feeds_on comes.extra (looks_begun old.begun begun comes.looks) reached (reads (tried + comes.extra) (comes.stands whole tried some feed))
 
 -- ---- More data
 

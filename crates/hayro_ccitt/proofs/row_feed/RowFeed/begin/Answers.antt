@@ -7,6 +7,7 @@ use Rattle.hayro_ccitt.proofs.Readings.GapsSeen.{looked_within}
 use Rattle.hayro_ccitt.specs.GapsSeen.{IsSeen, rules_for}
 use Rattle.hayro_ccitt.proofs.Readings.LooksKept.{fresh_look, seen_begun, seen_there}
 use Rattle.hayro_ccitt.proofs.Readings.FeedsOn.{at_front, front_fed, front_reaches}
+use Rattle.hayro_ccitt.proofs.Readings.PartsFed.{none_kept, unbegun_none}
 use Rattle.hayro_ccitt.proofs.Readings.RowsFed.{waits_for, waits_not}
 use Rattle.hayro_ccitt.specs.GapsContinued.{first_gap_is_settled}
 use Rattle.hayro_ccitt.specs.RowFeeds.{Feeding, StandsIn, feeding_of}
@@ -107,6 +108,9 @@ invariant_of-self-2 c =
       rows = λ e. absurd (false≢true (sym e));
       seen = fresh_look _ _ c.new-self-inside.ensures;
       line = λ e. c.new-self-inside.ensures;
+      part = none_kept c.self.inside.part _ _ _ _ _ _ _ _ _
+          (unbegun_none c.self.inside.part _ _ _ _ _ (begun_not at) c.self.invariant.part)
+          c.self.invariant.part;
     }
 
 pub returns : goal.returns
@@ -135,6 +139,8 @@ returns c =
       dropped = inside.dropped;
       place = c.bit_pos-self-inside.result;
       looked = 0;
+      part = inside.part;
+      line_read = inside.line_read;
     } in
     rw (← c.self.view_is) (record {
       extra = more;
@@ -192,4 +198,6 @@ invariant_of-self c =
           (drop c.self.inside.place (bits_in c.self.inside.order c.self.inside.«data».items))) (sym same)
           (seen_there (ap here (front_is at)) c.front_waits.ensures.seen));
       line = λ e. absurd (false≢true (sym (old.rows (begun_not at)) ∙ e));
+      part = none_kept c.self.inside.part _ _ _ _ _ _ _ _ _ (unbegun_none c.self.inside.part _ _ _ _ _ (begun_not at) old.part)
+          old.part;
     }

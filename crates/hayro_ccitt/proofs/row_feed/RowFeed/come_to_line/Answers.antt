@@ -3,6 +3,7 @@ use Rattle.hayro_ccitt.proofs.BitReading.BitLists.{length-bits_in}
 use Rattle.hayro_ccitt.proofs.Names.{Bits, drop, here}
 use Rattle.hayro_ccitt.proofs.Readings.LooksKept.{kept_line, kept_seen, seen_begun, seen_there}
 use Rattle.hayro_ccitt.proofs.Readings.FeedsOn.{feed_comes}
+use Rattle.hayro_ccitt.proofs.Readings.PartsFed.{none_kept}
 use Rattle.hayro_ccitt.specs.RowFeeds.{Feeding}
 use Rattle.hayro_ccitt.proofs.row_feed.RowFeed.come_to_line.Goals.{After-come_to_settled_line-line}
 use Rattle.hayro_ccitt.proofs.row_feed.RowFeed.come_to_line.Goals as goal
@@ -45,11 +46,13 @@ invariant_of-self c =
           c.come_to_settled_line-line.ensures.same_bits c.bit_pos-self-inside.ensures.place)
           (kept_seen c.come_to_settled_line-line.result c.come_to_settled_line-line.ensures));
       line = kept_line c.come_to_settled_line-line.result c.come_to_settled_line-line.ensures;
+      part = none_kept c.self.inside.part _ _ _ _ _ _ _ _ _
+          (ap (λ (f : Feeding). f.part) c.self.view_is ∙ c.requires.none_kept) c.self.invariant.part;
     }
 
-pub returns : goal.returns
-returns c =
-    let at = (goal.at.returns c).After-come_to_settled_line-line in
+pub returns-clause-comes : goal.returns-clause-comes
+returns-clause-comes c =
+    let at = (goal.at.returns-clause-comes c).After-come_to_settled_line-line in
     rw (← c.self.view_is) (feed_comes _ _ c.placed_at-reader.result c.come_to_settled_line-line.new.reader (gap_is_at at)
     (record { order = refl; finished = refl; kept = refl; dropped = refl }) c.bit_pos-self-inside.ensures.place
     (gap_begun at) (gap_begun at) c.self.inside.look c.come_to_settled_line-line.new.look refl refl

@@ -1,5 +1,6 @@
 use Rattle.hayro_ccitt.proofs.Names.{◌≡◌, ◌∙◌, ◌++◌, ◌+◌, ◌-◌, ◌*◌, ◌/◌, ap, sym, refl, arith, length, length-drop}
-use Rattle.hayro_ccitt.proofs.Names.{drop, drop-drop, take, bits_in, List, ℕ}
+use Rattle.hayro_ccitt.proofs.Names.{drop, drop-drop, take, bits_in, subst, Bits, List, ℕ}
+use Rattle.hayro_ccitt.specs.RowFeeds.{PartIsKept}
 use Rattle.std.proofs.Math.Seq.{take-append_seam}
 use Rattle.hayro_ccitt.proofs.BitReading.BitLists.{length-bits_in}
 use Rattle.hayro_ccitt.proofs.Readings.FeedsOn.{bits-dropped}
@@ -37,6 +38,8 @@ invariant_of-self c =
     let bits = bits_in inside.order inside.«data».items in
     let place = inside.place - inside.place / 8 * 8 in
     let there : 8 * (inside.place / 8) + place ≡ inside.place = omega arith in
+    let same : drop place (bits_in inside.order c.truncate.new.self.items) ≡ drop inside.place bits
+    = ap (drop place) (bits_left at) ∙ drop-drop place (8 * (inside.place / 8)) bits ∙ ap (λ (n : ℕ). drop n bits) there in
     let kept = ap length (items_left at) ∙ length-drop (inside.place / 8) inside.«data».items in
     record {
       within = omega (arith, kept, c.self.invariant.within);
@@ -45,9 +48,10 @@ invariant_of-self c =
       start = λ e. omega (arith, c.self.invariant.start e);
       unended = c.self.invariant.unended;
       rows = c.self.invariant.rows;
-      seen = seen_there (sym (ap (drop place) (bits_left at) ∙ drop-drop place (8 * (inside.place / 8)) bits
-          ∙ ap (λ (n : ℕ). drop n bits) there)) c.self.invariant.seen;
+      seen = seen_there (sym same) c.self.invariant.seen;
       line = c.self.invariant.line;
+      part = subst (λ (b : Bits). PartIsKept inside.part inside.begun inside.rows.stand inside.ctx.held b inside.line_read)
+          (sym same) c.self.invariant.part;
     }
 
 pub returns : goal.returns
@@ -66,4 +70,6 @@ returns c =
       order = refl;
       begun = refl;
       finished = refl;
+      part = refl;
+      line_read = refl;
     })

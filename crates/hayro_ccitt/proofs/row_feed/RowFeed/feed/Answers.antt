@@ -7,10 +7,12 @@ use Rattle.hayro_ccitt.proofs.Readings.BitsHeld.{holds_more, holds_none}
 use Rattle.hayro_ccitt.proofs.Names.{drop, length-append}
 use Rattle.hayro_ccitt.proofs.Readings.FeedsOn.{come_next, drops_none_fed, drops_read, feeds_more}
 use Rattle.hayro_ccitt.proofs.Readings.LooksKept.{seen_more, seen_there}
+use Rattle.hayro_ccitt.proofs.Readings.PartsFed.{kept_longer}
+use Rattle.std.proofs.lemmas.List.{drop-append-le}
 use Rattle.std.proofs.lemmas.List.Concat.{flat_map-append}
 use Rattle.fax_bits.specs.declared.bit_reader.BitOrder.{BitOrder}
 use Rattle.hayro_ccitt.specs.Bits.{bits_of_byte}
-use Rattle.hayro_ccitt.specs.RowFeeds.{Feeding, IsFeedOf, fed_bits, feeding_of}
+use Rattle.hayro_ccitt.specs.RowFeeds.{Feeding, IsFeedOf, PartIsKept, fed_bits, feeding_of}
 use Rattle.hayro_ccitt.proofs.BitReading.BitLists.{length-bits_in}
 use Rattle.hayro_ccitt.proofs.row_feed.RowFeed.feed.Goals.{then-bytes-kept-via-then-bytes-kept}
 use Rattle.hayro_ccitt.proofs.row_feed.RowFeed.feed.Goals.{then-bytes-kept-via-else-bytes-kept+then-self-kept}
@@ -206,6 +208,14 @@ invariant_of-self-2 c =
           (seen_more inside.place (bits_in inside.order inside.«data».items) (bits_in inside.order c.args.bytes.now)
           (omega (arith, old.within, length-bits_in inside.order inside.«data».items)) old.seen);
       line = old.line;
+      part = subst (λ (b : Bits). PartIsKept inside.part inside.begun inside.rows.stand inside.ctx.held b inside.line_read)
+          (sym (drop-append-le inside.place (bits_in inside.order inside.«data».items) (bits_in inside.order c.args.bytes.now)
+          (omega (arith, old.within, length-bits_in inside.order inside.«data».items)))
+          ∙ ap (drop inside.place) (sym (ap (bits_in inside.order) items
+          ∙ flat_map-append (bits_of_byte inside.order) inside.«data».items c.args.bytes.now)))
+          (kept_longer inside.part inside.begun inside.rows.stand inside.ctx.held
+          (drop inside.place (bits_in inside.order inside.«data».items)) inside.line_read (bits_in inside.order c.args.bytes.now)
+          old.part);
     }
 
 pub returns-clause-counts : goal.returns-clause-counts

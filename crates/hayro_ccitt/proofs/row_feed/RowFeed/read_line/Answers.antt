@@ -1,54 +1,21 @@
-use Rattle.hayro_ccitt.proofs.Names.{◌≡◌, ◌∙◌, ap, sym, refl, arith, length, false≢true, true, BitsAt, bits_in, is_at_line}
-use Rattle.hayro_ccitt.proofs.Names.{List, ℕ}
-use Rattle.hayro_ccitt.proofs.BitReading.BitLists.{length-bits_in}
-use Rattle.hayro_ccitt.proofs.Readings.LooksKept.{fresh_look}
-use Rattle.hayro_ccitt.specs.GapsSeen.{nothing_seen}
-use Rattle.hayro_ccitt.proofs.Readings.FeedsOn.{feed_reads}
-use Rattle.hayro_ccitt.specs.RowFeeds.{Feeding}
-use Rattle.hayro_ccitt.proofs.row_feed.RowFeed.read_line.Goals.{After-try_line-row}
+use Rattle.hayro_ccitt.proofs.Names.{sym, subst, Ok, false}
+use Rattle.hayro_ccitt.proofs.Readings.PartsFed.{scanned_after, scanned_before, stays_short}
+use Rattle.hayro_ccitt.specs.RowFeeds.{ReadsInFeed, StaysShort}
 use Rattle.hayro_ccitt.proofs.row_feed.RowFeed.read_line.Goals as goal
 
--- what begun is
-line_begun : (c : After-try_line-row) → c.self.inside.begun ≡ true
-line_begun c = ap (λ (f : Feeding). f.begun) c.self.view_is ∙ c.requires.begun
+pub returns-then-is_still_short : goal.returns-then-is_still_short
+returns-then-is_still_short c =
+    stays_short (subst (StaysShort c.args.self.now c.is_still_short.new.self) c.if-is_still_short.true c.is_still_short.ensures)
+    c.requires.begun
 
-line_is_at : (c : After-try_line-row) → c.placed_at-reader.result
-    ≡ record { bits = bits_in c.self.inside.order c.self.inside.«data».items; place = c.self.inside.place }
-line_is_at c = c.placed_at-reader.ensures ∙ ap (λ (items : List ℕ). record {
-  bits = bits_in c.self.inside.order items;
-  place = c.self.inside.place;
-}) c.deref.ensures.value
+pub returns-then-is_unsettled : goal.returns-then-is_unsettled
+returns-then-is_unsettled c =
+    let same = c.is_unsettled.ensures.short c.if-is_unsettled.true in
+    subst (ReadsInFeed c.args.self.now c.keep_part.new.self) (sym same)
+    (scanned_before (Ok false) c.is_still_short.ensures.scans c.requires.begun (scanned_after
+    (subst (ReadsInFeed c.is_still_short.new.self c.read_whole_line-row.new.self) same c.read_whole_line-row.ensures.reads)
+    c.keep_part.ensures.scans))
 
--- of the gap behind the line nothing was seen
-at_line_fresh : (c : After-try_line-row) → c.self.inside.look ≡ nothing_seen
-at_line_fresh c =
-    c.self.invariant.line (ap (λ (f : Feeding). is_at_line f.rows.stand) c.self.view_is ∙ c.requires.line)
-
-pub invariant_of-self : goal.invariant_of-self
-invariant_of-self c =
-    let at = (goal.at.invariant_of-self c).After-try_line-row in
-    record {
-      within = omega (
-        arith,
-        c.bit_pos-self-inside.ensures.within,
-        ap length c.try_line-row.ensures.same_bits,
-        ap (λ (b : BitsAt). length b.bits) (line_is_at at),
-        length-bits_in c.self.inside.order c.self.inside.«data».items,
-      );
-      fit = c.self.invariant.fit;
-      fresh = λ e. absurd (false≢true (sym e ∙ line_begun at));
-      start = λ e. absurd (false≢true (sym e ∙ line_begun at));
-      unended = λ e. absurd (false≢true (sym e ∙ line_begun at));
-      rows = λ e. absurd (false≢true (sym e ∙ line_begun at));
-      seen = fresh_look _ _ (at_line_fresh at);
-      line = λ e. at_line_fresh at;
-    }
-
-pub returns : goal.returns
-returns c =
-    let at = (goal.at.returns c).After-try_line-row in
-    rw (← c.self.view_is) (feed_reads _ _ c.placed_at-reader.result c.try_line-row.new.reader (line_is_at at)
-    (record { order = refl; finished = refl; kept = refl; dropped = refl }) c.bit_pos-self-inside.ensures.place
-    (line_begun at) (line_begun at) c.begin_line.new.self c.begin_line.ensures.frame c.begin_line.ensures.width
-    (ap (λ (f : Feeding). is_at_line f.rows.stand) c.self.view_is ∙ c.requires.line)
-    c.try_line-row.result c.try_line-row.ensures)
+pub returns-else-is_unsettled : goal.returns-else-is_unsettled
+returns-else-is_unsettled c =
+    scanned_before c.read_whole_line-row.result c.is_still_short.ensures.scans c.requires.begun c.read_whole_line-row.ensures.reads

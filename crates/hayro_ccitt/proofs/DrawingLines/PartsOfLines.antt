@@ -1,0 +1,419 @@
+-- Parts of lines, of whose fronts only the number of pixels is known.
+use Rattle.hayro_ccitt.proofs.Names.{◌≡◌, ◌≢◌, ◌∙◌, ◌+◌, ◌-◌, ◌*◌, ◌<◌, ◌≤◌, ℕ, Bool, true, false, [], ◌++◌, length, min, Ok, Err}
+use Rattle.hayro_ccitt.proofs.Names.{replicate, length-append, length-replicate, append-nil, ltb, leb, ◌&&◌, refl, sym, ap, subst, arith}
+use Rattle.hayro_ccitt.proofs.Names.{Option, Some, None, Bits, Color, DecodeError, DecodeSettings, Row, is_black, paint, Line, Turn, line_here}
+use Rattle.hayro_ccitt.proofs.Names.{lt-ltb, le-leb, common_steps, Mode, read_code, mode_codes, codes_of, ArePassed, InvalidCode, List, changes}
+use Rattle.hayro_ccitt.proofs.Names.{White, line_1d, line_2d, line_by, start, not, EncodingMode, Group3_2D, BitsAt, Context}
+use Rattle.hayro_ccitt.proofs.Names.{here, length-drop}
+use Rattle.hayro_ccitt.proofs.Names.{Pass, Vertical, b1, b2, right_of, right_of_painted, opposite, ℤ, pos, ◌+ℤ◌, ◌∷◌}
+use Rattle.fax_bits.specs.declared.error.DecodeError.TheVariants.{Overflow}
+use Rattle.hayro_ccitt.specs.declared.line_parts.KeptPart.{KeptPart}
+use Rattle.hayro_ccitt.specs.declared.line_parts.KeptRun.{KeptRun}
+use Rattle.hayro_ccitt.specs.declared.line_parts.Word.{Word}
+use Rattle.hayro_ccitt.specs.Continuations.{is_short, misses_end}
+use Rattle.hayro_ccitt.specs.Lines.{Pen, place_from}
+use Rattle.hayro_ccitt.specs.LinesGoOn.{LinePart, OpenRun, behind_run, left_of, line_from_part, mode_added, part_before, read_on, word_added}
+use Rattle.hayro_ccitt.specs.LineParts.{GoesOnBy, ContinuesLine, IsLawfulPart, IsPartOf, Leads, ReadsWord, EndsLine, LeadsToPart, PaintsTo, part_at, part_by}
+use Rattle.hayro_ccitt.specs.LineParts.{left_to_read, is_missing, pen_of_part}
+use Rattle.fax_reading.proofs.Continuations.LinesGoOn.{LeadsOn, line_from_is, part_leads_on, part_size, word_leads}
+
+-- ---- What is painted
+
+-- more pixels than there are can't fail
+fits_painted : (strict : Bool) (room count : ℕ) → count ≤ room → (strict && ltb room count) ≡ false
+fits_painted true room count le = grind (arith, common_steps)
+fits_painted false room count le = refl
+
+pub paints_all : (settings : DecodeSettings) (front : Row) (color : Color) (count painted : ℕ) → length front ≡ painted
+    → painted ≤ settings.columns → count ≤ settings.columns - painted → PaintsTo settings front color count (painted + count)
+paints_all settings front color count painted is within le =
+    let fits : count ≤ settings.columns - length front = omega (arith, is, le) in (
+      front ++ replicate (min count (settings.columns - length front)) (is_black color),
+      omega (
+        arith,
+        is,
+        le,
+        within,
+        length-append front (replicate (min count (settings.columns - length front)) (is_black color)),
+        length-replicate (min count (settings.columns - length front)) (is_black color),
+      ),
+      rw (fits_painted settings.strict (settings.columns - length front) count fits) refl,
+    )
+
+pub paints_row : (settings : DecodeSettings) (front : Row) (color : Color) (count painted : ℕ) → length front ≡ painted
+    → painted ≤ settings.columns → settings.columns - painted < count → settings.strict ≡ false
+    → PaintsTo settings front color count settings.columns
+paints_row settings front color count painted is within gt lenient = (
+  front ++ replicate (min count (settings.columns - length front)) (is_black color),
+  omega (
+    arith,
+    is,
+    gt,
+    within,
+    length-append front (replicate (min count (settings.columns - length front)) (is_black color)),
+    length-replicate (min count (settings.columns - length front)) (is_black color),
+  ),
+  rw lenient refl,
+)
+
+-- ---- The line that begins some bits goes on from a part of it
+
+-- a part, where more bits follow
+before_at : (more : Bits) (run : Option KeptRun) (is_2d : Bool) (pen : Pen)
+    → part_before more (part_by run is_2d pen) ≡ part_by run is_2d (record pen { rest = pen.rest ++ more })
+before_at more None is_2d pen = refl
+before_at more (Some run) is_2d pen = refl
+
+module _ (settings : DecodeSettings) (reference : Row) {start : Bits} (old new : KeptPart) (rest after : Bits)
+    (part : IsPartOf settings reference start old rest) where
+  -- behind a word it goes on from the part that the word leads to
+  pub goes_on_behind : LeadsToPart new after (read_on settings reference (part_at old part.front rest)).turn
+      → IsPartOf settings reference start new after
+  goes_on_behind leads = record {
+    front = leads.0;
+    painted = leads.1;
+    line = λ more. part.line more
+        ∙ ap (line_from_part settings reference) (sym (before_at more old.run old.is_2d (pen_of_part old part.front rest)))
+        ∙ word_leads settings reference (part_at old part.front rest) (part_at new leads.0 after) leads.2 more
+        ∙ ap (line_from_part settings reference) (before_at more new.run new.is_2d (pen_of_part new leads.0 after));
+  }
+
+  -- if the line ends with the word, that is the line
+  pub ends_behind : {short : Bool} → EndsLine short (read_on settings reference (part_at old part.front rest)).turn
+      → is_short (line_here settings reference start) ≡ short
+  ends_behind ends =
+      let here : line_here settings reference start ≡ line_from_part settings reference (part_at old part.front rest)
+      = ap (line_here settings reference) (sym (append-nil start)) ∙ part.line []
+      ∙ ap (λ (b : Bits). line_from_part settings reference (part_at old part.front b)) (append-nil rest) in
+      ap is_short (here ∙ line_from_is settings reference (part_at old part.front rest)
+      ∙ ap (λ (t : Turn LinePart Line). line_of t) ends.1) ∙ ends.2
+    where
+      line_of : Turn LinePart Line → Line
+      line_of (Turn.next part) = line_from_part settings reference part
+      line_of (Turn.done line) = line
+
+-- what is left to read of a part
+left_at : (run : Option KeptRun) (is_2d : Bool) (pen : Pen) → part_size (part_by run is_2d pen) ≡ left_to_read run pen.rest
+left_at None is_2d pen = refl
+left_at (Some run) is_2d pen = refl
+
+-- a word leaves less to read
+pub reads_some : (settings : DecodeSettings) (reference : Row) (old new : KeptPart) (rest after : Bits)
+    → GoesOnBy settings reference (λ front. (read_on settings reference (part_at old front rest)).turn) old new after Word.GoesOn
+    → left_to_read new.run after < left_to_read old.run rest
+reads_some settings reference old new rest after goes =
+    let front : Row = replicate old.painted false in
+    let leads = goes.leads front (length-replicate old.painted false) in
+    let on = subst (LeadsOn (part_at old front rest)) leads.2 (part_leads_on settings reference (part_at old front rest)) in
+    omega (
+      arith,
+      on.1,
+      left_at old.run old.is_2d (pen_of_part old front rest),
+      left_at new.run new.is_2d (pen_of_part new leads.0 after),
+    )
+
+-- ---- What a word leads to
+
+-- a0 by the number of pixels painted
+right_is : (front : Row) → right_of front ≡ right_of_painted (length front)
+right_is [] = refl
+right_is (pixel ∷ front) = refl
+
+-- a part before a step of a two-dimensional line
+abbrev at_mode : Row → Color → Bits → LinePart
+at_mode front color rest = LinePart.at_step true (record { front = front; color = color; rest = rest })
+
+-- a turn leads to a part with a front of as many pixels
+abbrev pub LeadsToFront : ℕ → (Row → LinePart) → Turn LinePart Line → Type 0
+LeadsToFront painted part_with turn = (row : Row) × (length row ≡ painted) × (turn ≡ Turn.next (part_with row))
+
+module _ (settings : DecodeSettings) (reference : Row) (front : Row) (color : Color) (rest : Bits) where
+  abbrev pen : Pen
+  pen = record { front = front; color = color; rest = rest }
+
+  abbrev by_mode : Mode → Turn LinePart Line
+  by_mode mode = (mode_added settings.strict settings.columns reference pen mode).turn
+
+  -- pixels that fit, or don't, behind a pass
+  pub pass_goes : (count painted : ℕ) → b2 reference (right_of_painted (length front)) color - length front ≡ count
+      → PaintsTo settings front color count painted
+      → LeadsToFront painted (λ row. at_mode row color rest) (by_mode Pass)
+  pass_goes count painted is paints =
+      let place : b2 reference (right_of front) color - length front ≡ count
+      = ap (λ (n : ℕ). b2 reference n color - length front) (right_is front) ∙ is in
+      (paints.0, paints.1, rw (place, paints.2) refl)
+
+  pub pass_ends : (count : ℕ) → b2 reference (right_of_painted (length front)) color - length front ≡ count
+      → paint settings.strict settings.columns front color count ≡ Err InvalidCode → EndsLine false (by_mode Pass)
+  pass_ends count is fails =
+      let place : b2 reference (right_of front) color - length front ≡ count
+      = ap (λ (n : ℕ). b2 reference n color - length front) (right_is front) ∙ is in
+      (Line.broken front InvalidCode, rw (place, fails) refl, refl)
+
+  -- behind a vertical mode
+  pub turn_goes : (k : ℤ) (place painted : ℕ)
+      → place_from (length front) (pos (b1 reference (right_of_painted (length front)) color) +ℤ k) ≡ Ok place
+      → PaintsTo settings front color (place - length front) painted
+      → LeadsToFront painted (λ row. at_mode row (opposite color) rest) (by_mode (Vertical k))
+  turn_goes k place painted is paints =
+      let there : place_from (length front) (pos (b1 reference (right_of front) color) +ℤ k) ≡ Ok place
+      = ap (λ (n : ℕ). place_from (length front) (pos (b1 reference n color) +ℤ k)) (right_is front) ∙ is in
+      (paints.0, paints.1, rw (there, paints.2) refl)
+
+  pub turn_unpainted : (k : ℤ) (place : ℕ)
+      → place_from (length front) (pos (b1 reference (right_of_painted (length front)) color) +ℤ k) ≡ Ok place
+      → paint settings.strict settings.columns front color (place - length front) ≡ Err InvalidCode
+      → EndsLine false (by_mode (Vertical k))
+  turn_unpainted k place is fails =
+      let there : place_from (length front) (pos (b1 reference (right_of front) color) +ℤ k) ≡ Ok place
+      = ap (λ (n : ℕ). place_from (length front) (pos (b1 reference n color) +ℤ k)) (right_is front) ∙ is in
+      (Line.broken front InvalidCode, rw (there, fails) refl, refl)
+
+  pub turn_ends : (k : ℤ)
+      → place_from (length front) (pos (b1 reference (right_of_painted (length front)) color) +ℤ k) ≡ Err Overflow
+      → EndsLine false (by_mode (Vertical k))
+  turn_ends k is =
+      let there : place_from (length front) (pos (b1 reference (right_of front) color) +ℤ k) ≡ Err Overflow
+      = ap (λ (n : ℕ). place_from (length front) (pos (b1 reference n color) +ℤ k)) (right_is front) ∙ is in
+      (Line.broken front Overflow, rw there refl, refl)
+
+  -- behind a word of a run
+  abbrev by_word : OpenRun → ℕ → Turn LinePart Line
+  by_word run n = (word_added settings.strict settings.columns run pen n).turn
+
+  pub word_overflows : (run : OpenRun) (n : ℕ) → 4294967295 < run.total + n → EndsLine false (by_word run n)
+  word_overflows run n gt = (Line.broken front Overflow, rw (lt-ltb 4294967295 (run.total + n) gt) refl, refl)
+
+  fits_32 : (n : ℕ) → n ≤ 4294967295 → ltb 4294967295 n ≡ false
+  fits_32 n le = grind (arith, common_steps)
+
+  pub makeup_goes : (run : OpenRun) (n : ℕ) → run.total + n ≤ 4294967295 → 64 ≤ n
+      → by_word run n ≡ Turn.next (LinePart.in_run (record run { total = run.total + n }) pen)
+  makeup_goes run n le makeup =
+      let long : ltb n 64 ≡ false = grind (arith, common_steps) in
+      rw (fits_32 (run.total + n) le, long) refl
+
+  pub run_goes : (run : OpenRun) (n painted : ℕ) → run.total + n ≤ 4294967295 → n < 64
+      → PaintsTo settings front color (run.total + n) painted
+      → LeadsToFront painted (λ row. behind_run run (record { front = row; color = opposite color; rest = rest })) (by_word run n)
+  run_goes run n painted le last paints =
+      (paints.0, paints.1, rw (fits_32 (run.total + n) le, lt-ltb n 64 last, paints.2) refl)
+
+  pub run_ends : (run : OpenRun) (n : ℕ) → run.total + n ≤ 4294967295 → n < 64
+      → paint settings.strict settings.columns front color (run.total + n) ≡ Err InvalidCode → EndsLine false (by_word run n)
+  run_ends run n le last fails =
+      (Line.broken front InvalidCode, rw (fits_32 (run.total + n) le, lt-ltb n 64 last, fails) refl, refl)
+
+  -- ---- One word more
+
+  -- a mode is read, unless the row is full
+  pub mode_read : (mode : Mode) (after : Bits) → length front < settings.columns → read_code mode_codes rest ≡ Ok (mode, after)
+      → (read_on settings reference (at_mode front color rest)).turn
+      ≡ (mode_added settings.strict settings.columns reference (record pen { rest = after }) mode).turn
+  mode_read mode after narrow reads =
+      let some : leb settings.columns (length front) ≡ false = grind (arith, common_steps) in
+      rw (some, reads) refl
+
+  pub mode_unread : (fault : DecodeError) → length front < settings.columns → read_code mode_codes rest ≡ Err fault
+      → EndsLine (misses_end fault) (read_on settings reference (at_mode front color rest)).turn
+  mode_unread fault narrow reads =
+      let some : leb settings.columns (length front) ≡ false = grind (arith, common_steps) in
+      (Line.broken front fault, rw (some, reads) refl, refl)
+
+  pub full_ends : (is_2d : Bool) → settings.columns ≤ length front
+      → EndsLine false (read_on settings reference (LinePart.at_step is_2d pen)).turn
+  full_ends is_2d full = (Line.whole front rest, rw (le-leb settings.columns (length front) full) refl, refl)
+
+  pub run_begun : length front < settings.columns
+      → (read_on settings reference (LinePart.at_step false pen)).turn
+      ≡ Turn.next (LinePart.in_run (record { is_2d = false; another = false; total = 0 }) pen)
+  run_begun narrow =
+      let some : leb settings.columns (length front) ≡ false = grind (arith, common_steps) in
+      rw some refl
+
+  pub word_is_read : (run : OpenRun) (n : ℕ) (after : Bits) → read_code (codes_of color) rest ≡ Ok (n, after)
+      → (read_on settings reference (LinePart.in_run run pen)).turn
+      ≡ (word_added settings.strict settings.columns run (record pen { rest = after }) n).turn
+  word_is_read run n after reads = rw reads refl
+
+  pub word_unread : (run : OpenRun) (fault : DecodeError) → read_code (codes_of color) rest ≡ Err fault
+      → EndsLine (misses_end fault) (read_on settings reference (LinePart.in_run run pen)).turn
+  word_unread run fault reads = (Line.broken front fault, rw reads refl, refl)
+
+-- what a word leads to that isn't read
+pub leads_to_end : (word : Word) (part : KeptPart) (rest : Bits) (turn : Turn LinePart Line) → word ≢ Word.GoesOn
+    → EndsLine (is_missing word) turn → Leads word part rest turn
+leads_to_end Word.GoesOn part rest turn other ends = absurd (other refl)
+leads_to_end Word.Missing part rest turn other ends = ends
+leads_to_end Word.Ends part rest turn other ends = ends
+
+-- ---- A part that is kept
+
+-- before a mode
+pub at_mode_is : (part : KeptPart) (row : Row) (color : Color) (rest : Bits) → part.run ≡ None → part.is_2d ≡ true
+    → part.color ≡ color → at_mode row color rest ≡ part_at part row rest
+at_mode_is part row color rest none is_2d same = rw (none, is_2d, same) refl
+
+-- the changes that are passed are not right of a0 where more pixels are painted
+passed_on : (places : List ℕ) (painted more passed : ℕ) → painted ≤ more → ArePassed places painted passed
+    → ArePassed places more passed
+passed_on places painted more passed le are = record {
+  none = λ e. are.none (omega (arith, le, e));
+  within = are.within;
+  left = λ k lt. omega (arith, are.left k lt, le);
+}
+
+pub lawful_behind : (settings : DecodeSettings) (reference : Row) (part : KeptPart) (painted passed : ℕ)
+    → ArePassed (changes reference) painted passed → part.passed ≡ passed → painted ≤ part.painted
+    → part.painted ≤ settings.columns → IsLawfulPart settings reference part
+lawful_behind settings reference part painted passed are same more within = record {
+  within = within;
+  passed = subst (ArePassed (changes reference) part.painted) (sym same)
+      (passed_on (changes reference) painted part.painted passed more are);
+}
+
+-- ---- A line begins with a part
+
+-- the part before any word
+abbrev first_kept : Bool → KeptPart
+first_kept is_2d = record { is_2d = is_2d; run = None; painted = 0; color = White; passed = 0 }
+
+module _ (settings : DecodeSettings) (reference : Row) (bits : Bits) where
+  abbrev line_of_kind : Bool → Bits → Line
+  line_of_kind true here = line_2d settings.strict settings.columns reference here
+  line_of_kind false here = line_1d settings.strict settings.columns here
+
+  kind_is : (is_2d : Bool) (here : Bits) → line_of_kind is_2d here
+      ≡ line_from_part settings reference (LinePart.at_step is_2d (start here))
+  kind_is true here = refl
+  kind_is false here = refl
+
+  -- without a tag
+  pub begins_by : (is_2d : Bool)
+      → ((more : Bits) → line_here settings reference (bits ++ more) ≡ line_of_kind is_2d (bits ++ more))
+      → IsPartOf settings reference bits (first_kept is_2d) bits
+  begins_by is_2d is = record { front = []; painted = refl; line = λ more. is more ∙ kind_is is_2d (bits ++ more) }
+
+  -- behind its tag
+  pub begins_tagged : (rest : Bits) (tag : Bool) → settings.encoding ≡ Group3_2D → bits ≡ tag ∷ rest
+      → IsPartOf settings reference bits (first_kept (not tag)) rest
+  begins_tagged rest tag encoding is = record {
+    front = [];
+    painted = refl;
+    line = λ more. ap (λ (e : EncodingMode). line_by e settings.strict settings.columns reference (bits ++ more)) encoding
+        ∙ ap (λ (b : Bits). line_by Group3_2D settings.strict settings.columns reference (b ++ more)) is ∙ by_tag tag more;
+  }
+    where
+      by_tag : (tag : Bool) (more : Bits) → line_by Group3_2D settings.strict settings.columns reference (tag ∷ rest ++ more)
+          ≡ line_from_part settings reference (LinePart.at_step (not tag) (start (rest ++ more)))
+      by_tag true more = refl
+      by_tag false more = refl
+
+-- ---- Words that are read one after another
+
+-- some words were read of a part
+pub record WentOn (old new : KeptPart) (ctx now : Context) (before after : BitsAt) : Type 0 where
+  pub part : (start : Bits) → IsPartOf ctx.held.settings ctx.held.reference start old (here before)
+      → IsPartOf ctx.held.settings ctx.held.reference start new (here after)
+  pub lawful : IsLawfulPart ctx.held.settings ctx.held.reference new
+  pub frame : now ≡ record ctx { ticks = now.ticks }
+  pub same_bits : after.bits ≡ before.bits
+  pub onward : length (here after) ≤ length (here before)
+  pub counts : ctx.ticks ≤ now.ticks
+  pub work : now.ticks + old.passed + 2 * length (here after) ≤ ctx.ticks + new.passed + 2 * length (here before)
+
+-- what is left of a part are the pen's bits
+left_is : (run : Option KeptRun) (is_2d : Bool) (pen : Pen) → left_of (part_by run is_2d pen) ≡ pen.rest
+left_is None is_2d p = refl
+left_is (Some run) is_2d p = refl
+
+module _ (old part new : KeptPart) (ctx : Context) (ticks : ℕ) (now : Context) (before at after : BitsAt)
+    (so_far : WentOn old part ctx (record ctx { ticks = ticks }) before at) where
+  -- a word more
+  pub went_on : ReadsWord part new (record ctx { ticks = ticks }) now at after Word.GoesOn → WentOn old new ctx now before after
+  went_on reads = record {
+    part = λ start is.
+        let there = so_far.part start is in
+        goes_on_behind ctx.held.settings ctx.held.reference part new (here at) (here after) there
+        (reads.goes.leads there.front there.painted);
+    lawful = reads.goes.lawful;
+    frame = reads.frame;
+    same_bits = reads.same_bits ∙ so_far.same_bits;
+    onward = omega (arith, so_far.onward, shorter);
+    counts = omega (arith, so_far.counts, reads.counts);
+    work = omega (arith, so_far.work, reads.paid refl);
+  }
+    where
+      front : Row
+      front = replicate part.painted false
+
+      leads : LeadsToPart new (here after) (read_on ctx.held.settings ctx.held.reference (part_at part front (here at))).turn
+      leads = reads.goes.leads front (length-replicate part.painted false)
+
+      on : LeadsOn (part_at part front (here at)) (Turn.next (part_at new leads.0 (here after)))
+      on = subst (LeadsOn (part_at part front (here at))) leads.2
+          (part_leads_on ctx.held.settings ctx.held.reference (part_at part front (here at)))
+
+      shorter : length (here after) ≤ length (here at)
+      shorter = omega (
+        arith,
+        ap length (sym (left_is part.run part.is_2d (pen_of_part part front (here at))) ∙ on.0.1),
+        length-append on.0.0 (left_of (part_at new leads.0 (here after))),
+        ap length (left_is new.run new.is_2d (pen_of_part new leads.0 (here after))),
+      )
+
+  ends_so : (short : Bool) (word : Word) → ReadsWord part new (record ctx { ticks = ticks }) now at after word
+      → ((turn : Turn LinePart Line) → Leads word new (here after) turn → EndsLine short turn) → (start : Bits)
+      → IsPartOf ctx.held.settings ctx.held.reference start old (here before)
+      → is_short (line_here ctx.held.settings ctx.held.reference start) ≡ short
+  ends_so short word reads ends start is =
+      let there = so_far.part start is in
+      ends_behind ctx.held.settings ctx.held.reference part new (here at) (here after) there
+      (ends (read_on ctx.held.settings ctx.held.reference (part_at part there.front (here at))).turn
+      (reads.goes.leads there.front there.painted))
+
+  module _ (back : BitsAt) (put_back : back ≡ at) (begun : before.place ≤ length before.bits)
+      (within : at.place ≤ length at.bits) where
+    onward_back : before.place ≤ back.place
+    onward_back = omega (
+      arith,
+      ap (λ (b : BitsAt). b.place) put_back,
+      so_far.onward,
+      ap length so_far.same_bits,
+      length-drop before.place before.bits,
+      length-drop at.place at.bits,
+      begun,
+      within,
+    )
+
+    -- the next word is missing
+    pub lacks_word : ReadsWord part new (record ctx { ticks = ticks }) now at after Word.Missing
+        → ContinuesLine old new ctx now before back true
+    lacks_word reads =
+        let same : new ≡ part = reads.missing refl in
+        record {
+          part = λ e start is. subst (λ (p : KeptPart). IsPartOf ctx.held.settings ctx.held.reference start p (here back))
+              (sym same) (subst (λ (b : BitsAt). IsPartOf ctx.held.settings ctx.held.reference start part (here b)) (sym put_back)
+              (so_far.part start is));
+          said = ends_so true Word.Missing reads (λ turn ends. ends);
+          lawful = reads.goes.lawful;
+          frame = reads.frame;
+          same_bits = ap (λ (b : BitsAt). b.bits) put_back ∙ so_far.same_bits;
+          onward = onward_back;
+          counts = omega (arith, so_far.counts, reads.counts);
+          work = omega (arith, so_far.work, reads.work, ap (λ (b : BitsAt). length (here b)) put_back);
+        }
+
+    -- the line ends with the next word
+    pub ends_with_word : ReadsWord part new (record ctx { ticks = ticks }) now at after Word.Ends
+        → ContinuesLine old new ctx now before back false
+    ends_with_word reads = record {
+      part = λ e. cc;
+      said = ends_so false Word.Ends reads (λ turn ends. ends);
+      lawful = reads.goes.lawful;
+      frame = reads.frame;
+      same_bits = ap (λ (b : BitsAt). b.bits) put_back ∙ so_far.same_bits;
+      onward = onward_back;
+      counts = omega (arith, so_far.counts, reads.counts);
+      work = omega (arith, so_far.work, reads.work, ap (λ (b : BitsAt). length (here b)) put_back);
+    }

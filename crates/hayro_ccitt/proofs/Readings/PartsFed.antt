@@ -1,0 +1,279 @@
+-- What is kept of a short line in data that comes in pieces.
+use Rattle.hayro_ccitt.proofs.Names.{◌≡◌, ◌∙◌, ◌+◌, ◌-◌, ◌*◌, ◌≤◌, ◌++◌, [], ℕ, Bool, true, false, Result, Ok, None, Some}
+use Rattle.hayro_ccitt.proofs.Names.{Option, refl, sym, ap, subst, arith, length, drop, Bits, BitsAt, Held, Context, DecodeError, White}
+use Rattle.hayro_ccitt.proofs.Names.{redrawn, here, Stand, false≢true, is_at_line, length-append, length-drop, append_assoc, drop-drop}
+use Rattle.hayro_ccitt.proofs.Names.{changes, line_here, is_some}
+use Rattle.std.proofs.lemmas.List.{drop-append-le}
+use Rattle.hayro_ccitt.specs.declared.line_parts.KeptPart.{KeptPart}
+use Rattle.hayro_ccitt.specs.Continuations.{is_short}
+use Rattle.hayro_ccitt.specs.LinesGoOn.{line_from_part}
+use Rattle.hayro_ccitt.specs.LineParts.{ContinuesLine, IsPartOf, part_at}
+use Rattle.hayro_ccitt.specs.RowFeeds.{Feeding, IsFeedOf, LineGoesOn, PartIsKept, ReadsInFeed, Scans, StandsIn}
+use Rattle.hayro_ccitt.specs.RowFeeds.{StaysShort, fed_over, line_of_feed, most_for_line, paid_by}
+use Rattle.hayro_ccitt.specs.Answers.{HasBlack}
+use Rattle.hayro_ccitt.proofs.Names.{RowsRead, ReadsNext, front_of}
+use Rattle.hayro_ccitt.proofs.Readings.RowsFed.{stands_later}
+
+-- where no part is kept, none is known
+pub none_kept : (part : Option KeptPart) (begun begun' : Bool) (stand stand' : Stand) (held held' : Held) (bits bits' : Bits)
+    (read : ℕ) → part ≡ None → PartIsKept part begun stand held bits read → PartIsKept part begun' stand' held' bits' read
+none_kept None begun begun' stand stand' held held' bits bits' read none kept = kept
+none_kept (Some part) begun begun' stand stand' held held' bits bits' read none kept = absurd cc
+
+-- before the first line none is
+pub unbegun_none : (part : Option KeptPart) (begun : Bool) (stand : Stand) (held : Held) (bits : Bits) (read : ℕ)
+    → begun ≡ false → PartIsKept part begun stand held bits read → part ≡ None
+unbegun_none None begun stand held bits read unbegun kept = refl
+unbegun_none (Some part) begun stand held bits read unbegun kept = absurd (false≢true (sym unbegun ∙ kept.is_begun))
+
+-- a part is kept only at a line
+pub part_at_line : (part : Option KeptPart) (begun : Bool) (stand : Stand) (held : Held) (bits : Bits) (read : ℕ)
+    → is_some part ≡ true → PartIsKept part begun stand held bits read → is_at_line stand ≡ true
+part_at_line None begun stand held bits read some kept = absurd cc
+part_at_line (Some part) begun stand held bits read some kept = kept.at_line
+
+-- the same part, where more bits are known
+pub kept_longer : (part : Option KeptPart) (begun : Bool) (stand : Stand) (held : Held) (bits : Bits) (read : ℕ) (more : Bits)
+    → PartIsKept part begun stand held bits read → PartIsKept part begun stand held (bits ++ more) read
+kept_longer None begun stand held bits read more kept = kept
+kept_longer (Some part) begun stand held bits read more kept = record {
+  is_begun = kept.is_begun;
+  at_line = kept.at_line;
+  none_drawn = kept.none_drawn;
+  within = omega (arith, kept.within, length-append bits more);
+  lawful = kept.lawful;
+  line = record {
+    front = kept.line.front;
+    painted = kept.line.painted;
+    line = λ others. ap (line_here held.settings held.reference) (append_assoc bits more others)
+        ∙ kept.line.line (more ++ others)
+        ∙ ap (λ (b : Bits). line_from_part held.settings held.reference (part_at part kept.line.front b))
+        (sym (append_assoc (drop read bits) more others)
+        ∙ ap (λ (b : Bits). b ++ others) (sym (drop-append-le read bits more kept.within)));
+  };
+}
+
+-- what a call leaves that reads on from a part
+module _ (old new : Feeding) (part next : KeptPart) (read : ℕ) (before after : BitsAt) (short : Bool)
+    (before_is : before ≡ record { bits = old.kept; place = old.place + read })
+    (within : old.place ≤ length old.kept)
+    (on : ContinuesLine part next old.ctx new.ctx before after short)
+    (kept : LineGoesOn old.begun old.rows.stand old.ctx.held (drop old.place old.kept) read part) where
+  starts : here before ≡ drop read (drop old.place old.kept)
+  starts = ap here before_is ∙ sym (drop-drop read old.place old.kept)
+
+  begins : IsPartOf old.ctx.held.settings old.ctx.held.reference (drop old.place old.kept) part (here before)
+  begins = subst (IsPartOf old.ctx.held.settings old.ctx.held.reference (drop old.place old.kept) part) (sym starts) kept.line
+
+  place_is : before.place ≡ old.place + read
+  place_is = ap (λ (b : BitsAt). b.place) before_is
+
+  bits_are : after.bits ≡ old.kept
+  bits_are = on.same_bits ∙ ap (λ (b : BitsAt). b.bits) before_is
+
+  ends : after.place ≤ length after.bits → here after ≡ drop (after.place - old.place) (drop old.place old.kept)
+  ends inside =
+      let sum : after.place ≡ old.place + (after.place - old.place) = omega (arith, on.onward, place_is) in
+      ap (drop after.place) bits_are ∙ ap (λ (n : ℕ). drop n old.kept) sum
+      ∙ sym (drop-drop (after.place - old.place) old.place old.kept)
+
+  -- the part that is reached is kept
+  pub part_reached : after.place ≤ length after.bits → short ≡ true → LineGoesOn old.begun old.rows.stand new.ctx.held
+      (drop old.place old.kept) (after.place - old.place) next
+  part_reached inside e =
+      subst (λ (h : Held). LineGoesOn old.begun old.rows.stand h (drop old.place old.kept) (after.place - old.place) next)
+      (sym (ap (λ (x : Context). x.held) on.frame))
+      (record {
+        is_begun = kept.is_begun;
+        at_line = kept.at_line;
+        none_drawn = kept.none_drawn;
+        within = omega (arith, inside, ap length bits_are, length-drop old.place old.kept);
+        lawful = on.lawful;
+        line = subst (IsPartOf old.ctx.held.settings old.ctx.held.reference (drop old.place old.kept) next) (ends inside)
+            (on.part e (drop old.place old.kept) begins);
+      })
+
+  pub said_short : is_short (line_of_feed old) ≡ short
+  said_short = on.said (drop old.place old.kept) begins
+
+  -- its work
+  left_before : length (here before) + read ≡ length (drop old.place old.kept)
+  left_before = omega (arith, ap length starts, length-drop read (drop old.place old.kept), kept.within)
+
+  pub scan_work : after.place ≤ length after.bits → new.ctx.ticks + (part.passed + 2 * read)
+      ≤ old.ctx.ticks + (next.passed + 2 * (after.place - old.place)) + 2
+  scan_work inside = omega (
+    arith,
+    on.work,
+    left_before,
+    ap length (ends inside),
+    length-drop (after.place - old.place) (drop old.place old.kept),
+    length-drop old.place old.kept,
+    inside,
+    ap length bits_are,
+    on.onward,
+    place_is,
+  )
+
+  pub scan_most : new.ctx.ticks + (part.passed + 2 * read) ≤ old.ctx.ticks + most_for_line old + 2
+  scan_most = omega (arith, on.work, left_before, on.lawful.passed.within)
+
+-- ---- A line that is read on before it is read, or after it was left
+
+module _ {whole : Bits} {tried : ℕ} {old new : Feeding} (scans : Scans old new) (begun : old.begun ≡ true) where
+  -- what was read on is counted as tried
+  pub scanned_fed : IsFeedOf whole tried old → IsFeedOf whole (tried + (new.ctx.ticks - old.ctx.ticks)) new
+  scanned_fed feed =
+      let more = new.ctx.ticks - old.ctx.ticks in
+      let at : BitsAt = record { bits = whole; place = old.dropped + old.place } in
+      let ctx : Context = record old.ctx { ticks = new.ctx.ticks } in
+      subst (IsFeedOf whole (tried + more)) (sym scans.frame) (record {
+        fit = feed.fit;
+        lie = feed.lie;
+        stands = subst (λ (b : Bool). StandsIn b (tried + more) old.rows ctx at) (sym begun)
+            (stands_later tried more old.rows old.ctx ctx at refl (omega (arith, scans.counts))
+            (subst (λ (b : Bool). StandsIn b tried old.rows old.ctx at) begun feed.stands));
+      })
+
+-- a reading is the same where less was counted before
+later_next : (old new : RowsRead) (ticks : ℕ) (r : Result Bool DecodeError) → old.ticks ≤ ticks
+    → ReadsNext (record old { ticks = ticks }) new r → ReadsNext old new r
+later_next old new ticks r le reads = record {
+  settings = reads.settings;
+  bits = reads.bits;
+  counts = omega (arith, le, reads.counts);
+  more = reads.more;
+  row = reads.row;
+  line_start = reads.line_start;
+  place = reads.place;
+  damage = reads.damage;
+  cut = reads.cut;
+  end = reads.end;
+  error = reads.error;
+  fault_start = reads.fault_start;
+  missed = reads.missed;
+  last = reads.last;
+  last_start = reads.last_start;
+}
+
+-- the line is read on, and then read
+pub scanned_before : {old mid new : Feeding} (answer : Result Bool DecodeError) → Scans old mid → old.begun ≡ true
+    → ReadsInFeed mid new answer → ReadsInFeed old new answer
+scanned_before {old} {mid} {new} answer scans begun reads =
+    let frame = scans.frame in
+    let more = mid.ctx.ticks - old.ctx.ticks in
+    record {
+      extra = more + reads.extra;
+      keeps = record {
+        order = reads.keeps.order ∙ ap (λ (f : Feeding). f.order) frame;
+        finished = reads.keeps.finished ∙ ap (λ (f : Feeding). f.finished) frame;
+        kept = reads.keeps.kept ∙ ap (λ (f : Feeding). f.kept) frame;
+        dropped = reads.keeps.dropped ∙ ap (λ (f : Feeding). f.dropped) frame;
+      };
+      begun = reads.begun;
+      counts = omega (arith, reads.counts, scans.counts);
+      left = λ left. (
+        (reads.left left).0 ∙ ap (λ (f : Feeding). f.rows) frame,
+        (reads.left left).1 ∙ ap (λ (f : Feeding). f.place) frame,
+        (reads.left left).2 ∙ ap (λ (f : Feeding). redrawn f.ctx.held [] White) frame,
+      );
+      unsettled = λ e. (
+        sym (ap (λ (f : Feeding). f.finished) frame) ∙ (reads.unsettled e).0,
+        ap (λ (f : Feeding). is_short (line_here new.ctx.held.settings new.ctx.held.reference (drop f.place f.kept))) (sym frame)
+            ∙ (reads.unsettled e).1,
+      );
+      memory = λ e. subst (λ (f : Feeding). HasBlack (front_of (line_here new.ctx.held.settings new.ctx.held.reference
+          (drop f.place f.kept)))) frame (reads.memory e);
+      paints = λ whole tried e feed. reads.paints whole (tried + more) e (scanned_fed scans begun feed);
+      reads = λ whole tried other feed. later_next (fed_over whole old) (fed_over whole new) mid.ctx.ticks answer scans.counts
+          (subst (λ (f : Feeding). ReadsNext (fed_over whole f) (fed_over whole new) answer) frame
+          (reads.reads whole (tried + more) other (scanned_fed scans begun feed)));
+      stands = λ whole tried feed.
+          let same : (tried + more) + reads.extra ≡ tried + (more + reads.extra) = omega arith in
+          subst (λ (n : ℕ). IsFeedOf whole n new) same (reads.stands whole (tried + more) (scanned_fed scans begun feed));
+      most = omega (
+        arith,
+        reads.most,
+        ap (λ (f : Feeding). f.ctx.space) frame,
+        ap (λ (f : Feeding). f.ctx.held.settings.columns) frame,
+      );
+    }
+
+-- the line was left, since it is short, and is read on
+pub scanned_after : {old mid new : Feeding} → ReadsInFeed old mid (Ok false) → Scans mid new → ReadsInFeed old new (Ok false)
+scanned_after {old} {mid} {new} reads scans =
+    let frame = scans.frame in
+    let more = new.ctx.ticks - mid.ctx.ticks in
+    let left = reads.left refl in
+    record {
+      extra = reads.extra + more;
+      keeps = record {
+        order = ap (λ (f : Feeding). f.order) frame ∙ reads.keeps.order;
+        finished = ap (λ (f : Feeding). f.finished) frame ∙ reads.keeps.finished;
+        kept = ap (λ (f : Feeding). f.kept) frame ∙ reads.keeps.kept;
+        dropped = ap (λ (f : Feeding). f.dropped) frame ∙ reads.keeps.dropped;
+      };
+      begun = ap (λ (f : Feeding). f.begun) frame ∙ reads.begun;
+      counts = omega (arith, reads.counts, scans.counts);
+      left = λ e. (
+        ap (λ (f : Feeding). f.rows) frame ∙ left.0,
+        ap (λ (f : Feeding). f.place) frame ∙ left.1,
+        ap (λ (f : Feeding). f.ctx.held) frame ∙ left.2,
+      );
+      unsettled = λ e. (
+        (reads.unsettled refl).0,
+        ap (λ (f : Feeding). is_short (line_here f.ctx.held.settings f.ctx.held.reference (drop old.place old.kept))) frame
+            ∙ (reads.unsettled refl).1,
+      );
+      memory = λ e. cc;
+      paints = λ whole tried e feed. cc;
+      reads = λ whole tried other feed. absurd (other refl);
+      stands = λ whole tried feed.
+          let same : (tried + reads.extra) + more ≡ tried + (reads.extra + more) = omega arith in
+          subst (λ (n : ℕ). IsFeedOf whole n new) same (scanned_fed scans reads.begun (reads.stands whole tried feed));
+      most = omega (arith, reads.most, ap (λ (f : Feeding). f.ctx.space) frame);
+    }
+
+-- the line still is short
+pub stays_short : {old new : Feeding} → StaysShort old new true → old.begun ≡ true → ReadsInFeed old new (Ok false)
+stays_short {old} {new} stays begun =
+    let frame = stays.scans.frame in
+    let said = stays.said refl in
+    record {
+      extra = new.ctx.ticks - old.ctx.ticks;
+      keeps = record {
+        order = ap (λ (f : Feeding). f.order) frame;
+        finished = ap (λ (f : Feeding). f.finished) frame;
+        kept = ap (λ (f : Feeding). f.kept) frame;
+        dropped = ap (λ (f : Feeding). f.dropped) frame;
+      };
+      begun = ap (λ (f : Feeding). f.begun) frame ∙ begun;
+      counts = stays.scans.counts;
+      left = λ e. (
+        ap (λ (f : Feeding). f.rows) frame,
+        ap (λ (f : Feeding). f.place) frame,
+        ap (λ (f : Feeding). f.ctx.held) frame ∙ sym said.2,
+      );
+      unsettled = λ e. (
+        said.1,
+        ap (λ (f : Feeding). is_short (line_here f.ctx.held.settings f.ctx.held.reference (drop old.place old.kept))) frame
+            ∙ said.0,
+      );
+      memory = λ e. cc;
+      paints = λ whole tried e feed. cc;
+      reads = λ whole tried other feed. absurd (other refl);
+      stands = λ whole tried feed. scanned_fed stays.scans begun feed;
+      most = omega (arith, ap (λ (f : Feeding). f.ctx.space) frame);
+    }
+
+-- ---- What of the changes and bits of a line is paid
+
+pub paid_within : (part : Option KeptPart) (begun : Bool) (stand : Stand) (held : Held) (bits : Bits) (read : ℕ)
+    → PartIsKept part begun stand held bits read → paid_by part read ≤ length (changes held.reference) + 2 * length bits
+paid_within None begun stand held bits read kept = omega arith
+paid_within (Some part) begun stand held bits read kept = omega (arith, kept.within, kept.lawful.passed.within)
+
+pub some_kept : (part : Option KeptPart) (p : KeptPart) (begun : Bool) (stand : Stand) (held : Held) (bits : Bits) (read : ℕ)
+    → part ≡ Some p → PartIsKept part begun stand held bits read → LineGoesOn begun stand held bits read p
+some_kept part p begun stand held bits read is kept =
+    subst (λ (o : Option KeptPart). PartIsKept o begun stand held bits read) is kept

@@ -1,0 +1,13 @@
+use Rattle.hayro_ccitt.proofs.Names.{arith}
+use Rattle.hayro_ccitt.proofs.DrawingLines.PartsOfLines.{paints_all, paints_row}
+use Rattle.hayro_ccitt.proofs.line_parts.paint.Goals as goal
+
+pub returns-then-count-room-clause-painted : goal.returns-then-count-room-clause-painted
+returns-then-count-room-clause-painted c = λ e front is.
+    paints_all c.args.settings front c.args.part.now.color c.args.count c.args.part.now.painted is c.requires
+    (omega (arith, c.if-count-room.true))
+
+pub returns-clause-painted : goal.returns-clause-painted
+returns-clause-painted c = λ e front is.
+    paints_row c.args.settings front c.args.part.now.color c.args.count c.args.part.now.painted is c.requires
+    (omega (arith, c.if-count-room.false)) c.if-settings.false

@@ -1,0 +1,131 @@
+use Rattle.hayro_ccitt.proofs.Names.{◌≡◌, ◌∙◌, ◌+◌, ◌-◌, ◌*◌, ap, sym, subst, arith, length, length-drop, drop, false≢true}
+use Rattle.hayro_ccitt.proofs.Names.{bits_in, List, ℕ, Some, Context, Held}
+use Rattle.hayro_ccitt.specs.GapsSeen.{IsSeen, rules_for}
+use Rattle.hayro_ccitt.proofs.BitReading.BitLists.{length-bits_in}
+use Rattle.hayro_ccitt.proofs.Readings.PartsFed.{part_reached, said_short, scan_most, scan_work}
+use Rattle.hayro_ccitt.specs.RowFeeds.{Feeding, LineGoesOn, feeding_of}
+use Rattle.hayro_ccitt.proofs.Names.{◌≤◌}
+use Rattle.hayro_ccitt.proofs.row_feed.RowFeed.go_on_from.Goals.{After-deref, After-continue_line-is_short}
+use Rattle.hayro_ccitt.proofs.row_feed.RowFeed.go_on_from.Goals as goal
+
+kept : (c : After-deref) → LineGoesOn c.self.inside.begun c.self.inside.rows.stand c.self.inside.ctx.held
+    (drop c.self.inside.place (bits_in c.self.inside.order c.self.inside.«data».items)) c.args.read c.args.part
+kept c = subst (λ (f : Feeding). LineGoesOn f.begun f.rows.stand f.ctx.held (drop f.place f.kept) c.args.read c.args.part)
+    (sym c.self.view_is) c.requires.part
+
+pub overflow_add-self-inside : goal.overflow_add-self-inside
+overflow_add-self-inside c =
+    let at = (goal.at.overflow_add-self-inside c).After-deref in
+    omega (
+      arith,
+      c.self.invariant.fit,
+      c.self.invariant.within,
+      (kept at).within,
+      length-bits_in c.self.inside.order
+          c.self.inside.«data».items,
+      length-drop c.self.inside.place (bits_in c.self.inside.order c.self.inside.«data».items),
+    )
+
+pub placed_at-reader-requires-clause-within : goal.placed_at-reader-requires-clause-within
+placed_at-reader-requires-clause-within c =
+    let at = (goal.at.placed_at-reader-requires-clause-within c).After-deref in
+    omega (
+      arith,
+      c.self.invariant.within,
+      (kept at).within,
+      length-bits_in c.self.inside.order
+          c.self.inside.«data».items,
+      length-drop c.self.inside.place (bits_in c.self.inside.order c.self.inside.«data».items),
+      ap length c.deref.ensures.value,
+    )
+
+starts_at : (c : After-continue_line-is_short) → c.placed_at-reader.result
+    ≡ record { bits = bits_in c.self.inside.order c.self.inside.«data».items; place = c.self.inside.place + c.args.read }
+starts_at c = c.placed_at-reader.ensures ∙ ap (λ (items : List ℕ). record {
+  bits = bits_in c.self.inside.order items;
+  place = c.self.inside.place + c.args.read;
+}) c.deref.ensures.value
+
+-- what is seen afterwards
+abbrev scanned : (c : After-continue_line-is_short) → Feeding
+scanned c = record (feeding_of c.self.inside) { ctx = c.continue_line-is_short.new.ctx }
+
+pub invariant_of-self : goal.invariant_of-self
+invariant_of-self c =
+    let at = (goal.at.invariant_of-self c).After-continue_line-is_short in
+    let was = kept (goal.at.invariant_of-self c).After-deref in
+    record {
+      within = c.self.invariant.within;
+      fit = c.self.invariant.fit;
+      fresh = λ e. absurd (false≢true (sym e ∙ was.is_begun));
+      start = λ e. absurd (false≢true (sym e ∙ was.is_begun));
+      unended = λ e. absurd (false≢true (sym e ∙ was.is_begun));
+      rows = λ e. absurd (false≢true (sym e ∙ was.is_begun));
+      seen = subst (λ (h : Held). IsSeen (rules_for c.self.inside.begun h) c.self.inside.look
+          (drop c.self.inside.place (bits_in c.self.inside.order c.self.inside.«data».items)))
+          (sym (ap (λ (x : Context). x.held) c.continue_line-is_short.ensures.frame)) c.self.invariant.seen;
+      line = c.self.invariant.line;
+      part = subst (λ (n : ℕ). LineGoesOn c.self.inside.begun c.self.inside.rows.stand c.continue_line-is_short.new.ctx.held
+          (drop c.self.inside.place (bits_in c.self.inside.order c.self.inside.«data».items)) (n - c.self.inside.place)
+          c.continue_line-is_short.new.part) (sym c.bit_pos.ensures.place)
+          (part_reached (feeding_of c.self.inside) (scanned at) c.args.part c.continue_line-is_short.new.part c.args.read
+          c.placed_at-reader.result c.continue_line-is_short.new.reader c.continue_line-is_short.result (starts_at at)
+          (omega (arith, c.self.invariant.within, length-bits_in c.self.inside.order c.self.inside.«data».items))
+          c.continue_line-is_short.ensures was
+          (omega (arith, c.bit_pos.ensures.place, c.bit_pos.ensures.within)) c.if-is_short.true);
+    }
+
+pub returns-then-is_short : goal.returns-then-is_short
+returns-then-is_short c =
+    let at = (goal.at.returns-then-is_short c).After-continue_line-is_short in
+    let was = kept (goal.at.returns-then-is_short c).After-deref in
+    let inside = c.self.inside in
+    let on = c.continue_line-is_short in
+    let within : inside.place ≤ length (bits_in inside.order inside.«data».items)
+    = omega (arith, c.self.invariant.within, length-bits_in inside.order inside.«data».items) in
+    let part = on.new.part in
+    rw (← c.self.view_is) (record {
+      scans = record {
+        scans = record {
+          frame = ap (λ (x : Context). record (feeding_of inside) {
+            ctx = x;
+            part = Some part;
+            line_read = c.bit_pos.result - inside.place;
+          }) on.ensures.frame;
+          counts = on.ensures.counts;
+        };
+        said = said_short (feeding_of inside) (scanned at) c.args.part part c.args.read c.placed_at-reader.result on.new.reader
+            on.result (starts_at at) within on.ensures was;
+        none = λ e. absurd (false≢true (sym e ∙ c.if-is_short.true));
+        work = λ e. subst (λ (n : ℕ). on.new.ctx.ticks + (c.args.part.passed + 2 * c.args.read)
+            ≤ inside.ctx.ticks + (part.passed + 2 * (n - inside.place)) + 2) (sym c.bit_pos.ensures.place)
+            (scan_work (feeding_of inside) (scanned at) c.args.part part c.args.read c.placed_at-reader.result on.new.reader
+            on.result (starts_at at) within on.ensures was (omega (arith, c.bit_pos.ensures.place, c.bit_pos.ensures.within)));
+        most = scan_most (feeding_of inside) (scanned at) c.args.part part c.args.read c.placed_at-reader.result on.new.reader
+            on.result (starts_at at) within on.ensures was;
+      };
+    })
+
+pub returns-else-is_short : goal.returns-else-is_short
+returns-else-is_short c =
+    let at = (goal.at.returns-else-is_short c).After-continue_line-is_short in
+    let was = kept (goal.at.returns-else-is_short c).After-deref in
+    let inside = c.self.inside in
+    let on = c.continue_line-is_short in
+    let within : inside.place ≤ length (bits_in inside.order inside.«data».items)
+    = omega (arith, c.self.invariant.within, length-bits_in inside.order inside.«data».items) in
+    let part = on.new.part in
+    rw (← c.self.view_is) (record {
+      scans = record {
+        scans = record {
+          frame = ap (λ (x : Context). record (feeding_of inside) { ctx = x }) on.ensures.frame;
+          counts = on.ensures.counts;
+        };
+        said = said_short (feeding_of inside) (scanned at) c.args.part part c.args.read c.placed_at-reader.result on.new.reader
+            on.result (starts_at at) within on.ensures was;
+        none = λ e. ap (λ (f : Feeding). f.part) c.self.view_is ∙ c.requires.none_kept;
+        work = λ e. absurd (false≢true (sym c.if-is_short.false ∙ e));
+        most = scan_most (feeding_of inside) (scanned at) c.args.part part c.args.read c.placed_at-reader.result on.new.reader
+            on.result (starts_at at) within on.ensures was;
+      };
+    })

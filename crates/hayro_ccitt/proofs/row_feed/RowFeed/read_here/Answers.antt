@@ -1,0 +1,12 @@
+use Rattle.hayro_ccitt.proofs.Names.{◌∙◌, sym, false≢true}
+use Rattle.hayro_ccitt.proofs.Readings.FeedsOn.{line_feeds, row_fits}
+use Rattle.hayro_ccitt.proofs.row_feed.RowFeed.read_here.Goals as goal
+
+pub returns-then-not-can_take_row-clause-reads : goal.returns-then-not-can_take_row-clause-reads
+returns-then-not-can_take_row-clause-reads c whole tried feed =
+    let fits = row_fits c.requires.begun c.requires.line feed in
+    absurd (false≢true (sym c.if-not-can_take_row.true ∙ c.can_take_row.ensures.room fits.0 fits.1))
+
+pub returns-clause-reads : goal.returns-clause-reads
+returns-clause-reads c whole tried feed =
+    rw c.fed_row.ensures (line_feeds c.read_line-row.result c.read_line-row.ensures c.requires.begun c.requires.line feed)

@@ -1,0 +1,336 @@
+//! A line that is read a word at a time and not drawn: whether the data ends within it.
+
+ghost use Rattle.std.specs.Prelude.{◌≡◌, ◌≢◌, ◌≤◌, ◌<◌, ◌+◌, ◌*◌, ◌+ℤ◌, true, false, length, pos, IfSome, IfNone, Err, Ok, None, Some, [], suc};
+ghost use Rattle.hayro_ccitt.specs.Bits.{Bits, here};
+ghost use Rattle.hayro_ccitt.specs.Context.{right_of_painted};
+ghost use Rattle.hayro_ccitt.specs.Continuations.{is_short, misses_end};
+ghost use Rattle.hayro_ccitt.specs.LineParts.{ContinuesLine, GoesOnBy, IsLawfulPart, IsPartOf, Leads, PaintsTo};
+ghost use Rattle.hayro_ccitt.specs.LineParts.{ReadsWord, is_missing, left_to_read, pen_of_part};
+ghost use Rattle.hayro_ccitt.specs.Lines.{place_from};
+ghost use Rattle.hayro_ccitt.specs.LinesGoOn.{OpenRun, mode_added, word_added};
+ghost use Rattle.hayro_ccitt.specs.PlainReading.{line_here};
+ghost use Rattle.hayro_ccitt.specs.Rows.{Row, paint};
+
+use crate::context::DecoderContext;
+use crate::{DecodeError, EncodingMode};
+use fax_bits::DecodeSettings;
+use fax_bits::bit_reader::{BitReader, at_bit};
+use fax_bits::codes::{Color, Mode};
+
+/// A run of which words are read.
+#[derive(Clone, Copy)]
+pub(crate) struct KeptRun {
+    /// Whether another run follows it in its horizontal mode.
+    another: bool,
+    /// The sum of its words so far.
+    total: u32,
+}
+
+/// Where in a line its next word begins. Of its front only the number of pixels is kept.
+#[derive(Clone, Copy)]
+pub(crate) struct KeptPart {
+    is_2d: bool,
+    /// The run that goes on, or `None` before a mode, or before a run of a one-dimensional line.
+    run: Option<KeptRun>,
+    painted: u32,
+    /// The colour of the next pixels.
+    color: Color,
+    /// How many changes of the reference row are known not to be right of a0.
+    passed: usize,
+}
+
+/// What a word of a line leads to.
+pub(crate) enum Word {
+    /// The line goes on after it.
+    GoesOn,
+    /// The data ends before the word does.
+    Missing,
+    /// The line ends with it: the row is full, or the word is wrong.
+    Ends,
+}
+
+/// Counts pixels as painted, as many as the row has room for. Returns false if strict data has more.
+fn paint(part: &mut KeptPart, settings: DecodeSettings, count: u32) -> bool
+    requires { part.old.painted ≤ settings.columns }
+    ensures painted { result ≡ true → (front : Row) → length front ≡ part.old.painted
+        → PaintsTo settings front part.old.color count part.new.painted }
+    ensures too_many { result ≡ false → (front : Row) → length front ≡ part.old.painted
+        → paint settings.strict settings.columns front part.old.color count ≡ Err DecodeError.InvalidCode }
+    ensures frame { part.new ≡ record part.old { painted = part.new.painted } }
+    ensures onward { part.old.painted ≤ part.new.painted }
+    ensures within { part.new.painted ≤ settings.columns }
+{
+    let room = settings.columns - part.painted;
+    if count <= room {
+        part.painted += count;
+        return true;
+    }
+    if settings.strict {
+        return false;
+    }
+    part.painted = settings.columns;
+    true
+}
+
+/// Returns the position that a vertical mode names, this far from b1, unless it is left of the pixels painted or has more than 32
+/// bits (T.4, 4.2.1.3).
+fn vertical_place(b1: u32, painted: u32, offset: i8) -> Option<u32>
+    ensures place { IfSome result (λ place. place_from painted (pos b1 +ℤ offset) ≡ Ok place) }
+    ensures none { IfNone result (place_from painted (pos b1 +ℤ offset) ≡ Err DecodeError.Overflow) }
+    ensures right { IfSome result (λ place. painted ≤ place) }
+{
+    match b1.checked_add_signed(i32::from(offset)) {
+        None => None,
+        Some(place) => {
+            if place < painted {
+                return None;
+            }
+            Some(place)
+        }
+    }
+}
+
+/// Returns what a word leads to that is read with this error.
+fn word_of_fault(error: DecodeError) -> Word
+    ensures missing { is_missing result ≡ misses_end error }
+    ensures ends { result ≢ Word.GoesOn }
+{
+    match error {
+        DecodeError::UnexpectedEof => Word::Missing,
+        DecodeError::InvalidCode
+        | DecodeError::Overflow
+        | DecodeError::OutOfMemory
+        | DecodeError::Refused => Word::Ends,
+    }
+}
+
+/// Goes on behind a pass: the colour continues to below b2 (T.4, 4.2.1.3).
+fn pass(ctx: &mut DecoderContext, part: &mut KeptPart) -> Word
+    requires lawful { IsLawfulPart ctx.old.held.settings ctx.old.held.reference part.old }
+    requires run { part.old.run ≡ None }
+    requires mode { part.old.is_2d ≡ true }
+    ensures goes { (rest : Bits) → GoesOnBy ctx.old.held.settings ctx.old.held.reference
+        (λ front. (mode_added ctx.old.held.settings.strict ctx.old.held.settings.columns ctx.old.held.reference
+        (pen_of_part part.old front rest) Mode.Pass).turn) part.old part.new rest result }
+    ensures frame { ctx.new ≡ record ctx.old { ticks = ctx.new.ticks } }
+    ensures counts { ctx.old.ticks ≤ ctx.new.ticks }
+    ensures work { ctx.new.ticks + part.old.passed ≤ ctx.old.ticks + part.new.passed + 1 }
+    ensures known { result ≢ Word.Missing }
+{
+    let (_, b2) = ctx.places_behind(part.painted, part.color, &mut part.passed);
+    if !paint(part, ctx.settings(), b2.saturating_sub(part.painted)) {
+        return Word::Ends;
+    }
+    Word::GoesOn
+}
+
+/// Goes on behind a vertical mode: the colour turns this far from b1 (T.4, 4.2.1.3).
+fn turn(ctx: &mut DecoderContext, part: &mut KeptPart, offset: i8) -> Word
+    requires lawful { IsLawfulPart ctx.old.held.settings ctx.old.held.reference part.old }
+    requires run { part.old.run ≡ None }
+    requires mode { part.old.is_2d ≡ true }
+    ensures goes { (rest : Bits) → GoesOnBy ctx.old.held.settings ctx.old.held.reference
+        (λ front. (mode_added ctx.old.held.settings.strict ctx.old.held.settings.columns ctx.old.held.reference
+        (pen_of_part part.old front rest) (Mode.Vertical offset)).turn) part.old part.new rest result }
+    ensures frame { ctx.new ≡ record ctx.old { ticks = ctx.new.ticks } }
+    ensures counts { ctx.old.ticks ≤ ctx.new.ticks }
+    ensures work { ctx.new.ticks + part.old.passed ≤ ctx.old.ticks + part.new.passed + 1 }
+    ensures known { result ≢ Word.Missing }
+{
+    let (b1, _) = ctx.places_behind(part.painted, part.color, &mut part.passed);
+    let Some(place) = vertical_place(b1, part.painted, offset) else {
+        return Word::Ends;
+    };
+    if !paint(part, ctx.settings(), place - part.painted) {
+        return Word::Ends;
+    }
+    part.color = part.color.opposite();
+    Word::GoesOn
+}
+
+/// Goes on behind a mode (T.4, 4.2.1.3).
+fn add_mode(ctx: &mut DecoderContext, part: &mut KeptPart, mode: Mode) -> Word
+    requires lawful { IsLawfulPart ctx.old.held.settings ctx.old.held.reference part.old }
+    requires run { part.old.run ≡ None }
+    requires mode { part.old.is_2d ≡ true }
+    ensures goes { (rest : Bits) → GoesOnBy ctx.old.held.settings ctx.old.held.reference
+        (λ front. (mode_added ctx.old.held.settings.strict ctx.old.held.settings.columns ctx.old.held.reference
+        (pen_of_part part.old front rest) mode).turn) part.old part.new rest result }
+    ensures frame { ctx.new ≡ record ctx.old { ticks = ctx.new.ticks } }
+    ensures counts { ctx.old.ticks ≤ ctx.new.ticks }
+    ensures work { ctx.new.ticks + part.old.passed ≤ ctx.old.ticks + part.new.passed + 1 }
+    ensures known { result ≢ Word.Missing }
+{
+    match mode {
+        Mode::Pass => pass(ctx, part),
+        Mode::Vertical(offset) => turn(ctx, part, offset),
+        Mode::Horizontal => {
+            part.run = Some(KeptRun {
+                another: true,
+                total: 0,
+            });
+            Word::GoesOn
+        }
+    }
+}
+
+/// Goes on behind a mode that is read here.
+fn read_mode(ctx: &mut DecoderContext, reader: &mut BitReader<'_>, part: &mut KeptPart) -> Word
+    requires lawful { IsLawfulPart ctx.old.held.settings ctx.old.held.reference part.old }
+    requires run { part.old.run ≡ None }
+    requires mode { part.old.is_2d ≡ true }
+    requires open { part.old.painted < ctx.old.held.settings.columns }
+    ensures reads { ReadsWord part.old part.new ctx.old ctx.new reader.old reader.new result }
+{
+    match reader.decode_mode(ctx.ticks()) {
+        Ok(mode) => add_mode(ctx, part, mode),
+        Err(error) => word_of_fault(error),
+    }
+}
+
+/// Returns the run that follows a run in its horizontal mode, if one does.
+fn run_behind(run: KeptRun) -> Option<KeptRun>
+    ensures another { run.another ≡ true → result ≡ Some (record { another = false; total = 0 }) }
+    ensures none { run.another ≡ false → result ≡ None }
+{
+    if run.another {
+        return Some(KeptRun {
+            another: false,
+            total: 0,
+        });
+    }
+    None
+}
+
+/// Goes on behind a word of a run (T.4, 4.1.1).
+fn add_word(part: &mut KeptPart, settings: DecodeSettings, run: KeptRun, n: u32) -> Word
+    requires within { part.old.painted ≤ settings.columns }
+    requires run { part.old.run ≡ Some run }
+    ensures goes { (rest : Bits) (front : Row) → length front ≡ part.old.painted → Leads result part.new rest
+        (word_added settings.strict settings.columns
+        (record { is_2d = part.old.is_2d; another = run.another; total = run.total }) (pen_of_part part.old front rest) n).turn }
+    ensures within { part.new.painted ≤ settings.columns }
+    ensures onward { part.old.painted ≤ part.new.painted }
+    ensures passed { part.new.passed ≡ part.old.passed }
+    ensures known { result ≢ Word.Missing }
+{
+    let Some(total) = run.total.checked_add(n) else {
+        return Word::Ends;
+    };
+    if n >= 64 {
+        part.run = Some(KeptRun {
+            another: run.another,
+            total,
+        });
+        return Word::GoesOn;
+    }
+    if !paint(part, settings, total) {
+        return Word::Ends;
+    }
+    part.color = part.color.opposite();
+    part.run = run_behind(run);
+    Word::GoesOn
+}
+
+/// Goes on behind a word of a run that is read here.
+fn read_run(
+    ctx: &mut DecoderContext,
+    reader: &mut BitReader<'_>,
+    part: &mut KeptPart,
+    run: KeptRun,
+) -> Word
+    requires lawful { IsLawfulPart ctx.old.held.settings ctx.old.held.reference part.old }
+    requires run { part.old.run ≡ Some run }
+    ensures reads { ReadsWord part.old part.new ctx.old ctx.new reader.old reader.new result }
+{
+    match ctx.read_word(part.color, reader) {
+        Ok(n) => add_word(part, ctx.settings(), run, u32::from(n)),
+        Err(error) => word_of_fault(error),
+    }
+}
+
+/// Goes on behind the word that is next, unless the row is full. Behind a run of a one-dimensional line the next one is begun
+/// first, which reads nothing.
+fn read_on(ctx: &mut DecoderContext, reader: &mut BitReader<'_>, part: &mut KeptPart) -> Word
+    requires lawful { IsLawfulPart ctx.old.held.settings ctx.old.held.reference part.old }
+    ensures reads { ReadsWord part.old part.new ctx.old ctx.new reader.old reader.new result }
+    ensures smaller { result ≡ Word.GoesOn
+        → left_to_read part.new.run (here reader.new) < left_to_read part.old.run (here reader.old) }
+{
+    if let Some(run) = part.run {
+        return read_run(ctx, reader, part, run);
+    }
+    if part.painted == ctx.settings().columns {
+        return Word::Ends;
+    }
+    if part.is_2d {
+        return read_mode(ctx, reader, part);
+    }
+    part.run = Some(KeptRun {
+        another: false,
+        total: 0,
+    });
+    Word::GoesOn
+}
+
+/// Returns the part with which the words of a line begin.
+fn first_part(is_2d: bool) -> KeptPart
+    ensures { result ≡ record { is_2d = is_2d; run = None; painted = 0; color = Color.White; passed = 0 } }
+{
+    KeptPart {
+        is_2d,
+        run: None,
+        painted: 0,
+        color: Color::White,
+        passed: 0,
+    }
+}
+
+/// Reads the tag of the line here, if it has one (T.4, 4.2.2), and returns the part from which it goes on. Returns `None` if the tag
+/// is missing.
+pub(crate) fn begin_part(ctx: &mut DecoderContext, reader: &mut BitReader<'_>) -> Option<KeptPart>
+    ensures begins { IfSome result (λ part. IsPartOf ctx.old.held.settings ctx.old.held.reference (here reader.old) part
+        (here reader.new)) }
+    ensures lawful { IfSome result (λ part. IsLawfulPart ctx.old.held.settings ctx.old.held.reference part) }
+    ensures frame { ctx.new ≡ ctx.old }
+    ensures same_bits { reader.new.bits ≡ reader.old.bits }
+    ensures onward { reader.old.place ≤ reader.new.place }
+{
+    match ctx.settings().encoding {
+        EncodingMode::Group3_1D => Some(first_part(false)),
+        EncodingMode::Group4 => Some(first_part(true)),
+        EncodingMode::Group3_2D => match reader.read_bit() {
+            Ok(tag) => Some(first_part(tag != 1)),
+            Err(_) => None,
+        },
+    }
+}
+
+/// Reads words from a part of a line on, and returns whether the data ends within the line. If it does, the part is then that
+/// from which the line goes on, and the reader is there. Otherwise the reader is where the word begins with which the line ends.
+/// Each word that is looked for is a tick, and so is each change of the reference row that is examined.
+pub(crate) fn continue_line(
+    ctx: &mut DecoderContext,
+    reader: &mut BitReader<'_>,
+    part: &mut KeptPart,
+) -> bool
+    requires { IsLawfulPart ctx.old.held.settings ctx.old.held.reference part.old }
+    ensures { ContinuesLine part.old part.new ctx.old ctx.new reader.old reader.new result }
+{
+    // An offset is known to be within the data once it is read.
+    let _start = reader.bit_pos();
+    'words: loop {
+        let word_start = reader.bit_pos();
+        match read_on(ctx, reader, part) {
+            Word::GoesOn => {}
+            Word::Missing => {
+                *reader = at_bit(reader, word_start);
+                return true;
+            }
+            Word::Ends => {
+                *reader = at_bit(reader, word_start);
+                return false;
+            }
+        }
+    }
+}
