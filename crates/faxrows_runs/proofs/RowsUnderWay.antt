@@ -69,11 +69,11 @@ module _ {R : Type 0} {settings : DecodeSettings} {order : BitOrder} {reader : U
     order_is = way.order_is;
     at_end = way.at_end;
     put = λ whole begun. let put = way.put whole begun in record {
-          tried = put.tried;
-          is_feed = put.is_feed;
-          within = put.within;
-          lines = lines_flushed start now later _ waits put.lines wrote;
-        };
+      tried = put.tried;
+      is_feed = put.is_feed;
+      within = put.within;
+      lines = lines_flushed start now later _ waits put.lines wrote;
+    };
   }
 
 -- a call that feeds nothing
@@ -312,10 +312,14 @@ pub nothing_as_read : {R W T : Type 0} (IsText : DecodeSettings → Bits → T �
 nothing_as_read IsText settings order reader writer unread unwritten = record {
   written = tt;
   front = λ e. cc;
-  rows = λ other. ([], nothing_read, λ whole may. (
-    0,
-    subst (λ (w : _). Appends (bytes_before writer) (writer.bytes w.0) []) (sym unwritten) (Appends-nil (bytes_before writer)),
-  ));
+  rows = λ other. (
+    [],
+    nothing_read,
+    λ whole may. (
+      0,
+      subst (λ (w : _). Appends (bytes_before writer) (writer.bytes w.0) []) (sym unwritten) (Appends-nil (bytes_before writer)),
+    ),
+  );
   fit = λ e. ([], nothing_read, omega arith);
   too_long = λ e. cc;
   read = λ unfailed. (λ e. cc, λ so. absurd (not_both so (ap (λ (r : _). r.1) unread ∙ unfailed)));
@@ -342,14 +346,14 @@ way_begun bytes reader start {feed} {waits} new empty = record {
   order_is = refl;
   at_end = λ e. absurd (not_both e new.unfinished);
   put = λ whole begun. record {
-        tried = 0;
-        is_feed = new.reads (bits_in feed.order whole) (bits_are_whole feed.order whole)
-            (omega (arith, length-bits_in feed.order whole, begun.fit));
-        within = omega (arith, new.none_read);
-        lines = subst (λ (n : ℕ). PassesOn start start []
-            (lines_of_rows (take n (rows_of feed.ctx.held.settings (bits_in feed.order whole)))) waits) (sym new.none_read)
-            ([], Appends-nil start, sym empty);
-      };
+    tried = 0;
+    is_feed = new.reads (bits_in feed.order whole) (bits_are_whole feed.order whole)
+        (omega (arith, length-bits_in feed.order whole, begun.fit));
+    within = omega (arith, new.none_read);
+    lines = subst (λ (n : ℕ). PassesOn start start []
+        (lines_of_rows (take n (rows_of feed.ctx.held.settings (bits_in feed.order whole)))) waits) (sym new.none_read)
+        ([], Appends-nil start, sym empty);
+  };
 }
 
 -- a feed to which nothing was fed
