@@ -10,11 +10,11 @@ use std::fmt;
 pub enum RunFault {
     /// The arguments are invalid. Nothing was read or written.
     BadArguments,
-    /// The reader failed. Nothing was written.
+    /// The reader failed.
     Read,
-    /// An allocation failed. Nothing was written.
+    /// An allocation failed.
     Memory,
-    /// There are more bytes than a decoder's bit offsets can count. Nothing was written.
+    /// There are more bytes than a decoder's bit offsets can count.
     TooLong,
     /// The writer failed.
     Write,

@@ -36,7 +36,8 @@ pub use Rattle.hayro_ccitt.specs.Decoding.{SinkState, StopsShort, TakesRows}
 pub use Rattle.hayro_ccitt.specs.PlainReading.{failed_at, line_starts, lines_of, plain}
 pub use Rattle.hayro_ccitt.specs.Rows.{HaveWidth, Row, changes}
 pub use Rattle.hayro_ccitt.specs.Answers.{PaintsBlack}
-pub use Rattle.hayro_ccitt.specs.RowFeeds.{ComeNext, Feeding, FeedsNext, IsFeedOf, KeepsBits, StandsIn, fed_bits, fed_end, fed_over}
+pub use Rattle.hayro_ccitt.specs.RowFeeds.{ComeNext, Feeding, FeedsNext, IsFeedOf, KeepsBits, StandsIn, fed_bits, fed_end}
+pub use Rattle.hayro_ccitt.specs.RowFeeds.{fed_over}
 pub use Rattle.hayro_ccitt.specs.declared.row_feed.Fed.{Fed}
 pub use Rattle.hayro_ccitt.specs.RowsRead.{ReaderStands, ended}
 pub use Rattle.hayro_ccitt.specs.RowsRead.{HasFailed, ReadsNext, RowsRead, at_end_of_rows}
@@ -46,7 +47,8 @@ pub use Rattle.hayro_ccitt.specs.DecodeError.TheVariants.{InvalidCode, OutOfMemo
 pub use Rattle.hayro_ccitt.specs.DecodeError.TheVariants.{UnexpectedEof}
 pub use Rattle.hayro_ccitt.specs.DecodeSettings.{DecodeSettings}
 pub use Rattle.hayro_ccitt.specs.EncodingMode.TheVariants.{Group3_1D, Group3_2D, Group4}
-pub use Rattle.std.proofs.Common.{Bool, cond, Err, IfOk, IfSome, List, None, Ok, OnErr, OnOk, Option, Result, Some, [], ap, append-nil}
+pub use Rattle.std.proofs.Common.{Bool, cond, Err, IfOk, IfSome, List, None, Ok, OnErr, OnOk, Option, Result, Some, [], ap}
+pub use Rattle.std.proofs.Common.{append-nil}
 pub use Rattle.std.proofs.Common.{append_assoc, arith, drop, drop_of_length-le, false, get_or, inl, inr, length, length-append}
 pub use Rattle.std.proofs.Common.{length-drop, map, refl, rules, set, string_bytes, subst, suc, sym, take, take-append-drop}
 pub use Rattle.std.proofs.Common.{take_all, true, zero, ℕ, ◌*◌, ◌++◌, ◌+◌, ◌-◌, ◌/◌, ◌<◌, ◌^◌, ◌∙◌, ◌∷◌, ◌≡◌, ◌≢◌, ◌≤◌, ◌↔◌}

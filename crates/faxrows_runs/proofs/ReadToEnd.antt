@@ -1,9 +1,13 @@
 -- The text of data that was read to its end.
-use Rattle.faxrows_runs.proofs.Names.{◌≡◌, ◌++◌, ◌∙◌, ℕ, List, [], Option, Result, RunFault, Write, drop, refl, sym, subst, take, Appends}
-use Rattle.faxrows_runs.proofs.Names.{Appends-trans, AppendsFront, Bits, BitOrder, DecodeSettings, Done, EndsByRow, Feeding, Ok, Err}
+use Rattle.faxrows_runs.proofs.Names.{◌≡◌, ◌++◌, ◌∙◌, ℕ, List, [], Option, Result, RunFault, Write, drop, refl, sym, subst}
+use Rattle.faxrows_runs.proofs.Names.{take, Appends}
+use Rattle.faxrows_runs.proofs.Names.{Appends-trans, AppendsFront, Bits, BitOrder, DecodeSettings, Done, EndsByRow, Feeding, Ok}
+use Rattle.faxrows_runs.proofs.Names.{Err}
 use Rattle.faxrows_runs.proofs.Names.{IsBegunBy, IsReadToEnd, IsTextByRow, IsTextWithoutMemory, IsUnderWay, Outcome, PassesOn}
-use Rattle.faxrows_runs.proofs.Names.{PutsRows, Used, WritesAsRead, bytes_after, bytes_before, done_of, line_of_outcome, line_of_row}
-use Rattle.faxrows_runs.proofs.Names.{lines_of_rows, outcome_of, rows_of, text_after, whole_text, Bool, Some, HasPut, IfErr, bits_in, true}
+use Rattle.faxrows_runs.proofs.Names.{PutsRows, Used, WritesAsRead, bytes_after, bytes_before, done_of, line_of_outcome}
+use Rattle.faxrows_runs.proofs.Names.{line_of_row}
+use Rattle.faxrows_runs.proofs.Names.{lines_of_rows, outcome_of, rows_of, text_after, whole_text, Bool, Some, HasPut, IfErr}
+use Rattle.faxrows_runs.proofs.Names.{bits_in, true}
 use Rattle.faxrows_runs.proofs.{Outputs.passes_both, Outputs.front_behind, Outputs.front_of_more, Outputs.front_of_waiting}
 use Rattle.faxrows_runs.proofs.{Outputs.front_of_longer, Outputs.pieces_rest, RunsByRow.text_by_row, Texts.whole_end}
 use Rattle.faxrows_runs.proofs.RowsUnderWay.{front_as_read, text_as_read, way_put}
@@ -25,10 +29,10 @@ front_of_lines settings bits before after front =
     )
 
 -- so is a front of the lines so far
-pub front_so_far : (start now later : Option (List ℕ)) {bits : Bits} {feed : Feeding} {waits : List ℕ}
+pub front_of_put : (start now later : Option (List ℕ)) {bits : Bits} {feed : Feeding} {waits : List ℕ}
     → HasPut start now bits feed waits → AppendsFront now later waits
     → WritesFront feed.ctx.held.settings bits start later
-front_so_far start now later {bits} {feed} {waits} put front =
+front_of_put start now later {bits} {feed} {waits} put front =
     let rows = rows_of feed.ctx.held.settings bits in
     let taken = feed.ctx.held.taken in
     front_of_lines feed.ctx.held.settings bits start later
@@ -63,7 +67,7 @@ pub waits_fail : {R W : Type 0} {settings : DecodeSettings} {order : BitOrder} {
 waits_fail {order = order} {writer = writer} {now = now} {feed = feed} {fault = fault} way read front only failed =
     front_as_read IsTextByRow writer way read fault only (λ whole begun.
     subst (λ (s : DecodeSettings). WritesFront s (bits_in order whole) (bytes_before writer) (bytes_after writer))
-    way.settings_are (front_so_far (bytes_before writer) now (bytes_after writer) (way.put whole begun) front)) failed
+    way.settings_are (front_of_put (bytes_before writer) now (bytes_after writer) (way.put whole begun) front)) failed
 
 -- the reading ended, and its rows were put
 pub read_to_end : {R W : Type 0} {settings : DecodeSettings} {order : BitOrder} {reader : Used R} {start : Option (List ℕ)}
@@ -90,7 +94,8 @@ module _ {R W : Type 0} {settings : DecodeSettings} {order : BitOrder} {reader :
     is_text : IsTextByRow settings (bits_in order whole) (done_of outcome) (text whole)
     is_text = text_by_row settings (bits_in order whole) feed.ctx.held.taken outcome (end.ends whole begun)
 
-    lines : PassesOn (bytes_before writer) first [] (lines_of_rows (take feed.ctx.held.taken (rows_of settings (bits_in order whole)))) waits
+    lines : PassesOn (bytes_before writer) first []
+        (lines_of_rows (take feed.ctx.held.taken (rows_of settings (bits_in order whole)))) waits
     lines = subst (λ (s : DecodeSettings). PassesOn (bytes_before writer) first []
         (lines_of_rows (take feed.ctx.held.taken (rows_of s (bits_in order whole)))) waits) end.so_far.settings_are
         (end.so_far.put whole begun).lines
@@ -108,11 +113,13 @@ module _ {R W : Type 0} {settings : DecodeSettings} {order : BitOrder} {reader :
         done_of outcome,
         text whole,
         is_text whole begun,
-        front_behind (bytes_before writer) first (bytes_after writer) [] _ waits (line_of_outcome outcome) (lines whole begun) front,
+        front_behind (bytes_before writer) first (bytes_after writer) [] _ waits (line_of_outcome outcome) (lines whole begun)
+            front,
       )) failed
 
   -- what waits couldn't be written
-  pub flush_fails : reader.after.1 ≡ reader.before.1 → (second : Option (List ℕ)) (left : List ℕ) → PassesOn first second waits (line_of_outcome outcome) left → (fault : RunFault)
+  pub flush_fails : reader.after.1 ≡ reader.before.1 → (second : Option (List ℕ)) (left : List ℕ)
+      → PassesOn first second waits (line_of_outcome outcome) left → (fault : RunFault)
       → fault ≡ Write → AppendsFront second (bytes_after writer) left → writer.after.1 ≡ true
       → WritesAsRead IsTextByRow settings order reader writer (Err fault)
   flush_fails read second left line fault only front failed =
@@ -120,12 +127,14 @@ module _ {R W : Type 0} {settings : DecodeSettings} {order : BitOrder} {reader :
         done_of outcome,
         text whole,
         is_text whole begun,
-        front_of_waiting (bytes_before writer) second (bytes_after writer) [] (text whole) left (passes whole begun second left line) front,
+        front_of_waiting (bytes_before writer) second (bytes_after writer) [] (text whole) left
+            (passes whole begun second left line) front,
       )) failed
 
   -- all was written
-  pub all_written : reader.after.1 ≡ reader.before.1 → (second : Option (List ℕ)) (left : List ℕ) → PassesOn first second waits (line_of_outcome outcome) left
-      → Appends second (bytes_after writer) left → writer.after.1 ≡ writer.before.1
+  pub all_written : reader.after.1 ≡ reader.before.1 → (second : Option (List ℕ)) (left : List ℕ)
+      → PassesOn first second waits (line_of_outcome outcome) left → Appends second (bytes_after writer) left
+      → writer.after.1 ≡ writer.before.1
       → WritesAsRead IsTextByRow settings order reader writer (Ok (done_of outcome))
   all_written read second left line wrote kept =
       text_as_read IsTextByRow writer end.so_far read (done_of outcome) (λ whole begun.

@@ -1,5 +1,6 @@
 -- Rows that are put while data is fed, as lines.
-use Rattle.faxrows_runs.proofs.Names.{◌≡◌, ◌≢◌, ◌≤◌, ◌+◌, ◌/◌, ◌++◌, ◌∙◌, ℕ, List, [], Option, Ok, Err, refl, sym, subst, take, length}
+use Rattle.faxrows_runs.proofs.Names.{◌≡◌, ◌≢◌, ◌≤◌, ◌+◌, ◌/◌, ◌++◌, ◌∙◌, ℕ, List, [], Option, Ok, Err, refl, sym, subst, take}
+use Rattle.faxrows_runs.proofs.Names.{length}
 use Rattle.faxrows_runs.proofs.Names.{Bits, DecodeError, DecodeSettings, IsFault, OutOfMemory, Refused, ap, changes}
 use Rattle.faxrows_runs.proofs.Names.{AppendsFront, EndsByRow, PassesOn, line_of_row, lines_of_rows, rows_of}
 use Rattle.faxrows_runs.proofs.Names.{Bool, KeepsBits, None, PutsRows, Result, RunFault, Some, Used, bytes_after, bytes_before}
@@ -155,7 +156,8 @@ module _ {W : Type 0} (contents : W → Option (List ℕ)) (begun mid : W × Boo
     (answer : Result Fed DecodeError)
     (reads : (whole : Bits) (tried : ℕ) → ended old.rows.stand ≡ None → IsFeedOf whole tried old
     → FeedsNext whole tried old new answer)
-    (at_end : (end : Result (Unit {0}) DecodeError) → ended old.rows.stand ≡ Some end → (new ≡ old) × (answer ≡ fed_end end)) where
+    (at_end : (end : Result (Unit {0}) DecodeError) → ended old.rows.stand ≡ Some end
+    → (new ≡ old) × (answer ≡ fed_end end)) where
   keeps : KeepsBits first new
   keeps = bits_kept so_far.keeps kept
 
@@ -196,8 +198,8 @@ module _ {W : Type 0} (contents : W → Option (List ℕ)) (begun mid : W × Boo
       (reads so_far.some.0 so_far.some.1 unended so_far.some.2)
 
   module _ (is_row : answer ≡ Ok Fed.Row) where
-    pub one_more : new.ctx.held.taken ≡ old.ctx.held.taken + 1
-    one_more = (((next_some is_row (unended_row is_row)).row refl).more refl).1
+    pub next_taken : new.ctx.held.taken ≡ old.ctx.held.taken + 1
+    next_taken = (((next_some is_row (unended_row is_row)).row refl).more refl).1
 
     pub row_so_far : {later : W × Bool} {left : List ℕ}
         → PassesOn (contents mid.0) (contents later.0) waits (line_of_row (changes new.ctx.held.reference)) left

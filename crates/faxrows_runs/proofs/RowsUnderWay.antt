@@ -1,6 +1,8 @@
 -- Data that is read and fed in pieces, and the rows that are put meanwhile.
-use Rattle.faxrows_runs.proofs.Names.{◌≡◌, ◌≢◌, ◌+◌, ◌*◌, ◌<◌, ◌≤◌, ◌^◌, ◌↔◌, ◌++◌, ◌∙◌, ℕ, Bool, true, false, List, [], Option, Result, Ok}
-use Rattle.faxrows_runs.proofs.Names.{◌-◌, cond, KeepsBits, Err, IfSome, Some, None, arith, refl, sym, ap, subst, append-nil, append_assoc, length}
+use Rattle.faxrows_runs.proofs.Names.{◌≡◌, ◌≢◌, ◌+◌, ◌*◌, ◌<◌, ◌≤◌, ◌^◌, ◌↔◌, ◌++◌, ◌∙◌, ℕ, Bool, true, false, List, [], Option}
+use Rattle.faxrows_runs.proofs.Names.{Result, Ok}
+use Rattle.faxrows_runs.proofs.Names.{◌-◌, cond, KeepsBits, Err, IfSome, Some, None, arith, refl, sym, ap, subst, append-nil}
+use Rattle.faxrows_runs.proofs.Names.{append_assoc, length}
 use Rattle.faxrows_runs.proofs.Names.{length-append, drop, take, Appends, Appends-trans, AppendsFront, Bits, BitsFit, bits_in}
 use Rattle.faxrows_runs.proofs.Names.{BitOrder, Context, DecodeSettings, Outcome, RunFault, BadArguments, Read, TooLong, Write}
 use Rattle.faxrows_runs.proofs.Names.{FaultOfMemory, ComeNext, Feeding, IsFeedOf, fed_bits, EndsByRow, PassesOn, Used}
@@ -30,8 +32,11 @@ bits_behind order first next more =
 -- what waited was written
 lines_flushed : (start now later : Option (List ℕ)) (text waits : List ℕ) → PassesOn start now [] text waits
     → Appends now later waits → PassesOn start later [] text []
-lines_flushed start now later text waits passes wrote =
-    (passes.0 ++ waits, Appends-trans start now later passes.0 waits passes.1 wrote, passes.2 ∙ sym (append-nil (passes.0 ++ waits)))
+lines_flushed start now later text waits passes wrote = (
+  passes.0 ++ waits,
+  Appends-trans start now later passes.0 waits passes.1 wrote,
+  passes.2 ∙ sym (append-nil (passes.0 ++ waits)),
+)
 
 -- and is all that was written
 lines_written : (start now : Option (List ℕ)) (text : List ℕ) → PassesOn start now [] text [] → Appends start now text
@@ -69,11 +74,11 @@ module _ {R : Type 0} {settings : DecodeSettings} {order : BitOrder} {reader : U
     order_is = way.order_is;
     at_end = way.at_end;
     put = λ whole begun. let put = way.put whole begun in record {
-          tried = put.tried;
-          is_feed = put.is_feed;
-          within = put.within;
-          lines = lines_flushed start now later _ waits put.lines wrote;
-        };
+      tried = put.tried;
+      is_feed = put.is_feed;
+      within = put.within;
+      lines = lines_flushed start now later _ waits put.lines wrote;
+    };
   }
 
 -- a call that feeds nothing
@@ -106,7 +111,8 @@ module _ {R : Type 0} {settings : DecodeSettings} {order : BitOrder} (bytes : R 
     counted_so = omega (arith, piece.counts, way.counted, length-append way.input piece.bytes)
 
     -- the data begins with what was read before, too
-    before_piece : {b : Bool} {whole : List ℕ} → IsBegunBy (way.input ++ piece.bytes) b whole → IsBegunBy way.input old.finished whole
+    before_piece : {b : Bool} {whole : List ℕ} → IsBegunBy (way.input ++ piece.bytes) b whole
+        → IsBegunBy way.input old.finished whole
     before_piece {b} {whole} begun = record {
       more = piece.bytes ++ begun.more;
       begins = begun.begins ∙ append_assoc way.input piece.bytes begun.more;
@@ -218,7 +224,8 @@ module _ {R W T : Type 0} (IsText : DecodeSettings → Bits → T → List ℕ �
   }
 
   -- a front of one was
-  pub front_as_read : (fault : RunFault) → fault ≡ Write → ((whole : List ℕ) → IsBegunBy way.input feed.finished whole → (value : T)
+  pub front_as_read : (fault : RunFault) → fault ≡ Write → ((whole : List ℕ)
+      → IsBegunBy way.input feed.finished whole → (value : T)
       × (text : List ℕ) × IsText settings (bits_in order whole) value text
       × AppendsFront (bytes_before writer) (bytes_after writer) text)
       → writer.after.1 ≡ true → WritesAsRead IsText settings order reader writer (Err fault)
@@ -259,7 +266,8 @@ module _ {R W T : Type 0} (IsText : DecodeSettings → Bits → T → List ℕ �
   consumed = Consumes-trans _ _ _ _ _ way.consumed none.consumed
 
   fits_by : (fault : RunFault) → FeedsNone (bytes mid.0) (bytes last.0) old fault → ((fault ≡ Read) → none.bytes ≡ [])
-      → (fault ≡ FaultOfMemory → fed_bits old + 8 * length none.bytes + 64 < 2 ^ 64) → fault ≢ TooLong → BitsFit (way.input ++ none.bytes)
+      → (fault ≡ FaultOfMemory → fed_bits old + 8 * length none.bytes + 64 < 2 ^ 64) → fault ≢ TooLong
+      → BitsFit (way.input ++ none.bytes)
   fits_by Read given empty fit other = omega (arith, way.fit, long, ap length (empty refl))
   fits_by FaultOfMemory given empty fit other = omega (arith, fit refl, long, way.counted)
   fits_by TooLong given empty fit other = absurd (other refl)
@@ -293,7 +301,8 @@ module _ {R W T : Type 0} (IsText : DecodeSettings → Bits → T → List ℕ �
     front = λ e. absurd (none.only.0 (fault_is e));
     rows = λ other. (way.input ++ none.bytes, consumed, rows_there);
     fit = λ other. (way.input ++ none.bytes, consumed, fits_by fault none none.none none.fit (λ is. other (ap Err is)));
-    too_long = λ e. too_many _ _ (way.input ++ none.bytes) consumed (omega (arith, none.too_long (fault_is e), way.counted, long));
+    too_long = λ e. too_many _ _ (way.input ++ none.bytes) consumed
+        (omega (arith, none.too_long (fault_is e), way.counted, long));
     read = λ unfailed. (
       λ e. (read (kept ∙ unfailed)).0 (ap Err (fault_is e)),
       λ so. ap Err (fault_is ((read (kept ∙ unfailed)).1 so)),
@@ -312,10 +321,14 @@ pub nothing_as_read : {R W T : Type 0} (IsText : DecodeSettings → Bits → T �
 nothing_as_read IsText settings order reader writer unread unwritten = record {
   written = tt;
   front = λ e. cc;
-  rows = λ other. ([], nothing_read, λ whole may. (
-    0,
-    subst (λ (w : _). Appends (bytes_before writer) (writer.bytes w.0) []) (sym unwritten) (Appends-nil (bytes_before writer)),
-  ));
+  rows = λ other. (
+    [],
+    nothing_read,
+    λ whole may. (
+      0,
+      subst (λ (w : _). Appends (bytes_before writer) (writer.bytes w.0) []) (sym unwritten) (Appends-nil (bytes_before writer)),
+    ),
+  );
   fit = λ e. ([], nothing_read, omega arith);
   too_long = λ e. cc;
   read = λ unfailed. (λ e. cc, λ so. absurd (not_both so (ap (λ (r : _). r.1) unread ∙ unfailed)));
@@ -342,41 +355,20 @@ way_begun bytes reader start {feed} {waits} new empty = record {
   order_is = refl;
   at_end = λ e. absurd (not_both e new.unfinished);
   put = λ whole begun. record {
-        tried = 0;
-        is_feed = new.reads (bits_in feed.order whole) (bits_are_whole feed.order whole)
-            (omega (arith, length-bits_in feed.order whole, begun.fit));
-        within = omega (arith, new.none_read);
-        lines = subst (λ (n : ℕ). PassesOn start start []
-            (lines_of_rows (take n (rows_of feed.ctx.held.settings (bits_in feed.order whole)))) waits) (sym new.none_read)
-            ([], Appends-nil start, sym empty);
-      };
-}
-
--- a feed to which nothing was fed
-pub new_feed : {feed : Feeding}
-    → ((whole : Bits) → AreWholeBytes whole → length whole + 64 < 2 ^ 64 → IsFeedOf whole 0 feed)
-    → (feed.kept ≡ []) × (feed.finished ≡ false) → feed.ctx.held.taken ≡ 0 → IsNewFeed feed
-new_feed reading none taken = record {
-  none_fed = omega (arith, (reading [] refl (omega arith)).lie.within, ap length none.0);
-  none_read = taken;
-  unfinished = none.1;
-  reads = reading;
+    tried = 0;
+    is_feed = new.reads (bits_in feed.order whole) (bits_are_whole feed.order whole)
+        (omega (arith, length-bits_in feed.order whole, begun.fit));
+    within = omega (arith, new.none_read);
+    lines = subst (λ (n : ℕ). PassesOn start start []
+        (lines_of_rows (take n (rows_of feed.ctx.held.settings (bits_in feed.order whole)))) waits) (sym new.none_read)
+        ([], Appends-nil start, sym empty);
+  };
 }
 
 -- ---- A run
 
 module _ {R W T : Type 0} (IsText : DecodeSettings → Bits → T → List ℕ → Type 0) (words : List (List ℕ)) (reader : Used R)
     (writer : Used W) where
-  -- whose words mean nothing
-  pub bad_words : arguments_of_words words ≡ None → reader.after ≡ reader.before → writer.after ≡ writer.before
-      → RunsAsRead {T = T} IsText words reader writer (Err BadArguments)
-  bad_words e unread unwritten = record {
-    bad_arguments = (λ is. e, λ none. refl);
-    unused = λ is. (unread, unwritten);
-    writes = subst (λ (meant : Option Arguments). IfSome meant (λ meant. WritesAsRead {T = T} IsText meant.settings meant.order
-        reader writer (Err BadArguments))) (sym e) tt;
-  }
-
   -- whose words mean these arguments
   pub good_words : (arguments : Arguments) (result : Result T RunFault) → arguments_of_words words ≡ Some arguments
       → WritesAsRead IsText arguments.settings arguments.order reader writer result

@@ -1,5 +1,6 @@
 -- Rows that are put while data is fed: not part of the trusted specification.
-use Rattle.std.specs.Prelude.{◌≡◌, ◌≢◌, ◌≤◌, ◌<◌, ◌+◌, ◌-◌, ◌*◌, ◌^◌, ℕ, Bool, true, false, List, [], ◌++◌, length, take, None, Option}
+use Rattle.std.specs.Prelude.{◌≡◌, ◌≢◌, ◌≤◌, ◌<◌, ◌+◌, ◌-◌, ◌*◌, ◌^◌, ℕ, Bool, true, false, List, [], ◌++◌, length, take, None}
+use Rattle.std.specs.Prelude.{Option}
 use Rattle.std.specs.Prelude.{IfSome, Result, IfOk, OnOk, OnErr}
 use Rattle.std.specs.Io.KnownBytes.{Consumes, IsAtEnd}
 use Rattle.hayro_ccitt.specs.BitOrder.{BitOrder}

@@ -22,7 +22,7 @@ use std::io::{Read, Write};
 ///
 /// # Errors
 ///
-/// Those of [`run_by_row`](crate::run_by_row). An allocation that fails during the check is `Memory`; nothing is written then.
+/// Those of [`run`](crate::run). An allocation that fails during the check is `Memory`; nothing is written then.
 pub fn run_check<R: Read, W: Write>(
     alloc: Global,
     words: &[String],

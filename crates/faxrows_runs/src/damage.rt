@@ -28,7 +28,7 @@ use std::io::{Read, Write};
 ///
 /// # Errors
 ///
-/// Those of [`run_by_row`](crate::run_by_row).
+/// Those of [`run`](crate::run).
 pub fn run_damage<R: Read, W: Write>(
     alloc: Global,
     words: &[String],

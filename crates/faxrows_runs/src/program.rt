@@ -32,7 +32,8 @@ pub enum Done {
 ///
 /// # Errors
 ///
-/// Those of [`RunFault`]. A fault of the data is no error of the run: it is written, and `Done::Faulty` returned.
+/// Those of [`RunFault`], of which all but `Write` come before anything is written. A fault of the data is no error of the run: it
+/// is written, and `Done::Faulty` returned.
 pub fn run<R: Read, W: Write>(
     alloc: Global,
     words: &[String],

@@ -407,10 +407,11 @@ fn writes_rows_before_a_read_fails(rt: HostRuntime) {
     same(&rt, from, 6);
 }
 
-/// Runs row by row, each with the number of bytes that are read: what follows EOFB or the last row isn't read.
+/// Runs row by row, each with the number of bytes that are read: none after EOFB, or after one that shows that no EOFB follows the
+/// last row.
 const READ_SO_FAR: &str = r#"
     g4 8 0 b: 31C0040040FFFF: Ok(Good) "r 3 5\nok 5\n": 5
-    g4 8 1 -: 31C0FFFF: Ok(Good) "r 3 5\nok 2\n": 2
+    g4 8 1 -: 31C0FFFF: Ok(Good) "r 3 5\nok 2\n": 3
     g4 8 0 b: 31C0: Ok(Good) "r 3 5\nok 2\n": 2
     g4 0 0 -: 31C0: Ok(Good) "ok 0\n": 0
     1d 8 0 l: 0019800C700033: Ok(Good) "r\nr 3 5\nr\nok 7\n": 7
@@ -425,7 +426,14 @@ fn reads_no_more_than_the_image(rt: HostRuntime) {
         let (told, read) = rest.split_once(": ").expect(&rt, case);
         let read = read.parse().expect(&rt, case);
         let input = bytes_of(&rt, digits);
-        reads(&rt, "run_by_row", line, input, (usize::MAX, usize::MAX), (told, read));
+        reads(
+            &rt,
+            "run_by_row",
+            line,
+            input,
+            (usize::MAX, usize::MAX),
+            (told, read),
+        );
     }
 }
 

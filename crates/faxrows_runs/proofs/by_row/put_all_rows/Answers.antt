@@ -2,7 +2,8 @@ use Rattle.faxrows_runs.proofs.Names.{rules, ◌≡◌, ◌∙◌, ℕ, false, L
 use Rattle.faxrows_runs.proofs.Names.{Option, Outcome, PutsRows, used}
 use Rattle.faxrows_runs.proofs.{by_row.put_all_rows.Given.Over, by_row.put_all_rows.Goals.After-feed_piece}
 use Rattle.faxrows_runs.proofs.ReadToEnd.{if_err, put_fails, read_to_end, waits_fail}
-use Rattle.faxrows_runs.proofs.RowsUnderWay.{fed_bits_kept, less_to_feed, rows_as_read, some_feed, way_begun, way_fed, way_flushed}
+use Rattle.faxrows_runs.proofs.RowsUnderWay.{fed_bits_kept, less_to_feed, rows_as_read, some_feed, way_begun, way_fed}
+use Rattle.faxrows_runs.proofs.RowsUnderWay.{way_flushed}
 use Rattle.faxrows_runs.proofs.RowsUnderWay.{way_put}
 use Rattle.faxrows_runs.proofs.by_row.put_all_rows.Goals as goal
 

@@ -1,6 +1,7 @@
-use Rattle.faxrows_runs.proofs.Names.{rules, ◌∙◌, ◌++◌, List, ℕ, ap, arith, refl, sym, subst, AppendsFront, Ok, PassesOn, line_of_row}
+use Rattle.faxrows_runs.proofs.Names.{rules, ◌∙◌, ◌++◌, List, ℕ, ap, arith, refl, sym, subst, AppendsFront, Ok, PassesOn}
+use Rattle.faxrows_runs.proofs.Names.{line_of_row}
 use Rattle.std.proofs.lemmas.Result.{err_from_is_err_and}
-use Rattle.faxrows_runs.proofs.RowsPut.{end_puts, error_puts, more_puts, one_more, row_fails, row_so_far}
+use Rattle.faxrows_runs.proofs.RowsPut.{end_puts, error_puts, more_puts, next_taken, row_fails, row_so_far}
 use Rattle.faxrows_runs.proofs.by_row.put_rows.Goals as goal
 
 pub loop-rows-init : goal.loop-rows-init
@@ -16,7 +17,7 @@ loop-rows-init g c = record {
 
 pub loop-rows-smaller : goal.loop-rows-smaller
 loop-rows-smaller g c =
-    let more = one_more g.W.Write.contents c.args.writer.now c.loop-rows.writer c.loop-rows.invariant.so_far
+    let more = next_taken g.W.Write.contents c.args.writer.now c.loop-rows.writer c.loop-rows.invariant.so_far
     c.next_row.ensures.keeps c.next_row.result c.next_row.ensures.reads c.next_row.ensures.ended
     (c.in-Ok-Row.is ∙ ap Ok c.in-Ok-Row.field-0-is) in
     omega (arith, more, c.rows_read-read.ensures, c.rows_read-read.type_inv)
@@ -24,7 +25,8 @@ loop-rows-smaller g c =
 pub loop-rows-preserved : goal.loop-rows-preserved
 loop-rows-preserved g c = record {
   so_far = row_so_far g.W.Write.contents c.args.writer.now c.loop-rows.writer c.loop-rows.invariant.so_far
-      c.next_row.ensures.keeps c.next_row.result c.next_row.ensures.reads c.next_row.ensures.ended (c.in-Ok-Row.is ∙ ap Ok c.in-Ok-Row.field-0-is)
+      c.next_row.ensures.keeps c.next_row.result c.next_row.ensures.reads c.next_row.ensures.ended
+      (c.in-Ok-Row.is ∙ ap Ok c.in-Ok-Row.field-0-is)
       (subst (λ (l : List ℕ). PassesOn (g.W.Write.contents c.loop-rows.writer.0) (g.W.Write.contents c.put_row.new.writer.0)
       c.loop-rows.waiting.items (line_of_row l) c.put_row.new.waiting.items) c.row.ensures.changes
       c.in_ok-put_row-in-Ok-Row.ensures.ok);
@@ -45,12 +47,14 @@ returns-in_err-put_row-in-Ok-Row-clause-puts g c =
 pub returns-in-Ok-NeedsMore-clause-puts : goal.returns-in-Ok-NeedsMore-clause-puts
 returns-in-Ok-NeedsMore-clause-puts g c =
     more_puts g.W.Write.contents c.args.writer.now c.loop-rows.writer c.loop-rows.invariant.so_far c.next_row.ensures.keeps
-    c.next_row.result c.next_row.ensures.reads c.next_row.ensures.ended (c.in-Ok-NeedsMore.is ∙ ap Ok c.in-Ok-NeedsMore.field-0-is)
+    c.next_row.result c.next_row.ensures.reads c.next_row.ensures.ended
+    (c.in-Ok-NeedsMore.is ∙ ap Ok c.in-Ok-NeedsMore.field-0-is)
 
 pub returns-in-Ok-End-clause-puts : goal.returns-in-Ok-End-clause-puts
 returns-in-Ok-End-clause-puts g c =
     end_puts g.W.Write.contents c.args.writer.now c.loop-rows.writer c.loop-rows.invariant.so_far c.next_row.ensures.keeps
-    c.next_row.result c.next_row.ensures.reads c.next_row.ensures.ended (c.in-Ok-End.is ∙ ap Ok c.in-Ok-End.field-0-is) c.bytes_read.result
+    c.next_row.result c.next_row.ensures.reads c.next_row.ensures.ended
+    (c.in-Ok-End.is ∙ ap Ok c.in-Ok-End.field-0-is) c.bytes_read.result
     c.bytes_read.ensures
 
 pub returns-in-Err-clause-puts : goal.returns-in-Err-clause-puts
