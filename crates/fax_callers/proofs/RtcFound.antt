@@ -229,10 +229,3 @@ pub behind_page : (encoding : EncodingMode) (columns : ℕ) (rows : List Row) (b
 behind_page encoding columns rows bits more three (lines, closing, some, picture, are, closes, split) =
     ap (behind_rtc (tags_in encoding) none_seen) (ap (λ (b : Bits). b ++ more) split ∙ append_assoc lines closing more)
     ∙ lines_passed encoding columns (white_row columns) rows lines closing more 0 three picture.0 picture.1 are closes
-
--- ---- Where it ends
-
-pub size_at : (tags : Bool) (bits : Bits) (size place : ℕ) → place ≤ length bits
-    → behind_rtc tags none_seen bits ≡ Some (drop place bits) → rtc_size tags bits size ≡ (place + 7) / 8
-size_at tags bits size place le found =
-    ap (size_before bits size) found ∙ (let left = length-drop place bits in omega (arith, left, le))

@@ -1,0 +1,16 @@
+-- Where a page of Group 3 ends in data that comes in pieces.
+use Rattle.std.specs.Prelude.{◌≡◌, ℕ, ◌+◌, List, ◌++◌, length}
+use Rattle.hayro_ccitt.specs.Bits.{bits_in}
+use Rattle.fax_callers.specs.Rtc.{PassesBits, none_seen, rtc_size}
+use Rattle.fax_callers.specs.declared.page_search.PageSearch.{PageSearch}
+
+-- no RTC ends within these bytes, which are all that was searched so far
+abbrev pub HasPassed : PageSearch → List ℕ → Type 0
+HasPassed search front = PassesBits search.two_dimensional none_seen (bits_in search.order front) search.seen
+
+-- whatever was passed before these bytes and follows them, the page ends after this number of them: the first RTC ends within the
+-- last one (T.4, 4.1.4 and 4.2.4)
+abbrev pub EndsPageWithin : PageSearch → List ℕ → ℕ → Type 0
+EndsPageWithin search piece count = (front more : List ℕ) → HasPassed search front
+    → rtc_size search.two_dimensional (bits_in search.order (front ++ (piece ++ more))) (length (front ++ (piece ++ more)))
+    ≡ length front + count
