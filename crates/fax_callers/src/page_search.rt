@@ -1,8 +1,11 @@
 //! Where a page of Group 3 ends in data that comes in pieces.
 
 ghost use Rattle.std.specs.Prelude.{◌≡◌, ◌≤◌, ◌++◌, List, ℕ, [], IfNone, IfSome, length};
-ghost use Rattle.hayro_ccitt.specs.Bits.{BitsFit};
-ghost use Rattle.fax_callers.specs.PageSearches.{EndsPageWithin, HasPassed};
+ghost use Rattle.hayro_ccitt.specs.Bits.{BitsFit, bits_in};
+ghost use Rattle.hayro_ccitt.specs.DecodeSettings.{DecodeSettings};
+ghost use Rattle.hayro_ccitt.specs.Rows.{Row};
+ghost use Rattle.fax_callers.specs.PageSearches.{EndsPageWithin, FoundAt, HasPassed, kind_of};
+ghost use Rattle.fax_callers.specs.Pages.{IsPage};
 
 use crate::rtc::{EolsSeen, find_rtc, none_seen};
 use hayro_ccitt::bit_reader::BitOrder;
@@ -59,6 +62,11 @@ impl PageSearch {
         // Whatever the bytes before were and those behind are, the first RTC ends within the last of these.
         ensures found { IfSome result (λ n. (n ≤ length piece.now) × EndsPageWithin self.old piece.now n) }
         ensures none { IfNone result ((front : List ℕ) → HasPassed self.old front → HasPassed self.new (front ++ piece.now)) }
+        // The end of a page is found among the bytes that have it, whatever the pieces are and whatever follows it.
+        ensures closed { (front more : List ℕ) (settings : DecodeSettings) (rows : List Row) (count : ℕ) → HasPassed self.old front
+            → settings.encoding ≡ kind_of self.old.two_dimensional
+            → IsPage settings rows count (bits_in self.old.order (front ++ (piece.now ++ more)))
+            → FoundAt result (length front) (length piece.now) count }
         ensures kind { self.new.two_dimensional ≡ self.old.two_dimensional }
         ensures order { self.new.order ≡ self.old.order }
     {
