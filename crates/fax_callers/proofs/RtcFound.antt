@@ -1,8 +1,8 @@
 -- The first RTC in a page is the one that closes it.
-use Rattle.hayro_ccitt.proofs.Names.{◌≡◌, ◌≢◌, ℕ, zero, suc, ◌+◌, ◌/◌, ◌<◌, ◌≤◌, true, false, Bool, cond, leb}
-use Rattle.hayro_ccitt.proofs.Names.{Option, Some, None, [], ◌∷◌, ◌++◌, List, length, drop, replicate, refl, ap, ◌∙◌}
+use Rattle.hayro_ccitt.proofs.Names.{◌≡◌, ◌≢◌, ℕ, zero, suc, ◌+◌, ◌<◌, ◌≤◌, true, false, Bool, cond, leb}
+use Rattle.hayro_ccitt.proofs.Names.{Option, Some, None, [], ◌∷◌, ◌++◌, List, length, replicate, refl, ap, ◌∙◌}
 use Rattle.hayro_ccitt.proofs.Names.{append_assoc, append-nil, arith, inl, inr, cases_lt, le-leb, lt-ltb, le-ltb, cond-false}
-use Rattle.hayro_ccitt.proofs.Names.{cond-true, length-drop, All-head, All-tail, Bits, Color, White, Row, HaveWidth}
+use Rattle.hayro_ccitt.proofs.Names.{cond-true, All-head, All-tail, Bits, Color, White, Row, HaveWidth}
 use Rattle.hayro_ccitt.proofs.Names.{EncodesLine, EncodesLine1D, EncodesRowsWithEols, Spells, eol, opposite}
 use Rattle.std.proofs.lemmas.Bool.{and_right, lt-leb}
 use Rattle.hayro_ccitt.specs.EncodingMode.{EncodingMode}
@@ -11,7 +11,7 @@ use Rattle.hayro_ccitt.specs.Encodings.{ClosesWithEols, PictureT4, tag_of}
 use Rattle.hayro_ccitt.specs.Rows.{white_row}
 use Rattle.hayro_ccitt.proofs.BitReading.ZerosInWords.{scan, holds_a_one, word_one}
 use Rattle.hayro_ccitt.proofs.DamagedLines.AnyReference.{Quiet, quiet_append, quiet_run, quiet_line}
-use Rattle.fax_callers.specs.Rtc.{behind_rtc, is_rtc, none_seen, one_more_up_to, rtc_size, size_before, with_one}
+use Rattle.fax_callers.specs.Rtc.{behind_rtc, is_rtc, none_seen, one_more_up_to, with_one}
 use Rattle.fax_callers.specs.declared.rtc.EolsSeen.{EolsSeen}
 
 -- ---- One bit, or zeros

@@ -1,4 +1,4 @@
-use Rattle.hayro_ccitt.proofs.Names.{◌≡◌, ◌≤◌, ◌∙◌, ℕ, length, subst, bits_in, IfSome}
+use Rattle.hayro_ccitt.proofs.Names.{◌≤◌, ◌∙◌, length, subst, bits_in, IfSome}
 use Rattle.std.specs.Prelude.{IfNone}
 use Rattle.fax_callers.specs.Rtc.{FindsRtc, PassesBits}
 use Rattle.fax_callers.specs.declared.rtc.EolsSeen.{EolsSeen}
