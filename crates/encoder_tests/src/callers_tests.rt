@@ -7,11 +7,11 @@
 ghost use Rattle.std.specs.Prelude.{◌≡◌};
 ghost use Rattle.hayro_ccitt.specs.Rows.{AreChanges};
 
-use crate::cases::{check, first_of, order_by, pages_by, rows_of, settings_by};
+use crate::cases::{check, encoding_by, first_of, order_by, pages_by, rows_of, settings_by};
 use crate::same;
 use fax_callers::{
-    BlackPixels, FirstRows, count_black, decode_first_rows, decode_once, group4_pages, page_end,
-    page_ends, page_ends_by, row_in_step, strip_to_bitmap,
+    BlackPixels, FirstRows, PageSearch, count_black, decode_first_rows, decode_once, group4_pages,
+    page_end, page_ends, page_ends_by, row_in_step, strip_to_bitmap,
 };
 use fax_encode::{BitmapSink, encode};
 use hayro_ccitt::DecodeError::{OutOfMemory, Refused};
@@ -261,6 +261,65 @@ fn encoded_pages(rt: HostRuntime) {
         let (one, two) = data.split_at(first.min(data.len()));
         is_page(&rt, words, one, &[0x18, 0x18, 0x00]);
         is_page(&rt, words, two, &[0xFF, 0x18]);
+    }
+}
+
+/// Finds the ends of pages of Group 3 in a piece that begins at an offset, and returns the search for the next end.
+fn find_ends(
+    rt: &(impl Abort + AllocGlobal),
+    words: &str,
+    search: PageSearch,
+    piece: &[u8],
+    ends: &mut Vec<usize>,
+    offset: usize,
+) -> PageSearch {
+    let mut search = search;
+    let mut begin = 0;
+    while begin < piece.len() {
+        let rest = &piece[begin..];
+        assert!(rt; bits_fit(rest));
+        let Some(end) = search.find_end(rest) else {
+            break;
+        };
+        assert!(rt; 0 < end, "a page without bytes");
+        begin += end;
+        ends.push(offset.wrapping_add(begin)).expect(rt, "memory");
+        search = new_search(words);
+    }
+    search
+}
+
+/// Returns a search at the start of a page of Group 3, by the words that name its settings.
+fn new_search(words: &str) -> PageSearch {
+    PageSearch::new(
+        order_by(words),
+        matches!(encoding_by(words), EncodingMode::Group3_2D),
+    )
+}
+
+/// The ends of two pages that the encoder makes are found, wherever the data is cut.
+#[test]
+fn pages_in_pieces(rt: HostRuntime) {
+    for words in [
+        "1d eol rtc",
+        "1d eol fill rtc low",
+        "2d eol rtc k=9",
+        "2d eol rtc low",
+    ] {
+        let mut data = Vec::new(rt.alloc());
+        let first = append_page(&rt, &mut data, words, &rows_of(&rt, "3,5/3,5/white"));
+        let second = append_page(&rt, &mut data, words, &rows_of(&rt, "0/3,5"));
+        for cut in 0..=data.len() {
+            let mut ends = Vec::new(rt.alloc());
+            let (one, two) = data.split_at(cut.min(data.len()));
+            let search = find_ends(&rt, words, new_search(words), one, &mut ends, 0);
+            find_ends(&rt, words, search, two, &mut ends, cut);
+            same(
+                &rt,
+                (words, cut, ends.as_slice()),
+                (words, cut, [first, second].as_slice()),
+            );
+        }
     }
 }
 

@@ -374,7 +374,7 @@ pub fn settings_by(words: &str) -> EncodeSettings {
 }
 
 /// Returns the encoding that words name: Group 4 where none does.
-fn encoding_by(words: &str) -> EncodingMode {
+pub fn encoding_by(words: &str) -> EncodingMode {
     if has(words, "1d") {
         EncodingMode::Group3_1D
     } else if has(words, "2d") {

@@ -3,5 +3,6 @@ mod OnceTaken
 mod PagesCut
 mod PagesRead
 mod RtcFound
+mod RtcPassed
 mod RunsCounted
 mod WhiteTaken

@@ -1,8 +1,8 @@
 -- The first RTC in a page is the one that closes it.
-use Rattle.hayro_ccitt.proofs.Names.{◌≡◌, ◌≢◌, ℕ, zero, suc, ◌+◌, ◌/◌, ◌<◌, ◌≤◌, true, false, Bool, cond, leb}
-use Rattle.hayro_ccitt.proofs.Names.{Option, Some, None, [], ◌∷◌, ◌++◌, List, length, drop, replicate, refl, ap, ◌∙◌}
+use Rattle.hayro_ccitt.proofs.Names.{◌≡◌, ◌≢◌, ℕ, zero, suc, ◌+◌, ◌<◌, ◌≤◌, true, false, Bool, cond, leb}
+use Rattle.hayro_ccitt.proofs.Names.{Option, Some, None, [], ◌∷◌, ◌++◌, List, length, replicate, refl, ap, ◌∙◌}
 use Rattle.hayro_ccitt.proofs.Names.{append_assoc, append-nil, arith, inl, inr, cases_lt, le-leb, lt-ltb, le-ltb, cond-false}
-use Rattle.hayro_ccitt.proofs.Names.{cond-true, length-drop, All-head, All-tail, Bits, Color, White, Row, HaveWidth}
+use Rattle.hayro_ccitt.proofs.Names.{cond-true, All-head, All-tail, Bits, Color, White, Row, HaveWidth}
 use Rattle.hayro_ccitt.proofs.Names.{EncodesLine, EncodesLine1D, EncodesRowsWithEols, Spells, eol, opposite}
 use Rattle.std.proofs.lemmas.Bool.{and_right, lt-leb}
 use Rattle.hayro_ccitt.specs.EncodingMode.{EncodingMode}
@@ -11,7 +11,7 @@ use Rattle.hayro_ccitt.specs.Encodings.{ClosesWithEols, PictureT4, tag_of}
 use Rattle.hayro_ccitt.specs.Rows.{white_row}
 use Rattle.hayro_ccitt.proofs.BitReading.ZerosInWords.{scan, holds_a_one, word_one}
 use Rattle.hayro_ccitt.proofs.DamagedLines.AnyReference.{Quiet, quiet_append, quiet_run, quiet_line}
-use Rattle.fax_callers.specs.Rtc.{behind_rtc, is_rtc, none_seen, one_more_up_to, rtc_size, size_before, with_one}
+use Rattle.fax_callers.specs.Rtc.{behind_rtc, is_rtc, none_seen, one_more_up_to, with_one}
 use Rattle.fax_callers.specs.declared.rtc.EolsSeen.{EolsSeen}
 
 -- ---- One bit, or zeros
@@ -229,10 +229,3 @@ pub behind_page : (encoding : EncodingMode) (columns : ℕ) (rows : List Row) (b
 behind_page encoding columns rows bits more three (lines, closing, some, picture, are, closes, split) =
     ap (behind_rtc (tags_in encoding) none_seen) (ap (λ (b : Bits). b ++ more) split ∙ append_assoc lines closing more)
     ∙ lines_passed encoding columns (white_row columns) rows lines closing more 0 three picture.0 picture.1 are closes
-
--- ---- Where it ends
-
-pub size_at : (tags : Bool) (bits : Bits) (size place : ℕ) → place ≤ length bits
-    → behind_rtc tags none_seen bits ≡ Some (drop place bits) → rtc_size tags bits size ≡ (place + 7) / 8
-size_at tags bits size place le found =
-    ap (size_before bits size) found ∙ (let left = length-drop place bits in omega (arith, left, le))

@@ -1,6 +1,6 @@
 -- RTC in data, whatever lines precede it: the first six EOLs in a row.
-use Rattle.std.specs.Prelude.{ℕ, suc, ◌+◌, ◌-◌, ◌/◌, Bool, true, false, not, ◌&&◌, nat_le, nat_lt, [], ◌∷◌, List, length, Option}
-use Rattle.std.specs.Prelude.{None, Some, if◌then◌else◌}
+use Rattle.std.specs.Prelude.{◌≡◌, ◌≤◌, ℕ, suc, ◌+◌, ◌-◌, ◌*◌, ◌/◌, Bool, true, false, not, ◌&&◌, nat_le, nat_lt, [], ◌∷◌, ◌++◌}
+use Rattle.std.specs.Prelude.{List, length, Option, None, Some, if◌then◌else◌}
 use Rattle.hayro_ccitt.specs.BitOrder.{BitOrder}
 use Rattle.hayro_ccitt.specs.EncodingMode.{EncodingMode}
 use Rattle.hayro_ccitt.specs.EncodingMode.TheVariants.{Group4, Group3_1D, Group3_2D}
@@ -48,6 +48,16 @@ abbrev pub behind_rtc : Bool → EolsSeen → Bits → Option Bits
 behind_rtc tags seen [] = None
 behind_rtc tags seen (bit ∷ here) =
     if is_rtc (with_bit tags seen bit) then Some here else behind_rtc tags (with_bit tags seen bit) here
+
+-- no RTC ends within these bits, after which this was seen: whatever follows them, it is sought from there on
+abbrev pub PassesBits : Bool → EolsSeen → Bits → EolsSeen → Type 0
+PassesBits tags seen bits after = (more : Bits) → behind_rtc tags seen (bits ++ more) ≡ behind_rtc tags after more
+
+-- the first RTC ends within this number of bytes, and not before the last of them, whatever follows
+abbrev pub FindsRtc : Bool → BitOrder → EolsSeen → List ℕ → ℕ → Type 0
+FindsRtc tags order seen bytes count = (rest : Bits)
+    × ((more : Bits) → behind_rtc tags seen (bits_in order bytes ++ more) ≡ Some (rest ++ more))
+    × (length rest ≤ 8 * length bytes) × (count ≡ (8 * length bytes - length rest + 7) / 8)
 
 -- auxiliary: the bytes before what follows, the last one filled up, or all of them
 abbrev pub size_before : Bits → ℕ → Option Bits → ℕ

@@ -1,15 +1,16 @@
 //! Where a page of Group 3 ends: behind RTC, the first six EOLs in a row.
 
-ghost use Rattle.std.specs.Prelude.{◌≡◌, ◌≤◌, true, None, Some, length, if◌then◌else◌};
-ghost use Rattle.hayro_ccitt.specs.Bits.{BitsFit, bits_in, here};
+ghost use Rattle.std.specs.Prelude.{◌≡◌, ◌≤◌, ◌++◌, true, false, Some, IfNone, IfSome, length};
+ghost use Rattle.hayro_ccitt.specs.Bits.{Bits, BitsFit, bits_in, here};
 ghost use Rattle.fax_callers.specs.Rtc.{behind_rtc, is_rtc, none_seen, one_more_up_to, page_size, rtc_size, with_bit, with_one};
+ghost use Rattle.fax_callers.specs.Rtc.{FindsRtc, PassesBits};
 
 use hayro_ccitt::EncodingMode;
 use hayro_ccitt::bit_reader::{BitOrder, BitReader};
 
 /// What was seen just before a bit: EOLs in a row, at most six; zeros, at most eleven; and whether the bit is a tag.
 #[derive(Copy, Clone)]
-struct EolsSeen {
+pub(crate) struct EolsSeen {
     eols: u32,
     zeros: u32,
     at_tag: bool,
@@ -71,22 +72,21 @@ fn is_rtc(seen: EolsSeen) -> bool
     seen.eols >= 6 && !seen.at_tag
 }
 
-/// Moves behind the first RTC, and returns whether there is one.
-fn pass_rtc(tags: bool, reader: &mut BitReader<'_>) -> bool
-    ensures found { behind_rtc tags none_seen (here reader.old) ≡ (if result then Some (here reader.new) else None) }
+/// Moves behind the first RTC that ends here or later, and returns whether there is one; otherwise all bits are passed, and what was
+/// seen is brought up to date.
+fn pass_rtc(tags: bool, seen: &mut EolsSeen, reader: &mut BitReader<'_>) -> bool
+    ensures found { result ≡ true → (more : Bits)
+        → behind_rtc tags seen.old (here reader.old ++ more) ≡ Some (here reader.new ++ more) }
+    ensures none { result ≡ false → (more : Bits)
+        → behind_rtc tags seen.old (here reader.old ++ more) ≡ behind_rtc tags seen.new more }
     ensures same_bits { reader.new.bits ≡ reader.old.bits }
 {
-    let mut seen = EolsSeen {
-        eols: 0,
-        zeros: 0,
-        at_tag: false,
-    };
     'bits: loop {
         match reader.read_bit() {
             Err(_) => return false,
             Ok(bit) => {
-                seen = with_bit(tags, seen, bit == 1);
-                if is_rtc(seen) {
+                *seen = with_bit(tags, *seen, bit == 1);
+                if is_rtc(*seen) {
                     return true;
                 }
             }
@@ -105,17 +105,44 @@ fn reader_of<'a>(order: BitOrder, data: &'a [u8]) -> BitReader<'a>
     }
 }
 
+/// Returns what was seen at the start of a page: nothing.
+pub(crate) fn none_seen() -> EolsSeen
+    ensures { result ≡ none_seen }
+{
+    EolsSeen {
+        eols: 0,
+        zeros: 0,
+        at_tag: false,
+    }
+}
+
+/// Returns how many of the bytes that come next the first RTC ends within, the last one filled up; or `None` if it doesn't end
+/// among them, and brings what was seen up to date.
+pub(crate) fn find_rtc(
+    tags: bool,
+    order: BitOrder,
+    seen: &mut EolsSeen,
+    data: &[u8],
+) -> Option<usize>
+    requires fit { BitsFit «data».now }
+    ensures found { IfSome result (λ n. (n ≤ length «data».now) × FindsRtc tags order seen.old «data».now n) }
+    ensures none { IfNone result (PassesBits tags seen.old (bits_in order «data».now) seen.new) }
+{
+    let mut reader = reader_of(order, data);
+    if !pass_rtc(tags, seen, &mut reader) {
+        return None;
+    }
+    Some(reader.bit_pos().div_ceil(8))
+}
+
 /// Returns how many bytes the first RTC ends within, the last one filled up, or all if there is none.
 fn rtc_size(tags: bool, order: BitOrder, data: &[u8]) -> usize
     requires fit { BitsFit «data».now }
     ensures size { result ≡ rtc_size tags (bits_in order «data».now) (length «data».now) }
     ensures within { result ≤ length «data».now }
 {
-    let mut reader = reader_of(order, data);
-    if !pass_rtc(tags, &mut reader) {
-        return data.len();
-    }
-    reader.bit_pos().div_ceil(8)
+    let mut seen = none_seen();
+    find_rtc(tags, order, &mut seen, data).unwrap_or(data.len())
 }
 
 /// Returns how many bytes the page at the start of the data may occupy: in Group 3 those up to the end of the first RTC, in
