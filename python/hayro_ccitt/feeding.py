@@ -89,7 +89,8 @@ class RowFeed(Feeding):
     Each iteration goes over the rows that are known and that weren't read, and ends where more data is needed, or at the end of the
     image, when `ended` is true. The rows are those of `rows` for all the data, and lent as there: a `memoryview` that is valid until
     the next row is read. It raises the faults of `rows`, after which each further iteration raises the same; and `MemoryError`, after
-    which the call can be made again.
+    which the call can be made again. What isn't known yet is read again when more was fed, so few long pieces take less time than many
+    short ones.
 
     Raises:
         ValueError, MemoryError: as `decode`.

@@ -179,9 +179,6 @@ fn readers_give_the_rows_of_the_whole() {
         exact += usize::from(compare(&case, &listed, data, "a slice"));
         exact += usize::from(compare(&case, &listed, Cursor::new(data), "a cursor"));
         for size in [1, 2, 3, 7, 64, 4096] {
-            if size < 64 && data.len() > 20_000 {
-                continue;
-            }
             let reader = BufReader::with_capacity(size, data);
             exact += usize::from(compare(&case, &listed, reader, "a reader"));
             runs += 1;
@@ -200,9 +197,6 @@ fn readers_give_the_rows_of_the_whole() {
 fn no_byte_is_lost_between_rows() {
     let (mut calls, mut unused, mut failed) = (0, 0, 0);
     for (at, case) in [strips(), random_data()].into_iter().flatten().enumerate() {
-        if case.data.len() > 20_000 {
-            continue;
-        }
         let watched = Watched::default();
         let mut pieces = Pieces::of(&case.data, &watched, at as u64 + 1);
         pieces.error = [

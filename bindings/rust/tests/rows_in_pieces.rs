@@ -121,10 +121,6 @@ fn pieces_have_the_rows_of_the_whole() {
     for (at, case) in cases.into_iter().flatten().enumerate() {
         let (listed, packed) = (case.listed(), case.packed());
         for size in [1, 2, 3, 7, 64, 4096] {
-            // A search for an EOL that isn't there is made again for each piece.
-            if size < 64 && case.data.len() > 20_000 {
-                continue;
-            }
             let found = in_pieces(&case, Cuts::Every(size), list, |_, _| {});
             assert_eq!(found, listed, "{size}: {}", case.line());
             runs += 1;
@@ -147,7 +143,7 @@ fn pieces_have_the_rows_of_the_whole() {
 #[test]
 fn rows_come_as_soon_as_they_are_known() {
     let mut rows = 0;
-    for case in strips().iter().filter(|case| case.data.len() < 20_000) {
+    for case in &strips() {
         if case.listed().end.0.is_err() {
             continue;
         }
