@@ -12,7 +12,7 @@ enum { MOST_ROWS = 1 << 18, MOST_NUMBERS = 1 << 22, MOST_BYTES = 1 << 21, MOST_C
 /* each how many rows and pieces one is in a block of its own */
 enum { FEW = 8 };
 
-static unsigned long cases, walks, rows_fed, rows_refused, refusals, told_late, settled, unsettled, unfound;
+static unsigned long cases, walks, rows_fed, rows_refused, refusals, told_late, settled, unsettled;
 
 static uint32_t random_number(void) {
     static uint32_t state = 1;
@@ -315,8 +315,8 @@ static size_t follow(uint8_t *to, unsigned number) {
     return length;
 }
 
-/* Feeds short data byte by byte. Whatever is tried to follow, the rows so far and the end stay as they are; and where more is needed
-   there is data that changes what is next, or none is found, which is counted. */
+/* Feeds short data byte by byte. Whatever is tried to follow, the rows so far and the end stay as they are; and where more is needed,
+   one of many tries changes what is next. */
 static void as_soon_as(const uint8_t *data, size_t length, const hayro_ccitt_settings *settings) {
     static uint8_t whole[PIECE + MORE];
     static struct next first, other;
@@ -339,7 +339,7 @@ static void as_soon_as(const uint8_t *data, size_t length, const hayro_ccitt_set
                 settled++;
             }
         }
-        unfound += (unsigned)is_open;
+        must(!is_open, "more is needed only where what follows changes what is next");
         if (it.fed == length) break;
         step(&it);
     }
@@ -383,7 +383,7 @@ int main(void) {
         take_back(data);
     }
     printf("%lu cases, %lu times in pieces, %lu rows, %lu refused rows; %lu refused allocations, of which %lu were told; "
-           "%lu times a row stays, %lu times what is next doesn't, %lu times that isn't found\n",
-           cases, walks, rows_fed, rows_refused, refusals, told_late, settled, unsettled, unfound);
+           "%lu times a row stays, %lu times what is next doesn't\n",
+           cases, walks, rows_fed, rows_refused, refusals, told_late, settled, unsettled);
     return 0;
 }
