@@ -350,7 +350,7 @@ def runs_of_the_program():
 # measures, in its order, and those of the programs.
 PAGE, COLUMNS, ROWS = "corpus/pictures/page", 1240, 1754
 PAGES = {"text": ROWS, "scan": ROWS, "halftone": ROWS, "dither": ROWS, "blank": ROWS, "borders": 200, "inverted": 100}
-WAYS = ["encode", "measure", "packed", "changes", "next_packed", "next_changes", "row_packed", "row_changes"]
+WAYS = ["encode", "measure", "packed", "changes", "next_packed", "next_changes", "row_packed", "row_changes", "feed_pieces"]
 PROGRAM_WAYS = {"faxrows": [""], "faxrows -o": ["-o"], "faxrows -i": ["-i"], "faxrows -d": ["-d"]}
 PICTURES = [("g4", "b"), ("1d", "lb"), ("2d", "lb")]
 TABLE = "checks/cost.tsv"
@@ -365,9 +365,7 @@ def costs_of_pages():
         driver = c_library.compiled(f"{folder}/driver", "checks/measured_pages.c", c_library.LIBRARY)
         for page, rows in PAGES.items():
             for encoding, (mode, _) in enumerate(PICTURES):
-                words = [driver, page, str(encoding), str(COLUMNS), str(rows), *([PAGE] if page in ("text", "scan") else [])]
-                counts, printed = instructions_of_each(folder, words)
-                assert len(counts) == len(WAYS), (page, mode, counts)
+                counts, printed = costs_of_page(folder, driver, page, encoding, rows, len(WAYS))
                 for way, count in zip(WAYS, counts):
                     yield page, mode, way, count / int(printed)
                 changes = int(printed) if page == "text" else changes
@@ -387,6 +385,14 @@ def costs_of_pages():
                 yield "text", mode, way, cost / changes
 
 
+def costs_of_page(folder, driver, page, encoding, rows, ways):
+    """What the first ways of measured_pages.c cost on rows of a page, and its number of changes."""
+    words = [driver, page, str(encoding), str(COLUMNS), str(rows), str(ways), *([PAGE] if page in ("text", "scan") else [])]
+    counts, printed = instructions_of_each(folder, words)
+    assert len(counts) == ways, (page, encoding, counts)
+    return counts, printed
+
+
 def instructions_of_each(folder, command):
     """What each call `measured` of a command costs, and what the command prints."""
     out = f"{folder}/callgrind"
@@ -401,14 +407,19 @@ def instructions_of_each(folder, command):
     return counts, done.stdout
 
 
+def lines_of_the_table():
+    """Page, encoding, way and instructions of each line of cost.tsv."""
+    with open(TABLE, encoding="utf-8") as file:
+        return [line.split("\t") for line in file if not line.startswith("#")]
+
+
 def real_pages():
     """Each way on each page costs what the table says, or at most a tenth more; and if it costs much less, the table is old."""
     if not shutil.which("valgrind"):
         leave_out("the cost of pages", "valgrind")
         return
     c_library.build()
-    with open(TABLE, encoding="utf-8") as file:
-        known = {tuple(line.split("\t")[:3]): float(line.split("\t")[3]) for line in file if not line.startswith("#")}
+    known = {tuple(line[:3]): float(line[3]) for line in lines_of_the_table()}
     found = {(page, mode, way): cost for page, mode, way, cost in costs_of_pages()}
     assert found.keys() == known.keys(), found.keys() ^ known.keys()
     slower = [f"{' '.join(key)}: {cost:.1f} instructions a change, not {known[key]}" for key, cost in found.items() if cost > NEAR * known[key]]

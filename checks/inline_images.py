@@ -20,7 +20,7 @@ FORMS = [
     ("/EndOfLine true", ONE, EOL | BLOCK), ("/K 0", ONE, EOL | BLOCK), ("/EndOfLine true /EndOfBlock false", ONE, EOL),
     ("/K 4 /EndOfLine true", TWO, EOL | BLOCK), ("/K 4", TWO, EOL), ("/K 4 /EndOfLine true /EndOfBlock false", TWO, EOL),
 ]
-SIZES = (1, 2, 3, 7, 64, 1 << 16)
+SIZES = (1, 3, 64, 1 << 16)
 
 
 class Filter:

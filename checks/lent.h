@@ -97,8 +97,7 @@ static void *lend(size_t size) {
 }
 
 static int is_filled(const uint8_t *from, const uint8_t *to) {
-    while (from < to && *from == FILL) from++;
-    return from >= to;
+    return from >= to || (*from == FILL && memcmp(from, from + 1, (size_t)(to - from) - 1) == 0);
 }
 
 /* Whether the bytes of a block behind the first ones are as they were lent. */

@@ -1,12 +1,12 @@
 /* Encodes a page and decodes it again, for callgrind to count the instructions of each way, one after another:
  *
- *   measured_pages PAGE ENCODING COLUMNS ROWS [FILE]
+ *   measured_pages PAGE ENCODING COLUMNS ROWS WAYS [FILE]
  *
  * PAGE is `text`, a bitmap in FILE; `scan`, that page with specks; `halftone`, dots of eight sizes; `dither`, a gradient whose
  * error is spread; `blank`, nearly all white; `borders`, black at both edges; or `inverted`, whose modes are horizontal. ENCODING is
  * numbered as in hayro_ccitt.h. A strip is encoded and decoded as one of a TIFF: with a row limit, with EOLs in Group 3, with EOFB in
  * Group 4. It prints the number of changes. Callgrind is given --toggle-collect=measured and --dump-after=measured, and then writes a
- * file for each way, in the order of `ways`. */
+ * file for each of the first WAYS ways, in their order. */
 #include <fax_encode.h>
 #include <hayro_ccitt.h>
 #include <stdio.h>
@@ -69,6 +69,24 @@ static uint32_t read_rows(int by_changes)
     return status == HAYRO_CCITT_NO_ROW && row.rows == settings.rows ? 0 : 1;
 }
 
+/* Feeds the data in pieces of so many bytes, and reads the rows after each. */
+static uint32_t feed_rows(size_t each)
+{
+    hayro_ccitt_row_feed feed = {0, 0, 0};
+    hayro_ccitt_row row;
+    uint32_t *list = lists, status = hayro_ccitt_feed_open(&settings, &feed) ? HAYRO_CCITT_NO_ROW + 2 : HAYRO_CCITT_NEEDS_MORE;
+    size_t fed = 0;
+    while (status == HAYRO_CCITT_NEEDS_MORE) {
+        size_t size = length - fed < each ? length - fed : each;
+        must((size ? hayro_ccitt_feed(&feed, data + fed, size) : hayro_ccitt_feed_finish(&feed)) == 0, "a piece is fed");
+        fed += size;
+        while ((status = hayro_ccitt_feed_next_changes(&feed, list + 1, settings.columns, &row)) == HAYRO_CCITT_OK)
+            list += 1 + row.changes;
+    }
+    hayro_ccitt_feed_close(&feed);
+    return status == HAYRO_CCITT_NO_ROW && row.rows == settings.rows ? 0 : 1;
+}
+
 static uint32_t decode(int by_changes)
 {
     hayro_ccitt_outcome outcome;
@@ -85,7 +103,8 @@ static uint32_t measure(void)
     return status;
 }
 
-/* In this order: encode, measure, packed, changes, rows packed, rows changes, encode rows packed, encode rows changes. */
+/* In this order: encode, measure, packed, changes, rows packed, rows changes, encode rows packed, encode rows changes, rows of pieces,
+ * rows of single bytes. */
 __attribute__((noinline)) static uint32_t measured(int way)
 {
     switch (way) {
@@ -96,7 +115,9 @@ __attribute__((noinline)) static uint32_t measured(int way)
     case 4: return read_rows(0);
     case 5: return read_rows(1);
     case 6: return encode_rows(0);
-    default: return encode_rows(1);
+    case 7: return encode_rows(1);
+    case 8: return feed_rows(4096);
+    default: return feed_rows(1);
     }
 }
 
@@ -180,7 +201,7 @@ static void spread(void)
 int main(int count, char **words)
 {
     int way;
-    must(count >= 5, "the arguments");
+    must(count >= 6, "the arguments");
     settings.encoding = encoded.encoding = (uint32_t)strtoul(words[2], NULL, 10);
     settings.columns = encoded.columns = (uint32_t)strtoul(words[3], NULL, 10);
     settings.rows = (uint32_t)strtoul(words[4], NULL, 10);
@@ -194,8 +215,8 @@ int main(int count, char **words)
     data = malloc(room);
     lists = malloc(4 * numbers);
     must(bitmap && again && data && lists, "memory");
-    if (count == 6) {
-        FILE *file = fopen(words[5], "rb");
+    if (count == 7) {
+        FILE *file = fopen(words[6], "rb");
         must(file && fread(bitmap, width, settings.rows, file) == settings.rows, "the page's file");
         fclose(file);
     }
@@ -211,7 +232,7 @@ int main(int count, char **words)
         blank();
     else if (!strcmp(words[1], "dither"))
         spread();
-    for (way = 0; way < 8; way++) {
+    for (way = 0; way < atoi(words[5]); way++) {
         must(measured(way) == 0, "the status");
         must(way != 2 && way != 4 ? 1 : !memcmp(bitmap, again, width * settings.rows), "the page comes back");
         if (way == 2)

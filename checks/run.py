@@ -25,6 +25,7 @@ import devices  # noqa: E402
 import encoder  # noqa: E402
 import fax  # noqa: E402
 import fax_others  # noqa: E402
+import feed  # noqa: E402
 import files  # noqa: E402
 import hostile  # noqa: E402
 import inline_images  # noqa: E402
@@ -59,7 +60,7 @@ def build(name, path):
 
 
 FILES = [
-    repository, program, built_tests, packing, c_library, row_by_row, encoder, refusals, devices, cuts, damage_by_k, hostile, memory, large, installed, users, files, fax, fax_others, inline_images, released, clients, cost,
+    repository, program, built_tests, packing, c_library, row_by_row, feed, encoder, refusals, devices, cuts, damage_by_k, hostile, memory, large, installed, users, files, fax, fax_others, inline_images, released, clients, cost,
 ]
 # those that run beside the build of the library for C
 WITHOUT_LIBRARY = [repository, program, built_tests, packing, devices]

@@ -1,0 +1,119 @@
+"""Checks of the calls that read rows from data in pieces: each strip and case of the corpus, in either order of bits, against a reader of
+the whole data; and what that costs."""
+import itertools
+import random
+import shutil
+import tempfile
+
+import c_library
+import cost
+import program
+from left_out import leave_out
+from row_by_row import compared
+
+# how many bytes a case has at most, and one of which all is tried
+MOST, SHORT = 1 << 12, 24
+# how many flipped bits of a strip, and which case is tried in all ways
+FLIPS, EACH = 4, 9
+
+
+def lines_of(name):
+    with open(f"corpus/{name}", encoding="utf-8") as file:
+        return [line.rstrip("\n").split("\t") for line in file if not line.startswith("#")]
+
+
+def bytes_of(text):
+    """The bytes of a strip, or those that a text tells."""
+    if not text.startswith("strips/"):
+        return program.bytes_of(text)
+    with open(f"corpus/{text}", "rb") as file:
+        return file.read()
+
+
+TURNS = itertools.count()
+
+
+def in_either_order(settings, data, depth):
+    """Lines that feed.c reads, of data and of the same bits in the other order; of one of them in turn more is tried."""
+    orders = [(settings.flags, data), (settings.flags ^ 16, data.translate(c_library.MIRRORED))]
+    chosen = next(TURNS) % 2
+    for number, (flags, turned) in enumerate(orders):
+        yield settings.encoding, settings.columns, settings.rows, flags, depth if number == chosen else 0, turned.hex() or "-"
+
+
+def cases():
+    """Each case, and one of the beginnings of its data, as cuts.tsv has them."""
+    chance = random.Random(1)
+    for number, (words, text, _) in enumerate(lines_of("cases.tsv")):
+        settings, data = c_library.settings_of(*words.split()), program.bytes_of(text)
+        if len(data) < MOST and settings.columns < 1 << 16:
+            yield from in_either_order(settings, data, 2 if number % EACH == 0 and len(data) < SHORT else 1)
+            yield from in_either_order(settings, data[: chance.randrange(len(data) + 1)], 0)
+
+
+def strips():
+    """Each strip, with one of its settings after another."""
+    for number, (_, strip, mode, columns, _, settings, *_) in enumerate(lines_of("manifest.tsv")):
+        choice = settings.split(",")
+        limit, flags = choice[number % len(choice)].split(":")
+        data = bytes_of(strip)
+        yield from in_either_order(c_library.settings_of(mode, columns, limit, flags), data, int(len(data) < 300))
+
+
+def hostile():
+    """Data that has broken decoders."""
+    for _, words, text, _ in lines_of("hostile.tsv"):
+        settings, data = c_library.settings_of(*words.split()), program.bytes_of(text)
+        if len(data) < MOST and settings.columns < 1 << 16:
+            yield from in_either_order(settings, data, 0)
+
+
+def flips():
+    """Strips with a flipped bit."""
+    chance = random.Random(2)
+    for words, text, bits, _ in lines_of("flips.tsv"):
+        for _ in range(FLIPS):
+            data, bit = bytearray(bytes_of(text)), chance.randrange(int(bits))
+            data[bit // 8] ^= 128 >> bit % 8
+            yield from in_either_order(c_library.settings_of(*words.split()), bytes(data), 0)
+
+
+def settings_that_are_not_taken():
+    for encoding, columns, flags in ((3, 8, 0), (0, 8, 64), (2, 8, 1 << 31)):
+        yield encoding, columns, 0, flags, 0, "80"
+
+
+def rows_in_pieces():
+    """Whatever the pieces are, the rows and the end are those of a reader, each row as soon as nothing that follows can change it; and
+    every refused allocation is reported, and harmless."""
+    compared("feed", itertools.chain(cases(), strips(), hostile(), flips(), settings_that_are_not_taken()))
+
+
+# By what factor feeding pieces of 4,096 bytes may cost more than a reader of the whole data, on the pages of cost.tsv; and single bytes
+# on rows of three pages, which have some 3, 20 and 330 bytes a line: after each byte the line is read again from its start.
+PIECES = 1.66
+BYTES = {("blank", 256): 8.8, ("text", 300): 68, ("dither", 10): 205}
+# the place of a reader, and of single bytes, among the ways of measured_pages.c
+READER, SINGLE = cost.WAYS.index("next_changes"), len(cost.WAYS)
+
+
+def costs_beside_a_reader():
+    """What feeding costs, beside what a reader of the whole data does: of pieces as cost.tsv says it, of single bytes as measured here."""
+    known = {tuple(line[:3]): float(line[3]) for line in cost.lines_of_the_table()}
+    factors = {(page, mode): known[page, mode, "feed_pieces"] / known[page, mode, "next_changes"] for page in cost.PAGES for mode, _ in cost.PICTURES}
+    assert max(factors.values()) <= PIECES, factors
+    print(f"  pieces: {min(factors.values()):.2f} to {max(factors.values()):.2f} times")
+    if not shutil.which("valgrind"):
+        leave_out("the cost of feeding", "valgrind")
+        return
+    c_library.build()
+    with tempfile.TemporaryDirectory() as folder:
+        driver = c_library.compiled(f"{folder}/driver", "checks/measured_pages.c", c_library.LIBRARY)
+        for (page, rows), bound in BYTES.items():
+            counts = [cost.costs_of_page(folder, driver, page, encoding, rows, SINGLE + 1)[0] for encoding in range(len(cost.PICTURES))]
+            found = [each[SINGLE] / each[READER] for each in counts]
+            print(f"  single bytes, {page}: {', '.join(f'{it:.1f}' for it in found)} times")
+            assert max(found) <= bound, (page, found)
+
+
+CHECKS = [rows_in_pieces, costs_beside_a_reader]
