@@ -664,7 +664,8 @@ reached_on {whole} {tried} {old} {mid} {new} line row comes is reads begun feed 
     let reached = subst (λ (r : Result (Option Bool) DecodeError). ReachesNextLine (fed_over whole old) (fed_over whole mid)
     (came r))
     is (comes.comes whole tried some feed) in
-    feeds_on comes.extra (looks_begun old.begun begun comes.looks) reached (line_feeds row reads comes.begun (comes.line is) (comes.stands whole tried some feed))
+    feeds_on comes.extra (looks_begun old.begun begun comes.looks) reached
+    (line_feeds row reads comes.begun (comes.line is) (comes.stands whole tried some feed))
 
 -- ---- More data
 
