@@ -94,6 +94,22 @@ fn feeds_bytes(
     }
 }
 
+/// Feeds bytes of this value one at a time, after each of which more is needed.
+fn feeds_alike(rt: &impl Abort, feed: &mut RowFeed, byte: u8, count: usize) {
+    for _ in 0..count {
+        assert!(rt; !feed.is_finished());
+        same(rt, feed.feed(&[byte]), Ok(()));
+        same(rt, feed.next_row(), Ok(Fed::NeedsMore));
+    }
+}
+
+/// Feeds these bytes, and reads a row.
+fn feeds_row(rt: &impl Abort, feed: &mut RowFeed, data: &[u8]) {
+    assert!(rt; !feed.is_finished());
+    same(rt, feed.feed(data), Ok(()));
+    same(rt, feed.next_row(), Ok(Fed::Row));
+}
+
 /// Writes what a reader says.
 fn said_by_reader(rt: &(impl Abort + AllocGlobal), reader: &RowReader) -> String {
     let counts = [
@@ -239,4 +255,19 @@ fn rows_of_group_4_one_at_a_time(rt: HostRuntime) {
          Err(InvalidCode) ([3, 5], 10, None, [1, 0, 0], 2) None; Err(InvalidCode) ([3, 5], 10, None, [1, 0, 0], 2) None
         Group4 0 columns 0 rows | 31C0 | Ok(false) ([], 0, None, [0, 0, 0], 0) None; Ok(false) ([], 0, None, [0, 0, 0], 0) None",
     );
+}
+
+/// Fill, and a damaged stretch before the next EOL, that come byte by byte (T.4, 4.1.2 and 4.1.3): what was looked at once isn't
+/// looked at again, else this would take minutes.
+#[test]
+fn long_gaps_come_byte_by_byte(rt: HostRuntime) {
+    let settings = settings_in(&rt, "Group3_1D 8 columns 0 rows l");
+    let mut feed = RowFeed::new(rt.alloc(), BitOrder::HighestFirst, settings).expect(&rt, "memory");
+    feeds_alike(&rt, &mut feed, 0x00, 100_000);
+    feeds_row(&rt, &mut feed, &bytes_of(&rt, "0019FF"));
+    same(&rt, feed.line_start(), 800_012);
+    feeds_alike(&rt, &mut feed, 0xFF, 100_000);
+    feeds_row(&rt, &mut feed, &bytes_of(&rt, "0019FF"));
+    same(&rt, feed.line_start(), 1_600_036);
+    same(&rt, feed.missed_eol(), Some(800_017));
 }

@@ -690,7 +690,8 @@ reached_here {whole} {tried} {old} {mid} {new} line comes is reads begun feed =
     let reached = subst (λ (r : Result (Option Bool) DecodeError). ReachesNextLine (fed_over whole old) (fed_over whole mid)
     (came r))
     is (comes.comes whole tried some feed) in
-    feeds_on comes.extra (looks_begun old.begun begun comes.looks) reached (reads (tried + comes.extra) (comes.stands whole tried some feed))
+    feeds_on comes.extra (looks_begun old.begun begun comes.looks) reached
+    (reads (tried + comes.extra) (comes.stands whole tried some feed))
 
 -- ---- More data
 

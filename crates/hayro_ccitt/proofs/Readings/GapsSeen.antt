@@ -3,7 +3,8 @@ use Rattle.hayro_ccitt.proofs.Names.{◌≡◌, ◌∙◌, ◌+◌, ◌≤◌, �
 use Rattle.hayro_ccitt.proofs.Names.{cond, leb, eqb, replicate, Option, None, Some, refl, sym, ap, arith, length, length-append}
 use Rattle.std.proofs.Math.Seq.{drop-append-add}
 use Rattle.std.proofs.lemmas.Bool.{leb-false, lt-leb}
-use Rattle.hayro_ccitt.proofs.Names.{append-nil, append_assoc, drop, length-replicate, ne_eqb, Bits, EncodingMode, Group4, Group3_1D, Group3_2D, DecodeSettings}
+use Rattle.hayro_ccitt.proofs.Names.{append-nil, append_assoc, drop, length-replicate, ne_eqb, Bits}
+use Rattle.hayro_ccitt.proofs.Names.{EncodingMode, Group4, Group3_1D, Group3_2D, DecodeSettings}
 use Rattle.hayro_ccitt.proofs.Names.{after_eol, all_eols, next_eol, at_end, eols_by, limit_met}
 use Rattle.hayro_ccitt.specs.EndOfLine.{eols, eols_with_tags, one_more, past_tag, pass_last_tag}
 use Rattle.hayro_ccitt.specs.GapsContinued.{holds_one, eols_are_settled}
@@ -16,7 +17,8 @@ use Rattle.hayro_ccitt.specs.declared.gap_look.GapStage.{GapStage}
 use Rattle.hayro_ccitt.specs.declared.gap_look.GapStage.TheVariants.{Start, Damage, BehindEol, BehindTag, Settled}
 use Rattle.fax_bits.proofs.BitReading.ConsecutiveEols.{all_eols-none, all_eols-some, all_tagged, all_tagged-none, all_tagged-some}
 use Rattle.fax_bits.proofs.BitReading.ConsecutiveEols.{after_eol_shorter, count_same, counts_tagged, eols-none, eols-some}
-use Rattle.fax_bits.proofs.BitReading.ConsecutiveEols.{last_tag_count, eols_with_tags-none, eols_with_tags-some, next_eol_found, past_tag_shorter}
+use Rattle.fax_bits.proofs.BitReading.ConsecutiveEols.{last_tag_count, eols_with_tags-none, eols_with_tags-some}
+use Rattle.fax_bits.proofs.BitReading.ConsecutiveEols.{next_eol_found, past_tag_shorter}
 use Rattle.fax_reading.proofs.GapsContinued.ContinuedTags.{behind_first_tag, behind_one, last_tag_tested}
 
 -- ---- Bits that follow each other

@@ -1,4 +1,5 @@
-use Rattle.hayro_ccitt.proofs.Names.{◌≡◌, ◌∙◌, ◌+◌, ◌&&◌, ap, sym, arith, length, drop, length-drop, drop-drop, not, Bool, Bits, ℕ, subst, length-append}
+use Rattle.hayro_ccitt.proofs.Names.{◌≡◌, ◌∙◌, ◌+◌, ◌&&◌, ap, sym, arith, length, drop, length-drop, drop-drop, not}
+use Rattle.hayro_ccitt.proofs.Names.{Bool, Bits, ℕ, subst, length-append}
 use Rattle.hayro_ccitt.proofs.Names.{here}
 use Rattle.hayro_ccitt.specs.GapsSeen.{LooksTo, nothing_seen, is_settled, stage_behind}
 use Rattle.hayro_ccitt.specs.declared.gap_look.GapStage.TheVariants.{Start}

@@ -155,7 +155,8 @@ returns c =
       space = stood.ensures.space ∙ c.front_waits.ensures.space;
       waits = λ e. cc;
       unfailed = λ e. stood.ensures.unfailed;
-      passes = λ whole tried e feed. front_reaches (feeding_of inside) now mid c.placed_at-reader.result stood.new.reader stood.result more
+      passes = λ whole tried e feed. front_reaches (feeding_of inside) now mid c.placed_at-reader.result
+          stood.new.reader stood.result more
           (front_is at) (record { order = refl; finished = refl; kept = refl; dropped = refl })
           c.bit_pos-self-inside.ensures.place
           refl refl same ticks stood.ensures.first stood.ensures.none_taken settings_are stood.ensures.first.counts
