@@ -9,8 +9,8 @@ ghost use Rattle.hayro_ccitt.specs.GapsContinued.{first_gap_is_settled, gap_is_s
 ghost use Rattle.hayro_ccitt.specs.RowsRead.{at_end_of_rows, ended, is_at_line};
 ghost use Rattle.hayro_ccitt.specs.RowsTried.{IsLeft};
 ghost use Rattle.hayro_ccitt.specs.RowFeeds.{Begins, ComeNext, ComesInFeed, DropsRead, ReadsInFeed, ComesOn, FeedsNext};
-ghost use Rattle.hayro_ccitt.specs.RowFeeds.{IsFeedOf, KeepsBits, TriesLine, fed_bits, fed_end, fed_none, fed_row, is_left, line_answer};
-ghost use Rattle.hayro_ccitt.specs.RowFeeds.{some_line};
+ghost use Rattle.hayro_ccitt.specs.RowFeeds.{IsFeedOf, KeepsBits, TriesLine, fed_bits, fed_end, fed_none, fed_row, is_left};
+ghost use Rattle.hayro_ccitt.specs.RowFeeds.{line_answer, some_line};
 ghost use Rattle.hayro_ccitt.specs.Rows.{changes};
 
 use crate::context::DecoderContext;
