@@ -10,8 +10,9 @@ ghost use Rattle.hayro_ccitt.specs.GapsSeen.{IsSeen, is_settled, nothing_seen, r
 ghost use Rattle.hayro_ccitt.specs.RowsRead.{at_end_of_rows, ended, is_at_line};
 ghost use Rattle.hayro_ccitt.specs.RowsTried.{IsLeft};
 ghost use Rattle.hayro_ccitt.specs.RowFeeds.{Begins, ComeNext, ComesInFeed, DropsRead, ReadsInFeed, ComesOn, FeedsNext};
-ghost use Rattle.hayro_ccitt.specs.RowFeeds.{IsFeedOf, KeepsBits, TriesLine, fed_bits, fed_end, fed_none, fed_row, is_left, line_answer};
-ghost use Rattle.hayro_ccitt.specs.RowFeeds.{HoldsMore, KeepsPart, LineGoesOn, ScansLine, StaysShort, some_line, unused};
+ghost use Rattle.hayro_ccitt.specs.RowFeeds.{IsFeedOf, KeepsBits, TriesLine, fed_bits, fed_end, fed_none, fed_row, is_left};
+ghost use Rattle.hayro_ccitt.specs.RowFeeds.{HoldsMore, KeepsPart, LineGoesOn, ScansLine, StaysShort, line_answer, some_line};
+ghost use Rattle.hayro_ccitt.specs.RowFeeds.{unused};
 ghost use Rattle.hayro_ccitt.specs.Rows.{AreChanges, changes};
 
 use crate::context::DecoderContext;

@@ -1,5 +1,6 @@
 -- A black pixel that a line paints is painted whatever bits follow.
-use Rattle.hayro_ccitt.proofs.Names.{◌≡◌, ◌∙◌, ℕ, Bool, true, false, cond, leb, [], ◌∷◌, ◌++◌, length, Result, Ok, Err, refl, sym, ap}
+use Rattle.hayro_ccitt.proofs.Names.{◌≡◌, ◌∙◌, ℕ, Bool, true, false, cond, leb, [], ◌∷◌, ◌++◌, length, Result, Ok, Err, refl}
+use Rattle.hayro_ccitt.proofs.Names.{sym, ap}
 use Rattle.hayro_ccitt.proofs.Names.{subst, arith, append-nil, Bits, DecodeError, DecodeSettings, Row, Line, line_here, front_of}
 use Rattle.hayro_ccitt.proofs.Names.{EncodingMode, Group3_1D, Group3_2D, Group4}
 use Rattle.std.proofs.lemmas.List.Elements.{Contains-append_left}
@@ -125,7 +126,8 @@ module _ (settings : DecodeSettings) (reference : Row) where
 -- a part before no bits is that part
 before_none : (part : LinePart) → part_before [] part ≡ part
 before_none (LinePart.begins here) = ap LinePart.begins (append-nil here)
-before_none (LinePart.at_step is_2d pen) = ap (λ (b : Bits). LinePart.at_step is_2d (record pen { rest = b })) (append-nil pen.rest)
+before_none (LinePart.at_step is_2d pen) =
+    ap (λ (b : Bits). LinePart.at_step is_2d (record pen { rest = b })) (append-nil pen.rest)
 before_none (LinePart.in_run run pen) = ap (λ (b : Bits). LinePart.in_run run (record pen { rest = b })) (append-nil pen.rest)
 
 pub black_goes_on : (settings : DecodeSettings) (reference : Row) (here more : Bits)
