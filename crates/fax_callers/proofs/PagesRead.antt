@@ -16,7 +16,8 @@ use Rattle.hayro_ccitt.specs.Encodings.{ClosesWithEols}
 use Rattle.hayro_ccitt.specs.EndOfLine.{one_more, past_tag, pass_last_tag}
 use Rattle.hayro_ccitt.specs.Laws.{ReadsClosedPictures}
 use Rattle.hayro_ccitt.proofs.BitReading.BitLists.{length-bits_in, bits_are_whole}
-use Rattle.hayro_ccitt.proofs.BitReading.ConsecutiveEols.{all_eols-some, all_eols-none, all_tagged, all_tagged-some, all_tagged-none}
+use Rattle.hayro_ccitt.proofs.BitReading.ConsecutiveEols.{all_eols-some, all_eols-none, all_tagged, all_tagged-some}
+use Rattle.hayro_ccitt.proofs.BitReading.ConsecutiveEols.{all_tagged-none}
 use Rattle.hayro_ccitt.proofs.EncodedPictures.PicturesT4.{eol_stands, eols_here_one, eols_here_two}
 use Rattle.hayro_ccitt.specs.Pictures.{BeginsWithPictureT6}
 use Rattle.fax_callers.specs.Pages.{BeginsWithPageT4, IsPage, ReadsPages}
@@ -53,7 +54,8 @@ module _ (pad : Bits) (short : length pad < 8) where
       → all_tagged (closing ++ pad) ≡ (suc n, true ∷ pad)
   all_tags_closed zero closing (fill, next, then, is) =
       let split : closing ++ pad ≡ eol fill ++ (true ∷ pad)
-      = ap (λ (b : Bits). b ++ pad) (is ∙ ap (λ (b : Bits). (eol fill ++ (true ∷ [])) ++ b) then) ∙ simp (append_assoc, append-nil) in
+      = ap (λ (b : Bits). b ++ pad) (is ∙ ap (λ (b : Bits). (eol fill ++ (true ∷ [])) ++ b) then)
+      ∙ simp (append_assoc, append-nil) in
       let none : after_eol 0 pad ≡ None = few_bits 0 pad (omega arith) in
       let tag : past_tag (true ∷ pad) ≡ true ∷ pad = rw (none, past_tag) refl in
       ap all_tagged split ∙ all_tagged-some (eol fill ++ (true ∷ pad)) (true ∷ pad) (eol_stands fill (true ∷ pad))
@@ -100,7 +102,8 @@ size_of_page settings order bytes bits more three split found = by_encoding sett
         ap (λ (b : Bits). rtc_size tags b (length bytes)) split ∙ ap (size_before (bits ++ more) (length bytes)) found
         ∙ (let sum = length-append bits more in omega (arith, sum))
 
-    by_encoding : (encoding : EncodingMode) → encoding ≢ Group4 → behind_rtc (tags_in encoding) none_seen (bits ++ more) ≡ Some more
+    by_encoding : (encoding : EncodingMode) → encoding ≢ Group4
+        → behind_rtc (tags_in encoding) none_seen (bits ++ more) ≡ Some more
         → page_size encoding order bytes ≡ (length bits + 7) / 8
     by_encoding Group4 three found = absurd (three refl)
     by_encoding Group3_1D three found = counted false found
@@ -131,7 +134,8 @@ module _ (order : BitOrder) (bytes : List ℕ) (bits more : Bits) (count : ℕ) 
 module _ (settings : DecodeSettings) (order : BitOrder) (law : ReadsClosedPictures) (are : AreSettings settings) where
   -- its rows are read, and it ends there
   abbrev IsRead : List Row → ℕ → List ℕ → Type 0
-  IsRead rows count bytes = ((reading_of settings order bytes).rows ≡ rows) × ((reading_of settings order bytes).outcome ≡ Ok count)
+  IsRead rows count bytes =
+      ((reading_of settings order bytes).rows ≡ rows) × ((reading_of settings order bytes).outcome ≡ Ok count)
 
   closed_is_read : (rows : List Row) (count : ℕ) (bytes : List ℕ) → IsClosedPicture settings rows count (bits_in order bytes)
       → IsRead rows count bytes
@@ -146,7 +150,10 @@ module _ (settings : DecodeSettings) (order : BitOrder) (law : ReadsClosedPictur
     end_of_block = begins.end_of_block;
     limit = begins.limit;
     picture = begins.picture;
-    begins = (pad order bytes bits begins.begins.0 count begins.begins.1 e, cut order bytes bits begins.begins.0 count begins.begins.1 e);
+    begins = (
+      pad order bytes bits begins.begins.0 count begins.begins.1 e,
+      cut order bytes bits begins.begins.0 count begins.begins.1 e,
+    );
   }) e
 
   -- so are those of a page of T.4

@@ -26,7 +26,8 @@ goes_on tags seen here = cond (is_rtc seen) (Some here) (behind_rtc tags seen he
 few_seen : (eols zeros : ℕ) → eols < 6 → is_rtc (seen_with eols zeros false) ≡ false
 few_seen eols _ lt = rw (lt-leb 6 eols lt) refl
 
-zero_passed : (tags : Bool) (eols zeros : ℕ) (rest : Bits) → eols < 6 → behind_rtc tags (seen_with eols zeros false) (false ∷ rest)
+zero_passed : (tags : Bool) (eols zeros : ℕ) (rest : Bits) → eols < 6
+    → behind_rtc tags (seen_with eols zeros false) (false ∷ rest)
     ≡ behind_rtc tags (seen_with eols (one_more_up_to 11 zeros) false) rest
 zero_passed tags eols zeros rest lt =
     cond-false (is_rtc (seen_with eols (one_more_up_to 11 zeros) false)) (Some rest)
@@ -40,7 +41,8 @@ enough zeros n le = elim (cases_lt zeros 11) [
 ]
 
 zeros_passed : (tags : Bool) (eols zeros n : ℕ) (rest : Bits) → eols < 6 → 11 ≤ zeros + n → (more : ℕ) × (11 ≤ more)
-    × (behind_rtc tags (seen_with eols zeros false) (replicate n false ++ rest) ≡ behind_rtc tags (seen_with eols more false) rest)
+    × (behind_rtc tags (seen_with eols zeros false) (replicate n false ++ rest)
+    ≡ behind_rtc tags (seen_with eols more false) rest)
 zeros_passed tags eols zeros zero rest lt le = (zeros, omega arith, refl)
 zeros_passed tags eols zeros (suc n) rest lt le =
     let on = zeros_passed tags eols (one_more_up_to 11 zeros) n rest lt (enough zeros n le) in
@@ -74,16 +76,10 @@ eol_passed tags eols zeros fill rest lt =
     ∙ on.2 ∙ one_passed tags eols on.0 rest lt on.1
 
 -- the tag of one after an EOL
-tag_passed : (eols : ℕ) (rest : Bits) → goes_on true (seen_with eols 0 true) (true ∷ rest) ≡ goes_on true (seen_with eols 0 false) rest
+tag_passed : (eols : ℕ) (rest : Bits)
+    → goes_on true (seen_with eols 0 true) (true ∷ rest) ≡ goes_on true (seen_with eols 0 false) rest
 tag_passed eols rest =
     cond-false (is_rtc (seen_with eols 0 true)) (Some (true ∷ rest)) (behind_rtc true (seen_with eols 0 true) (true ∷ rest))
-    (and_right (leb 6 eols) false refl)
-
--- the tag of a two-dimensional line
-line_tag_passed : (eols : ℕ) (rest : Bits)
-    → goes_on true (seen_with eols 0 true) (false ∷ rest) ≡ behind_rtc true (seen_with 0 1 false) rest
-line_tag_passed eols rest =
-    cond-false (is_rtc (seen_with eols 0 true)) (Some (false ∷ rest)) (behind_rtc true (seen_with eols 0 true) (false ∷ rest))
     (and_right (leb 6 eols) false refl)
 
 -- tags follow EOLs
@@ -107,11 +103,13 @@ closing_passed : (encoding : EncodingMode) (n eols zeros : ℕ) (closing more : 
     → behind_rtc (tags_in encoding) (seen_with eols zeros false) (closing ++ more) ≡ Some more
 closing_passed encoding zero eols zeros closing more three six (fill, next, then, is) =
     let split : closing ++ more ≡ eol fill ++ (tag_of encoding ++ more)
-    = ap (λ (b : Bits). b ++ more) (is ∙ ap (λ (b : Bits). (eol fill ++ tag_of encoding) ++ b) then) ∙ simp (append_assoc, append-nil) in
+    = ap (λ (b : Bits). b ++ more) (is ∙ ap (λ (b : Bits). (eol fill ++ tag_of encoding) ++ b) then)
+    ∙ simp (append_assoc, append-nil) in
     let full : is_rtc (seen_with (suc eols) 0 false) ≡ true = rw (le-leb 6 (suc eols) (omega arith)) refl in
     ap (behind_rtc (tags_in encoding) (seen_with eols zeros false)) split
     ∙ tagged_passed encoding eols zeros fill more (omega arith) three
-    ∙ cond-true (is_rtc (seen_with (suc eols) 0 false)) (Some more) (behind_rtc (tags_in encoding) (seen_with (suc eols) 0 false) more)
+    ∙ cond-true (is_rtc (seen_with (suc eols) 0 false)) (Some more)
+    (behind_rtc (tags_in encoding) (seen_with (suc eols) 0 false) more)
     full
 closing_passed encoding (suc n) eols zeros closing more three six (fill, next, then, is) =
     let split : closing ++ more ≡ eol fill ++ (tag_of encoding ++ (next ++ more))
@@ -193,7 +191,8 @@ encoded_passed Group3_2D above row line rest three (words, inl (tagged, is)) som
     let quiet = quiet_line_1d White row words is 0 (omega arith) in (
       quiet.0,
       ap (λ (b : Bits). goes_on true (seen_with 1 0 true) (b ++ rest)) tagged
-          ∙ line_passed true 1 0 quiet.0 words rest (omega arith) (omega arith) quiet.1 (line_1d_holds_one White row words is some),
+          ∙ line_passed true 1 0 quiet.0 words rest (omega arith) (omega arith) quiet.1
+          (line_1d_holds_one White row words is some),
     )
 encoded_passed Group3_2D above row line rest three (words, inr (tagged, is)) some =
     let quiet = quiet_line above row 0 White words is 1 (omega arith) in (

@@ -90,7 +90,8 @@ passes_found None tags order piece seen after passes = λ front before. passes_m
 -- ---- Pages
 
 -- what follows RTC is shorter
-behind_shorter : (tags : Bool) (seen : EolsSeen) (here rest : Bits) → behind_rtc tags seen here ≡ Some rest → length rest < length here
+behind_shorter : (tags : Bool) (seen : EolsSeen) (here rest : Bits) → behind_rtc tags seen here ≡ Some rest
+    → length rest < length here
 behind_shorter tags seen [] rest e = absurd cc
 behind_shorter tags seen (bit ∷ here) rest e =
     by_rtc (behind_shorter tags (with_bit tags seen bit) here rest) (is_rtc (with_bit tags seen bit)) e

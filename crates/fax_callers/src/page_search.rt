@@ -35,6 +35,7 @@ use hayro_ccitt::bit_reader::BitOrder;
 ///     }
 /// }
 /// ```
+#[derive(Drop)]
 pub struct PageSearch {
     two_dimensional: bool,
     order: BitOrder,

@@ -23,7 +23,9 @@ returns-in_err-count-clause-closed c = λ all stand.
     (PageFrom c.args.settings c.args.order c.args.«data».now)
     (λ begin count page. (c.pages_are_read.ensures c.args.«data».now begin page.0 count page.1).0)
     0 c.loop-begin.begin c.loop-begin.ends.items all c.loop-begin.invariant.0 (λ count some within read.
-    let never = c.in_err-count.ensures.page fault ∙ ap (λ (s : DecodeSettings). page_by s c.args.order c.args.«data».now c.loop-begin.begin) c.loop-begin.invariant.2 ∙ read in cc) stand in
+    let never = c.in_err-count.ensures.page fault
+    ∙ ap (λ (s : DecodeSettings). page_by s c.args.order c.args.«data».now c.loop-begin.begin) c.loop-begin.invariant.2
+    ∙ read in cc) stand in
     absurd (omega (arith, same.1, c.loop-begin-test.true)))
 
 pub returns-clause-closed : goal.returns-clause-closed
@@ -37,7 +39,9 @@ returns-clause-closed c = λ all stand. (
         | else-loop-begin-test w ↦ omega (arith, some, within, w.loop-begin-test.false)
         | then-loop-begin-test+in_ok-count+then-count-eq0 w ↦
             let zero : w.in_ok-count.count ≡ count = let same =
-            w.in_ok-count.ensures.page ∙ ap (λ (s : DecodeSettings). page_by s c.args.order c.args.«data».now c.loop-begin.begin) c.loop-begin.invariant.2 ∙ read in cc in
+            w.in_ok-count.ensures.page
+            ∙ ap (λ (s : DecodeSettings). page_by s c.args.order c.args.«data».now c.loop-begin.begin) c.loop-begin.invariant.2
+            ∙ read in cc in
             omega (arith, zero, some, w.if-count-eq0.true)
       ]) stand).0,
 )

@@ -1,4 +1,5 @@
-use Rattle.hayro_ccitt.proofs.Names.{◌≡◌, ◌≤◌, ◌++◌, ℕ, length, length-drop, drop, ap, sym, ◌∙◌, arith, here, Bits, BitsAt, bits_in, Some}
+use Rattle.hayro_ccitt.proofs.Names.{◌≡◌, ◌≤◌, ◌++◌, ℕ, length, length-drop, drop, ap, sym, ◌∙◌, arith, here, Bits, BitsAt}
+use Rattle.hayro_ccitt.proofs.Names.{bits_in, Some}
 use Rattle.hayro_ccitt.proofs.BitReading.BitLists.{length-bits_in}
 use Rattle.fax_callers.specs.Rtc.{behind_rtc}
 use Rattle.fax_callers.proofs.rtc.find_rtc.Goals as goal
