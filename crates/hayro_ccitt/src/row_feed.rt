@@ -272,7 +272,8 @@ impl RowFeed {
     /// Passes what is before the first line, if no data that follows can change it, and returns whether it was passed.
     fn begin(&mut self) -> bool
         requires { self.old.begun ≡ false }
-        ensures { Begins self.old self.new result }
+        ensures begins { Begins self.old self.new result }
+        ensures none_kept { (self.old.part ≡ None) × (self.new.part ≡ None) }
     {
         let mut reader = placed_at(&self.data, self.order, self.place);
         if front_waits(&mut self.ctx, &reader, self.is_last) {
