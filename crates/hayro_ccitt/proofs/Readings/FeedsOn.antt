@@ -224,8 +224,11 @@ module _ (old new : Feeding) (before after : BitsAt) (before_is : before ≡ rec
           ap (λ (x : Context). length (changes x.held.reference)) frame,
           ap (λ (b : BitsAt). length (here b)) before_is,
         );
-        read = λ other. omega (arith, at_none (is_left answer) (new.ctx.ticks - old.ctx.ticks) (unleft answer other),
-            none_paid old.part old.line_read unkept);
+        read = λ other. omega (
+          arith,
+          at_none (is_left answer) (new.ctx.ticks - old.ctx.ticks) (unleft answer other),
+          none_paid old.part old.line_read unkept,
+        );
         at_once = λ other none. at_none (is_left answer) (new.ctx.ticks - old.ctx.ticks) (unleft answer other);
       };
     }

@@ -1,5 +1,5 @@
 use Rattle.hayro_ccitt.proofs.Names.{refl}
-use Rattle.hayro_ccitt.proofs.Names.{◌≡◌, ◌∙◌, ap, sym, Option, None, Some, is_some, Bool, false}
+use Rattle.hayro_ccitt.proofs.Names.{◌≡◌, ◌∙◌, ap, sym, Option, None, Some, is_some, false}
 use Rattle.hayro_ccitt.specs.declared.line_parts.KeptPart.{KeptPart}
 use Rattle.hayro_ccitt.specs.RowFeeds.{Feeding}
 use Rattle.hayro_ccitt.proofs.Readings.FeedsOn.{gap_feeds, reached_here}
