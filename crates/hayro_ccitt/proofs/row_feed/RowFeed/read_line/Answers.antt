@@ -18,4 +18,5 @@ returns-then-is_unsettled c =
 
 pub returns-else-is_unsettled : goal.returns-else-is_unsettled
 returns-else-is_unsettled c =
-    scanned_before c.read_whole_line-row.result c.is_still_short.ensures.scans c.requires.begun c.read_whole_line-row.ensures.reads
+    scanned_before c.read_whole_line-row.result c.is_still_short.ensures.scans c.requires.begun
+    c.read_whole_line-row.ensures.reads
