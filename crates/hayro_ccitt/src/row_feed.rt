@@ -323,8 +323,8 @@ impl RowFeed {
         row
     }
 
-    /// Reads on from a part of the line here, of which so many bits were read, and returns whether the line is short. If it is, the
-    /// part from which it goes on is kept.
+    /// Reads on from a part of the line here, of which so many bits were read, and returns whether the line is short. If it is,
+    /// the part from which it goes on is kept.
     fn go_on_from(&mut self, part: KeptPart, read: usize) -> bool
         requires none_kept { self.old.part ≡ None }
         requires part { LineGoesOn self.old.begun self.old.rows.stand self.old.ctx.held (drop self.old.place self.old.kept) read

@@ -1,8 +1,10 @@
 -- What is kept of a short line in data that comes in pieces.
 use Rattle.hayro_ccitt.proofs.Names.{◌⊎◌, inl, inr}
 use Rattle.hayro_ccitt.proofs.Names.{◌≡◌, ◌∙◌, ◌+◌, ◌-◌, ◌*◌, ◌≤◌, ◌++◌, [], ℕ, Bool, true, false, Result, Ok, None, Some}
-use Rattle.hayro_ccitt.proofs.Names.{Option, refl, sym, ap, subst, arith, length, drop, Bits, BitsAt, Held, Context, DecodeError, White}
-use Rattle.hayro_ccitt.proofs.Names.{redrawn, here, Stand, false≢true, is_at_line, length-append, length-drop, append_assoc, drop-drop}
+use Rattle.hayro_ccitt.proofs.Names.{Option, refl, sym, ap, subst, arith, length, drop, Bits, BitsAt, Held, Context}
+use Rattle.hayro_ccitt.proofs.Names.{DecodeError, White}
+use Rattle.hayro_ccitt.proofs.Names.{redrawn, here, Stand, false≢true, is_at_line, length-append, length-drop}
+use Rattle.hayro_ccitt.proofs.Names.{append_assoc, drop-drop}
 use Rattle.hayro_ccitt.proofs.Names.{changes, line_here, is_some}
 use Rattle.std.proofs.lemmas.List.{drop-append-le}
 use Rattle.hayro_ccitt.specs.declared.line_parts.KeptPart.{KeptPart}
@@ -28,33 +30,6 @@ pub unbegun_none : (part : Option KeptPart) (begun : Bool) (stand : Stand) (held
     → begun ≡ false → PartIsKept part begun stand held bits read → part ≡ None
 unbegun_none None begun stand held bits read unbegun kept = refl
 unbegun_none (Some part) begun stand held bits read unbegun kept = absurd (false≢true (sym unbegun ∙ kept.is_begun))
-
--- a part is kept only at a line
-pub part_at_line : (part : Option KeptPart) (begun : Bool) (stand : Stand) (held : Held) (bits : Bits) (read : ℕ)
-    → is_some part ≡ true → PartIsKept part begun stand held bits read → is_at_line stand ≡ true
-part_at_line None begun stand held bits read some kept = absurd cc
-part_at_line (Some part) begun stand held bits read some kept = kept.at_line
-
--- the same part, where more bits are known
-pub kept_longer : (part : Option KeptPart) (begun : Bool) (stand : Stand) (held : Held) (bits : Bits) (read : ℕ) (more : Bits)
-    → PartIsKept part begun stand held bits read → PartIsKept part begun stand held (bits ++ more) read
-kept_longer None begun stand held bits read more kept = kept
-kept_longer (Some part) begun stand held bits read more kept = record {
-  is_begun = kept.is_begun;
-  at_line = kept.at_line;
-  none_drawn = kept.none_drawn;
-  within = omega (arith, kept.within, length-append bits more);
-  lawful = kept.lawful;
-  line = record {
-    front = kept.line.front;
-    painted = kept.line.painted;
-    line = λ others. ap (line_here held.settings held.reference) (append_assoc bits more others)
-        ∙ kept.line.line (more ++ others)
-        ∙ ap (λ (b : Bits). line_from_part held.settings held.reference (part_at part kept.line.front b))
-        (sym (append_assoc (drop read bits) more others)
-        ∙ ap (λ (b : Bits). b ++ others) (sym (drop-append-le read bits more kept.within)));
-  };
-}
 
 -- what a call leaves that reads on from a part
 module _ (old new : Feeding) (part next : KeptPart) (read : ℕ) (before after : BitsAt) (short : Bool)
@@ -310,15 +285,3 @@ stays_short {old} {new} stays begun =
         at_once = λ other none. absurd (other refl);
       };
     }
-
--- ---- What of the changes and bits of a line is paid
-
-pub paid_within : (part : Option KeptPart) (begun : Bool) (stand : Stand) (held : Held) (bits : Bits) (read : ℕ)
-    → PartIsKept part begun stand held bits read → paid_by part read ≤ length (changes held.reference) + 2 * length bits + 2
-paid_within None begun stand held bits read kept = omega arith
-paid_within (Some part) begun stand held bits read kept = omega (arith, kept.within, kept.lawful.passed.within)
-
-pub some_kept : (part : Option KeptPart) (p : KeptPart) (begun : Bool) (stand : Stand) (held : Held) (bits : Bits) (read : ℕ)
-    → part ≡ Some p → PartIsKept part begun stand held bits read → LineGoesOn begun stand held bits read p
-some_kept part p begun stand held bits read is kept =
-    subst (λ (o : Option KeptPart). PartIsKept o begun stand held bits read) is kept

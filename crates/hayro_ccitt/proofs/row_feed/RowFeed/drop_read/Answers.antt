@@ -1,4 +1,5 @@
-use Rattle.hayro_ccitt.proofs.Names.{◌≡◌, ◌∙◌, ◌++◌, ◌-◌, ◌/◌, ap, refl, arith, length, length-drop, drop, take, bits_in, ℕ, ◌+◌, ◌*◌, drop-drop, sym, subst, Bits, List}
+use Rattle.hayro_ccitt.proofs.Names.{◌≡◌, ◌∙◌, ◌++◌, ◌-◌, ◌/◌, ap, refl, arith, length, length-drop, drop, take}
+use Rattle.hayro_ccitt.proofs.Names.{bits_in, ℕ, ◌+◌, ◌*◌, drop-drop, sym, subst, Bits, List}
 use Rattle.hayro_ccitt.specs.RowFeeds.{PartIsKept}
 use Rattle.std.proofs.Math.Seq.{take-append_seam}
 use Rattle.hayro_ccitt.proofs.BitReading.BitLists.{length-bits_in}
