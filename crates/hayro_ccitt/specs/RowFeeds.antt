@@ -156,6 +156,33 @@ pub record LooksAhead (is_last at_line : Bool) (looked : ℕ) (gap : Bits) (coun
   pub finished : is_last ≡ true → counted ≡ 0
   pub within : 0 < counted → counted + looked ≤ length gap
 
+-- the line that is here
+abbrev pub line_of_feed : Feeding → Line
+line_of_feed feed = line_here feed.ctx.held.settings feed.ctx.held.reference (drop feed.place feed.kept)
+
+-- what reading a short line on has counted, at most: two ticks a bit that was read of it, the changes of the reference row that were
+-- passed, and two for the word that is missing
+abbrev pub paid_by : Option KeptPart → ℕ → ℕ
+paid_by None read = 0
+paid_by (Some part) read = part.passed + 2 * read + 2
+
+abbrev pub paid_for_line : Feeding → ℕ
+paid_for_line feed = paid_by feed.part feed.line_read
+
+-- the most of it, where the line is read to its end, or to that of its bits that are known
+abbrev pub most_for_line : Feeding → ℕ
+most_for_line feed = length (changes feed.ctx.held.reference) + 2 * length (drop feed.place feed.kept)
+
+-- What a call counts for a line that it leaves, or that was left before. Where a short line goes on, only the bits that are read
+-- newly are counted, and the changes that are passed newly; where it is found to be short first, four ticks a bit more, and the
+-- changes once. Where it is read, what went before counts no more than once for the whole line (T.4, 4.1 and 4.2; T.6, 2.2).
+pub record LineWork (old new : Feeding) (answer : Result Fed DecodeError) (counted : ℕ) : Type 0 where
+  pub goes_on : answer ≡ Ok Fed.NeedsMore → old.part ≢ None → counted + paid_for_line old ≤ paid_for_line new + 2
+  pub begins : answer ≡ Ok Fed.NeedsMore → old.part ≡ None → counted ≤ paid_for_line new
+      + (4 * length (drop new.place new.kept) + length (changes new.ctx.held.reference) + 2)
+  pub read : (HasNone answer → ⊥) → counted + paid_for_line old ≤ most_for_line old + 4
+  pub at_once : (HasNone answer → ⊥) → old.part ≡ None → counted ≡ 0
+
 -- What a call that reads the next row leaves, of whatever data those fed are a beginning: the next row of its plain reading,
 -- its end
 -- or its fault; or nothing is read, since what is next can still be changed, or since a change of a row that paints a black
@@ -173,11 +200,14 @@ pub record FeedsNext (whole : Bits) (tried : ℕ) (old new : Feeding) (answer : 
   pub paints : answer ≡ Err OutOfMemory → PaintsBlack (lines_of new.ctx.held.settings whole) new.ctx.held.taken
   pub extra : ℕ
   pub stands : IsFeedOf whole (tried + extra) new
-  -- of this so much for bits of the gap that weren't looked at before; where the gap waits, those looked at are kept
+  -- what was counted for bits of the gap that weren't looked at before, and for the line; where the gap waits, the bits that were
+  -- looked at are kept
   pub gap : ℕ
-  pub part : gap ≤ extra
+  pub line_extra : ℕ
+  pub extra_is : extra ≡ gap + line_extra
   pub looks : LooksAhead old.finished (old.begun && is_at_line old.rows.stand) old.looked (drop old.place old.kept) gap
   pub looked : answer ≡ Ok Fed.NeedsMore → is_at_line new.rows.stand ≡ false → gap + old.looked ≡ new.looked
+  pub line_work : LineWork old new answer line_extra
 
 -- ---- The steps of a call: not part of the trusted specification
 
@@ -288,6 +318,14 @@ pub record ComesInFeed (old new : Feeding) (answer : Result (Option Bool) Decode
   pub only_code : IfErr answer (λ e. e ≡ InvalidCode)
   pub waiting : (whole : Bits) (tried : ℕ) → answer ≡ Ok None → IsFeedOf whole tried old → IsFeedOf whole (tried + extra) new
 
+-- what is counted for a line that is left, or that was left before
+pub record LineIsPaid (old new : Feeding) (answer : Result Bool DecodeError) (counted : ℕ) : Type 0 where
+  pub goes_on : answer ≡ Ok false → old.part ≢ None → counted + paid_for_line old ≤ paid_for_line new + 2
+  pub begins : answer ≡ Ok false → old.part ≡ None → counted ≤ paid_for_line new
+      + (4 * length (drop old.place old.kept) + length (changes old.ctx.held.reference) + 2)
+  pub read : (IsLeft answer → ⊥) → counted + paid_for_line old ≤ most_for_line old + 4
+  pub at_once : (IsLeft answer → ⊥) → old.part ≡ None → counted ≡ 0
+
 -- and the line here is read
 pub record ReadsInFeed (old new : Feeding) (answer : Result Bool DecodeError) : Type 0 where
   pub extra : ℕ
@@ -305,6 +343,7 @@ pub record ReadsInFeed (old new : Feeding) (answer : Result Bool DecodeError) : 
       → ReadsNext (fed_over whole old) (fed_over whole new) answer
   pub stands : (whole : Bits) (tried : ℕ) → IsFeedOf whole tried old → IsFeedOf whole (tried + extra) new
   pub most : new.ctx.space ≤ max old.ctx.space (2 * old.ctx.held.settings.columns + 66)
+  pub work : LineIsPaid old new answer extra
 
 -- a short line is read on: nothing changes but the count of work, and what is kept of the line
 pub record Scans (old new : Feeding) : Type 0 where
@@ -315,28 +354,12 @@ pub record Scans (old new : Feeding) : Type 0 where
   }
   pub counts : old.ctx.ticks ≤ new.ctx.ticks
 
--- the line that is here
-abbrev pub line_of_feed : Feeding → Line
-line_of_feed feed = line_here feed.ctx.held.settings feed.ctx.held.reference (drop feed.place feed.kept)
-
--- what was counted for a line that is short, at most: its bits that were read, and the changes of the reference row
-abbrev pub paid_by : Option KeptPart → ℕ → ℕ
-paid_by None read = 0
-paid_by (Some part) read = part.passed + 2 * read
-
-abbrev pub paid_for_line : Feeding → ℕ
-paid_for_line feed = paid_by feed.part feed.line_read
-
--- the most of it
-abbrev pub most_for_line : Feeding → ℕ
-most_for_line feed = length (changes feed.ctx.held.reference) + 2 * length (drop feed.place feed.kept)
-
 -- from a part with so many changes passed and bits read on
 pub record ScansLine (passed read : ℕ) (old new : Feeding) (short : Bool) : Type 0 where
   pub scans : Scans old new
   pub said : is_short (line_of_feed old) ≡ short
   pub none : short ≡ false → new.part ≡ None
-  pub work : short ≡ true → new.ctx.ticks + (passed + 2 * read) ≤ old.ctx.ticks + paid_for_line new + 2
+  pub work : short ≡ true → new.ctx.ticks + (passed + 2 * read) ≤ old.ctx.ticks + paid_for_line new
   pub most : new.ctx.ticks + (passed + 2 * read) ≤ old.ctx.ticks + most_for_line old + 2
 
 -- from the part that is kept, if one is
@@ -348,12 +371,12 @@ pub record StaysShort (old new : Feeding) (short : Bool) : Type 0 where
   pub none : short ≡ false → new.part ≡ None
   pub unkept : old.part ≡ None → (short ≡ false) × (new.ctx.ticks ≡ old.ctx.ticks)
   pub work : short ≡ true → new.ctx.ticks + paid_for_line old ≤ old.ctx.ticks + paid_for_line new + 2
-  pub most : new.ctx.ticks + paid_for_line old ≤ old.ctx.ticks + most_for_line old + 2
+  pub most : new.ctx.ticks + paid_for_line old ≤ old.ctx.ticks + most_for_line old + 4
 
 -- from the start of the line, which is short
 pub record KeepsPart (old new : Feeding) : Type 0 where
   pub scans : Scans old new
-  pub work : is_short (line_of_feed old) ≡ true → new.ctx.ticks ≤ old.ctx.ticks + paid_for_line new + 2
+  pub work : is_short (line_of_feed old) ≡ true → new.ctx.ticks ≤ old.ctx.ticks + paid_for_line new
 
 -- what a call answers where a line was tried
 abbrev pub fed_row : Result Bool DecodeError → Result Fed DecodeError

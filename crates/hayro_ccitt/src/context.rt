@@ -640,13 +640,14 @@ impl DecoderContext {
         ensures forward { passed.old ≤ passed.new }
         ensures work { self.new.ticks + passed.old ≡ self.old.ticks + passed.new + 1 }
     {
+        let ticks = &mut self.ticks;
         let index = b1_index(
             self.ref_changes.as_slice(),
             painted,
             color,
             self.settings.columns,
             passed,
-            &mut self.ticks,
+            ticks,
         );
         (
             self.reference_change(index),

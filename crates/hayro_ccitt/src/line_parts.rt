@@ -1,6 +1,7 @@
 //! A line that is read a word at a time and not drawn: whether the data ends within it.
 
-ghost use Rattle.std.specs.Prelude.{◌≡◌, ◌≢◌, ◌≤◌, ◌<◌, ◌+◌, ◌*◌, ◌+ℤ◌, true, false, length, pos, IfSome, IfNone, Err, Ok, None, Some, [], suc};
+ghost use Rattle.std.specs.Prelude.{◌≡◌, ◌≢◌, ◌≤◌, ◌<◌, ◌+◌, ◌*◌, ◌+ℤ◌, true, false, length, pos, IfSome, IfNone, Err};
+ghost use Rattle.std.specs.Prelude.{Ok, None, Some, [], suc};
 ghost use Rattle.hayro_ccitt.specs.Bits.{Bits, here};
 ghost use Rattle.hayro_ccitt.specs.Context.{right_of_painted};
 ghost use Rattle.hayro_ccitt.specs.Continuations.{is_short, misses_end};
@@ -286,8 +287,8 @@ fn first_part(is_2d: bool) -> KeptPart
     }
 }
 
-/// Reads the tag of the line here, if it has one (T.4, 4.2.2), and returns the part from which it goes on. Returns `None` if the tag
-/// is missing.
+/// Reads the tag of the line here, if it has one (T.4, 4.2.2), and returns the part from which it goes on. Returns `None` if the
+/// tag is missing.
 pub(crate) fn begin_part(ctx: &mut DecoderContext, reader: &mut BitReader<'_>) -> Option<KeptPart>
     ensures begins { IfSome result (λ part. IsPartOf ctx.old.held.settings ctx.old.held.reference (here reader.old) part
         (here reader.new)) }

@@ -312,7 +312,8 @@ impl RowFeed {
     /// Passes what is before the first line, if no data that follows can change it, and returns whether it was passed.
     fn begin(&mut self) -> bool
         requires { self.old.begun ≡ false }
-        ensures { Begins self.old self.new result }
+        ensures begins { Begins self.old self.new result }
+        ensures none_kept { (self.old.part ≡ None) × (self.new.part ≡ None) }
     {
         let mut reader = placed_at(&self.data, self.order, self.place);
         if front_waits(&mut self.ctx, &mut self.look, &reader, self.is_last) {
@@ -367,8 +368,8 @@ impl RowFeed {
         row
     }
 
-    /// Reads on from a part of the line here, of which so many bits were read, and returns whether the line is short. If it is, the
-    /// part from which it goes on is kept.
+    /// Reads on from a part of the line here, of which so many bits were read, and returns whether the line is short. If it is,
+    /// the part from which it goes on is kept.
     fn go_on_from(&mut self, part: KeptPart, read: usize) -> bool
         requires none_kept { self.old.part ≡ None }
         requires part { LineGoesOn self.old.begun self.old.rows.stand self.old.ctx.held (drop self.old.place self.old.kept) read

@@ -1,8 +1,12 @@
 -- Parts of lines, of whose fronts only the number of pixels is known.
-use Rattle.hayro_ccitt.proofs.Names.{◌≡◌, ◌≢◌, ◌∙◌, ◌+◌, ◌-◌, ◌*◌, ◌<◌, ◌≤◌, ℕ, Bool, true, false, [], ◌++◌, length, min, Ok, Err}
-use Rattle.hayro_ccitt.proofs.Names.{replicate, length-append, length-replicate, append-nil, ltb, leb, ◌&&◌, refl, sym, ap, subst, arith}
-use Rattle.hayro_ccitt.proofs.Names.{Option, Some, None, Bits, Color, DecodeError, DecodeSettings, Row, is_black, paint, Line, Turn, line_here}
-use Rattle.hayro_ccitt.proofs.Names.{lt-ltb, le-leb, common_steps, Mode, read_code, mode_codes, codes_of, ArePassed, InvalidCode, List, changes}
+use Rattle.hayro_ccitt.proofs.Names.{◌≡◌, ◌∙◌, ◌+◌, ◌-◌, ◌*◌, ◌<◌, ◌≤◌, ℕ, Bool, true, false, [], ◌++◌, length}
+use Rattle.hayro_ccitt.proofs.Names.{min, Ok, Err}
+use Rattle.hayro_ccitt.proofs.Names.{replicate, length-append, length-replicate, append-nil, ltb, leb, ◌&&◌, refl, sym}
+use Rattle.hayro_ccitt.proofs.Names.{ap, subst, arith}
+use Rattle.hayro_ccitt.proofs.Names.{Option, Some, None, Bits, Color, DecodeSettings, Row, is_black, paint}
+use Rattle.hayro_ccitt.proofs.Names.{Line, Turn, line_here}
+use Rattle.hayro_ccitt.proofs.Names.{lt-ltb, le-leb, common_steps, Mode, read_code, mode_codes, codes_of, ArePassed}
+use Rattle.hayro_ccitt.proofs.Names.{InvalidCode, List, changes}
 use Rattle.hayro_ccitt.proofs.Names.{White, line_1d, line_2d, line_by, start, not, EncodingMode, Group3_2D, BitsAt, Context}
 use Rattle.hayro_ccitt.proofs.Names.{here, length-drop}
 use Rattle.hayro_ccitt.proofs.Names.{Pass, Vertical, b1, b2, right_of, right_of_painted, opposite, ℤ, pos, ◌+ℤ◌, ◌∷◌}
@@ -10,11 +14,13 @@ use Rattle.fax_bits.specs.declared.error.DecodeError.TheVariants.{Overflow}
 use Rattle.hayro_ccitt.specs.declared.line_parts.KeptPart.{KeptPart}
 use Rattle.hayro_ccitt.specs.declared.line_parts.KeptRun.{KeptRun}
 use Rattle.hayro_ccitt.specs.declared.line_parts.Word.{Word}
-use Rattle.hayro_ccitt.specs.Continuations.{is_short, misses_end}
+use Rattle.hayro_ccitt.specs.Continuations.{is_short}
 use Rattle.hayro_ccitt.specs.Lines.{Pen, place_from}
-use Rattle.hayro_ccitt.specs.LinesGoOn.{LinePart, OpenRun, behind_run, left_of, line_from_part, mode_added, part_before, read_on, word_added}
-use Rattle.hayro_ccitt.specs.LineParts.{GoesOnBy, ContinuesLine, IsLawfulPart, IsPartOf, Leads, ReadsWord, EndsLine, LeadsToPart, PaintsTo, part_at, part_by}
-use Rattle.hayro_ccitt.specs.LineParts.{left_to_read, is_missing, pen_of_part}
+use Rattle.hayro_ccitt.specs.LinesGoOn.{LinePart, OpenRun, left_of, line_from_part, mode_added, part_before}
+use Rattle.hayro_ccitt.specs.LinesGoOn.{read_on, word_added}
+use Rattle.hayro_ccitt.specs.LineParts.{GoesOnBy, ContinuesLine, IsLawfulPart, IsPartOf, Leads, ReadsWord, EndsLine}
+use Rattle.hayro_ccitt.specs.LineParts.{LeadsToPart, PaintsTo, part_at, part_by}
+use Rattle.hayro_ccitt.specs.LineParts.{left_to_read, pen_of_part}
 use Rattle.fax_reading.proofs.Continuations.LinesGoOn.{LeadsOn, line_from_is, part_leads_on, part_size, word_leads}
 
 -- ---- What is painted
@@ -187,18 +193,6 @@ module _ (settings : DecodeSettings) (reference : Row) (front : Row) (color : Co
   fits_32 : (n : ℕ) → n ≤ 4294967295 → ltb 4294967295 n ≡ false
   fits_32 n le = grind (arith, common_steps)
 
-  pub makeup_goes : (run : OpenRun) (n : ℕ) → run.total + n ≤ 4294967295 → 64 ≤ n
-      → by_word run n ≡ Turn.next (LinePart.in_run (record run { total = run.total + n }) pen)
-  makeup_goes run n le makeup =
-      let long : ltb n 64 ≡ false = grind (arith, common_steps) in
-      rw (fits_32 (run.total + n) le, long) refl
-
-  pub run_goes : (run : OpenRun) (n painted : ℕ) → run.total + n ≤ 4294967295 → n < 64
-      → PaintsTo settings front color (run.total + n) painted
-      → LeadsToFront painted (λ row. behind_run run (record { front = row; color = opposite color; rest = rest })) (by_word run n)
-  run_goes run n painted le last paints =
-      (paints.0, paints.1, rw (fits_32 (run.total + n) le, lt-ltb n 64 last, paints.2) refl)
-
   pub run_ends : (run : OpenRun) (n : ℕ) → run.total + n ≤ 4294967295 → n < 64
       → paint settings.strict settings.columns front color (run.total + n) ≡ Err InvalidCode → EndsLine false (by_word run n)
   run_ends run n le last fails =
@@ -214,38 +208,14 @@ module _ (settings : DecodeSettings) (reference : Row) (front : Row) (color : Co
       let some : leb settings.columns (length front) ≡ false = grind (arith, common_steps) in
       rw (some, reads) refl
 
-  pub mode_unread : (fault : DecodeError) → length front < settings.columns → read_code mode_codes rest ≡ Err fault
-      → EndsLine (misses_end fault) (read_on settings reference (at_mode front color rest)).turn
-  mode_unread fault narrow reads =
-      let some : leb settings.columns (length front) ≡ false = grind (arith, common_steps) in
-      (Line.broken front fault, rw (some, reads) refl, refl)
-
   pub full_ends : (is_2d : Bool) → settings.columns ≤ length front
       → EndsLine false (read_on settings reference (LinePart.at_step is_2d pen)).turn
   full_ends is_2d full = (Line.whole front rest, rw (le-leb settings.columns (length front) full) refl, refl)
-
-  pub run_begun : length front < settings.columns
-      → (read_on settings reference (LinePart.at_step false pen)).turn
-      ≡ Turn.next (LinePart.in_run (record { is_2d = false; another = false; total = 0 }) pen)
-  run_begun narrow =
-      let some : leb settings.columns (length front) ≡ false = grind (arith, common_steps) in
-      rw some refl
 
   pub word_is_read : (run : OpenRun) (n : ℕ) (after : Bits) → read_code (codes_of color) rest ≡ Ok (n, after)
       → (read_on settings reference (LinePart.in_run run pen)).turn
       ≡ (word_added settings.strict settings.columns run (record pen { rest = after }) n).turn
   word_is_read run n after reads = rw reads refl
-
-  pub word_unread : (run : OpenRun) (fault : DecodeError) → read_code (codes_of color) rest ≡ Err fault
-      → EndsLine (misses_end fault) (read_on settings reference (LinePart.in_run run pen)).turn
-  word_unread run fault reads = (Line.broken front fault, rw reads refl, refl)
-
--- what a word leads to that isn't read
-pub leads_to_end : (word : Word) (part : KeptPart) (rest : Bits) (turn : Turn LinePart Line) → word ≢ Word.GoesOn
-    → EndsLine (is_missing word) turn → Leads word part rest turn
-leads_to_end Word.GoesOn part rest turn other ends = absurd (other refl)
-leads_to_end Word.Missing part rest turn other ends = ends
-leads_to_end Word.Ends part rest turn other ends = ends
 
 -- ---- A part that is kept
 
@@ -323,9 +293,9 @@ pub record WentOn (old new : KeptPart) (ctx now : Context) (before after : BitsA
   pub work : now.ticks + old.passed + 2 * length (here after) ≤ ctx.ticks + new.passed + 2 * length (here before)
 
 -- what is left of a part are the pen's bits
-left_is : (run : Option KeptRun) (is_2d : Bool) (pen : Pen) → left_of (part_by run is_2d pen) ≡ pen.rest
-left_is None is_2d p = refl
-left_is (Some run) is_2d p = refl
+bits_left_are : (run : Option KeptRun) (is_2d : Bool) (pen : Pen) → left_of (part_by run is_2d pen) ≡ pen.rest
+bits_left_are None is_2d p = refl
+bits_left_are (Some run) is_2d p = refl
 
 module _ (old part new : KeptPart) (ctx : Context) (ticks : ℕ) (now : Context) (before at after : BitsAt)
     (so_far : WentOn old part ctx (record ctx { ticks = ticks }) before at) where
@@ -357,9 +327,9 @@ module _ (old part new : KeptPart) (ctx : Context) (ticks : ℕ) (now : Context)
       shorter : length (here after) ≤ length (here at)
       shorter = omega (
         arith,
-        ap length (sym (left_is part.run part.is_2d (pen_of_part part front (here at))) ∙ on.0.1),
+        ap length (sym (bits_left_are part.run part.is_2d (pen_of_part part front (here at))) ∙ on.0.1),
         length-append on.0.0 (left_of (part_at new leads.0 (here after))),
-        ap length (left_is new.run new.is_2d (pen_of_part new leads.0 (here after))),
+        ap length (bits_left_are new.run new.is_2d (pen_of_part new leads.0 (here after))),
       )
 
   ends_so : (short : Bool) (word : Word) → ReadsWord part new (record ctx { ticks = ticks }) now at after word

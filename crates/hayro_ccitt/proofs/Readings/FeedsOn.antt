@@ -27,9 +27,33 @@ use Rattle.hayro_ccitt.specs.RowFeeds.{ComesInFeed, ComesOn, Feeding, IsFeedOf, 
 use Rattle.hayro_ccitt.specs.RowFeeds.{HasNone, LooksAhead, TriesLine, came, fed_over}
 use Rattle.hayro_ccitt.specs.declared.gap_look.GapLook.{GapLook}
 use Rattle.hayro_ccitt.specs.RowFeeds.{ComeNext, DropsRead, FeedsNext, IsAtFront, IsOpenAt, StaysThere, fed_none}
-use Rattle.hayro_ccitt.specs.RowFeeds.{fed_bits, fed_row, is_left, line_first}
+use Rattle.hayro_ccitt.specs.RowFeeds.{LineWork, fed_bits, fed_row, is_left, line_first, paid_by}
+use Rattle.hayro_ccitt.proofs.Names.{changes}
+use Rattle.fax_reading.proofs.Work.WordsPay.{found_within}
+use Rattle.hayro_ccitt.specs.declared.line_parts.KeptPart.{KeptPart}
 use Rattle.fax_bits.specs.declared.error.DecodeError.TheVariants.{InvalidCode, OutOfMemory}
 use Rattle.hayro_ccitt.specs.declared.row_feed.Fed.{Fed}
+
+-- where no part is kept, nothing is paid
+pub none_paid : (part : Option KeptPart) (read : ℕ) → part ≡ None → paid_by part read ≡ 0
+none_paid None read none = refl
+none_paid (Some part) read none = absurd cc
+
+at_most : (b : Bool) (n : ℕ) → cond b n 0 ≤ n
+at_most true n = omega arith
+at_most false n = omega arith
+
+at_none : (b : Bool) (n : ℕ) → b ≡ false → cond b n 0 ≡ 0
+at_none true n e = absurd (false≢true (sym e))
+at_none false n e = refl
+
+-- a line that wasn't left isn't said to be
+unleft : (answer : Result Bool DecodeError) → (IsLeft answer → ⊥) → is_left answer ≡ false
+unleft answer other = by_bool (is_left answer) refl
+  where
+    by_bool : (b : Bool) → is_left answer ≡ b → b ≡ false
+    by_bool true e = absurd (other (left_is answer e))
+    by_bool false e = refl
 
 module _ (old new : Feeding) (before after : BitsAt) (before_is : before ≡ record { bits = old.kept; place = old.place })
     (keeps : KeepsBits old new) (ends : new.place ≡ after.place) (begun : old.begun ≡ true) (still : new.begun ≡ true) where
@@ -111,6 +135,7 @@ module _ (old new : Feeding) (before after : BitsAt) (before_is : before ≡ rec
   module _ (mid : Context)
       (frame : mid ≡ record old.ctx { held = redrawn old.ctx.held [] White; passed = 0; cut = false })
       (width : length old.ctx.held.reference ≡ old.ctx.held.settings.columns) (line : is_at_line old.rows.stand ≡ true)
+      (unkept : old.part ≡ None)
       (answer : Result Bool DecodeError)
       (tries : TriesLine old.finished at old.rows new.rows mid new.ctx before after answer) where
     counted : old.ctx.ticks ≤ new.ctx.ticks
@@ -216,6 +241,25 @@ module _ (old new : Feeding) (before after : BitsAt) (before_is : before ≡ rec
         ap (λ (x : Context). x.held.settings.columns) frame,
       );
       counts = counted;
+      work = record {
+        goes_on = λ e some. absurd (some unkept);
+        begins = λ e none. omega (
+          arith,
+          at_most (is_left answer) (new.ctx.ticks - old.ctx.ticks),
+          tries.tried.at_most,
+          found_within mid.held.settings.encoding mid.held.settings.strict mid.held.settings.columns mid.held.reference
+              (here before),
+          ap (λ (x : Context). x.ticks) frame,
+          ap (λ (x : Context). length (changes x.held.reference)) frame,
+          ap (λ (b : BitsAt). length (here b)) before_is,
+        );
+        read = λ other. omega (
+          arith,
+          at_none (is_left answer) (new.ctx.ticks - old.ctx.ticks) (unleft answer other),
+          none_paid old.part old.line_read unkept,
+        );
+        at_once = λ other none. at_none (is_left answer) (new.ctx.ticks - old.ctx.ticks) (unleft answer other);
+      };
     }
 
 -- ---- What is before the first line
@@ -430,12 +474,17 @@ none_behind (Err error) other reached = record {
   last_start = λ e. cc;
 }
 
+both_true : (a b : Bool) → a ≡ true → b ≡ true → (a && b) ≡ true
+both_true true b is also = also
+both_true false b is also = absurd (false≢true is)
+
 -- a line was reached, and the call went on from there
 pub feeds_on : {whole : Bits} {tried : ℕ} (more : ℕ) {old mid new : Feeding} {answer : Result Fed DecodeError}
     → LooksAhead old.finished (old.begun && is_at_line old.rows.stand) old.looked (drop old.place old.kept) more
+    → old.part ≡ None → mid.part ≡ None → mid.begun ≡ true
     → ReachesNextLine (fed_over whole old) (fed_over whole mid) (Ok true) → FeedsNext whole (tried + more) mid new answer
     → FeedsNext whole tried old new answer
-feeds_on {whole} {tried} more {old} {mid} {new} {answer} looks reached next = record {
+feeds_on {whole} {tried} more {old} {mid} {new} {answer} looks unkept none begun reached next = record {
   row = λ e. reads_on (fed_over whole old) (fed_over whole mid) (fed_over whole new) (Ok true) reached (next.row e);
   end = λ e. reads_on (fed_over whole old) (fed_over whole mid) (fed_over whole new) (Ok false) reached (next.end e);
   fault = IfErr-weaker answer _ _ (λ e known fault.
@@ -458,10 +507,17 @@ feeds_on {whole} {tried} more {old} {mid} {new} {answer} looks reached next = re
   memory = next.memory;
   paints = next.paints;
   extra = more + next.extra;
+  line_extra = next.line_extra;
+  extra_is = omega (arith, next.extra_is, next.looks.line (both_true mid.begun (is_at_line mid.rows.stand) begun (reached.line refl)));
+  line_work = record {
+    goes_on = λ e some. absurd (some unkept);
+    begins = λ e kept. next.line_work.begins e none;
+    read = λ other. omega (arith, next.line_work.at_once other none, none_paid old.part old.line_read unkept);
+    at_once = λ other kept. next.line_work.at_once other none;
+  };
   stands = let same : (tried + more) + next.extra ≡ tried + (more + next.extra) = omega arith in
       subst (λ (n : ℕ). IsFeedOf whole n new) same next.stands;
   gap = more;
-  part = omega arith;
   looks = looks;
   looked = λ e away.
       let stays = next.none (subst HasNone (sym e) refl) in absurd (false≢true (sym away ∙ stays.line (reached.line refl)));
@@ -523,6 +579,33 @@ looks_begun : (begun : Bool) {finished line : Bool} {looked counted : ℕ} {gap 
 looks_begun true is looks = looks
 looks_begun false is looks = absurd (false≢true is)
 
+-- what is counted for the line
+line_paid : {old new : Feeding} (answer : Result Bool DecodeError) → (reads : ReadsInFeed old new answer)
+    → LineWork old new (fed_row answer) reads.extra
+line_paid {old} {new} (Ok true) reads = record {
+  goes_on = λ e some. cc;
+  begins = λ e none. cc;
+  read = λ other. reads.work.read (λ left. cc);
+  at_once = λ other none. reads.work.at_once (λ left. cc) none;
+}
+line_paid {old} {new} (Ok false) reads = record {
+  goes_on = λ e some. reads.work.goes_on refl some;
+  begins = λ e none. omega (
+    arith,
+    reads.work.begins refl none,
+    ap length (next_is reads.keeps (reads.left refl).1),
+    ap (λ (h : Held). length (changes h.reference)) (reads.left refl).2,
+  );
+  read = λ other. absurd (other refl);
+  at_once = λ other none. absurd (other refl);
+}
+line_paid {old} {new} (Err error) reads = record {
+  goes_on = λ e some. cc;
+  begins = λ e none. cc;
+  read = λ other. reads.work.read (λ left. other left);
+  at_once = λ other none. reads.work.at_once (λ left. other left) none;
+}
+
 -- the line is read, or left
 pub line_feeds : {whole : Bits} {tried : ℕ} {old new : Feeding} (answer : Result Bool DecodeError) → ReadsInFeed old new answer
     → old.begun ≡ true → is_at_line old.rows.stand ≡ true → IsFeedOf whole tried old → FeedsNext whole tried old new
@@ -536,9 +619,11 @@ line_feeds {whole} {tried} {old} {new} (Ok true) reads begun line feed = record 
   memory = λ e. cc;
   paints = λ e. cc;
   extra = reads.extra;
+  line_extra = reads.extra;
+  extra_is = omega arith;
+  line_work = line_paid (Ok true) reads;
   stands = reads.stands whole tried feed;
   gap = 0;
-  part = omega arith;
   looks = none_looked old.finished (old.begun && is_at_line old.rows.stand) old.looked (drop old.place old.kept);
   looked = λ e. cc;
 }
@@ -557,9 +642,11 @@ line_feeds {whole} {tried} {old} {new} (Ok false) reads begun line feed = record
   memory = λ e. cc;
   paints = λ e. cc;
   extra = reads.extra;
+  line_extra = reads.extra;
+  extra_is = omega arith;
+  line_work = line_paid (Ok false) reads;
   stands = reads.stands whole tried feed;
   gap = 0;
-  part = omega arith;
   looks = none_looked old.finished (old.begun && is_at_line old.rows.stand) old.looked (drop old.place old.kept);
   looked = λ e away. absurd (false≢true (sym away ∙ ap (λ (r : RowState). is_at_line r.stand) (reads.left refl).0 ∙ line));
 }
@@ -576,19 +663,30 @@ line_feeds {whole} {tried} {old} {new} (Err error) reads begun line feed = recor
   paints = λ e.
       let is : error ≡ OutOfMemory = cc in reads.paints whole tried (ap (λ (x : DecodeError). Err x) is) feed;
   extra = reads.extra;
+  line_extra = reads.extra;
+  extra_is = omega arith;
+  line_work = line_paid (Err error) reads;
   stands = reads.stands whole tried feed;
   gap = 0;
-  part = omega arith;
   looks = none_looked old.finished (old.begun && is_at_line old.rows.stand) old.looked (drop old.place old.kept);
   looked = λ e. cc;
+}
+
+-- without a line nothing is counted for it
+no_line_paid : {old new : Feeding} {answer : Result Fed DecodeError} → old.part ≡ None → LineWork old new answer 0
+no_line_paid {old} {new} {answer} unkept = record {
+  goes_on = λ e some. absurd (some unkept);
+  begins = λ e none. omega arith;
+  read = λ other. omega (arith, none_paid old.part old.line_read unkept);
+  at_once = λ other none. refl;
 }
 
 -- no line is reached: more data is needed, or it is the end
 pub gap_feeds : {whole : Bits} {tried : ℕ} {old new : Feeding} (answer : Result (Option Bool) DecodeError)
     → ComesInFeed old new answer
-    → answer ≢ Ok (Some true) → old.begun ≡ true → ended old.rows.stand ≡ None → IsFeedOf whole tried old
+    → answer ≢ Ok (Some true) → old.begun ≡ true → ended old.rows.stand ≡ None → old.part ≡ None → IsFeedOf whole tried old
     → FeedsNext whole tried old new (fed_none answer)
-gap_feeds {whole} {tried} {old} {new} (Ok None) comes other begun unended feed =
+gap_feeds {whole} {tried} {old} {new} (Ok None) comes other begun unended unkept feed =
     let w = comes.waits refl in
     record {
       row = λ e. cc;
@@ -617,14 +715,16 @@ gap_feeds {whole} {tried} {old} {new} (Ok None) comes other begun unended feed =
       memory = λ e. cc;
       paints = λ e. cc;
       extra = comes.extra;
+      line_extra = 0;
+      extra_is = omega arith;
+      line_work = no_line_paid unkept;
       stands = comes.waiting whole tried refl feed;
       gap = comes.extra;
-      part = omega arith;
       looks = looks_begun old.begun begun comes.looks;
       looked = λ e away. comes.looked refl;
     }
-gap_feeds {whole} {tried} {old} {new} (Ok (Some true)) comes other begun unended feed = absurd (other refl)
-gap_feeds {whole} {tried} {old} {new} (Ok (Some false)) comes other begun unended feed = record {
+gap_feeds {whole} {tried} {old} {new} (Ok (Some true)) comes other begun unended unkept feed = absurd (other refl)
+gap_feeds {whole} {tried} {old} {new} (Ok (Some false)) comes other begun unended unkept feed = record {
   row = λ e. cc;
   end = λ e. none_behind (Ok false) (λ is. cc) (comes.comes whole tried (λ is. cc) feed);
   fault = tt;
@@ -633,13 +733,15 @@ gap_feeds {whole} {tried} {old} {new} (Ok (Some false)) comes other begun unende
   memory = λ e. cc;
   paints = λ e. cc;
   extra = comes.extra;
+  line_extra = 0;
+  extra_is = omega arith;
+  line_work = no_line_paid unkept;
   stands = comes.stands whole tried (λ is. cc) feed;
   gap = comes.extra;
-  part = omega arith;
   looks = looks_begun old.begun begun comes.looks;
   looked = λ e. cc;
 }
-gap_feeds {whole} {tried} {old} {new} (Err error) comes other begun unended feed = record {
+gap_feeds {whole} {tried} {old} {new} (Err error) comes other begun unended unkept feed = record {
   row = λ e. cc;
   end = λ e. cc;
   fault = λ other. none_behind (Err error) (λ is. cc) (comes.comes whole tried (λ is. cc) feed);
@@ -650,9 +752,11 @@ gap_feeds {whole} {tried} {old} {new} (Err error) comes other begun unended feed
   paints = λ e. let is : error ≡ OutOfMemory = cc in
       let never : InvalidCode ≡ OutOfMemory = sym comes.only_code ∙ is in absurd cc;
   extra = comes.extra;
+  line_extra = 0;
+  extra_is = omega arith;
+  line_work = no_line_paid unkept;
   stands = comes.stands whole tried (λ is. cc) feed;
   gap = comes.extra;
-  part = omega arith;
   looks = looks_begun old.begun begun comes.looks;
   looked = λ e. cc;
 }
@@ -683,14 +787,15 @@ first_line_is (AtFault error) is reached = absurd cc
 -- a line was reached, and is read
 pub reached_here : {whole : Bits} {tried : ℕ} {old mid new : Feeding} {answer : Result Fed DecodeError}
     (line : Result (Option Bool) DecodeError) → (comes : ComesInFeed old mid line) → line ≡ Ok (Some true)
+    → old.part ≡ None → mid.part ≡ None
     → ((tried : ℕ) → IsFeedOf whole tried mid → FeedsNext whole tried mid new answer) → old.begun ≡ true
     → IsFeedOf whole tried old → FeedsNext whole tried old new answer
-reached_here {whole} {tried} {old} {mid} {new} line comes is reads begun feed =
+reached_here {whole} {tried} {old} {mid} {new} line comes is unkept none reads begun feed =
     let some : line ≢ Ok None = λ none. let never = sym is ∙ none in absurd cc in
     let reached = subst (λ (r : Result (Option Bool) DecodeError). ReachesNextLine (fed_over whole old) (fed_over whole mid)
     (came r))
     is (comes.comes whole tried some feed) in
-    feeds_on comes.extra (looks_begun old.begun begun comes.looks) reached
+    feeds_on comes.extra (looks_begun old.begun begun comes.looks) unkept none comes.begun reached
     (reads (tried + comes.extra) (comes.stands whole tried some feed))
 
 -- ---- More data

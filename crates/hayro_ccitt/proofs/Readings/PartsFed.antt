@@ -1,14 +1,19 @@
 -- What is kept of a short line in data that comes in pieces.
+use Rattle.hayro_ccitt.proofs.Names.{◌⊎◌, inl, inr}
 use Rattle.hayro_ccitt.proofs.Names.{◌≡◌, ◌∙◌, ◌+◌, ◌-◌, ◌*◌, ◌≤◌, ◌++◌, [], ℕ, Bool, true, false, Result, Ok, None, Some}
-use Rattle.hayro_ccitt.proofs.Names.{Option, refl, sym, ap, subst, arith, length, drop, Bits, BitsAt, Held, Context, DecodeError, White}
-use Rattle.hayro_ccitt.proofs.Names.{redrawn, here, Stand, false≢true, is_at_line, length-append, length-drop, append_assoc, drop-drop}
+use Rattle.hayro_ccitt.proofs.Names.{Option, refl, sym, ap, subst, arith, length, drop, Bits, BitsAt, Held, Context}
+use Rattle.hayro_ccitt.proofs.Names.{DecodeError, White}
+use Rattle.hayro_ccitt.proofs.Names.{redrawn, here, Stand, false≢true, is_at_line, length-append, length-drop}
+use Rattle.hayro_ccitt.proofs.Names.{append_assoc, drop-drop}
 use Rattle.hayro_ccitt.proofs.Names.{changes, line_here, is_some}
 use Rattle.std.proofs.lemmas.List.{drop-append-le}
 use Rattle.hayro_ccitt.specs.declared.line_parts.KeptPart.{KeptPart}
 use Rattle.hayro_ccitt.specs.Continuations.{is_short}
 use Rattle.hayro_ccitt.specs.LinesGoOn.{line_from_part}
 use Rattle.hayro_ccitt.specs.LineParts.{ContinuesLine, IsPartOf, part_at}
-use Rattle.hayro_ccitt.specs.RowFeeds.{Feeding, IsFeedOf, LineGoesOn, PartIsKept, ReadsInFeed, Scans, StandsIn}
+use Rattle.hayro_ccitt.specs.RowsTried.{IsLeft}
+use Rattle.hayro_ccitt.proofs.Readings.FeedsOn.{none_paid}
+use Rattle.hayro_ccitt.specs.RowFeeds.{KeepsPart, Feeding, IsFeedOf, LineGoesOn, PartIsKept, ReadsInFeed, Scans, StandsIn}
 use Rattle.hayro_ccitt.specs.RowFeeds.{StaysShort, fed_over, line_of_feed, most_for_line, paid_by}
 use Rattle.hayro_ccitt.specs.Answers.{HasBlack}
 use Rattle.hayro_ccitt.proofs.Names.{RowsRead, ReadsNext, front_of}
@@ -25,33 +30,6 @@ pub unbegun_none : (part : Option KeptPart) (begun : Bool) (stand : Stand) (held
     → begun ≡ false → PartIsKept part begun stand held bits read → part ≡ None
 unbegun_none None begun stand held bits read unbegun kept = refl
 unbegun_none (Some part) begun stand held bits read unbegun kept = absurd (false≢true (sym unbegun ∙ kept.is_begun))
-
--- a part is kept only at a line
-pub part_at_line : (part : Option KeptPart) (begun : Bool) (stand : Stand) (held : Held) (bits : Bits) (read : ℕ)
-    → is_some part ≡ true → PartIsKept part begun stand held bits read → is_at_line stand ≡ true
-part_at_line None begun stand held bits read some kept = absurd cc
-part_at_line (Some part) begun stand held bits read some kept = kept.at_line
-
--- the same part, where more bits are known
-pub kept_longer : (part : Option KeptPart) (begun : Bool) (stand : Stand) (held : Held) (bits : Bits) (read : ℕ) (more : Bits)
-    → PartIsKept part begun stand held bits read → PartIsKept part begun stand held (bits ++ more) read
-kept_longer None begun stand held bits read more kept = kept
-kept_longer (Some part) begun stand held bits read more kept = record {
-  is_begun = kept.is_begun;
-  at_line = kept.at_line;
-  none_drawn = kept.none_drawn;
-  within = omega (arith, kept.within, length-append bits more);
-  lawful = kept.lawful;
-  line = record {
-    front = kept.line.front;
-    painted = kept.line.painted;
-    line = λ others. ap (line_here held.settings held.reference) (append_assoc bits more others)
-        ∙ kept.line.line (more ++ others)
-        ∙ ap (λ (b : Bits). line_from_part held.settings held.reference (part_at part kept.line.front b))
-        (sym (append_assoc (drop read bits) more others)
-        ∙ ap (λ (b : Bits). b ++ others) (sym (drop-append-le read bits more kept.within)));
-  };
-}
 
 -- what a call leaves that reads on from a part
 module _ (old new : Feeding) (part next : KeptPart) (read : ℕ) (before after : BitsAt) (short : Bool)
@@ -101,7 +79,7 @@ module _ (old new : Feeding) (part next : KeptPart) (read : ℕ) (before after :
   left_before = omega (arith, ap length starts, length-drop read (drop old.place old.kept), kept.within)
 
   pub scan_work : after.place ≤ length after.bits → new.ctx.ticks + (part.passed + 2 * read)
-      ≤ old.ctx.ticks + (next.passed + 2 * (after.place - old.place)) + 2
+      ≤ old.ctx.ticks + (next.passed + 2 * (after.place - old.place) + 2)
   scan_work inside = omega (
     arith,
     on.work,
@@ -156,10 +134,22 @@ later_next old new ticks r le reads = record {
   last_start = reads.last_start;
 }
 
+-- a line that is settled isn't left as short
+settled_not : {old mid new : Feeding} {answer : Result Bool DecodeError} → StaysShort old mid false → ReadsInFeed mid new answer
+    → answer ≡ Ok false → (old.finished ≡ true) ⊎ (is_short (line_of_feed old) ≡ false) → ⊥
+settled_not {old} {mid} {new} {answer} stays reads e (inl last) =
+    false≢true (sym (reads.unsettled e).0 ∙ ap (λ (f : Feeding). f.finished) stays.scans.frame ∙ last)
+settled_not {old} {mid} {new} {answer} stays reads e (inr whole) =
+    let same : new.ctx.held ≡ redrawn mid.ctx.held [] White = (reads.left (subst IsLeft (sym e) refl)).2 in
+    false≢true (sym whole ∙ sym (ap (λ (f : Feeding). is_short (line_of_feed f)) stays.scans.frame)
+    ∙ ap (λ (h : Held). is_short (line_here h.settings h.reference (drop mid.place mid.kept))) (sym same) ∙ (reads.unsettled e).1)
+
 -- the line is read on, and then read
-pub scanned_before : {old mid new : Feeding} (answer : Result Bool DecodeError) → Scans old mid → old.begun ≡ true
+pub scanned_before : {old mid new : Feeding} (answer : Result Bool DecodeError) → StaysShort old mid false → old.begun ≡ true
     → ReadsInFeed mid new answer → ReadsInFeed old new answer
-scanned_before {old} {mid} {new} answer scans begun reads =
+scanned_before {old} {mid} {new} answer stays begun reads =
+    let scans = stays.scans in
+    let none = stays.none refl in
     let frame = scans.frame in
     let more = mid.ctx.ticks - old.ctx.ticks in
     record {
@@ -197,11 +187,25 @@ scanned_before {old} {mid} {new} answer scans begun reads =
         ap (λ (f : Feeding). f.ctx.space) frame,
         ap (λ (f : Feeding). f.ctx.held.settings.columns) frame,
       );
+      work = record {
+        goes_on = λ e some. absurd (settled_not stays reads e (stays.settled refl some));
+        begins = λ e unkept. omega (
+          arith,
+          (stays.unkept unkept).1,
+          reads.work.begins e none,
+          ap (λ (f : Feeding). length (drop f.place f.kept)) frame,
+          ap (λ (f : Feeding). length (changes f.ctx.held.reference)) frame,
+        );
+        read = λ other. omega (arith, reads.work.at_once other none, stays.most, scans.counts);
+        at_once = λ other unkept. omega (arith, reads.work.at_once other none, (stays.unkept unkept).1);
+      };
     }
 
 -- the line was left, since it is short, and is read on
-pub scanned_after : {old mid new : Feeding} → ReadsInFeed old mid (Ok false) → Scans mid new → ReadsInFeed old new (Ok false)
-scanned_after {old} {mid} {new} reads scans =
+pub scanned_after : {old mid new : Feeding} → ReadsInFeed old mid (Ok false) → old.part ≡ None → mid.part ≡ None → KeepsPart mid new
+    → ReadsInFeed old new (Ok false)
+scanned_after {old} {mid} {new} reads none unkept keeps_part =
+    let scans = keeps_part.scans in
     let frame = scans.frame in
     let more = new.ctx.ticks - mid.ctx.ticks in
     let left = reads.left refl in
@@ -232,6 +236,19 @@ scanned_after {old} {mid} {new} reads scans =
           let same : (tried + reads.extra) + more ≡ tried + (reads.extra + more) = omega arith in
           subst (λ (n : ℕ). IsFeedOf whole n new) same (scanned_fed scans reads.begun (reads.stands whole tried feed));
       most = omega (arith, reads.most, ap (λ (f : Feeding). f.ctx.space) frame);
+      work = record {
+        goes_on = λ e some. absurd (some none);
+        begins = λ e kept. omega (
+          arith,
+          reads.work.begins refl none,
+          none_paid mid.part mid.line_read unkept,
+          keeps_part.work (ap (λ (b : Bits). is_short (line_here mid.ctx.held.settings mid.ctx.held.reference b))
+              (ap (λ (n : ℕ). drop n mid.kept) left.1 ∙ ap (drop old.place) reads.keeps.kept) ∙ (reads.unsettled refl).1),
+          scans.counts,
+        );
+        read = λ other. absurd (other refl);
+        at_once = λ other kept. absurd (other refl);
+      };
     }
 
 -- the line still is short
@@ -264,16 +281,10 @@ stays_short {old} {new} stays begun =
       reads = λ whole tried other feed. absurd (other refl);
       stands = λ whole tried feed. scanned_fed stays.scans begun feed;
       most = omega (arith, ap (λ (f : Feeding). f.ctx.space) frame);
+      work = record {
+        goes_on = λ e some. omega (arith, stays.work refl, stays.scans.counts);
+        begins = λ e none. absurd (false≢true (sym (stays.unkept none).0));
+        read = λ other. absurd (other refl);
+        at_once = λ other none. absurd (other refl);
+      };
     }
-
--- ---- What of the changes and bits of a line is paid
-
-pub paid_within : (part : Option KeptPart) (begun : Bool) (stand : Stand) (held : Held) (bits : Bits) (read : ℕ)
-    → PartIsKept part begun stand held bits read → paid_by part read ≤ length (changes held.reference) + 2 * length bits
-paid_within None begun stand held bits read kept = omega arith
-paid_within (Some part) begun stand held bits read kept = omega (arith, kept.within, kept.lawful.passed.within)
-
-pub some_kept : (part : Option KeptPart) (p : KeptPart) (begun : Bool) (stand : Stand) (held : Held) (bits : Bits) (read : ℕ)
-    → part ≡ Some p → PartIsKept part begun stand held bits read → LineGoesOn begun stand held bits read p
-some_kept part p begun stand held bits read is kept =
-    subst (λ (o : Option KeptPart). PartIsKept o begun stand held bits read) is kept

@@ -17,6 +17,7 @@ returns-then-not-paint-clause-goes c = λ rest front is.
     let part = c.args.part.now in
     let sum = some_where c.checked_add.result c.in-Some.total c.checked_add.ensures c.in-Some.is in
     run_ends c.args.settings [] front part.color rest
-    (record { is_2d = part.is_2d; another = c.args.run.another; total = c.args.run.total }) c.args.n (omega (arith, sum.0)) (omega (arith, c.if-n-ge64.false))
+    (record { is_2d = part.is_2d; another = c.args.run.another; total = c.args.run.total }) c.args.n
+    (omega (arith, sum.0)) (omega (arith, c.if-n-ge64.false))
     (subst (λ (n : ℕ). paint c.args.settings.strict c.args.settings.columns front part.color n ≡ Err InvalidCode) sum.1
     (c.if-not-paint.ensures.too_many refl front is))

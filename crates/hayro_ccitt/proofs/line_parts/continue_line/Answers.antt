@@ -6,17 +6,17 @@ use Rattle.hayro_ccitt.proofs.line_parts.continue_line.Goals.{After-read_on}
 use Rattle.hayro_ccitt.proofs.line_parts.continue_line.Goals as goal
 
 -- what was read before the word
-so_far : (c : After-read_on) → WentOn c.args.part.now c.words.part c.args.ctx.now
+words_so_far : (c : After-read_on) → WentOn c.args.part.now c.words.part c.args.ctx.now
     (record c.args.ctx.now { ticks = c.words.ctx.ticks }) c.args.reader.now c.words.reader
-so_far c = subst (λ (x : Context). WentOn c.args.part.now c.words.part c.args.ctx.now x c.args.reader.now c.words.reader)
+words_so_far c = subst (λ (x : Context). WentOn c.args.part.now c.words.part c.args.ctx.now x c.args.reader.now c.words.reader)
     c.words.invariant.frame c.words.invariant
 
 -- and the word
 word_read : (c : After-read_on) (word : Word) → c.read_on.result ≡ word → ReadsWord c.words.part c.read_on.new.part
     (record c.args.ctx.now { ticks = c.words.ctx.ticks }) c.read_on.new.ctx c.words.reader c.read_on.new.reader word
 word_read c word is =
-    subst (λ (x : Context). ReadsWord c.words.part c.read_on.new.part x c.read_on.new.ctx c.words.reader c.read_on.new.reader word)
-    c.words.invariant.frame
+    subst (λ (x : Context). ReadsWord c.words.part c.read_on.new.part x c.read_on.new.ctx c.words.reader
+    c.read_on.new.reader word) c.words.invariant.frame
     (subst (ReadsWord c.words.part c.read_on.new.part c.words.ctx c.read_on.new.ctx c.words.reader c.read_on.new.reader) is
     c.read_on.ensures.reads)
 
@@ -28,13 +28,13 @@ pub words-preserved : goal.words-preserved
 words-preserved c =
     let at = (goal.at.words-preserved c).After-read_on in
     went_on c.args.part.now c.words.part c.read_on.new.part c.args.ctx.now c.words.ctx.ticks c.read_on.new.ctx c.args.reader.now
-    c.words.reader c.read_on.new.reader (so_far at) (word_read at Word.GoesOn c.in-GoesOn.is)
+    c.words.reader c.read_on.new.reader (words_so_far at) (word_read at Word.GoesOn c.in-GoesOn.is)
 
 pub returns-in-Missing : goal.returns-in-Missing
 returns-in-Missing c =
     let at = (goal.at.returns-in-Missing c).After-read_on in
     lacks_word c.args.part.now c.words.part c.read_on.new.part c.args.ctx.now c.words.ctx.ticks c.read_on.new.ctx
-    c.args.reader.now c.words.reader c.read_on.new.reader (so_far at) c.at_bit.result (c.at_bit.ensures ∙ put_back at)
+    c.args.reader.now c.words.reader c.read_on.new.reader (words_so_far at) c.at_bit.result (c.at_bit.ensures ∙ put_back at)
     (omega (arith, c.bit_pos-start.ensures.place, c.bit_pos-start.ensures.within))
     (omega (arith, c.bit_pos-word_start.ensures.place, c.bit_pos-word_start.ensures.within))
     (word_read at Word.Missing c.in-Missing.is)
@@ -43,7 +43,7 @@ pub returns-in-Ends : goal.returns-in-Ends
 returns-in-Ends c =
     let at = (goal.at.returns-in-Ends c).After-read_on in
     ends_with_word c.args.part.now c.words.part c.read_on.new.part c.args.ctx.now c.words.ctx.ticks c.read_on.new.ctx
-    c.args.reader.now c.words.reader c.read_on.new.reader (so_far at) c.at_bit-in-Ends.result
+    c.args.reader.now c.words.reader c.read_on.new.reader (words_so_far at) c.at_bit-in-Ends.result
     (c.at_bit-in-Ends.ensures ∙ put_back at)
     (omega (arith, c.bit_pos-start.ensures.place, c.bit_pos-start.ensures.within))
     (omega (arith, c.bit_pos-word_start.ensures.place, c.bit_pos-word_start.ensures.within))

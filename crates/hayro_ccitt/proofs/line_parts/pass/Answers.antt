@@ -8,31 +8,31 @@ use Rattle.hayro_ccitt.proofs.DrawingLines.PartsOfLines.{at_mode_is, lawful_behi
 use Rattle.hayro_ccitt.proofs.line_parts.pass.Goals.{After-paint}
 use Rattle.hayro_ccitt.proofs.line_parts.pass.Goals as goal
 
-same_settings : (c : After-paint) → c.settings.result ≡ c.args.ctx.now.held.settings
-same_settings c = c.settings.ensures.value ∙ ap (λ (x : Context). x.held.settings) c.places_behind-b2.ensures.frame
+pass_settings : (c : After-paint) → c.settings.result ≡ c.args.ctx.now.held.settings
+pass_settings c = c.settings.ensures.value ∙ ap (λ (x : Context). x.held.settings) c.places_behind-b2.ensures.frame
 
-counted : (c : After-paint) (front : Row) → length front ≡ c.args.part.now.painted
+pass_counted : (c : After-paint) (front : Row) → length front ≡ c.args.part.now.painted
     → b2 c.args.ctx.now.held.reference (right_of_painted (length front)) c.args.part.now.color - length front
     ≡ c.saturating_sub.result
-counted c front is =
+pass_counted c front is =
     ap (λ (n : ℕ). b2 c.args.ctx.now.held.reference (right_of_painted n) c.args.part.now.color - n) is
     ∙ ap (λ (b : ℕ). b - c.args.part.now.painted) (sym c.places_behind-b2.ensures.b2) ∙ sym c.saturating_sub.ensures
 
-lawful : (c : After-paint) → IsLawfulPart c.args.ctx.now.held.settings c.args.ctx.now.held.reference c.paint.new.part
-lawful c =
+pass_lawful : (c : After-paint) → IsLawfulPart c.args.ctx.now.held.settings c.args.ctx.now.held.reference c.paint.new.part
+pass_lawful c =
     lawful_behind c.args.ctx.now.held.settings c.args.ctx.now.held.reference c.paint.new.part c.args.part.now.painted
     c.places_behind-b2.new.passed c.places_behind-b2.ensures.passed (ap (λ (p : KeptPart). p.passed) c.paint.ensures.frame)
-    c.paint.ensures.onward (omega (arith, c.paint.ensures.within, ap (λ (s : DecodeSettings). s.columns) (same_settings c)))
+    c.paint.ensures.onward (omega (arith, c.paint.ensures.within, ap (λ (s : DecodeSettings). s.columns) (pass_settings c)))
 
 pub returns-then-not-paint-clause-goes : goal.returns-then-not-paint-clause-goes
 returns-then-not-paint-clause-goes c = λ rest.
     let at = (goal.at.returns-then-not-paint-clause-goes c).After-paint in
     record {
       leads = λ front is. pass_ends c.args.ctx.now.held.settings c.args.ctx.now.held.reference front c.args.part.now.color rest
-          c.saturating_sub.result (counted at front is)
+          c.saturating_sub.result (pass_counted at front is)
           (subst (λ (s : DecodeSettings). paint s.strict s.columns front c.args.part.now.color c.saturating_sub.result
-          ≡ Err InvalidCode) (same_settings at) (c.if-not-paint.ensures.too_many refl front is));
-      lawful = lawful at;
+          ≡ Err InvalidCode) (pass_settings at) (c.if-not-paint.ensures.too_many refl front is));
+      lawful = pass_lawful at;
     }
 
 pub returns-clause-goes : goal.returns-clause-goes
@@ -41,9 +41,9 @@ returns-clause-goes c = λ rest.
     record {
       leads = λ front is.
           let goes = pass_goes c.args.ctx.now.held.settings c.args.ctx.now.held.reference front c.args.part.now.color rest
-          c.saturating_sub.result c.paint.new.part.painted (counted at front is)
+          c.saturating_sub.result c.paint.new.part.painted (pass_counted at front is)
           (subst (λ (s : DecodeSettings). PaintsTo s front c.args.part.now.color c.saturating_sub.result
-          c.paint.new.part.painted) (same_settings at) (c.if-not-paint.ensures.painted refl front is)) in (
+          c.paint.new.part.painted) (pass_settings at) (c.if-not-paint.ensures.painted refl front is)) in (
             goes.0,
             goes.1,
             goes.2 ∙ ap Turn.next (at_mode_is c.paint.new.part goes.0 c.args.part.now.color rest
@@ -51,5 +51,5 @@ returns-clause-goes c = λ rest.
                 (ap (λ (p : KeptPart). p.is_2d) c.paint.ensures.frame ∙ c.requires.mode)
                 (ap (λ (p : KeptPart). p.color) c.paint.ensures.frame)),
           );
-      lawful = lawful at;
+      lawful = pass_lawful at;
     }

@@ -1,4 +1,5 @@
-use Rattle.hayro_ccitt.proofs.Names.{◌≡◌, ◌∙◌, ◌-◌, ◌+ℤ◌, ℕ, pos, ap, sym, subst, refl, arith, length, Row, Context, DecodeSettings, Turn}
+use Rattle.hayro_ccitt.proofs.Names.{◌≡◌, ◌∙◌, ◌-◌, ◌+ℤ◌, ℕ, pos, ap, sym, subst, refl, arith, length, Row, Context}
+use Rattle.hayro_ccitt.proofs.Names.{DecodeSettings, Turn}
 use Rattle.hayro_ccitt.proofs.Names.{b1, right_of_painted, opposite, Err, Color, ℤ, to_z, of_z, to_z-of_z, w8, SFits, rules}
 use Rattle.hayro_ccitt.specs.declared.line_parts.KeptPart.{KeptPart}
 use Rattle.hayro_ccitt.specs.LineParts.{PaintsTo, IsLawfulPart}
@@ -9,8 +10,8 @@ use Rattle.hayro_ccitt.proofs.DrawingLines.PartsOfLines.{at_mode_is, lawful_behi
 use Rattle.hayro_ccitt.proofs.line_parts.turn.Goals.{After-paint, After-vertical_place}
 use Rattle.hayro_ccitt.proofs.line_parts.turn.Goals as goal
 
-same_settings : (c : After-paint) → c.settings.result ≡ c.args.ctx.now.held.settings
-same_settings c = c.settings.ensures.value ∙ ap (λ (x : Context). x.held.settings) c.places_behind-b1.ensures.frame
+turn_settings : (c : After-paint) → c.settings.result ≡ c.args.ctx.now.held.settings
+turn_settings c = c.settings.ensures.value ∙ ap (λ (x : Context). x.held.settings) c.places_behind-b1.ensures.frame
 
 -- the position by the number of pixels painted
 place_is : (c : After-vertical_place) (front : Row) → length front ≡ c.args.part.now.painted
@@ -26,11 +27,11 @@ place_is c front is =
 offset_is : (c : After-vertical_place) → to_z w8 (of_z w8 c.args.offset) ≡ c.args.offset
 offset_is c = let narrow : SFits w8 c.args.offset = search rules in to_z-of_z narrow
 
-lawful : (c : After-paint) → IsLawfulPart c.args.ctx.now.held.settings c.args.ctx.now.held.reference c.paint.new.part
-lawful c =
+turn_lawful : (c : After-paint) → IsLawfulPart c.args.ctx.now.held.settings c.args.ctx.now.held.reference c.paint.new.part
+turn_lawful c =
     lawful_behind c.args.ctx.now.held.settings c.args.ctx.now.held.reference c.paint.new.part c.args.part.now.painted
     c.places_behind-b1.new.passed c.places_behind-b1.ensures.passed (ap (λ (p : KeptPart). p.passed) c.paint.ensures.frame)
-    c.paint.ensures.onward (omega (arith, c.paint.ensures.within, ap (λ (s : DecodeSettings). s.columns) (same_settings c)))
+    c.paint.ensures.onward (omega (arith, c.paint.ensures.within, ap (λ (s : DecodeSettings). s.columns) (turn_settings c)))
 
 pub returns-in_default-clause-goes : goal.returns-in_default-clause-goes
 returns-in_default-clause-goes c = λ rest.
@@ -56,15 +57,15 @@ returns-then-not-paint-clause-goes c = λ rest.
           (subst (λ (n : ℕ). paint c.args.ctx.now.held.settings.strict c.args.ctx.now.held.settings.columns front color
           (c.in-Some.place - n) ≡ Err InvalidCode) (sym is)
           (subst (λ (s : DecodeSettings). paint s.strict s.columns front color (c.in-Some.place - c.args.part.now.painted)
-          ≡ Err InvalidCode) (same_settings at) (c.if-not-paint.ensures.too_many refl front is)));
-      lawful = lawful at;
+          ≡ Err InvalidCode) (turn_settings at) (c.if-not-paint.ensures.too_many refl front is)));
+      lawful = turn_lawful at;
     }
 
 pub returns-clause-goes : goal.returns-clause-goes
 returns-clause-goes c = λ rest.
     let at = (goal.at.returns-clause-goes c).After-paint in
     let part = c.paint.new.part in
-    let there = lawful at in
+    let there = turn_lawful at in
     record {
       leads = λ front is.
           let color : Color = c.args.part.now.color in
@@ -74,7 +75,7 @@ returns-clause-goes c = λ rest.
           (sym (offset_is (goal.at.returns-clause-goes c).After-vertical_place)) ∙ c.in-Some.ensures.place)
           (subst (λ (n : ℕ). PaintsTo c.args.ctx.now.held.settings front color (c.in-Some.place - n) part.painted) (sym is)
           (subst (λ (s : DecodeSettings). PaintsTo s front color (c.in-Some.place - c.args.part.now.painted) part.painted)
-          (same_settings at) (c.if-not-paint.ensures.painted refl front is))) in (
+          (turn_settings at) (c.if-not-paint.ensures.painted refl front is))) in (
             goes.0,
             goes.1,
             goes.2 ∙ ap Turn.next (at_mode_is (record part { color = c.opposite-part.result }) goes.0

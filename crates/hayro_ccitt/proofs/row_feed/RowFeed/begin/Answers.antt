@@ -1,5 +1,5 @@
 use Rattle.hayro_ccitt.proofs.Names.{◌≡◌, ◌∙◌, ◌+◌, ◌-◌, ◌⊎◌, ap, sym, subst, refl, arith, length, true, false, Bool, ℕ, BitsAt}
-use Rattle.hayro_ccitt.proofs.Names.{Bits, bits_in, List}
+use Rattle.hayro_ccitt.proofs.Names.{Bits, bits_in, List, None}
 use Rattle.hayro_ccitt.proofs.Names.{Held, here, drop, false≢true, fresh}
 use Rattle.hayro_ccitt.proofs.BitReading.BitLists.{length-bits_in}
 use Rattle.hayro_ccitt.proofs.Names.{◌≤◌}
@@ -41,9 +41,9 @@ front_within c = omega (
   ap (λ (b : BitsAt). length (here b)) (front_is c),
 )
 
-pub returns-then-front_waits : goal.returns-then-front_waits
-returns-then-front_waits c =
-    let at = (goal.at.returns-then-front_waits c).After-front_waits in
+pub returns-then-front_waits-clause-begins : goal.returns-then-front_waits-clause-begins
+returns-then-front_waits-clause-begins c =
+    let at = (goal.at.returns-then-front_waits-clause-begins c).After-front_waits in
     let held = c.self.inside.ctx.held in
     let waits = waits_for c.self.inside.is_last (first_gap_is_settled held.settings.encoding held.settings
     (here c.placed_at-reader.result)) (sym c.front_waits.ensures.waits ∙ c.if-front_waits.true) in
@@ -113,9 +113,9 @@ invariant_of-self-2 c =
           c.self.invariant.part;
     }
 
-pub returns : goal.returns
-returns c =
-    let at = (goal.at.returns c).After-front_waits in
+pub returns-clause-begins : goal.returns-clause-begins
+returns-clause-begins c =
+    let at = (goal.at.returns-clause-begins c).After-front_waits in
     let inside = c.self.inside in
     let held = inside.ctx.held in
     let mid = c.front_waits.new.ctx in
@@ -202,3 +202,17 @@ invariant_of-self c =
       part = none_kept c.self.inside.part _ _ _ _ _ _ _ _ _ (unbegun_none c.self.inside.part _ _ _ _ _ (begun_not at) old.part)
           old.part;
     }
+
+-- no part was kept
+unkept : (c : After-front_waits) → c.self.inside.part ≡ None
+unkept c = unbegun_none c.self.inside.part _ _ _ _ _ (begun_not c) c.self.invariant.part
+
+pub returns-then-front_waits-clause-none_kept : goal.returns-then-front_waits-clause-none_kept
+returns-then-front_waits-clause-none_kept c =
+    let at = (goal.at.returns-then-front_waits-clause-none_kept c).After-front_waits in
+    (ap (λ (f : Feeding). f.part) (sym c.self.view_is) ∙ unkept at, unkept at)
+
+pub returns-clause-none_kept : goal.returns-clause-none_kept
+returns-clause-none_kept c =
+    let at = (goal.at.returns-clause-none_kept c).After-front_waits in
+    (ap (λ (f : Feeding). f.part) (sym c.self.view_is) ∙ unkept at, unkept at)

@@ -98,7 +98,7 @@ returns-then-is_short c =
             on.result (starts_at at) within on.ensures was;
         none = λ e. absurd (false≢true (sym e ∙ c.if-is_short.true));
         work = λ e. subst (λ (n : ℕ). on.new.ctx.ticks + (c.args.part.passed + 2 * c.args.read)
-            ≤ inside.ctx.ticks + (part.passed + 2 * (n - inside.place)) + 2) (sym c.bit_pos.ensures.place)
+            ≤ inside.ctx.ticks + (part.passed + 2 * (n - inside.place) + 2)) (sym c.bit_pos.ensures.place)
             (scan_work (feeding_of inside) (scanned at) c.args.part part c.args.read c.placed_at-reader.result on.new.reader
             on.result (starts_at at) within on.ensures was (omega (arith, c.bit_pos.ensures.place, c.bit_pos.ensures.within)));
         most = scan_most (feeding_of inside) (scanned at) c.args.part part c.args.read c.placed_at-reader.result on.new.reader

@@ -11,8 +11,9 @@ unbegun_looks true line is looks = absurd (false≢true (sym is))
 
 pub returns-clause-reads : goal.returns-clause-reads
 returns-clause-reads c whole tried feed =
-    let begins = c.begin.ensures in
+    let begins = c.begin.ensures.begins in
     feeds_on begins.extra (unbegun_looks c.args.self.now.begun _ c.requires.unbegun begins.looks)
+    c.begin.ensures.none_kept.0 c.begin.ensures.none_kept.1 (begins.begun ∙ c.if-not-begin.false)
     (first_line_is c.begin.new.self.rows.stand
     (ap (λ (f : Feeding). is_some (ended f.rows.stand)) (sym c.self.view_is) ∙ sym c.has_ended.ensures ∙ c.if-has_ended.false)
     (begins.passes whole tried c.if-not-begin.false feed))

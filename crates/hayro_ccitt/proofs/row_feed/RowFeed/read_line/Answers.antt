@@ -1,3 +1,4 @@
+use Rattle.hayro_ccitt.proofs.Names.{refl}
 use Rattle.hayro_ccitt.proofs.Names.{sym, subst, Ok, false}
 use Rattle.hayro_ccitt.proofs.Readings.PartsFed.{scanned_after, scanned_before, stays_short}
 use Rattle.hayro_ccitt.specs.RowFeeds.{ReadsInFeed, StaysShort}
@@ -11,11 +12,14 @@ returns-then-is_still_short c =
 pub returns-then-is_unsettled : goal.returns-then-is_unsettled
 returns-then-is_unsettled c =
     let same = c.is_unsettled.ensures.short c.if-is_unsettled.true in
+    let stays = subst (StaysShort c.args.self.now c.is_still_short.new.self) c.if-is_still_short.false
+    c.is_still_short.ensures in
     subst (ReadsInFeed c.args.self.now c.keep_part.new.self) (sym same)
-    (scanned_before (Ok false) c.is_still_short.ensures.scans c.requires.begun (scanned_after
+    (scanned_before (Ok false) stays c.requires.begun (scanned_after
     (subst (ReadsInFeed c.is_still_short.new.self c.read_whole_line-row.new.self) same c.read_whole_line-row.ensures.reads)
-    c.keep_part.ensures.scans))
+    (stays.none refl) c.read_whole_line-row.ensures.none_kept c.keep_part.ensures))
 
 pub returns-else-is_unsettled : goal.returns-else-is_unsettled
 returns-else-is_unsettled c =
-    scanned_before c.read_whole_line-row.result c.is_still_short.ensures.scans c.requires.begun c.read_whole_line-row.ensures.reads
+    scanned_before c.read_whole_line-row.result (subst (StaysShort c.args.self.now c.is_still_short.new.self)
+    c.if-is_still_short.false c.is_still_short.ensures) c.requires.begun c.read_whole_line-row.ensures.reads
