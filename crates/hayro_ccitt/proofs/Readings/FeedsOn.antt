@@ -447,7 +447,8 @@ none_behind (Err error) other reached = record {
 
 -- a line was reached, and the call went on from there
 pub feeds_on : {whole : Bits} {tried : ℕ} (more : ℕ) {old mid new : Feeding} {answer : Result Fed DecodeError}
-    → old.part ≡ None → mid.part ≡ None → ReachesNextLine (fed_over whole old) (fed_over whole mid) (Ok true) → FeedsNext whole (tried + more) mid new answer
+    → old.part ≡ None → mid.part ≡ None → ReachesNextLine (fed_over whole old) (fed_over whole mid) (Ok true)
+    → FeedsNext whole (tried + more) mid new answer
     → FeedsNext whole tried old new answer
 feeds_on {whole} {tried} more {old} {mid} {new} {answer} unkept none reached next = record {
   row = λ e. reads_on (fed_over whole old) (fed_over whole mid) (fed_over whole new) (Ok true) reached (next.row e);
