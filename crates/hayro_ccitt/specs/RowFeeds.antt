@@ -160,8 +160,8 @@ pub record LooksAhead (is_last at_line : Bool) (looked : ℕ) (gap : Bits) (coun
 abbrev pub line_of_feed : Feeding → Line
 line_of_feed feed = line_here feed.ctx.held.settings feed.ctx.held.reference (drop feed.place feed.kept)
 
--- what reading a short line on has counted, at most: two ticks a bit that was read of it, the changes of the reference row that were
--- passed, and two for the word that is missing
+-- what reading a short line on has counted, at most: two ticks a bit that was read of it, the changes of the reference row that
+-- were passed, and two for the word that is missing
 abbrev pub paid_by : Option KeptPart → ℕ → ℕ
 paid_by None read = 0
 paid_by (Some part) read = part.passed + 2 * read + 2

@@ -1,20 +1,18 @@
 -- What is kept of a short line in data that comes in pieces.
 use Rattle.hayro_ccitt.proofs.Names.{◌⊎◌, inl, inr}
-use Rattle.hayro_ccitt.proofs.Names.{◌≡◌, ◌∙◌, ◌+◌, ◌-◌, ◌*◌, ◌≤◌, ◌++◌, [], ℕ, Bool, true, false, Result, Ok, None, Some}
+use Rattle.hayro_ccitt.proofs.Names.{◌≡◌, ◌∙◌, ◌+◌, ◌-◌, ◌*◌, ◌≤◌, [], ℕ, Bool, true, false, Result, Ok, None, Some}
 use Rattle.hayro_ccitt.proofs.Names.{Option, refl, sym, ap, subst, arith, length, drop, Bits, BitsAt, Held, Context}
 use Rattle.hayro_ccitt.proofs.Names.{DecodeError, White}
-use Rattle.hayro_ccitt.proofs.Names.{redrawn, here, Stand, false≢true, is_at_line, length-append, length-drop}
-use Rattle.hayro_ccitt.proofs.Names.{append_assoc, drop-drop}
-use Rattle.hayro_ccitt.proofs.Names.{changes, line_here, is_some}
-use Rattle.std.proofs.lemmas.List.{drop-append-le}
+use Rattle.hayro_ccitt.proofs.Names.{redrawn, here, Stand, false≢true, length-drop}
+use Rattle.hayro_ccitt.proofs.Names.{drop-drop}
+use Rattle.hayro_ccitt.proofs.Names.{changes, line_here}
 use Rattle.hayro_ccitt.specs.declared.line_parts.KeptPart.{KeptPart}
 use Rattle.hayro_ccitt.specs.Continuations.{is_short}
-use Rattle.hayro_ccitt.specs.LinesGoOn.{line_from_part}
-use Rattle.hayro_ccitt.specs.LineParts.{ContinuesLine, IsPartOf, part_at}
+use Rattle.hayro_ccitt.specs.LineParts.{ContinuesLine, IsPartOf}
 use Rattle.hayro_ccitt.specs.RowsTried.{IsLeft}
 use Rattle.hayro_ccitt.proofs.Readings.FeedsOn.{none_paid}
 use Rattle.hayro_ccitt.specs.RowFeeds.{KeepsPart, Feeding, IsFeedOf, LineGoesOn, PartIsKept, ReadsInFeed, Scans, StandsIn}
-use Rattle.hayro_ccitt.specs.RowFeeds.{StaysShort, fed_over, line_of_feed, most_for_line, paid_by}
+use Rattle.hayro_ccitt.specs.RowFeeds.{StaysShort, fed_over, line_of_feed, most_for_line}
 use Rattle.hayro_ccitt.specs.Answers.{HasBlack}
 use Rattle.hayro_ccitt.proofs.Names.{RowsRead, ReadsNext, front_of}
 use Rattle.hayro_ccitt.proofs.Readings.RowsFed.{stands_later}
@@ -202,7 +200,8 @@ scanned_before {old} {mid} {new} answer stays begun reads =
     }
 
 -- the line was left, since it is short, and is read on
-pub scanned_after : {old mid new : Feeding} → ReadsInFeed old mid (Ok false) → old.part ≡ None → mid.part ≡ None → KeepsPart mid new
+pub scanned_after : {old mid new : Feeding} → ReadsInFeed old mid (Ok false) → old.part ≡ None → mid.part ≡ None
+    → KeepsPart mid new
     → ReadsInFeed old new (Ok false)
 scanned_after {old} {mid} {new} reads none unkept keeps_part =
     let scans = keeps_part.scans in
