@@ -4,11 +4,13 @@ use Rattle.hayro_ccitt.proofs.Names.{◌≡◌, ◌∙◌, ◌+◌, ◌-◌, ◌
 use Rattle.hayro_ccitt.proofs.Names.{Option, refl, sym, ap, subst, arith, length, drop, Bits, BitsAt, Held, Context}
 use Rattle.hayro_ccitt.proofs.Names.{DecodeError, White}
 use Rattle.hayro_ccitt.proofs.Names.{redrawn, here, Stand, false≢true, length-drop}
-use Rattle.hayro_ccitt.proofs.Names.{drop-drop}
+use Rattle.hayro_ccitt.proofs.Names.{drop-drop, ◌++◌, append_assoc, length-append}
+use Rattle.std.proofs.lemmas.List.{drop-append-le}
+use Rattle.hayro_ccitt.specs.LinesGoOn.{line_from_part}
 use Rattle.hayro_ccitt.proofs.Names.{changes, line_here}
 use Rattle.hayro_ccitt.specs.declared.line_parts.KeptPart.{KeptPart}
 use Rattle.hayro_ccitt.specs.Continuations.{is_short}
-use Rattle.hayro_ccitt.specs.LineParts.{ContinuesLine, IsPartOf}
+use Rattle.hayro_ccitt.specs.LineParts.{ContinuesLine, IsPartOf, part_at}
 use Rattle.hayro_ccitt.specs.RowsTried.{IsLeft}
 use Rattle.hayro_ccitt.proofs.Readings.FeedsOn.{none_paid}
 use Rattle.hayro_ccitt.specs.RowFeeds.{KeepsPart, Feeding, IsFeedOf, LineGoesOn, PartIsKept, ReadsInFeed, Scans, StandsIn}
@@ -28,6 +30,27 @@ pub unbegun_none : (part : Option KeptPart) (begun : Bool) (stand : Stand) (held
     → begun ≡ false → PartIsKept part begun stand held bits read → part ≡ None
 unbegun_none None begun stand held bits read unbegun kept = refl
 unbegun_none (Some part) begun stand held bits read unbegun kept = absurd (false≢true (sym unbegun ∙ kept.is_begun))
+
+-- the same part, where more bits are known
+pub kept_longer : (part : Option KeptPart) (begun : Bool) (stand : Stand) (held : Held) (bits : Bits) (read : ℕ) (more : Bits)
+    → PartIsKept part begun stand held bits read → PartIsKept part begun stand held (bits ++ more) read
+kept_longer None begun stand held bits read more kept = kept
+kept_longer (Some part) begun stand held bits read more kept = record {
+  is_begun = kept.is_begun;
+  at_line = kept.at_line;
+  none_drawn = kept.none_drawn;
+  within = omega (arith, kept.within, length-append bits more);
+  lawful = kept.lawful;
+  line = record {
+    front = kept.line.front;
+    painted = kept.line.painted;
+    line = λ others. ap (line_here held.settings held.reference) (append_assoc bits more others)
+        ∙ kept.line.line (more ++ others)
+        ∙ ap (λ (b : Bits). line_from_part held.settings held.reference (part_at part kept.line.front b))
+        (sym (append_assoc (drop read bits) more others)
+        ∙ ap (λ (b : Bits). b ++ others) (sym (drop-append-le read bits more kept.within)));
+  };
+}
 
 -- what a call leaves that reads on from a part
 module _ (old new : Feeding) (part next : KeptPart) (read : ℕ) (before after : BitsAt) (short : Bool)
