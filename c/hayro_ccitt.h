@@ -163,9 +163,10 @@ uint32_t hayro_ccitt_next_packed(const uint8_t *data, size_t data_length, hayro_
  * nothing. */
 uint32_t hayro_ccitt_close(hayro_ccitt_reader *reader);
 
-/* Rows of data that comes in pieces, however it is cut, each as soon as no data that follows can change it: open a feed, feed the
- * bytes as they come, and after each piece read rows until the status isn't HAYRO_CCITT_OK; after the last piece finish the data,
- * and read the rows that are left; close the feed. The rows, the last status and bytes_read are those of a reader of all the data.
+/* Rows of data that comes in pieces, however it is cut, each as soon as no data that follows can change its line: open a feed,
+ * feed the bytes as they come, and after each piece read rows until the status isn't HAYRO_CCITT_OK; after the last piece finish
+ * the data, and read the rows that are left; close the feed. The rows, the last status and bytes_read are those of a reader of
+ * all the data.
  *
  * A feed keeps a copy of the bytes that it still needs: those of a line that isn't whole, and what was fed but not read yet.
  *

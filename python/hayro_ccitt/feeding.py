@@ -74,8 +74,8 @@ class Feeding(Reading):
 
 
 class RowFeed(Feeding):
-    """Reads the rows of an image from data that comes in pieces, each as soon as no data that follows can change it. The arguments are
-    those of `decode`.
+    """Reads the rows of an image from data that comes in pieces, each as soon as no data that follows can change its line. The
+    arguments are those of `decode`.
 
         feed = RowFeed(columns=8, k=-1)
         for piece in pieces:
@@ -144,8 +144,8 @@ def rows_from(
     strict: bool = False,
     before: Data = b"",
 ) -> RowsFrom:
-    """Reads an image from a file one row at a time, each as soon as no data that follows can change it. The other arguments are those
-    of `decode`. The rows are those of `rows`, and lent as there.
+    """Reads an image from a file one row at a time, each as soon as no data that follows can change its line. The other arguments
+    are those of `decode`. The rows are those of `rows`, and lent as there.
 
     Args:
         file: what the data is read from, by `read1` or else `read`, 64 KiB at most at a time, until the image ends.

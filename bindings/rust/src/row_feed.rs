@@ -56,7 +56,7 @@ impl From<DecodeError> for FeedError {
     }
 }
 
-/// Reads the rows of an image from data that comes in pieces, each as soon as no data that follows can change it.
+/// Reads the rows of an image from data that comes in pieces, each as soon as no data that follows can change its line.
 ///
 /// The rows, and what is told of them, are those of a [`RowReader`](crate::RowReader) of all the data, however it is cut. Of the
 /// data the bytes that aren't read yet are kept; what isn't known yet is read again when more was fed, so few long pieces take less

@@ -57,8 +57,8 @@ impl From<ReadError> for io::Error {
     }
 }
 
-/// Reads the rows of an image from a [`BufRead`] one at a time, each as soon as no data that follows can change it. It needs the
-/// feature `std`.
+/// Reads the rows of an image from a [`BufRead`] one at a time, each as soon as no data that follows can change its line. It
+/// needs the feature `std`.
 ///
 /// The rows, and what is told of them, are those of a [`RowReader`](crate::RowReader) of all that the reader gives. A row is
 /// borrowed until the next call. The data of a [`Read`] comes by a [`BufReader`](io::BufReader).

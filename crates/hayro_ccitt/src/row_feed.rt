@@ -229,7 +229,7 @@ impl RowState {
     }
 }
 
-/// Reads the rows of an image from data that comes in pieces, each as soon as no data that follows can change it.
+/// Reads the rows of an image from data that comes in pieces, each as soon as no data that follows can change its line.
 ///
 /// # Example
 ///

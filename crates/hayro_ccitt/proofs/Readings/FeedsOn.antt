@@ -508,7 +508,11 @@ feeds_on {whole} {tried} more {old} {mid} {new} {answer} looks unkept none begun
   paints = next.paints;
   extra = more + next.extra;
   line_extra = next.line_extra;
-  extra_is = omega (arith, next.extra_is, next.looks.line (both_true mid.begun (is_at_line mid.rows.stand) begun (reached.line refl)));
+  extra_is = omega (
+    arith,
+    next.extra_is,
+    next.looks.line (both_true mid.begun (is_at_line mid.rows.stand) begun (reached.line refl)),
+  );
   line_work = record {
     goes_on = λ e some. absurd (some unkept);
     begins = λ e kept. next.line_work.begins e none;
