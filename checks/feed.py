@@ -90,9 +90,9 @@ def rows_in_pieces():
 
 
 # By what factor feeding pieces of 4,096 bytes may cost more than a reader of the whole data, on the pages of cost.tsv; and single bytes
-# on rows of three pages, which have some 3, 20 and 330 bytes a line: after each byte the line is read again from its start.
-PIECES = 1.66
-BYTES = {("blank", 256): 8.8, ("text", 300): 68, ("dither", 10): 205}
+# on rows of three pages, which have some 3, 20 and 330 bytes a line, and go on a word at a time.
+PIECES = 2.4
+BYTES = {("blank", 256): 11, ("text", 300): 19, ("dither", 10): 25.4}
 # the place of a reader, and of single bytes, among the ways of measured_pages.c
 READER, SINGLE = cost.WAYS.index("next_changes"), len(cost.WAYS)
 
