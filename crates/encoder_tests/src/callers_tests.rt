@@ -274,16 +274,16 @@ fn find_ends(
     offset: usize,
 ) -> PageSearch {
     let mut search = search;
-    let mut begin = 0;
-    while begin < piece.len() {
-        let rest = &piece[begin..];
+    let mut begin = offset;
+    let mut rest = piece;
+    for _page in 0..piece.len() {
         assert!(rt; bits_fit(rest));
         let Some(end) = search.find_end(rest) else {
             break;
         };
-        assert!(rt; 0 < end, "a page without bytes");
-        begin += end;
-        ends.push(offset.wrapping_add(begin)).expect(rt, "memory");
+        begin = begin.wrapping_add(end);
+        ends.push(begin).expect(rt, "memory");
+        rest = &rest[end..];
         search = new_search(words);
     }
     search
