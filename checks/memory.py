@@ -2,6 +2,7 @@
 bytes: exact ones, but where a decoder asks for room for a window's changes, the most. The bytes of all allocations are added up, so
 a list that grows from 16 bytes to 64 has requested 112. No list of the decoder is larger than is proved."""
 import os
+import resource
 import subprocess
 import sys
 import tempfile
@@ -142,17 +143,20 @@ def runs_of_the_program():
 
 
 def piped_rows():
-    """With `-i` 20 MB through a pipe take at most 2 MB more than a byte."""
-    most = []
-    for size in (1, 20_000_000):
-        data = subprocess.Popen(["sh", "-c", f"head -c {size} /dev/zero | tr '\\0' '\\200'"], stdout=subprocess.PIPE)
-        run = subprocess.Popen([program.PROGRAM, "-i", "g4", "8", "0", "a"], stdin=data.stdout, stdout=subprocess.DEVNULL)
-        data.stdout.close()
-        _, status, usage = os.wait4(run.pid, 0)
-        assert (status, data.wait()) == (0, 0), size
-        most.append(usage.ru_maxrss)
-    assert most[1] <= most[0] + 2048, most
-    print(f"  {most[1]} KB, and {most[0]} KB for a byte")
+    """With `-i` 20 MB through a pipe take at most 2 MB more of address space than a byte."""
+
+    def fits(size, kilobytes):
+        """Whether a run on so many bytes ends well within so much."""
+        limit = kilobytes << 10
+        with subprocess.Popen(["sh", "-c", f"head -c {size} /dev/zero | tr '\\0' '\\200'"], stdout=subprocess.PIPE) as data:
+            words = [program.PROGRAM, "-i", "g4", "8", "0", "a"]
+            bounded = {"preexec_fn": lambda: resource.setrlimit(resource.RLIMIT_AS, (limit, limit))}
+            done = subprocess.run(words, stdin=data.stdout, stdout=subprocess.DEVNULL, stderr=subprocess.DEVNULL, check=False, **bounded)
+        return done.returncode == 0
+
+    least = next(kilobytes for kilobytes in range(1024, 65536, 128) if fits(1, kilobytes))
+    assert fits(20_000_000, least + 2048), least
+    print(f"  {least} KB for a byte, and at most 2 MB more for 20 MB")
 
 
 def no_larger_list(library, words, data):
