@@ -10,7 +10,7 @@ from built import is_newest
 # others name none. A test that has each allocation refused in turn names one more than there are.
 NAMED = {
     "encoder_tests": {
-        "callers_tests::refused_memory": (13, 9),
+        "callers_tests::refused_memory": (17, 12),
         "conforms_tests::refused_memory": (6, 4),
         "settings_tests::refused_memory": (10, 8),
         "settings_tests::refused_memory_row_by_row": (11, 9),
@@ -19,7 +19,7 @@ NAMED = {
         "tests::sink_without_memory": (1, 0),
     },
     "faxrows_tests": {
-        "tests::refused_memory_by_row": (19, 6),
+        "tests::refused_memory_by_row": (19, 5),
         "tests::refused_memory_of_checks": (19, 5),
         "tests::refused_memory_of_damage": (19, 6),
         "tests::sink_without_memory": (1, 0),
