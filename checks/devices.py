@@ -91,12 +91,20 @@ def writes_in_pieces():
     fronts = []
     with tempfile.TemporaryDirectory() as folder:
         variables = {**os.environ, "LD_PRELOAD": refusals.shim(folder, "devices")}
-        whole = program.run("-i g4 8 0 a".split(), data, env=variables)
+        with open(f"{folder}/data", "wb") as file:
+            file.write(data)
+
+        def run(**more):
+            """A run on a file, all of which its first read gives."""
+            with open(f"{folder}/data", "rb") as file:
+                return subprocess.run([program.PROGRAM, *"-i g4 8 0 a".split()], stdin=file, capture_output=True, env={**variables, **more}, check=False)
+
+        whole = run()
         last = whole.stdout[6 * rows :]
         assert (whole.returncode, whole.stdout[: 6 * rows]) == (0, text[: 6 * rows]), whole.stdout[:60]
         assert last == b"ok %d\n" % len(data), last
         for number in range(1, 5):
-            done = program.run("-i g4 8 0 a".split(), data, env={**variables, "WRITE_FAILS": str(number)})
+            done = run(WRITE_FAILS=str(number))
             if done.returncode == 0:
                 break
             assert (done.returncode, done.stderr) == (3, CANNOT_WRITE), done.returncode
