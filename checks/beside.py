@@ -1,4 +1,5 @@
 """What an `rt ci` makes that runs beside other checks of the same files: libraries and programs."""
+import hashlib
 import os
 import re
 import shutil
@@ -47,4 +48,6 @@ class Beside:
         else:
             os.makedirs(os.path.dirname(own), exist_ok=True)
             shutil.copy2(built, own)
+            with open(own, "rb") as program, open(f"{own}.stamp", "w", encoding="utf-8") as file:
+                file.write(crate.stamp() + hashlib.sha256(program.read()).hexdigest())
         return True

@@ -6,6 +6,7 @@ import random
 import subprocess
 import tempfile
 
+import kept
 import program
 from built import is_newest
 
@@ -57,19 +58,29 @@ def settings_of(mode, columns, rows, flags):
 
 
 def build():
-    """Each build of the library, installed: it is proved and built here if a file is newer."""
+    """Each build of the library, installed. What is proved is built here if a file is newer, unless an earlier run on this machine
+    built it of the same files."""
     for name, flags in BUILDS.items():
         library = f"{INSTALLED[name]}/lib/libhayro_ccitt.a"
         own = ["Makefile", *(f"{folder}/{file}" for folder in ("c", "tools/fax", "examples") for file in os.listdir(folder))]
         if is_newest(library, "hayro_ccitt_c") and os.path.getmtime(library) > max(map(os.path.getmtime, own)):
             continue
         linked = [word for word in flags if word.startswith("-fsanitize")]
+        words = [f"BUILD=build/checked/{name}", f"PREFIX={INSTALLED[name]}", f"CFLAGS={' '.join(flags)}", f"LDFLAGS={' '.join(linked)}"]
         # what is proved is built once
-        proved = ["-o", "prove-library", "-o", "prove-programs"] if name != "plain" else []
-        words = [*proved, f"BUILD=build/checked/{name}", f"PREFIX={INSTALLED[name]}", f"CFLAGS={' '.join(flags)}", f"LDFLAGS={' '.join(linked)}"]
+        if name != "plain" or all([kept.take(crate) for crate in kept.BUILT]):
+            words.append("RT=true")
         for target in ("all", "install"):
-            done = subprocess.run(["make", *words, target], capture_output=True, text=True, check=False)
-            assert done.returncode == 0, done.stdout[-2000:] + done.stderr[-2000:]
+            made_by(*words, target)
+        if "RT=true" not in words:
+            for crate in kept.BUILT:
+                kept.keep(crate)
+
+
+def made_by(*words):
+    """Runs `make`."""
+    done = subprocess.run(["make", *words], capture_output=True, text=True, check=False)
+    assert done.returncode == 0, done.stdout[-2000:] + done.stderr[-2000:]
 
 
 def compiled(out, *words, build="plain"):

@@ -30,6 +30,7 @@ import files  # noqa: E402
 import hostile  # noqa: E402
 import inline_images  # noqa: E402
 import installed  # noqa: E402
+import kept  # noqa: E402
 import large  # noqa: E402
 import memory  # noqa: E402
 import packing  # noqa: E402
@@ -44,10 +45,11 @@ from left_out import LEFT_OUT  # noqa: E402
 
 
 def build(name, path):
-    """A program as LLVM builds it. The gate builds it; `rt run` proves and builds it here if a file is newer, and runs it with its stored
-    arguments and input. Its status is the program's own if it was built, so that a program of an older build is never used.
+    """A program as LLVM builds it. The gate builds it; if a file is newer and no earlier run built it of the same files, `rt run` proves
+    and builds it here, and runs it with its stored arguments and input. Its status is the program's own if it was built, so that a
+    program of an older build is never used.
     """
-    if is_newest(path, name):
+    if is_newest(path, name) or kept.take(name):
         return
     folder = f"crates/{name}"
     with open(f"{folder}/args", encoding="utf-8") as file:

@@ -20,9 +20,9 @@ ELSEWHERE = ("make ", "tar xzf ", "apt-get ", "python3 -m pip ", "export ", "cc 
 
 
 def make():
-    """The library and the programs in build/, as the pages' commands need them."""
-    done = subprocess.run(["make"], capture_output=True, text=True, check=False)
-    assert done.returncode == 0, done.stdout[-2000:] + done.stderr[-2000:]
+    """The library and the programs in build/, as the pages' commands need them, of what is proved and built by now."""
+    c_library.build()
+    c_library.made_by("RT=true")
 
 
 def commands(page):

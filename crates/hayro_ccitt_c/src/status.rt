@@ -1,0 +1,20 @@
+//! What a call returns to C, as `c/hayro_ccitt.h` and `c/fax_encode.h` number it.
+
+/// The call did what it is for.
+pub(crate) const OK: u32 = 0;
+/// The data ends inside a code word, or where a line must begin.
+pub(crate) const UNEXPECTED_EOF: u32 = 1;
+/// The bits are no code word, or strict data breaks a rule.
+pub(crate) const INVALID_CODE: u32 = 2;
+/// A length or a position has more than 32 bits, a changing element lies left of a0, or the data fed is too long.
+pub(crate) const OVERFLOW: u32 = 3;
+/// An allocation failed.
+pub(crate) const OUT_OF_MEMORY: u32 = 4;
+/// There is no room for what is next.
+pub(crate) const REFUSED: u32 = 5;
+/// The settings are invalid, the data is too long, or the handle isn't one of this call.
+pub(crate) const NOT_TAKEN: u32 = 6;
+/// No row is left.
+pub(crate) const NO_ROW: u32 = 7;
+/// More data is needed, or its end.
+pub(crate) const NEEDS_MORE: u32 = 8;
