@@ -16,15 +16,16 @@ use Rattle.hayro_ccitt_c.specs.Settings.{settings_of, order_of}
 use Rattle.hayro_ccitt_c.specs.declared.packed_rows.Layout.{Layout}
 use Rattle.hayro_ccitt_c.specs.declared.report.Outcome.{Outcome}
 use Rattle.hayro_ccitt_c.specs.declared.settings.Settings.{Settings}
+use Rattle.hayro_ccitt_c.specs.declared.status.TheConstants.{OK, UNEXPECTED_EOF, INVALID_CODE, OVERFLOW, OUT_OF_MEMORY, REFUSED}
 
 -- the status of a result
 abbrev pub status_of : Result ℕ DecodeError → ℕ
-status_of (Ok count) = 0
-status_of (Err UnexpectedEof) = 1
-status_of (Err InvalidCode) = 2
-status_of (Err Overflow) = 3
-status_of (Err OutOfMemory) = 4
-status_of (Err Refused) = 5
+status_of (Ok count) = OK
+status_of (Err UnexpectedEof) = UNEXPECTED_EOF
+status_of (Err InvalidCode) = INVALID_CODE
+status_of (Err Overflow) = OVERFLOW
+status_of (Err OutOfMemory) = OUT_OF_MEMORY
+status_of (Err Refused) = REFUSED
 
 -- the number of bytes that a result says were read
 abbrev pub bytes_read_of : Result ℕ DecodeError → ℕ

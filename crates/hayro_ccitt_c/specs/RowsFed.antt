@@ -12,6 +12,7 @@ use Rattle.hayro_ccitt.specs.declared.row_feed.Fed.{Fed}
 use Rattle.hayro_ccitt.specs.declared.row_feed.Fed.TheVariants.{Row, NeedsMore, End}
 use Rattle.hayro_ccitt_c.specs.RowsGiven.{status_of_row}
 use Rattle.hayro_ccitt_c.specs.declared.feeding.Feeding.{Feeding}
+use Rattle.hayro_ccitt_c.specs.declared.status.TheConstants.{OK, OVERFLOW, OUT_OF_MEMORY, REFUSED, NOT_TAKEN, NO_ROW, NEEDS_MORE}
 
 -- whether there was a row
 abbrev pub is_fed_row : Result Fed DecodeError → Bool
@@ -20,11 +21,11 @@ is_fed_row (Ok NeedsMore) = false
 is_fed_row (Ok End) = false
 is_fed_row (Err error) = false
 
--- the status of a result: 0 for a row, 7 at the end of the image, 8 if more data is needed
+-- the status of a result
 abbrev pub status_of_fed : Result Fed DecodeError → ℕ
-status_of_fed (Ok Row) = 0
-status_of_fed (Ok NeedsMore) = 8
-status_of_fed (Ok End) = 7
+status_of_fed (Ok Row) = OK
+status_of_fed (Ok NeedsMore) = NEEDS_MORE
+status_of_fed (Ok End) = NO_ROW
 status_of_fed (Err error) = status_of_row (Err error)
 
 -- What a call that reads the next row leaves: of whatever data those fed are a beginning, the row of the plain reading, its
@@ -44,9 +45,9 @@ TurnsToFed false old new answer = FeedsRow old new answer
 pub record GivesFed (old new : Feeding) (status : ℕ) : Type 0 where
   pub answer : Result Fed DecodeError
   pub turns : TurnsToFed old.is_kept old.rows new.rows answer
-  pub status_is : (status ≡ status_of_fed answer) ⊎ ((status ≡ 5) × (answer ≡ Ok Row))
-  pub kept : (new.is_kept ≡ true) → status ≡ 5
-  pub refused : status ≡ 5 → new.is_kept ≡ true
+  pub status_is : (status ≡ status_of_fed answer) ⊎ ((status ≡ REFUSED) × (answer ≡ Ok Row))
+  pub kept : (new.is_kept ≡ true) → status ≡ REFUSED
+  pub refused : status ≡ REFUSED → new.is_kept ≡ true
   pub black : new.black_is_0 ≡ old.black_is_0
 
 -- where a reading is, as a reader of all data is that came to the same place
@@ -90,13 +91,13 @@ pub record IsUnfed (old new : RowsFed) : Type 0 where
 -- What a call leaves that is passed the bytes that come next: they are fed, or none of them is, since an allocation failed, all
 -- data would have more than 2^61 - 9 bytes, or it is finished.
 pub record TakesBytes (input : List ℕ) (old new : Feeding) (status : ℕ) : Type 0 where
-  pub statuses : (status ≡ 0) ⊎ (status ≡ 3) ⊎ (status ≡ 4) ⊎ (status ≡ 6)
-  pub fed : status ≡ 0 → IsFed (bits_in old.rows.order input) old.rows new.rows
-  pub unfed : (status ≡ 3) ⊎ (status ≡ 4) → IsUnfed old.rows new.rows
-  pub too_long : (status ≡ 3) ↔ ((old.rows.finished ≡ false)
+  pub statuses : (status ≡ OK) ⊎ (status ≡ OVERFLOW) ⊎ (status ≡ OUT_OF_MEMORY) ⊎ (status ≡ NOT_TAKEN)
+  pub fed : status ≡ OK → IsFed (bits_in old.rows.order input) old.rows new.rows
+  pub unfed : (status ≡ OVERFLOW) ⊎ (status ≡ OUT_OF_MEMORY) → IsUnfed old.rows new.rows
+  pub too_long : (status ≡ OVERFLOW) ↔ ((old.rows.finished ≡ false)
       × (2 ^ 64 - 72 < old.rows.dropped + length old.rows.kept + 8 * length input))
-  pub untaken : (status ≡ 6) ↔ (old.rows.finished ≡ true)
-  pub unchanged : status ≡ 6 → new ≡ old
+  pub untaken : (status ≡ NOT_TAKEN) ↔ (old.rows.finished ≡ true)
+  pub unchanged : status ≡ NOT_TAKEN → new ≡ old
   pub kept : new.is_kept ≡ old.is_kept
   pub black : new.black_is_0 ≡ old.black_is_0
 

@@ -13,21 +13,22 @@ use Rattle.hayro_ccitt.specs.RowsRead.{ReadsNext, at_end_of_rows, ended}
 use Rattle.hayro_ccitt_c.specs.Packing.{bytes_of_row, packed_row}
 use Rattle.hayro_ccitt_c.specs.declared.reading.Reading.{Reading}
 use Rattle.hayro_ccitt_c.specs.declared.row_outcome.RowOutcome.{RowOutcome}
+use Rattle.hayro_ccitt_c.specs.declared.status.TheConstants.{OK, UNEXPECTED_EOF, INVALID_CODE, OVERFLOW, OUT_OF_MEMORY, REFUSED, NOT_TAKEN, NO_ROW}
 
 -- whether there was a row
 abbrev pub is_row : Result Bool DecodeError → Bool
 is_row (Ok more) = more
 is_row (Err error) = false
 
--- the status of a result: 0 for a row, 7 at the end of the image; no reading of rows refuses one
+-- the status of a result; no reading of rows refuses one
 abbrev pub status_of_row : Result Bool DecodeError → ℕ
-status_of_row (Ok true) = 0
-status_of_row (Ok false) = 7
-status_of_row (Err UnexpectedEof) = 1
-status_of_row (Err InvalidCode) = 2
-status_of_row (Err Overflow) = 3
-status_of_row (Err OutOfMemory) = 4
-status_of_row (Err Refused) = 6
+status_of_row (Ok true) = OK
+status_of_row (Ok false) = NO_ROW
+status_of_row (Err UnexpectedEof) = UNEXPECTED_EOF
+status_of_row (Err InvalidCode) = INVALID_CODE
+status_of_row (Err Overflow) = OVERFLOW
+status_of_row (Err OutOfMemory) = OUT_OF_MEMORY
+status_of_row (Err Refused) = NOT_TAKEN
 
 -- What a call that reads the next row leaves of a reading of these bits: the row of the plain reading, or its end; and after
 -- the end nothing changes. Of other bits nothing is said but that the lists of changes grow no further than a row needs.
@@ -47,9 +48,9 @@ TurnsTo false bits old new answer = ReadsRow bits old new answer
 pub record GivesRow (input : List ℕ) (old new : Reading) (status : ℕ) : Type 0 where
   pub answer : Result Bool DecodeError
   pub turns : TurnsTo old.is_kept (bits_in old.rows.order input) old.rows new.rows answer
-  pub status_is : (status ≡ status_of_row answer) ⊎ ((status ≡ 5) × (answer ≡ Ok true))
-  pub kept : (new.is_kept ≡ true) → status ≡ 5
-  pub refused : status ≡ 5 → new.is_kept ≡ true
+  pub status_is : (status ≡ status_of_row answer) ⊎ ((status ≡ REFUSED) × (answer ≡ Ok true))
+  pub kept : (new.is_kept ≡ true) → status ≡ REFUSED
+  pub refused : status ≡ REFUSED → new.is_kept ≡ true
   pub black : new.black_is_0 ≡ old.black_is_0
 
 -- the changes of a row are at the front of the caller's memory, and what follows them is unchanged

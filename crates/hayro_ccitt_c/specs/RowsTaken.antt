@@ -11,15 +11,16 @@ use Rattle.fax_encode.specs.declared.error.EncodeError.TheVariants.{OutOfMemory 
 use Rattle.hayro_ccitt_c.specs.declared.encoding.EncodeOutcome.{EncodeOutcome}
 use Rattle.hayro_ccitt_c.specs.declared.strip.Strip.{Strip}
 use Rattle.hayro_ccitt_c.specs.declared.strip.Strip.TheVariants.{Rows, Whole, OutOfMemory}
+use Rattle.hayro_ccitt_c.specs.declared.status.TheConstants.{OK, OUT_OF_MEMORY, REFUSED, NOT_TAKEN}
 
 -- the status of adding a row: 6 if it isn't one
 abbrev pub status_of_adding : Result (Unit {0}) EncodeError → ℕ
-status_of_adding (Ok done) = 0
-status_of_adding (Err NoEncoding) = 6
-status_of_adding (Err NoColumns) = 6
-status_of_adding (Err NoRows) = 6
-status_of_adding (Err (NotARow k)) = 6
-status_of_adding (Err NoMemory) = 4
+status_of_adding (Ok done) = OK
+status_of_adding (Err NoEncoding) = NOT_TAKEN
+status_of_adding (Err NoColumns) = NOT_TAKEN
+status_of_adding (Err NoRows) = NOT_TAKEN
+status_of_adding (Err (NotARow k)) = NOT_TAKEN
+status_of_adding (Err NoMemory) = OUT_OF_MEMORY
 
 -- whether an allocation failed
 abbrev pub WantsMemory : Strip → Type 0
@@ -30,18 +31,18 @@ WantsMemory OutOfMemory = Unit {0}
 -- What adding a row leaves of the rows so far: one more row; all of them, if it isn't a row of their width; or want of memory,
 -- from then on.
 pub record TakesNext (rows : RowsEncoded) (new : Strip) (IsRow : Type 0) (row : Row) (status : ℕ) : Type 0 where
-  pub statuses : (status ≡ 0) ⊎ (status ≡ 4) ⊎ (status ≡ 6)
-  pub taken : status ≡ 0 → IsRow × (new ≡ Rows (with_row rows row))
-  pub untaken : (status ≡ 6) ↔ ((rows.wants_memory ≡ false) × (¬ IsRow))
-  pub kept : status ≡ 6 → new ≡ Rows rows
-  pub wanted : rows.wants_memory ≡ true → status ≡ 4
-  pub wants : status ≡ 4 → WantsMemory new
+  pub statuses : (status ≡ OK) ⊎ (status ≡ OUT_OF_MEMORY) ⊎ (status ≡ NOT_TAKEN)
+  pub taken : status ≡ OK → IsRow × (new ≡ Rows (with_row rows row))
+  pub untaken : (status ≡ NOT_TAKEN) ↔ ((rows.wants_memory ≡ false) × (¬ IsRow))
+  pub kept : status ≡ NOT_TAKEN → new ≡ Rows rows
+  pub wanted : rows.wants_memory ≡ true → status ≡ OUT_OF_MEMORY
+  pub wants : status ≡ OUT_OF_MEMORY → WantsMemory new
 
 -- The same of a strip, to which no row is added once it is finished. Whether it is a row depends on the width.
 abbrev pub TakesRow : Strip → Strip → (ℕ → Type 0) → (ℕ → Row) → ℕ → Type 0
 TakesRow (Rows rows) new IsRow row status = TakesNext rows new (IsRow rows.columns) (row rows.columns) status
-TakesRow (Whole finished) new IsRow row status = (status ≡ 6) × (new ≡ Whole finished)
-TakesRow OutOfMemory new IsRow row status = (status ≡ 4) × (new ≡ OutOfMemory)
+TakesRow (Whole finished) new IsRow row status = (status ≡ NOT_TAKEN) × (new ≡ Whole finished)
+TakesRow OutOfMemory new IsRow row status = (status ≡ OUT_OF_MEMORY) × (new ≡ OutOfMemory)
 
 -- the strip is that of these rows: their lines, EOFB or RTC, and zeros up to a whole byte
 abbrev pub IsStripOf : RowsEncoded → Strip → Type 0
@@ -53,19 +54,19 @@ IsStripOf rows OutOfMemory = ⊥
 
 -- What finishing leaves of the rows so far: their strip; all of them, if there are none and one is needed; or want of memory.
 pub record FinishesRows (rows : RowsEncoded) (new : Strip) (status : ℕ) : Type 0 where
-  pub statuses : (status ≡ 0) ⊎ (status ≡ 4) ⊎ (status ≡ 5) ⊎ (status ≡ 6)
-  pub finished : (status ≡ 0) ⊎ (status ≡ 5) → IsStripOf rows new
-  pub untaken : (status ≡ 6)
+  pub statuses : (status ≡ OK) ⊎ (status ≡ OUT_OF_MEMORY) ⊎ (status ≡ REFUSED) ⊎ (status ≡ NOT_TAKEN)
+  pub finished : (status ≡ OK) ⊎ (status ≡ REFUSED) → IsStripOf rows new
+  pub untaken : (status ≡ NOT_TAKEN)
       ↔ ((rows.wants_memory ≡ false) × (rows.count ≡ 0) × (needs_row rows.settings.encoding rows.settings.end_of_block ≡ true))
-  pub kept : status ≡ 6 → new ≡ Rows rows
-  pub wanted : rows.wants_memory ≡ true → status ≡ 4
-  pub wants : status ≡ 4 → new ≡ OutOfMemory
+  pub kept : status ≡ NOT_TAKEN → new ≡ Rows rows
+  pub wanted : rows.wants_memory ≡ true → status ≡ OUT_OF_MEMORY
+  pub wants : status ≡ OUT_OF_MEMORY → new ≡ OutOfMemory
 
 -- the same of a strip, which stays as it is once it is finished
 abbrev pub Finishes : Strip → Strip → ℕ → Type 0
 Finishes (Rows rows) new status = FinishesRows rows new status
-Finishes (Whole finished) new status = ((status ≡ 0) ⊎ (status ≡ 5)) × (new ≡ Whole finished)
-Finishes OutOfMemory new status = (status ≡ 4) × (new ≡ OutOfMemory)
+Finishes (Whole finished) new status = ((status ≡ OK) ⊎ (status ≡ REFUSED)) × (new ≡ Whole finished)
+Finishes OutOfMemory new status = (status ≡ OUT_OF_MEMORY) × (new ≡ OutOfMemory)
 
 -- a statement about the bytes of a strip that is finished
 abbrev pub IfFinished : Strip → (List ℕ → Type 0) → Type 0

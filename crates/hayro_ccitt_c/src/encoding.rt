@@ -37,9 +37,9 @@ pub struct EncodeSettings {
 #[repr(C)]
 #[derive(Copy, Clone)]
 pub struct EncodeOutcome {
-    /// The number of rows of the bitmap if the status is 0 or 5, else 0.
+    /// The number of rows of the bitmap if the status is `OK` or `REFUSED`, else 0.
     pub rows: u64,
-    /// The number of encoded bytes if the status is 0 or 5, else 0.
+    /// The number of encoded bytes if the status is `OK` or `REFUSED`, else 0.
     pub bytes: u64,
 }
 

@@ -8,10 +8,12 @@ ghost use Rattle.hayro_ccitt_c.specs.Packing.{bytes_of_row};
 ghost use Rattle.hayro_ccitt_c.specs.RowsFed.{FinishesFeed, GivesFed, IsFeedOpened, TakesBytes, TurnsToFed, as_paused};
 ghost use Rattle.hayro_ccitt_c.specs.RowsFed.{is_fed_row, status_of_fed};
 ghost use Rattle.hayro_ccitt_c.specs.RowsGiven.{IsListed, IsPacked, TellsOf};
+ghost use Rattle.hayro_ccitt_c.specs.declared.status.TheConstants.{OK, REFUSED};
 
 use crate::reading::status_of_row;
 use crate::row_outcome::{RowOutcome, damage_told, miss_told};
 use crate::row_room::{list_over, pack_over};
+use crate::status;
 use hayro_ccitt::bit_reader::BitOrder;
 use hayro_ccitt::{DecodeError, DecodeSettings, Fed, Result, RowFeed};
 use std::alloc::Global;
@@ -34,13 +36,13 @@ fn is_fed_row(answer: Result<Fed>) -> bool
 /// Returns the status of a result.
 fn status_of_fed(answer: Result<Fed>) -> u32
     ensures status { result ≡ status_of_fed answer }
-    ensures not_refused { result ≢ 5 }
-    ensures no_row { is_fed_row answer ≡ false → result ≢ 0 }
+    ensures not_refused { result ≢ REFUSED }
+    ensures no_row { is_fed_row answer ≡ false → result ≢ OK }
 {
     match answer {
-        Ok(Fed::Row) => 0,
-        Ok(Fed::End) => 7,
-        Ok(Fed::NeedsMore) => 8,
+        Ok(Fed::Row) => status::OK,
+        Ok(Fed::End) => status::NO_ROW,
+        Ok(Fed::NeedsMore) => status::NEEDS_MORE,
         Err(error) => status_of_row(Err(error)),
     }
 }
@@ -68,12 +70,12 @@ impl Feeding {
         ensures { TakesBytes bytes.now self.old self.new result }
     {
         if self.rows.is_finished() {
-            return 6;
+            return status::NOT_TAKEN;
         }
         match self.rows.feed(bytes) {
-            Ok(()) => 0,
-            Err(DecodeError::OutOfMemory) => 4,
-            Err(_) => 3,
+            Ok(()) => status::OK,
+            Err(DecodeError::OutOfMemory) => status::OUT_OF_MEMORY,
+            Err(_) => status::OVERFLOW,
         }
     }
 
@@ -130,47 +132,55 @@ impl Feeding {
     /// Writes the next row as a list of its changes, and returns the status.
     pub(crate) fn list_next(&mut self, list: &mut [u32]) -> u32
         ensures gives { GivesFed self.old self.new result }
-        ensures listed { result ≡ 0 → IsListed self.new.rows.ctx.held.reference list.old list.new }
-        ensures refused { result ≡ 5 → length list.new < length (changes self.new.rows.ctx.held.reference) }
-        ensures unwritten { result ≢ 0 → list.new ≡ list.old }
+        ensures listed { result ≡ OK → IsListed self.new.rows.ctx.held.reference list.old list.new }
+        ensures refused { result ≡ REFUSED → length list.new < length (changes self.new.rows.ctx.held.reference) }
+        ensures unwritten { result ≢ OK → list.new ≡ list.old }
     {
         let answer = self.come_to_row();
         if !is_fed_row(answer) {
             return status_of_fed(answer);
         }
-        if self.list_row(list) { 0 } else { 5 }
+        if self.list_row(list) {
+            status::OK
+        } else {
+            status::REFUSED
+        }
     }
 
     /// Writes the next row packed, and returns the status.
     pub(crate) fn pack_next(&mut self, bytes: &mut [u8]) -> u32
         ensures gives { GivesFed self.old self.new result }
-        ensures packed { result ≡ 0 → IsPacked self.new.black_is_0 self.new.rows.ctx.held.settings.columns
+        ensures packed { result ≡ OK → IsPacked self.new.black_is_0 self.new.rows.ctx.held.settings.columns
             self.new.rows.ctx.held.reference bytes.old bytes.new }
-        ensures refused { result ≡ 5 → length bytes.new < bytes_of_row self.new.rows.ctx.held.settings.columns }
-        ensures unwritten { result ≢ 0 → bytes.new ≡ bytes.old }
+        ensures refused { result ≡ REFUSED → length bytes.new < bytes_of_row self.new.rows.ctx.held.settings.columns }
+        ensures unwritten { result ≢ OK → bytes.new ≡ bytes.old }
     {
         let answer = self.come_to_row();
         if !is_fed_row(answer) {
             return status_of_fed(answer);
         }
-        if self.pack_row(bytes) { 0 } else { 5 }
+        if self.pack_row(bytes) {
+            status::OK
+        } else {
+            status::REFUSED
+        }
     }
 
     /// Writes the bytes that were fed and aren't consumed if there is room for them, and returns the status. `count` is how many
     /// there are.
     pub(crate) fn give_unused(&self, bytes: &mut [u8], count: &mut usize) -> u32
-        ensures statuses { (result ≡ 0) ⊎ (result ≡ 5) }
-        ensures given { result ≡ 0 → AreEncoded self.now.rows.order (unused self.now.rows) count.new bytes.old bytes.new }
-        ensures refused { result ≡ 5 → HaveNoRoom (unused self.now.rows) count.new (length bytes.new) }
-        ensures unwritten { result ≢ 0 → bytes.new ≡ bytes.old }
+        ensures statuses { (result ≡ OK) ⊎ (result ≡ REFUSED) }
+        ensures given { result ≡ OK → AreEncoded self.now.rows.order (unused self.now.rows) count.new bytes.old bytes.new }
+        ensures refused { result ≡ REFUSED → HaveNoRoom (unused self.now.rows) count.new (length bytes.new) }
+        ensures unwritten { result ≢ OK → bytes.new ≡ bytes.old }
     {
         let left = self.rows.unused();
         *count = left.len();
         if left.len() > bytes.len() {
-            return 5;
+            return status::REFUSED;
         }
         bytes[..left.len()].copy_from_slice(left);
-        0
+        status::OK
     }
 
     /// Returns what C gets of the last row.

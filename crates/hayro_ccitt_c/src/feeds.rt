@@ -9,54 +9,56 @@ ghost use Rattle.hayro_ccitt_c.specs.Packing.{bytes_of_row};
 ghost use Rattle.hayro_ccitt_c.specs.RowsFed.{FinishesFeed, GivesFed, IsFeedOpened, TakesBytes, as_paused};
 ghost use Rattle.hayro_ccitt_c.specs.RowsGiven.{IsListed, IsPacked, TellsOf, told_nothing};
 ghost use Rattle.hayro_ccitt_c.specs.Settings.{layout_of, order_of, settings_of};
+ghost use Rattle.hayro_ccitt_c.specs.declared.status.TheConstants.{OK, OUT_OF_MEMORY, REFUSED, NOT_TAKEN};
 
 use crate::feed_handle::Feed;
 use crate::owned::Owned;
 use crate::row_outcome::{RowOutcome, nothing_told};
 use crate::settings::{Settings, layout_of, order_of, settings_of};
+use crate::status;
 use std::alloc::Global;
 
 /// Opens a reader of the rows of data that comes in pieces. The reader must be closed: all zeros, or as
 /// [`hayro_ccitt_feed_close`] left it. The data is passed to [`hayro_ccitt_feed`], and finished by [`hayro_ccitt_feed_finish`].
 ///
-/// A status of 4 says that an allocation failed; 6, that the settings are invalid or the reader is open. With all but 0 the
-/// reader is unchanged.
+/// `OUT_OF_MEMORY` says that an allocation failed; `NOT_TAKEN`, that the settings are invalid or the reader is open. With all
+/// but `OK` the reader is unchanged.
 #[unsafe(no_mangle)]
 pub extern "C" fn hayro_ccitt_feed_open(alloc: Global, settings: &Settings, feed: &mut Feed) -> u32
-    ensures statuses { (result ≡ 0) ⊎ (result ≡ 4) ⊎ (result ≡ 6) }
-    ensures opened { result ≡ 0 → IfSome (settings_of settings.now) (λ s.
+    ensures statuses { (result ≡ OK) ⊎ (result ≡ OUT_OF_MEMORY) ⊎ (result ≡ NOT_TAKEN) }
+    ensures opened { result ≡ OK → IfSome (settings_of settings.now) (λ s.
         OnFeeding feed.new.handle.value (IsFeedOpened s (order_of settings.now) (layout_of settings.now).black_is_0)) }
-    ensures is_open { result ≡ 0 → feed.new.is_open ≡ true }
-    ensures unchanged { result ≢ 0 → feed.new ≡ feed.old }
-    ensures untaken { (result ≡ 6) ↔ ((settings_of settings.now ≡ None) ⊎ (feed.old.is_open ≡ true)) }
+    ensures is_open { result ≡ OK → feed.new.is_open ≡ true }
+    ensures unchanged { result ≢ OK → feed.new ≡ feed.old }
+    ensures untaken { (result ≡ NOT_TAKEN) ↔ ((settings_of settings.now ≡ None) ⊎ (feed.old.is_open ≡ true)) }
 {
     if feed.is_open {
-        return 6;
+        return status::NOT_TAKEN;
     }
     let Some(meant) = settings_of(settings) else {
-        return 6;
+        return status::NOT_TAKEN;
     };
     let black_is_0 = layout_of(settings).black_is_0;
     let Ok(feeding) = Owned::feeding(alloc, order_of(settings), meant, black_is_0) else {
-        return 4;
+        return status::OUT_OF_MEMORY;
     };
     feed.hold(feeding);
-    0
+    status::OK
 }
 
 /// Feeds the bytes that come next in the data. They are copied, as far as they aren't read at once by the calls that follow.
 ///
-/// A status of 4 says that an allocation failed; 3, that all bytes fed would be more than 2^61 - 9; 6, that the reader isn't open
-/// or the data is finished. With all but 0 no byte is fed, and the reading is the same.
+/// `OUT_OF_MEMORY` says that an allocation failed; `OVERFLOW`, that all bytes fed would be more than 2^61 - 9; `NOT_TAKEN`,
+/// that the reader isn't open or the data is finished. With all but `OK` no byte is fed, and the reading is the same.
 #[unsafe(no_mangle)]
 pub extern "C" fn hayro_ccitt_feed(alloc: Global, feed: &mut Feed, bytes: &[u8]) -> u32
     ensures takes { feed.old.is_open ≡ true → OnFeedings feed.old.handle.value feed.new.handle.value
         (λ old new. TakesBytes bytes.now old new result) }
     ensures is_open { feed.new.is_open ≡ feed.old.is_open }
-    ensures untaken { feed.old.is_open ≡ false → (result ≡ 6) × (feed.new ≡ feed.old) }
+    ensures untaken { feed.old.is_open ≡ false → (result ≡ NOT_TAKEN) × (feed.new ≡ feed.old) }
 {
     if !feed.is_open {
-        return 6;
+        return status::NOT_TAKEN;
     }
     let mut feeding = feed.take(alloc);
     let status = feeding.take_bytes(bytes);
@@ -64,17 +66,17 @@ pub extern "C" fn hayro_ccitt_feed(alloc: Global, feed: &mut Feed, bytes: &[u8])
     status
 }
 
-/// Finishes the data: no bytes follow those that were fed. A status of 6 says that the reader isn't open.
+/// Finishes the data: no bytes follow those that were fed. `NOT_TAKEN` says that the reader isn't open.
 #[unsafe(no_mangle)]
 pub extern "C" fn hayro_ccitt_feed_finish(alloc: Global, feed: &mut Feed) -> u32
     ensures finishes { feed.old.is_open ≡ true → OnFeedings feed.old.handle.value feed.new.handle.value
         (λ old new. FinishesFeed old new) }
-    ensures was_open { feed.old.is_open ≡ true → result ≡ 0 }
+    ensures was_open { feed.old.is_open ≡ true → result ≡ OK }
     ensures is_open { feed.new.is_open ≡ feed.old.is_open }
-    ensures untaken { feed.old.is_open ≡ false → (result ≡ 6) × (feed.new ≡ feed.old) }
+    ensures untaken { feed.old.is_open ≡ false → (result ≡ NOT_TAKEN) × (feed.new ≡ feed.old) }
 {
     if !feed.is_open {
-        return 6;
+        return status::NOT_TAKEN;
     }
     let mut feeding = feed.take(alloc);
     let status = feeding.finish_data();
@@ -82,12 +84,13 @@ pub extern "C" fn hayro_ccitt_feed_finish(alloc: Global, feed: &mut Feed) -> u32
     status
 }
 
-/// Reads the next row, if no data that follows can change it, and lists its changes in `list`. The numbers after the last change
-/// keep their values.
+/// Reads the next row, if no data that follows can change it, and lists its changes in `list`. The numbers after the last
+/// change keep their values.
 ///
-/// A status of 8 says that more data is needed, or its end; 7, that no row is left; 5, that there is no room for the row, which the
-/// next call returns; 4, that an allocation failed: then nothing is read, and the call can be made again; 6, that the reader isn't
-/// open. `outcome` describes the last row that was read; with a status of 6, it is zeros.
+/// `NEEDS_MORE` says that more data is needed, or its end; `NO_ROW`, that no row is left; `REFUSED`, that there is no room for
+/// the row, which the next call returns; `OUT_OF_MEMORY`, that an allocation failed: then nothing is read, and the call can be
+/// made again; `NOT_TAKEN`, that the reader isn't open. `outcome` describes the last row that was read; with `NOT_TAKEN`, it is
+/// zeros.
 #[unsafe(no_mangle)]
 pub extern "C" fn hayro_ccitt_feed_next_changes(
     alloc: Global,
@@ -97,20 +100,20 @@ pub extern "C" fn hayro_ccitt_feed_next_changes(
 ) -> u32
     ensures gives { feed.old.is_open ≡ true → OnFeedings feed.old.handle.value feed.new.handle.value
         (λ old new. GivesFed old new result) }
-    ensures listed { result ≡ 0 → OnFeeding feed.new.handle.value (λ feeding.
+    ensures listed { result ≡ OK → OnFeeding feed.new.handle.value (λ feeding.
         IsListed feeding.rows.ctx.held.reference list.old list.new) }
-    ensures refused { result ≡ 5 → OnFeeding feed.new.handle.value (λ feeding.
+    ensures refused { result ≡ REFUSED → OnFeeding feed.new.handle.value (λ feeding.
         length list.new < length (changes feeding.rows.ctx.held.reference)) }
-    ensures unwritten { result ≢ 0 → list.new ≡ list.old }
+    ensures unwritten { result ≢ OK → list.new ≡ list.old }
     ensures told { feed.old.is_open ≡ true → OnFeeding feed.new.handle.value (λ feeding.
         TellsOf (as_paused feeding.rows) outcome.new) }
     ensures is_open { feed.new.is_open ≡ feed.old.is_open }
     ensures untaken { feed.old.is_open ≡ false
-        → (result ≡ 6) × (feed.new ≡ feed.old) × (outcome.new ≡ told_nothing) }
+        → (result ≡ NOT_TAKEN) × (feed.new ≡ feed.old) × (outcome.new ≡ told_nothing) }
 {
     if !feed.is_open {
         *outcome = nothing_told();
-        return 6;
+        return status::NOT_TAKEN;
     }
     let mut feeding = feed.take(alloc);
     let status = feeding.list_fed(list, outcome);
@@ -130,21 +133,21 @@ pub extern "C" fn hayro_ccitt_feed_next_packed(
 ) -> u32
     ensures gives { feed.old.is_open ≡ true → OnFeedings feed.old.handle.value feed.new.handle.value
         (λ old new. GivesFed old new result) }
-    ensures packed { result ≡ 0 → OnFeeding feed.new.handle.value (λ feeding.
+    ensures packed { result ≡ OK → OnFeeding feed.new.handle.value (λ feeding.
         IsPacked feeding.black_is_0 feeding.rows.ctx.held.settings.columns feeding.rows.ctx.held.reference
         bytes.old bytes.new) }
-    ensures refused { result ≡ 5 → OnFeeding feed.new.handle.value (λ feeding.
+    ensures refused { result ≡ REFUSED → OnFeeding feed.new.handle.value (λ feeding.
         length bytes.new < bytes_of_row feeding.rows.ctx.held.settings.columns) }
-    ensures unwritten { result ≢ 0 → bytes.new ≡ bytes.old }
+    ensures unwritten { result ≢ OK → bytes.new ≡ bytes.old }
     ensures told { feed.old.is_open ≡ true → OnFeeding feed.new.handle.value (λ feeding.
         TellsOf (as_paused feeding.rows) outcome.new) }
     ensures is_open { feed.new.is_open ≡ feed.old.is_open }
     ensures untaken { feed.old.is_open ≡ false
-        → (result ≡ 6) × (feed.new ≡ feed.old) × (outcome.new ≡ told_nothing) }
+        → (result ≡ NOT_TAKEN) × (feed.new ≡ feed.old) × (outcome.new ≡ told_nothing) }
 {
     if !feed.is_open {
         *outcome = nothing_told();
-        return 6;
+        return status::NOT_TAKEN;
     }
     let mut feeding = feed.take(alloc);
     let status = feeding.pack_fed(bytes, outcome);
@@ -152,10 +155,11 @@ pub extern "C" fn hayro_ccitt_feed_next_packed(
     status
 }
 
-/// Copies the bytes that were fed and aren't consumed to the front of `bytes`; after the end of the image they are what follows it.
-/// `count` is how many there are. The bytes after them keep their values, and the reading doesn't change.
+/// Copies the bytes that were fed and aren't consumed to the front of `bytes`; after the end of the image they are what follows
+/// it. `count` is how many there are. The bytes after them keep their values, and the reading doesn't change.
 ///
-/// A status of 5 says that there is no room for them: then none is copied; 6, that the reader isn't open: then `count` is 0.
+/// `REFUSED` says that there is no room for them: then none is copied; `NOT_TAKEN`, that the reader isn't open: then `count` is
+/// 0.
 #[unsafe(no_mangle)]
 pub extern "C" fn hayro_ccitt_feed_unused(
     alloc: Global,
@@ -163,20 +167,20 @@ pub extern "C" fn hayro_ccitt_feed_unused(
     bytes: &mut [u8],
     count: &mut usize,
 ) -> u32
-    ensures statuses { (result ≡ 0) ⊎ (result ≡ 5) ⊎ (result ≡ 6) }
-    ensures given { result ≡ 0 → OnFeeding feed.new.handle.value (λ feeding.
+    ensures statuses { (result ≡ OK) ⊎ (result ≡ REFUSED) ⊎ (result ≡ NOT_TAKEN) }
+    ensures given { result ≡ OK → OnFeeding feed.new.handle.value (λ feeding.
         AreEncoded feeding.rows.order (unused feeding.rows) count.new bytes.old bytes.new) }
-    ensures refused { result ≡ 5 → OnFeeding feed.new.handle.value (λ feeding.
+    ensures refused { result ≡ REFUSED → OnFeeding feed.new.handle.value (λ feeding.
         HaveNoRoom (unused feeding.rows) count.new (length bytes.new)) }
-    ensures unwritten { result ≢ 0 → bytes.new ≡ bytes.old }
+    ensures unwritten { result ≢ OK → bytes.new ≡ bytes.old }
     ensures unchanged { feed.new.handle.value ≡ feed.old.handle.value }
     ensures is_open { feed.new.is_open ≡ feed.old.is_open }
-    ensures untaken { (result ≡ 6) ↔ (feed.old.is_open ≡ false) }
+    ensures untaken { (result ≡ NOT_TAKEN) ↔ (feed.old.is_open ≡ false) }
     ensures none_told { feed.old.is_open ≡ false → (count.new ≡ 0) × (feed.new ≡ feed.old) }
 {
     if !feed.is_open {
         *count = 0;
-        return 6;
+        return status::NOT_TAKEN;
     }
     let feeding = feed.take(alloc);
     let status = feeding.give_unused(bytes, count);
@@ -184,16 +188,16 @@ pub extern "C" fn hayro_ccitt_feed_unused(
     status
 }
 
-/// Closes a reader, and frees what it holds. A status of 6 says that it isn't open; then nothing is done.
+/// Closes a reader, and frees what it holds. `NOT_TAKEN` says that it isn't open; then nothing is done.
 #[unsafe(no_mangle)]
 pub extern "C" fn hayro_ccitt_feed_close(alloc: Global, feed: &mut Feed) -> u32
     ensures closed { feed.new.is_open ≡ false }
-    ensures was_open { feed.old.is_open ≡ true → result ≡ 0 }
-    ensures was_closed { feed.old.is_open ≡ false → (result ≡ 6) × (feed.new ≡ feed.old) }
+    ensures was_open { feed.old.is_open ≡ true → result ≡ OK }
+    ensures was_closed { feed.old.is_open ≡ false → (result ≡ NOT_TAKEN) × (feed.new ≡ feed.old) }
 {
     if !feed.is_open {
-        return 6;
+        return status::NOT_TAKEN;
     }
     drop(feed.take(alloc));
-    0
+    status::OK
 }

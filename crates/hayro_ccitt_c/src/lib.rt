@@ -22,6 +22,7 @@ ghost use Rattle.hayro_ccitt_c.specs.RowsGiven.{GivesRow, IsListed, IsOpened, Is
 ghost use Rattle.hayro_ccitt_c.specs.RowsTaken.{Finishes, IfFinished, IsGiven, TakesRow, strip_told};
 ghost use Rattle.hayro_ccitt_c.specs.Settings.{layout_of, order_of, settings_of};
 ghost use Rattle.hayro_ccitt_c.specs.declared.strip.Strip.TheVariants.{Rows};
+ghost use Rattle.hayro_ccitt_c.specs.declared.status.TheConstants.{OK, OUT_OF_MEMORY, REFUSED, NOT_TAKEN};
 
 mod change_count;
 mod encoding;
@@ -39,6 +40,7 @@ mod row_handle;
 mod row_outcome;
 mod row_room;
 mod settings;
+mod status;
 mod strip;
 
 use change_count::ChangeCount;
@@ -65,9 +67,9 @@ use std::alloc::Global;
 
 /// Counts the rows of the data and their changes.
 ///
-/// `outcome` has the number of rows, of their changes, and of the bytes consumed if the status is 0, else 0; if the status is 1
-/// to 5, the offset of the fault in bits. A status of 6
-/// says that the data is too long or the settings are invalid; no row is refused.
+/// `outcome` has the number of rows, of their changes, and of the bytes consumed if the status is `OK`, else 0; if the status
+/// is `UNEXPECTED_EOF` to `REFUSED`, the offset of the fault in bits. `NOT_TAKEN` says that the data is too long or the
+/// settings are invalid; no row is refused.
 #[unsafe(no_mangle)]
 pub extern "C" fn hayro_ccitt_measure(
     alloc: Global,
@@ -85,9 +87,9 @@ pub extern "C" fn hayro_ccitt_measure(
         outcome.new.missed_eols ≡ missed_taken s bits outcome.new.rows) }
     ensures cut { OnSettings settings.now «data».now (λ s bits.
         outcome.new.cut_rows ≡ cut_taken s bits outcome.new.rows) }
-    ensures never_refused { result ≢ 5 }
+    ensures never_refused { result ≢ REFUSED }
     ensures untaken { (settings_of settings.now ≡ None) ⊎ (¬ (BitsFit «data».now))
-        → (result ≡ 6) × (outcome.new ≡ outcome_of 0 0 0 0 0 0 0) }
+        → (result ≡ NOT_TAKEN) × (outcome.new ≡ outcome_of 0 0 0 0 0 0 0) }
 {
     let Some(meant) = settings_for(data, settings) else {
         return untaken(outcome);
@@ -98,13 +100,13 @@ pub extern "C" fn hayro_ccitt_measure(
 }
 
 /// Packs the rows of the data into `bitmap`, one below the other: a row occupies (columns + 7) / 8 bytes, the leftmost pixel in
-/// a byte's highest bit, 1 for black, and zeros after the row up to a whole byte; with a flag of 32 all of its bits are inverted.
-/// Each row begins `stride` bytes after the one before, or right after it if `stride` is 0. The bytes between the rows and after the
-/// last one keep their values.
+/// a byte's highest bit, 1 for black, and zeros after the row up to a whole byte; with a flag of 32 all of its bits are
+/// inverted. Each row begins `stride` bytes after the one before, or right after it if `stride` is 0. The bytes between the
+/// rows and after the last one keep their values.
 ///
-/// `outcome` has the number of rows, of their changes, and of the bytes consumed if the status is 0, else 0; if the status is 1
-/// to 5, the offset of the fault in bits. A status of 5 says
-/// that there is no room for the next row; 6, that the data is too long or the settings are invalid.
+/// `outcome` has the number of rows, of their changes, and of the bytes consumed if the status is `OK`, else 0; if the status
+/// is `UNEXPECTED_EOF` to `REFUSED`, the offset of the fault in bits. `REFUSED` says that there is no room for the next row;
+/// `NOT_TAKEN`, that the data is too long or the settings are invalid.
 #[unsafe(no_mangle)]
 pub extern "C" fn hayro_ccitt_decode_packed(
     alloc: Global,
@@ -127,10 +129,10 @@ pub extern "C" fn hayro_ccitt_decode_packed(
         ArePacked (layout_of settings.now) s bits outcome.new.rows bitmap.old bitmap.new) }
     ensures together { OnSettings settings.now «data».now (λ s bits. layout_of settings.now ≡ together s.columns
         → AreTogether s bits outcome.new.rows bitmap.old bitmap.new) }
-    ensures refused { result ≡ 5 → OnSettings settings.now «data».now (λ s bits.
+    ensures refused { result ≡ REFUSED → OnSettings settings.now «data».now (λ s bits.
         length bitmap.new < outcome.new.rows * (layout_of settings.now).stride + bytes_of_row s.columns) }
     ensures untaken { (settings_of settings.now ≡ None) ⊎ (¬ (BitsFit «data».now))
-        → (result ≡ 6) × (outcome.new ≡ outcome_of 0 0 0 0 0 0 0)
+        → (result ≡ NOT_TAKEN) × (outcome.new ≡ outcome_of 0 0 0 0 0 0 0)
         × (bitmap.new ≡ bitmap.old) }
 {
     let Some(meant) = settings_for(data, settings) else {
@@ -144,9 +146,9 @@ pub extern "C" fn hayro_ccitt_decode_packed(
 /// Lists the changes of the rows of the data in `lists`, row after row: of each row the number of its changes, and then the
 /// positions at which its colour changes, white first, ascending. The numbers after the last row keep their values.
 ///
-/// `outcome` has the number of rows, of their changes, and of the bytes consumed if the status is 0, else 0; if the status is 1
-/// to 5, the offset of the fault in bits. A status of 5 says
-/// that there is no room for the next row; 6, that the data is too long or the settings are invalid.
+/// `outcome` has the number of rows, of their changes, and of the bytes consumed if the status is `OK`, else 0; if the status
+/// is `UNEXPECTED_EOF` to `REFUSED`, the offset of the fault in bits. `REFUSED` says that there is no room for the next row;
+/// `NOT_TAKEN`, that the data is too long or the settings are invalid.
 #[unsafe(no_mangle)]
 pub extern "C" fn hayro_ccitt_decode_changes(
     alloc: Global,
@@ -167,11 +169,11 @@ pub extern "C" fn hayro_ccitt_decode_changes(
         outcome.new.cut_rows ≡ cut_taken s bits outcome.new.rows) }
     ensures listed { OnSettings settings.now «data».now (λ s bits.
         AreListed s bits outcome.new.rows lists.old lists.new) }
-    ensures refused { result ≡ 5 → OnSettings settings.now «data».now (λ s bits.
+    ensures refused { result ≡ REFUSED → OnSettings settings.now «data».now (λ s bits.
         length lists.new < numbers_taken s bits outcome.new.rows + 1
         + length (changes (get_or (plain s bits).rows outcome.new.rows []))) }
     ensures untaken { (settings_of settings.now ≡ None) ⊎ (¬ (BitsFit «data».now))
-        → (result ≡ 6) × (outcome.new ≡ outcome_of 0 0 0 0 0 0 0)
+        → (result ≡ NOT_TAKEN) × (outcome.new ≡ outcome_of 0 0 0 0 0 0 0)
         × (lists.new ≡ lists.old) }
 {
     let Some(meant) = settings_for(data, settings) else {
@@ -185,8 +187,8 @@ pub extern "C" fn hayro_ccitt_decode_changes(
 /// Opens a reader of the rows of the data before the first row. The reader must be closed: all zeros, or as
 /// [`hayro_ccitt_close`] left it. The rows are read by [`hayro_ccitt_next_changes`] and [`hayro_ccitt_next_packed`].
 ///
-/// A status of 4 says that an allocation failed; 6, that the data is too long, the settings are invalid or the reader is open.
-/// With all but 0 the reader is unchanged.
+/// `OUT_OF_MEMORY` says that an allocation failed; `NOT_TAKEN`, that the data is too long, the settings are invalid or the
+/// reader is open. With all but `OK` the reader is unchanged.
 #[unsafe(no_mangle)]
 pub extern "C" fn hayro_ccitt_open(
     alloc: Global,
@@ -194,32 +196,32 @@ pub extern "C" fn hayro_ccitt_open(
     settings: &Settings,
     reader: &mut Reader,
 ) -> u32
-    ensures statuses { (result ≡ 0) ⊎ (result ≡ 4) ⊎ (result ≡ 6) }
-    ensures opened { result ≡ 0 → OnSettings settings.now «data».now (λ s bits.
+    ensures statuses { (result ≡ OK) ⊎ (result ≡ OUT_OF_MEMORY) ⊎ (result ≡ NOT_TAKEN) }
+    ensures opened { result ≡ OK → OnSettings settings.now «data».now (λ s bits.
         OnReading reader.new.handle.value (IsOpened s bits (order_of settings.now) (layout_of settings.now).black_is_0)) }
-    ensures is_open { result ≡ 0 → reader.new.is_open ≡ true }
-    ensures unchanged { result ≢ 0 → reader.new ≡ reader.old }
-    ensures untaken { (result ≡ 6) ↔ ((settings_of settings.now ≡ None) ⊎ ((¬ (BitsFit «data».now)) ⊎ (reader.old.is_open ≡ true))) }
+    ensures is_open { result ≡ OK → reader.new.is_open ≡ true }
+    ensures unchanged { result ≢ OK → reader.new ≡ reader.old }
+    ensures untaken { (result ≡ NOT_TAKEN) ↔ ((settings_of settings.now ≡ None) ⊎ ((¬ (BitsFit «data».now)) ⊎ (reader.old.is_open ≡ true))) }
 {
     if reader.is_open {
-        return 6;
+        return status::NOT_TAKEN;
     }
     let Some(meant) = settings_for(data, settings) else {
-        return 6;
+        return status::NOT_TAKEN;
     };
     let black_is_0 = layout_of(settings).black_is_0;
     let Ok(reading) = Owned::reading(alloc, data, order_of(settings), meant, black_is_0) else {
-        return 4;
+        return status::OUT_OF_MEMORY;
     };
     reader.hold(reading);
-    0
+    status::OK
 }
 
-/// Reads the next row of the data, and lists its changes in `list`. The data is passed to each call again. The numbers
-/// after the last change keep their values.
+/// Reads the next row of the data, and lists its changes in `list`. The data is passed to each call again. The numbers after
+/// the last change keep their values.
 ///
-/// A status of 7 says that no row is left; 5, that there is no room for the row, which the next call returns; 6, that the
-/// reader isn't open or the data is too long. `outcome` describes the last row that was read; with a status of 6, it is
+/// `NO_ROW` says that no row is left; `REFUSED`, that there is no room for the row, which the next call returns; `NOT_TAKEN`,
+/// that the reader isn't open or the data is too long. `outcome` describes the last row that was read; with `NOT_TAKEN`, it is
 /// zeros.
 #[unsafe(no_mangle)]
 pub extern "C" fn hayro_ccitt_next_changes(
@@ -231,20 +233,20 @@ pub extern "C" fn hayro_ccitt_next_changes(
 ) -> u32
     ensures gives { reader.old.is_open ≡ true → BitsFit «data».now → OnReadings reader.old.handle.value reader.new.handle.value
         (λ old new. GivesRow «data».now old new result) }
-    ensures listed { result ≡ 0 → OnReading reader.new.handle.value (λ reading.
+    ensures listed { result ≡ OK → OnReading reader.new.handle.value (λ reading.
         IsListed reading.rows.held.reference list.old list.new) }
-    ensures refused { result ≡ 5 → OnReading reader.new.handle.value (λ reading.
+    ensures refused { result ≡ REFUSED → OnReading reader.new.handle.value (λ reading.
         length list.new < length (changes reading.rows.held.reference)) }
-    ensures unwritten { result ≢ 0 → list.new ≡ list.old }
+    ensures unwritten { result ≢ OK → list.new ≡ list.old }
     ensures told { reader.old.is_open ≡ true → BitsFit «data».now → OnReading reader.new.handle.value (λ reading.
         TellsOf reading.rows outcome.new) }
     ensures is_open { reader.new.is_open ≡ reader.old.is_open }
     ensures untaken { (reader.old.is_open ≡ false) ⊎ (¬ (BitsFit «data».now))
-        → (result ≡ 6) × (reader.new ≡ reader.old) × (outcome.new ≡ told_nothing) }
+        → (result ≡ NOT_TAKEN) × (reader.new ≡ reader.old) × (outcome.new ≡ told_nothing) }
 {
     if !reader.is_open || !bits_fit(data) {
         *outcome = nothing_told();
-        return 6;
+        return status::NOT_TAKEN;
     }
     let mut reading = reader.take(alloc);
     let status = reading.list_next(data, list, outcome);
@@ -252,12 +254,12 @@ pub extern "C" fn hayro_ccitt_next_changes(
     status
 }
 
-/// Reads the next row of the data, and packs it into `bytes`: (columns + 7) / 8 bytes, the leftmost pixel in a byte's
-/// highest bit, 1 for black, and zeros after the last pixel; if the settings had a flag of 32, all of its bits are inverted. The
-/// data is passed to each call again. The bytes after the row keep their values.
+/// Reads the next row of the data, and packs it into `bytes`: (columns + 7) / 8 bytes, the leftmost pixel in a byte's highest
+/// bit, 1 for black, and zeros after the last pixel; if the settings had a flag of 32, all of its bits are inverted. The data
+/// is passed to each call again. The bytes after the row keep their values.
 ///
-/// A status of 7 says that no row is left; 5, that there is no room for the row, which the next call returns; 6, that the
-/// reader isn't open or the data is too long. `outcome` describes the last row that was read; with a status of 6, it is
+/// `NO_ROW` says that no row is left; `REFUSED`, that there is no room for the row, which the next call returns; `NOT_TAKEN`,
+/// that the reader isn't open or the data is too long. `outcome` describes the last row that was read; with `NOT_TAKEN`, it is
 /// zeros.
 #[unsafe(no_mangle)]
 pub extern "C" fn hayro_ccitt_next_packed(
@@ -269,20 +271,20 @@ pub extern "C" fn hayro_ccitt_next_packed(
 ) -> u32
     ensures gives { reader.old.is_open ≡ true → BitsFit «data».now → OnReadings reader.old.handle.value reader.new.handle.value
         (λ old new. GivesRow «data».now old new result) }
-    ensures packed { result ≡ 0 → OnReading reader.new.handle.value (λ reading.
+    ensures packed { result ≡ OK → OnReading reader.new.handle.value (λ reading.
         IsPacked reading.black_is_0 reading.rows.held.settings.columns reading.rows.held.reference bytes.old bytes.new) }
-    ensures refused { result ≡ 5 → OnReading reader.new.handle.value (λ reading.
+    ensures refused { result ≡ REFUSED → OnReading reader.new.handle.value (λ reading.
         length bytes.new < bytes_of_row reading.rows.held.settings.columns) }
-    ensures unwritten { result ≢ 0 → bytes.new ≡ bytes.old }
+    ensures unwritten { result ≢ OK → bytes.new ≡ bytes.old }
     ensures told { reader.old.is_open ≡ true → BitsFit «data».now → OnReading reader.new.handle.value (λ reading.
         TellsOf reading.rows outcome.new) }
     ensures is_open { reader.new.is_open ≡ reader.old.is_open }
     ensures untaken { (reader.old.is_open ≡ false) ⊎ (¬ (BitsFit «data».now))
-        → (result ≡ 6) × (reader.new ≡ reader.old) × (outcome.new ≡ told_nothing) }
+        → (result ≡ NOT_TAKEN) × (reader.new ≡ reader.old) × (outcome.new ≡ told_nothing) }
 {
     if !reader.is_open || !bits_fit(data) {
         *outcome = nothing_told();
-        return 6;
+        return status::NOT_TAKEN;
     }
     let mut reading = reader.take(alloc);
     let status = reading.pack_next(data, bytes, outcome);
@@ -290,29 +292,29 @@ pub extern "C" fn hayro_ccitt_next_packed(
     status
 }
 
-/// Closes a reader, and frees what it holds. A status of 6 says that it isn't open; then nothing is done.
+/// Closes a reader, and frees what it holds. `NOT_TAKEN` says that it isn't open; then nothing is done.
 #[unsafe(no_mangle)]
 pub extern "C" fn hayro_ccitt_close(alloc: Global, reader: &mut Reader) -> u32
     ensures closed { reader.new.is_open ≡ false }
-    ensures was_open { reader.old.is_open ≡ true → result ≡ 0 }
-    ensures was_closed { reader.old.is_open ≡ false → (result ≡ 6) × (reader.new ≡ reader.old) }
+    ensures was_open { reader.old.is_open ≡ true → result ≡ OK }
+    ensures was_closed { reader.old.is_open ≡ false → (result ≡ NOT_TAKEN) × (reader.new ≡ reader.old) }
 {
     if !reader.is_open {
-        return 6;
+        return status::NOT_TAKEN;
     }
     drop(reader.take(alloc));
-    0
+    status::OK
 }
 
-/// Encodes a bitmap into `data`: a row occupies (columns + 7) / 8 bytes, the leftmost pixel in a byte's highest bit, 1
-/// for black, or 0 with a flag of 128, and bits after the last pixel are ignored. Each row begins `stride` bytes after the one before,
-/// or right after it if `stride` is 0. The bytes between the rows are ignored, and the last one needs only its own bytes. The bytes
-/// after the encoded ones keep their values.
+/// Encodes a bitmap into `data`: a row occupies (columns + 7) / 8 bytes, the leftmost pixel in a byte's highest bit, 1 for
+/// black, or 0 with a flag of 128, and bits after the last pixel are ignored. Each row begins `stride` bytes after the one
+/// before, or right after it if `stride` is 0. The bytes between the rows are ignored, and the last one needs only its own
+/// bytes. The bytes after the encoded ones keep their values.
 ///
-/// `outcome` has the number of rows and of the encoded bytes if the status is 0 or 5, else 0. A status of 4 says that an
-/// allocation failed; 5, that `data` has no room for that many bytes; 6, that the settings name no encoding or are invalid, or that
-/// the bitmap isn't whole rows, or has none and only Group 4 closed by EOFB has a picture without rows. With all but 0 `data`
-/// keeps its values.
+/// `outcome` has the number of rows and of the encoded bytes if the status is `OK` or `REFUSED`, else 0. `OUT_OF_MEMORY` says
+/// that an allocation failed; `REFUSED`, that `data` has no room for that many bytes; `NOT_TAKEN`, that the settings name no
+/// encoding or are invalid, or that the bitmap isn't whole rows, or has none and only Group 4 closed by EOFB has a picture
+/// without rows. With all but `OK` `data` keeps its values.
 #[unsafe(no_mangle)]
 pub extern "C" fn fax_encode_bitmap(
     alloc: Global,
@@ -321,23 +323,23 @@ pub extern "C" fn fax_encode_bitmap(
     data: &mut [u8],
     outcome: &mut EncodeOutcome,
 ) -> u32
-    ensures statuses { (result ≡ 0) ⊎ (result ≡ 4) ⊎ (result ≡ 5) ⊎ (result ≡ 6) }
-    ensures encoded { result ≡ 0 → IfSome (asked settings.now bitmap.now) (λ meant.
+    ensures statuses { (result ≡ OK) ⊎ (result ≡ OUT_OF_MEMORY) ⊎ (result ≡ REFUSED) ⊎ (result ≡ NOT_TAKEN) }
+    ensures encoded { result ≡ OK → IfSome (asked settings.now bitmap.now) (λ meant.
         AreEncoded meant.order (bits_asked meant settings.now.columns (rows_asked settings.now bitmap.now)) outcome.new.bytes «data».old «data».new) }
-    ensures refused { result ≡ 5 → IfSome (asked settings.now bitmap.now) (λ meant.
+    ensures refused { result ≡ REFUSED → IfSome (asked settings.now bitmap.now) (λ meant.
         HaveNoRoom (bits_asked meant settings.now.columns (rows_asked settings.now bitmap.now)) outcome.new.bytes (length «data».new)) }
-    ensures untaken { (result ≡ 6) ↔ (asked settings.now bitmap.now ≡ None) }
-    ensures rows { (result ≡ 0) ⊎ (result ≡ 5) → outcome.new.rows ≡ length (rows_asked settings.now bitmap.now) }
+    ensures untaken { (result ≡ NOT_TAKEN) ↔ (asked settings.now bitmap.now ≡ None) }
+    ensures rows { (result ≡ OK) ⊎ (result ≡ REFUSED) → outcome.new.rows ≡ length (rows_asked settings.now bitmap.now) }
     ensures together { layout_asked settings.now ≡ together settings.now.columns → 0 < settings.now.columns
         → rows_asked settings.now bitmap.now ≡ shown settings.now.columns bitmap.now }
-    ensures kept { result ≢ 0 → «data».new ≡ «data».old }
-    ensures nothing_told { (result ≡ 4) ⊎ (result ≡ 6) → outcome.new ≡ record { rows = 0; bytes = 0 } }
+    ensures kept { result ≢ OK → «data».new ≡ «data».old }
+    ensures nothing_told { (result ≡ OUT_OF_MEMORY) ⊎ (result ≡ NOT_TAKEN) → outcome.new ≡ record { rows = 0; bytes = 0 } }
 {
     *outcome = EncodeOutcome { rows: 0, bytes: 0 };
     let bytes = match encoded(alloc, bitmap, settings) {
         Ok(bytes) => bytes,
-        Err(Unencoded::NotTaken) => return 6,
-        Err(Unencoded::OutOfMemory) => return 4,
+        Err(Unencoded::NotTaken) => return status::NOT_TAKEN,
+        Err(Unencoded::OutOfMemory) => return status::OUT_OF_MEMORY,
     };
     let length = bytes.len();
     *outcome = EncodeOutcome {
@@ -345,59 +347,60 @@ pub extern "C" fn fax_encode_bitmap(
         bytes: length as u64,
     };
     if length > data.len() {
-        return 5;
+        return status::REFUSED;
     }
     data[..length].copy_from_slice(bytes.as_slice());
-    0
+    status::OK
 }
 
 /// Opens a writer of rows before the first row. The writer must be closed: all zeros, or as [`fax_encode_close`] left it. The
 /// rows are added by [`fax_encode_row_packed`] and [`fax_encode_row_changes`], and [`fax_encode_finish`] gives the strip.
 ///
-/// A status of 4 says that an allocation failed; 6, that the settings name no encoding or are invalid, there are no columns or the
-/// writer is open. With all but 0 the writer is unchanged.
+/// `OUT_OF_MEMORY` says that an allocation failed; `NOT_TAKEN`, that the settings name no encoding or are invalid, there are no
+/// columns or the writer is open. With all but `OK` the writer is unchanged.
 #[unsafe(no_mangle)]
 pub extern "C" fn fax_encode_open(
     alloc: Global,
     settings: &EncodeSettings,
     writer: &mut Writer,
 ) -> u32
-    ensures statuses { (result ≡ 0) ⊎ (result ≡ 4) ⊎ (result ≡ 6) }
-    ensures opened { result ≡ 0 → IfSome (of_rows settings.now) (λ meant.
+    ensures statuses { (result ≡ OK) ⊎ (result ≡ OUT_OF_MEMORY) ⊎ (result ≡ NOT_TAKEN) }
+    ensures opened { result ≡ OK → IfSome (of_rows settings.now) (λ meant.
         OnStrip writer.new.handle.value (λ strip. strip ≡ Rows (no_rows meant settings.now.columns))) }
-    ensures is_open { result ≡ 0 → writer.new.is_open ≡ true }
-    ensures black { result ≡ 0 → writer.new.black_is_0 ≡ (layout_asked settings.now).black_is_0 }
-    ensures unchanged { result ≢ 0 → writer.new ≡ writer.old }
-    ensures untaken { (result ≡ 6) ↔ ((of_rows settings.now ≡ None) ⊎ (writer.old.is_open ≡ true)) }
+    ensures is_open { result ≡ OK → writer.new.is_open ≡ true }
+    ensures black { result ≡ OK → writer.new.black_is_0 ≡ (layout_asked settings.now).black_is_0 }
+    ensures unchanged { result ≢ OK → writer.new ≡ writer.old }
+    ensures untaken { (result ≡ NOT_TAKEN) ↔ ((of_rows settings.now ≡ None) ⊎ (writer.old.is_open ≡ true)) }
 {
     if writer.is_open {
-        return 6;
+        return status::NOT_TAKEN;
     }
     let Some(meant) = encoder_of_rows(settings) else {
-        return 6;
+        return status::NOT_TAKEN;
     };
     let Ok(strip) = Owned::strip(alloc, settings.columns, meant) else {
-        return 4;
+        return status::OUT_OF_MEMORY;
     };
     writer.hold(strip, layout_asked(settings).black_is_0);
-    0
+    status::OK
 }
 
 /// Adds a row, given by its changes: the positions at which its colour changes, white first, strictly ascending and below the
 /// number of columns.
 ///
-/// A status of 4 says that an allocation failed, and each further call of this writer but [`fax_encode_close`] returns it; 6, that
-/// the writer isn't open, the strip is finished, or the changes aren't those of a row. With 6 nothing is changed.
+/// `OUT_OF_MEMORY` says that an allocation failed, and each further call of this writer but [`fax_encode_close`] returns it;
+/// `NOT_TAKEN`, that the writer isn't open, the strip is finished, or the changes aren't those of a row. With `NOT_TAKEN` nothing is
+/// changed.
 #[unsafe(no_mangle)]
 pub extern "C" fn fax_encode_row_changes(alloc: Global, writer: &mut Writer, changes: &[u32]) -> u32
     ensures takes { writer.old.is_open ≡ true → OnStrips writer.old.handle.value writer.new.handle.value (λ old new.
         TakesRow old new (λ columns. AreChanges columns changes.now) (λ columns. pixels columns changes.now) result) }
     ensures is_open { writer.new.is_open ≡ writer.old.is_open }
     ensures black { writer.new.black_is_0 ≡ writer.old.black_is_0 }
-    ensures untaken { writer.old.is_open ≡ false → (result ≡ 6) × (writer.new ≡ writer.old) }
+    ensures untaken { writer.old.is_open ≡ false → (result ≡ NOT_TAKEN) × (writer.new ≡ writer.old) }
 {
     if !writer.is_open {
-        return 6;
+        return status::NOT_TAKEN;
     }
     let mut strip = writer.take(alloc);
     let status = strip.add_changes(changes);
@@ -408,8 +411,8 @@ pub extern "C" fn fax_encode_row_changes(alloc: Global, writer: &mut Writer, cha
 /// Adds a row of packed pixels: (columns + 7) / 8 bytes, the leftmost pixel in a byte's highest bit, 1 for black, or 0 if the
 /// settings had a flag of 128. Bits after the last pixel, and bytes after the row, are ignored.
 ///
-/// A status of 4 says that an allocation failed, and each further call of this writer but [`fax_encode_close`] returns it; 6, that
-/// the writer isn't open, the strip is finished, or there are too few bytes. With 6 nothing is changed.
+/// `OUT_OF_MEMORY` says that an allocation failed, and each further call of this writer but [`fax_encode_close`] returns it;
+/// `NOT_TAKEN`, that the writer isn't open, the strip is finished, or there are too few bytes. With `NOT_TAKEN` nothing is changed.
 #[unsafe(no_mangle)]
 pub extern "C" fn fax_encode_row_packed(alloc: Global, writer: &mut Writer, row: &[u8]) -> u32
     ensures takes { writer.old.is_open ≡ true → OnStrips writer.old.handle.value writer.new.handle.value (λ old new.
@@ -417,10 +420,10 @@ pub extern "C" fn fax_encode_row_packed(alloc: Global, writer: &mut Writer, row:
         (λ columns. row_read writer.old.black_is_0 columns (bits_of row.now)) result) }
     ensures is_open { writer.new.is_open ≡ writer.old.is_open }
     ensures black { writer.new.black_is_0 ≡ writer.old.black_is_0 }
-    ensures untaken { writer.old.is_open ≡ false → (result ≡ 6) × (writer.new ≡ writer.old) }
+    ensures untaken { writer.old.is_open ≡ false → (result ≡ NOT_TAKEN) × (writer.new ≡ writer.old) }
 {
     if !writer.is_open {
-        return 6;
+        return status::NOT_TAKEN;
     }
     let mut strip = writer.take(alloc);
     let status = strip.add_packed(row, writer.black_is_0);
@@ -428,14 +431,14 @@ pub extern "C" fn fax_encode_row_packed(alloc: Global, writer: &mut Writer, row:
     status
 }
 
-/// Finishes the strip, unless it is finished, and writes its bytes into `data`: the lines of all rows, EOFB or RTC, and zeros up
-/// to a whole byte. The bytes after them keep their values. No row may be added after a status of 0 or 5, and each further call
-/// returns the same bytes.
+/// Finishes the strip, unless it is finished, and writes its bytes into `data`: the lines of all rows, EOFB or RTC, and zeros
+/// up to a whole byte. The bytes after them keep their values. No row may be added after `OK` or `REFUSED`, and each further
+/// call returns the same bytes.
 ///
-/// `outcome` has the number of rows and of bytes if the status is 0 or 5, else 0. A status of 4 says that an allocation failed,
-/// and each further call of this writer but [`fax_encode_close`] returns it; 5, that `data` has no room for that many bytes; 6,
-/// that the writer isn't open, or there are no rows, other than in Group 4 with EOFB: then nothing is changed. With all but 0
-/// `data` keeps its values.
+/// `outcome` has the number of rows and of bytes if the status is `OK` or `REFUSED`, else 0. `OUT_OF_MEMORY` says that an
+/// allocation failed, and each further call of this writer but [`fax_encode_close`] returns it; `REFUSED`, that `data` has no
+/// room for that many bytes; `NOT_TAKEN`, that the writer isn't open, or there are no rows, other than in Group 4 with EOFB:
+/// then nothing is changed. With all but `OK` `data` keeps its values.
 #[unsafe(no_mangle)]
 pub extern "C" fn fax_encode_finish(
     alloc: Global,
@@ -445,21 +448,21 @@ pub extern "C" fn fax_encode_finish(
 ) -> u32
     ensures finishes { writer.old.is_open ≡ true
         → OnStrips writer.old.handle.value writer.new.handle.value (λ old new. Finishes old new result) }
-    ensures given { result ≡ 0 → OnStrip writer.new.handle.value (λ strip.
+    ensures given { result ≡ OK → OnStrip writer.new.handle.value (λ strip.
         IfFinished strip (λ bytes. IsGiven bytes «data».old «data».new)) }
-    ensures refused { result ≡ 5 → OnStrip writer.new.handle.value (λ strip.
+    ensures refused { result ≡ REFUSED → OnStrip writer.new.handle.value (λ strip.
         IfFinished strip (λ bytes. length «data».new < length bytes)) }
-    ensures unwritten { result ≢ 0 → «data».new ≡ «data».old }
+    ensures unwritten { result ≢ OK → «data».new ≡ «data».old }
     ensures told { writer.old.is_open ≡ true
         → OnStrip writer.new.handle.value (λ strip. outcome.new ≡ strip_told strip) }
     ensures is_open { writer.new.is_open ≡ writer.old.is_open }
     ensures black { writer.new.black_is_0 ≡ writer.old.black_is_0 }
     ensures untaken { writer.old.is_open ≡ false
-        → (result ≡ 6) × (writer.new ≡ writer.old) × (outcome.new ≡ record { rows = 0; bytes = 0 }) }
+        → (result ≡ NOT_TAKEN) × (writer.new ≡ writer.old) × (outcome.new ≡ record { rows = 0; bytes = 0 }) }
 {
     if !writer.is_open {
         *outcome = EncodeOutcome { rows: 0, bytes: 0 };
-        return 6;
+        return status::NOT_TAKEN;
     }
     let mut strip = writer.take(alloc);
     let status = strip.give_bytes(data, outcome);
@@ -467,16 +470,16 @@ pub extern "C" fn fax_encode_finish(
     status
 }
 
-/// Closes a writer, and frees what it holds. A status of 6 says that it isn't open; then nothing is done.
+/// Closes a writer, and frees what it holds. `NOT_TAKEN` says that it isn't open; then nothing is done.
 #[unsafe(no_mangle)]
 pub extern "C" fn fax_encode_close(alloc: Global, writer: &mut Writer) -> u32
     ensures closed { writer.new.is_open ≡ false }
-    ensures was_open { writer.old.is_open ≡ true → result ≡ 0 }
-    ensures was_closed { writer.old.is_open ≡ false → (result ≡ 6) × (writer.new ≡ writer.old) }
+    ensures was_open { writer.old.is_open ≡ true → result ≡ OK }
+    ensures was_closed { writer.old.is_open ≡ false → (result ≡ NOT_TAKEN) × (writer.new ≡ writer.old) }
 {
     if !writer.is_open {
-        return 6;
+        return status::NOT_TAKEN;
     }
     drop(writer.take(alloc));
-    0
+    status::OK
 }

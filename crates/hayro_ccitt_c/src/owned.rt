@@ -9,11 +9,13 @@ ghost use Rattle.hayro_ccitt_c.specs.Owned.{IfReading, IfReadings, IfStrip, IfSt
 ghost use Rattle.hayro_ccitt_c.specs.Packing.{bytes_of_row, row_read};
 ghost use Rattle.hayro_ccitt_c.specs.RowsGiven.{GivesRow, IsListed, IsOpened, IsPacked, TellsOf};
 ghost use Rattle.hayro_ccitt_c.specs.RowsTaken.{Finishes, IfFinished, IsGiven, TakesRow, strip_told};
+ghost use Rattle.hayro_ccitt_c.specs.declared.status.TheConstants.{OK, REFUSED};
 
 use crate::encoding::EncodeOutcome;
 use crate::feeding::Feeding;
 use crate::reading::Reading;
 use crate::row_outcome::{RowOutcome, told_of};
+use crate::status;
 use crate::strip::Strip;
 use fax_encode::{EncodeError, EncodeSettings, Encoder};
 use hayro_ccitt::DecodeSettings;
@@ -71,11 +73,11 @@ impl Owned {
         requires fit { BitsFit «data».now }
         requires reads { is_reading self.old ≡ true }
         ensures gives { IfReadings self.old self.new (λ old new. GivesRow «data».now old new result) }
-        ensures listed { result ≡ 0 → IfReading self.new (λ reading.
+        ensures listed { result ≡ OK → IfReading self.new (λ reading.
             IsListed reading.rows.held.reference list.old list.new) }
-        ensures refused { result ≡ 5 → IfReading self.new (λ reading.
+        ensures refused { result ≡ REFUSED → IfReading self.new (λ reading.
             length list.new < length (changes reading.rows.held.reference)) }
-        ensures unwritten { result ≢ 0 → list.new ≡ list.old }
+        ensures unwritten { result ≢ OK → list.new ≡ list.old }
         ensures told { IfReading self.new (λ reading. TellsOf reading.rows outcome.new) }
         ensures reads { is_reading self.new ≡ true }
     {
@@ -85,7 +87,7 @@ impl Owned {
                 *outcome = told_of(reading);
                 status
             }
-            Owned::Strip(_) | Owned::Feeding(_) => 6,
+            Owned::Strip(_) | Owned::Feeding(_) => status::NOT_TAKEN,
         }
     }
 
@@ -99,11 +101,11 @@ impl Owned {
         requires fit { BitsFit «data».now }
         requires reads { is_reading self.old ≡ true }
         ensures gives { IfReadings self.old self.new (λ old new. GivesRow «data».now old new result) }
-        ensures packed { result ≡ 0 → IfReading self.new (λ reading.
+        ensures packed { result ≡ OK → IfReading self.new (λ reading.
             IsPacked reading.black_is_0 reading.rows.held.settings.columns reading.rows.held.reference bytes.old bytes.new) }
-        ensures refused { result ≡ 5 → IfReading self.new (λ reading.
+        ensures refused { result ≡ REFUSED → IfReading self.new (λ reading.
             length bytes.new < bytes_of_row reading.rows.held.settings.columns) }
-        ensures unwritten { result ≢ 0 → bytes.new ≡ bytes.old }
+        ensures unwritten { result ≢ OK → bytes.new ≡ bytes.old }
         ensures told { IfReading self.new (λ reading. TellsOf reading.rows outcome.new) }
         ensures reads { is_reading self.new ≡ true }
     {
@@ -113,7 +115,7 @@ impl Owned {
                 *outcome = told_of(reading);
                 status
             }
-            Owned::Strip(_) | Owned::Feeding(_) => 6,
+            Owned::Strip(_) | Owned::Feeding(_) => status::NOT_TAKEN,
         }
     }
 
@@ -126,7 +128,7 @@ impl Owned {
     {
         match self {
             Owned::Strip(strip) => strip.add_changes(changes),
-            Owned::Reading(_) | Owned::Feeding(_) => 6,
+            Owned::Reading(_) | Owned::Feeding(_) => status::NOT_TAKEN,
         }
     }
 
@@ -140,7 +142,7 @@ impl Owned {
     {
         match self {
             Owned::Strip(strip) => strip.add_packed(row, black_is_0),
-            Owned::Reading(_) | Owned::Feeding(_) => 6,
+            Owned::Reading(_) | Owned::Feeding(_) => status::NOT_TAKEN,
         }
     }
 
@@ -148,17 +150,17 @@ impl Owned {
     pub(crate) fn give_bytes(&mut self, data: &mut [u8], outcome: &mut EncodeOutcome) -> u32
         requires strip { is_strip self.old ≡ true }
         ensures finishes { IfStrips self.old self.new (λ old new. Finishes old new result) }
-        ensures given { result ≡ 0 → IfStrip self.new (λ strip.
+        ensures given { result ≡ OK → IfStrip self.new (λ strip.
             IfFinished strip (λ bytes. IsGiven bytes «data».old «data».new)) }
-        ensures refused { result ≡ 5 → IfStrip self.new (λ strip.
+        ensures refused { result ≡ REFUSED → IfStrip self.new (λ strip.
             IfFinished strip (λ bytes. length «data».new < length bytes)) }
-        ensures unwritten { result ≢ 0 → «data».new ≡ «data».old }
+        ensures unwritten { result ≢ OK → «data».new ≡ «data».old }
         ensures told { IfStrip self.new (λ strip. outcome.new ≡ strip_told strip) }
         ensures strip { is_strip self.new ≡ true }
     {
         match self {
             Owned::Strip(strip) => strip.give_bytes(data, outcome),
-            Owned::Reading(_) | Owned::Feeding(_) => 6,
+            Owned::Reading(_) | Owned::Feeding(_) => status::NOT_TAKEN,
         }
     }
 }

@@ -8,10 +8,12 @@ ghost use Rattle.hayro_ccitt_c.specs.Owned.{IfFeeding, IfFeedings, is_feeding};
 ghost use Rattle.hayro_ccitt_c.specs.Packing.{bytes_of_row};
 ghost use Rattle.hayro_ccitt_c.specs.RowsFed.{FinishesFeed, GivesFed, IsFeedOpened, TakesBytes, as_paused};
 ghost use Rattle.hayro_ccitt_c.specs.RowsGiven.{IsListed, IsPacked, TellsOf};
+ghost use Rattle.hayro_ccitt_c.specs.declared.status.TheConstants.{OK, REFUSED};
 
 use crate::feeding::Feeding;
 use crate::owned::Owned;
 use crate::row_outcome::RowOutcome;
+use crate::status;
 use hayro_ccitt::DecodeSettings;
 use hayro_ccitt::bit_reader::BitOrder;
 use std::alloc::Global;
@@ -40,7 +42,7 @@ impl Owned {
     {
         match self {
             Owned::Feeding(feeding) => feeding.take_bytes(bytes),
-            Owned::Reading(_) | Owned::Strip(_) => 6,
+            Owned::Reading(_) | Owned::Strip(_) => status::NOT_TAKEN,
         }
     }
 
@@ -48,15 +50,15 @@ impl Owned {
     pub(crate) fn finish_data(&mut self) -> u32
         requires feeds { is_feeding self.old ≡ true }
         ensures finishes { IfFeedings self.old self.new (λ old new. FinishesFeed old new) }
-        ensures finished { result ≡ 0 }
+        ensures finished { result ≡ OK }
         ensures feeds { is_feeding self.new ≡ true }
     {
         match self {
             Owned::Feeding(feeding) => {
                 feeding.finish();
-                0
+                status::OK
             }
-            Owned::Reading(_) | Owned::Strip(_) => 6,
+            Owned::Reading(_) | Owned::Strip(_) => status::NOT_TAKEN,
         }
     }
 
@@ -64,11 +66,11 @@ impl Owned {
     pub(crate) fn list_fed(&mut self, list: &mut [u32], outcome: &mut RowOutcome) -> u32
         requires feeds { is_feeding self.old ≡ true }
         ensures gives { IfFeedings self.old self.new (λ old new. GivesFed old new result) }
-        ensures listed { result ≡ 0 → IfFeeding self.new (λ feeding.
+        ensures listed { result ≡ OK → IfFeeding self.new (λ feeding.
             IsListed feeding.rows.ctx.held.reference list.old list.new) }
-        ensures refused { result ≡ 5 → IfFeeding self.new (λ feeding.
+        ensures refused { result ≡ REFUSED → IfFeeding self.new (λ feeding.
             length list.new < length (changes feeding.rows.ctx.held.reference)) }
-        ensures unwritten { result ≢ 0 → list.new ≡ list.old }
+        ensures unwritten { result ≢ OK → list.new ≡ list.old }
         ensures told { IfFeeding self.new (λ feeding. TellsOf (as_paused feeding.rows) outcome.new) }
         ensures feeds { is_feeding self.new ≡ true }
     {
@@ -78,7 +80,7 @@ impl Owned {
                 *outcome = feeding.told();
                 status
             }
-            Owned::Reading(_) | Owned::Strip(_) => 6,
+            Owned::Reading(_) | Owned::Strip(_) => status::NOT_TAKEN,
         }
     }
 
@@ -86,12 +88,12 @@ impl Owned {
     pub(crate) fn pack_fed(&mut self, bytes: &mut [u8], outcome: &mut RowOutcome) -> u32
         requires feeds { is_feeding self.old ≡ true }
         ensures gives { IfFeedings self.old self.new (λ old new. GivesFed old new result) }
-        ensures packed { result ≡ 0 → IfFeeding self.new (λ feeding.
+        ensures packed { result ≡ OK → IfFeeding self.new (λ feeding.
             IsPacked feeding.black_is_0 feeding.rows.ctx.held.settings.columns feeding.rows.ctx.held.reference
             bytes.old bytes.new) }
-        ensures refused { result ≡ 5 → IfFeeding self.new (λ feeding.
+        ensures refused { result ≡ REFUSED → IfFeeding self.new (λ feeding.
             length bytes.new < bytes_of_row feeding.rows.ctx.held.settings.columns) }
-        ensures unwritten { result ≢ 0 → bytes.new ≡ bytes.old }
+        ensures unwritten { result ≢ OK → bytes.new ≡ bytes.old }
         ensures told { IfFeeding self.new (λ feeding. TellsOf (as_paused feeding.rows) outcome.new) }
         ensures feeds { is_feeding self.new ≡ true }
     {
@@ -101,7 +103,7 @@ impl Owned {
                 *outcome = feeding.told();
                 status
             }
-            Owned::Reading(_) | Owned::Strip(_) => 6,
+            Owned::Reading(_) | Owned::Strip(_) => status::NOT_TAKEN,
         }
     }
 
@@ -109,16 +111,16 @@ impl Owned {
     /// there are.
     pub(crate) fn give_unused(&self, bytes: &mut [u8], count: &mut usize) -> u32
         requires feeds { is_feeding self.now ≡ true }
-        ensures statuses { (result ≡ 0) ⊎ (result ≡ 5) }
-        ensures given { result ≡ 0 → IfFeeding self.now (λ feeding.
+        ensures statuses { (result ≡ OK) ⊎ (result ≡ REFUSED) }
+        ensures given { result ≡ OK → IfFeeding self.now (λ feeding.
             AreEncoded feeding.rows.order (unused feeding.rows) count.new bytes.old bytes.new) }
-        ensures refused { result ≡ 5 → IfFeeding self.now (λ feeding.
+        ensures refused { result ≡ REFUSED → IfFeeding self.now (λ feeding.
             HaveNoRoom (unused feeding.rows) count.new (length bytes.new)) }
-        ensures unwritten { result ≢ 0 → bytes.new ≡ bytes.old }
+        ensures unwritten { result ≢ OK → bytes.new ≡ bytes.old }
     {
         match self {
             Owned::Feeding(feeding) => feeding.give_unused(bytes, count),
-            Owned::Reading(_) | Owned::Strip(_) => 5,
+            Owned::Reading(_) | Owned::Strip(_) => status::REFUSED,
         }
     }
 }

@@ -5,8 +5,10 @@ ghost use Rattle.hayro_ccitt.specs.Bits.{BitsFit, bits_in};
 ghost use Rattle.hayro_ccitt.specs.Rows.{changes};
 ghost use Rattle.hayro_ccitt_c.specs.Packing.{bytes_of_row};
 ghost use Rattle.hayro_ccitt_c.specs.RowsGiven.{GivesRow, IsListed, IsOpened, IsPacked, TurnsTo, is_row, status_of_row};
+ghost use Rattle.hayro_ccitt_c.specs.declared.status.TheConstants.{OK, REFUSED};
 
 use crate::row_room::{list_over, pack_over};
+use crate::status;
 use hayro_ccitt::bit_reader::BitOrder;
 use hayro_ccitt::{DecodeError, DecodeSettings, Result, RowCursor};
 use std::alloc::Global;
@@ -32,18 +34,18 @@ fn is_row(answer: Result<bool>) -> bool
 /// Returns the status of a result.
 pub(crate) fn status_of_row(answer: Result<bool>) -> u32
     ensures status { result ≡ status_of_row answer }
-    ensures not_refused { result ≢ 5 }
-    ensures no_row { is_row answer ≡ false → result ≢ 0 }
+    ensures not_refused { result ≢ REFUSED }
+    ensures no_row { is_row answer ≡ false → result ≢ OK }
 {
     match answer {
-        Ok(true) => 0,
-        Ok(false) => 7,
-        Err(DecodeError::UnexpectedEof) => 1,
-        Err(DecodeError::InvalidCode) => 2,
-        Err(DecodeError::Overflow) => 3,
-        Err(DecodeError::OutOfMemory) => 4,
+        Ok(true) => status::OK,
+        Ok(false) => status::NO_ROW,
+        Err(DecodeError::UnexpectedEof) => status::UNEXPECTED_EOF,
+        Err(DecodeError::InvalidCode) => status::INVALID_CODE,
+        Err(DecodeError::Overflow) => status::OVERFLOW,
+        Err(DecodeError::OutOfMemory) => status::OUT_OF_MEMORY,
         // No reading of rows refuses one.
-        Err(DecodeError::Refused) => 6,
+        Err(DecodeError::Refused) => status::NOT_TAKEN,
     }
 }
 
@@ -115,30 +117,38 @@ impl Reading {
     pub(crate) fn list_next(&mut self, data: &[u8], list: &mut [u32]) -> u32
         requires fit { BitsFit «data».now }
         ensures gives { GivesRow «data».now self.old self.new result }
-        ensures listed { result ≡ 0 → IsListed self.new.rows.held.reference list.old list.new }
-        ensures refused { result ≡ 5 → length list.new < length (changes self.new.rows.held.reference) }
-        ensures unwritten { result ≢ 0 → list.new ≡ list.old }
+        ensures listed { result ≡ OK → IsListed self.new.rows.held.reference list.old list.new }
+        ensures refused { result ≡ REFUSED → length list.new < length (changes self.new.rows.held.reference) }
+        ensures unwritten { result ≢ OK → list.new ≡ list.old }
     {
         let answer = self.come_to_row(data);
         if !is_row(answer) {
             return status_of_row(answer);
         }
-        if self.list_row(list) { 0 } else { 5 }
+        if self.list_row(list) {
+            status::OK
+        } else {
+            status::REFUSED
+        }
     }
 
     /// Writes the next row packed, and returns the status.
     pub(crate) fn pack_next(&mut self, data: &[u8], bytes: &mut [u8]) -> u32
         requires fit { BitsFit «data».now }
         ensures gives { GivesRow «data».now self.old self.new result }
-        ensures packed { result ≡ 0 → IsPacked self.new.black_is_0 self.new.rows.held.settings.columns
+        ensures packed { result ≡ OK → IsPacked self.new.black_is_0 self.new.rows.held.settings.columns
             self.new.rows.held.reference bytes.old bytes.new }
-        ensures refused { result ≡ 5 → length bytes.new < bytes_of_row self.new.rows.held.settings.columns }
-        ensures unwritten { result ≢ 0 → bytes.new ≡ bytes.old }
+        ensures refused { result ≡ REFUSED → length bytes.new < bytes_of_row self.new.rows.held.settings.columns }
+        ensures unwritten { result ≢ OK → bytes.new ≡ bytes.old }
     {
         let answer = self.come_to_row(data);
         if !is_row(answer) {
             return status_of_row(answer);
         }
-        if self.pack_row(bytes) { 0 } else { 5 }
+        if self.pack_row(bytes) {
+            status::OK
+        } else {
+            status::REFUSED
+        }
     }
 }

@@ -7,7 +7,9 @@ ghost use Rattle.hayro_ccitt.specs.Bits.{BitsFit, bits_in};
 ghost use Rattle.hayro_ccitt.specs.PlainReading.{plain};
 ghost use Rattle.hayro_ccitt_c.specs.Reports.{IsReport, cut_taken, damaged_taken, missed_taken, outcome_of, status_of};
 ghost use Rattle.hayro_ccitt_c.specs.Reports.{bytes_read_of};
+ghost use Rattle.hayro_ccitt_c.specs.declared.status.TheConstants.{REFUSED, NOT_TAKEN};
 
+use crate::status;
 use hayro_ccitt::bit_reader::BitOrder;
 use hayro_ccitt::{DecodeError, DecodeSettings, Decoder, DecoderContext, Result, decode_in};
 use std::alloc::Global;
@@ -20,11 +22,11 @@ pub struct Outcome {
     pub rows: u64,
     /// The number of their changes.
     pub changes: u64,
-    /// The number of bytes consumed if the status is 0, else 0.
+    /// The number of bytes consumed if the status is `OK`, else 0.
     pub bytes_read: u64,
     /// The number of rows that were damaged and repaired.
     pub damaged_rows: u64,
-    /// The offset of the fault in bits if the status is 1 to 5, else 0.
+    /// The offset of the fault in bits if the status is `UNEXPECTED_EOF` to `REFUSED`, else 0.
     pub fault_start: u64,
     /// The number of rows after which the EOL was missed.
     pub missed_eols: u64,
@@ -39,11 +41,11 @@ pub(crate) struct Report {
     pub status: u32,
     /// The number of rows that the sink accepted.
     pub rows: u64,
-    /// The number of bytes consumed if the status is 0, else 0.
+    /// The number of bytes consumed if the status is `OK`, else 0.
     pub bytes_read: u64,
     /// The number of rows that were damaged and repaired.
     pub damaged_rows: u64,
-    /// The offset of the fault in bits if the status is 1 to 5, else 0.
+    /// The offset of the fault in bits if the status is `UNEXPECTED_EOF` to `REFUSED`, else 0.
     pub fault_start: u64,
     /// The number of rows after which the EOL was missed.
     pub missed_eols: u64,
@@ -53,7 +55,7 @@ pub(crate) struct Report {
 
 /// Returns the status of data that is too long or settings that are invalid, and sets all of `outcome` to zeros.
 pub(crate) fn untaken(outcome: &mut Outcome) -> u32
-    ensures status { result ≡ 6 }
+    ensures status { result ≡ NOT_TAKEN }
     ensures outcome { outcome.new ≡ outcome_of 0 0 0 0 0 0 0 }
 {
     *outcome = Outcome {
@@ -65,7 +67,7 @@ pub(crate) fn untaken(outcome: &mut Outcome) -> u32
         missed_eols: 0,
         cut_rows: 0,
     };
-    6
+    status::NOT_TAKEN
 }
 
 /// Returns the status of a decoding, and sets `outcome` to what it reports and the number of changes.
@@ -92,12 +94,12 @@ fn status_of(answer: &Result<usize>) -> u32
     ensures { result ≡ status_of answer.now }
 {
     match answer {
-        Ok(_) => 0,
-        Err(DecodeError::UnexpectedEof) => 1,
-        Err(DecodeError::InvalidCode) => 2,
-        Err(DecodeError::Overflow) => 3,
-        Err(DecodeError::OutOfMemory) => 4,
-        Err(DecodeError::Refused) => 5,
+        Ok(_) => status::OK,
+        Err(DecodeError::UnexpectedEof) => status::UNEXPECTED_EOF,
+        Err(DecodeError::InvalidCode) => status::INVALID_CODE,
+        Err(DecodeError::Overflow) => status::OVERFLOW,
+        Err(DecodeError::OutOfMemory) => status::OUT_OF_MEMORY,
+        Err(DecodeError::Refused) => status::REFUSED,
     }
 }
 
@@ -128,13 +130,13 @@ pub(crate) fn decoded<D: Decoder>(
     ensures meaning { D.meaning sink.new ≡ meaning_after (D.step (D.width sink.old)) (D.meaning sink.old)
         (take result.rows (plain settings (bits_in order «data».now)).rows) }
     ensures width { D.width sink.new ≡ D.width sink.old }
-    ensures flag { result.status ≡ 5 → D.has_refused sink.new ≡ true }
-    ensures refused_row { result.status ≡ 5 → D.refuses sink.new
+    ensures flag { result.status ≡ REFUSED → D.has_refused sink.new ≡ true }
+    ensures refused_row { result.status ≡ REFUSED → D.refuses sink.new
         (changes (get_or (plain settings (bits_in order «data».now)).rows result.rows [])) }
 {
     let Ok(mut ctx) = DecoderContext::new(alloc, settings) else {
         return Report {
-            status: 4,
+            status: status::OUT_OF_MEMORY,
             rows: 0,
             bytes_read: 0,
             damaged_rows: 0,

@@ -5,8 +5,10 @@ ghost use Rattle.hayro_ccitt.specs.Bits.{bits_of};
 ghost use Rattle.hayro_ccitt.specs.Rows.{AreChanges, pixels};
 ghost use Rattle.hayro_ccitt_c.specs.Packing.{bytes_of_row, row_read};
 ghost use Rattle.hayro_ccitt_c.specs.RowsTaken.{Finishes, IfFinished, IsGiven, TakesRow, status_of_adding, strip_told};
+ghost use Rattle.hayro_ccitt_c.specs.declared.status.TheConstants.{OK, REFUSED};
 
 use crate::encoding::EncodeOutcome;
+use crate::status;
 use fax_encode::{EncodeError, Encoder};
 use std::mem;
 
@@ -20,10 +22,10 @@ pub struct Finished {
 impl Finished {
     /// Writes the bytes if there is room for them, and returns the status.
     fn give(&self, data: &mut [u8], outcome: &mut EncodeOutcome) -> u32
-        ensures statuses { (result ≡ 0) ⊎ (result ≡ 5) }
-        ensures given { result ≡ 0 → IsGiven self.now.bytes.items «data».old «data».new }
-        ensures refused { result ≡ 5 → length «data».new < length self.now.bytes.items }
-        ensures unwritten { result ≢ 0 → «data».new ≡ «data».old }
+        ensures statuses { (result ≡ OK) ⊎ (result ≡ REFUSED) }
+        ensures given { result ≡ OK → IsGiven self.now.bytes.items «data».old «data».new }
+        ensures refused { result ≡ REFUSED → length «data».new < length self.now.bytes.items }
+        ensures unwritten { result ≢ OK → «data».new ≡ «data».old }
         ensures told { outcome.new ≡ record { rows = self.now.rows; bytes = length self.now.bytes.items } }
     {
         let count = self.bytes.len();
@@ -32,10 +34,10 @@ impl Finished {
             bytes: count as u64,
         };
         if count > data.len() {
-            return 5;
+            return status::REFUSED;
         }
         data[..count].copy_from_slice(self.bytes.as_slice());
-        0
+        status::OK
     }
 }
 
@@ -55,9 +57,9 @@ fn status_of_adding(answer: Result<(), EncodeError>) -> u32
     ensures { result ≡ status_of_adding answer }
 {
     match answer {
-        Ok(()) => 0,
-        Err(EncodeError::OutOfMemory) => 4,
-        Err(_) => 6,
+        Ok(()) => status::OK,
+        Err(EncodeError::OutOfMemory) => status::OUT_OF_MEMORY,
+        Err(_) => status::NOT_TAKEN,
     }
 }
 
@@ -69,8 +71,8 @@ impl Strip {
     {
         match self {
             Strip::Rows(encoder) => status_of_adding(encoder.push_changes(changes)),
-            Strip::Whole(_) => 6,
-            Strip::OutOfMemory => 4,
+            Strip::Whole(_) => status::NOT_TAKEN,
+            Strip::OutOfMemory => status::OUT_OF_MEMORY,
         }
     }
 
@@ -87,8 +89,8 @@ impl Strip {
                     status_of_adding(encoder.push_packed_row(row))
                 }
             }
-            Strip::Whole(_) => 6,
-            Strip::OutOfMemory => 4,
+            Strip::Whole(_) => status::NOT_TAKEN,
+            Strip::OutOfMemory => status::OUT_OF_MEMORY,
         }
     }
 
@@ -98,7 +100,7 @@ impl Strip {
     {
         if let Strip::Rows(encoder) = self {
             if encoder.needs_row() {
-                return 6;
+                return status::NOT_TAKEN;
             }
         }
         match mem::replace(self, Strip::OutOfMemory) {
@@ -107,25 +109,25 @@ impl Strip {
                 match encoder.finish() {
                     Ok(bytes) => {
                         *self = Strip::Whole(Finished { bytes, rows });
-                        0
+                        status::OK
                     }
-                    Err(_) => 4,
+                    Err(_) => status::OUT_OF_MEMORY,
                 }
             }
             Strip::Whole(finished) => {
                 *self = Strip::Whole(finished);
-                0
+                status::OK
             }
-            Strip::OutOfMemory => 4,
+            Strip::OutOfMemory => status::OUT_OF_MEMORY,
         }
     }
 
     /// Finishes the picture, unless it is, writes its bytes if there is room for them, and returns the status.
     pub(crate) fn give_bytes(&mut self, data: &mut [u8], outcome: &mut EncodeOutcome) -> u32
         ensures finishes { Finishes self.old self.new result }
-        ensures given { result ≡ 0 → IfFinished self.new (λ bytes. IsGiven bytes «data».old «data».new) }
-        ensures refused { result ≡ 5 → IfFinished self.new (λ bytes. length «data».new < length bytes) }
-        ensures unwritten { result ≢ 0 → «data».new ≡ «data».old }
+        ensures given { result ≡ OK → IfFinished self.new (λ bytes. IsGiven bytes «data».old «data».new) }
+        ensures refused { result ≡ REFUSED → IfFinished self.new (λ bytes. length «data».new < length bytes) }
+        ensures unwritten { result ≢ OK → «data».new ≡ «data».old }
         ensures told { outcome.new ≡ strip_told self.new }
     {
         *outcome = EncodeOutcome { rows: 0, bytes: 0 };
