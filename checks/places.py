@@ -19,7 +19,7 @@ DECODER = ["fax_bits", "fax_reading", "hayro_ccitt"]
 # Crates whose functions nobody calls: tests, and worked examples.
 NOT_CALLED = {"decoder_tests", "encoder_tests", "faxrows_tests", "named_requests", "worked_rows"}
 WORDS = re.compile(
-    r"\bOutOfMemory\b|\bMemory\b|\bRefused\b|\bAllocError\b|\bAllocFailed\b|\bwants_memory\b|\bhas_refused\b|\b(?:try_)?reserve\w*\("
+    r"\bOutOfMemory\b|\bOUT_OF_MEMORY\b|\bMemory\b|\bRefused\b|\bAllocError\b|\bAllocFailed\b|\bwants_memory\b|\bhas_refused\b|\b(?:try_)?reserve\w*\("
     r"|\bwith_capacity\w*\(|\bvec!|\bBox::new\b"
 )
 STATUS = re.compile(r"(?<!/ )\b4\b")

@@ -13,7 +13,8 @@ use Rattle.hayro_ccitt.specs.RowsRead.{ReadsNext, at_end_of_rows, ended}
 use Rattle.hayro_ccitt_c.specs.Packing.{bytes_of_row, packed_row}
 use Rattle.hayro_ccitt_c.specs.declared.reading.Reading.{Reading}
 use Rattle.hayro_ccitt_c.specs.declared.row_outcome.RowOutcome.{RowOutcome}
-use Rattle.hayro_ccitt_c.specs.declared.status.TheConstants.{OK, UNEXPECTED_EOF, INVALID_CODE, OVERFLOW, OUT_OF_MEMORY, REFUSED, NOT_TAKEN, NO_ROW}
+use Rattle.hayro_ccitt_c.specs.declared.status.TheConstants.{OK, UNEXPECTED_EOF, INVALID_CODE, OVERFLOW, OUT_OF_MEMORY}
+use Rattle.hayro_ccitt_c.specs.declared.status.TheConstants.{REFUSED, NOT_TAKEN, NO_ROW}
 
 -- whether there was a row
 abbrev pub is_row : Result Bool DecodeError → Bool
