@@ -13,7 +13,7 @@ pub use Rattle.faxrows_runs.specs.DamageText.{IsDamageText, IsDamageWithoutMemor
 pub use Rattle.faxrows_runs.specs.DamageText.{end_with_fault, last_line_of_damage, line_of_damage, line_of_miss, miss_of_row}
 pub use Rattle.faxrows_runs.specs.DamageText.{line_of_cut}
 pub use Rattle.faxrows_runs.specs.DamageText.{number_and, numbered, repair_of_row, whole_damage}
-pub use Rattle.faxrows_runs.specs.Output.{PassesOn, Used, WritesText, bytes_after, bytes_before, used}
+pub use Rattle.faxrows_runs.specs.Output.{FailsByWriter, PassesOn, PutsText, Used, WritesText, bytes_after, bytes_before, used}
 pub use Rattle.faxrows_runs.specs.PackedRuns.{IsPackedOf, answer_of}
 pub use Rattle.faxrows_runs.specs.ProgramRuns.{HasInput, LacksInput, RunsProgram}
 pub use Rattle.faxrows_runs.specs.Runs.{EndsAfter, IsRowsText, IsTextOfEnd, IsTextOfWant, OnKnown, Outcome, done_of}

@@ -26,6 +26,18 @@ bytes_after device = device.bytes device.after.0
 abbrev pub PassesOn : Option (List ℕ) → Option (List ℕ) → List ℕ → List ℕ → List ℕ → Type 0
 PassesOn before after waited text waits = (front : List ℕ) × Appends before after front × (waited ++ text ≡ front ++ waits)
 
+-- The writer's flag is set if the call failed, and is as it was if it didn't; nothing but the writer fails.
+pub record FailsByWriter {W T : Type 0} (writer : Used W) (result : Result T RunFault) : Type 0 where
+  pub flag : OnOk result (writer.after.1 ≡ writer.before.1)
+  pub failed : OnErr result (writer.after.1 ≡ true)
+  pub only : IfErr result (λ fault. fault ≡ Write)
+
+-- A text was put after what waited, and what is left waits now; or the writer failed, and has a front of both.
+pub record PutsText {W : Type 0} (text waited waits : List ℕ) (writer : Used W) (result : Result (Unit {0}) RunFault) : Type 0 where
+  pub ok : OnOk result (PassesOn (bytes_before writer) (bytes_after writer) waited text waits)
+  pub front : OnErr result (AppendsFront (bytes_before writer) (bytes_after writer) (waited ++ text))
+  pub fails : FailsByWriter writer result
+
 -- A call wrote a text, all of it or, where the writer failed, a front of it; `IsText` says which texts go with the value that is
 -- returned.
 pub record WritesText {W T : Type 0} (IsText : T → List ℕ → Type 0) (writer : Used W) (result : Result T RunFault) : Type 0 where

@@ -1,9 +1,9 @@
 //! A run of the program that writes each row as soon as it is known.
 
-ghost use Rattle.std.specs.Prelude.{◌≡◌, ◌↔◌, ℕ, [], IfOk, IfErr, OnOk, OnErr, None, Err, true, false, map, string_bytes};
+ghost use Rattle.std.specs.Prelude.{◌≡◌, ◌↔◌, ℕ, [], IfOk, IfErr, OnOk, None, Err, true, false, map, string_bytes};
 ghost use Rattle.hayro_ccitt.specs.Bits.{Bits};
 ghost use Rattle.hayro_ccitt.specs.RowFeeds.{IsFeedOf};
-ghost use Rattle.faxrows_runs.specs.Output.{used};
+ghost use Rattle.faxrows_runs.specs.Output.{FailsByWriter, used};
 ghost use Rattle.faxrows_runs.specs.RowsFed.{FeedsNone, FeedsPiece, IsNewFeed, IsReadToEnd, PutsRows};
 ghost use Rattle.faxrows_runs.specs.RunsAsRead.{RunsAsRead, WritesAsRead};
 ghost use Rattle.faxrows_runs.specs.RunsByRow.{IsTextByRow};
@@ -96,9 +96,7 @@ fn put_rows<W: Write>(
 ) -> std::result::Result<Option<hayro_ccitt::Result<usize>>, RunFault>
     requires some { (whole : Bits) × (tried : ℕ) × IsFeedOf whole tried rows.old }
     ensures puts { PutsRows (used W.contents writer.old writer.new) rows.old rows.new waiting.old.items waiting.new.items result }
-    ensures flag { OnOk result (writer.new.1 ≡ writer.old.1) }
-    ensures failed { OnErr result (writer.new.1 ≡ true) }
-    ensures only { IfErr result (λ fault. fault ≡ RunFault.Write) }
+    ensures by_writer { FailsByWriter (used W.contents writer.old writer.new) result }
 {
     loop {
         match rows.next_row() {

@@ -1,10 +1,9 @@
 //! A run of the program that writes whether the data is an encoding of a picture by every rule, and otherwise where it first
 //! breaks one.
 
-ghost use Rattle.std.specs.Prelude.{◌≡◌, ◌++◌, IfErr, OnOk, OnErr, true, map, string_bytes};
-ghost use Rattle.fax_program.specs.Devices.{AppendsFront};
+ghost use Rattle.std.specs.Prelude.{◌≡◌, map, string_bytes};
 ghost use Rattle.faxrows_runs.specs.CheckText.{IsCheck, done_of_check, end_with_rule, line_of_check};
-ghost use Rattle.faxrows_runs.specs.Output.{PassesOn, WritesText, used};
+ghost use Rattle.faxrows_runs.specs.Output.{PutsText, WritesText, used};
 ghost use Rattle.faxrows_runs.specs.ProgramRuns.{RunsProgram};
 
 use crate::damage_lines::put_number;
@@ -71,13 +70,8 @@ fn put_found<W: Write>(
     waiting: &mut Vec<u8>,
     writer: &mut Device<W>,
 ) -> std::result::Result<(), RunFault>
-    ensures ok { OnOk result (PassesOn (W.contents writer.old.0) (W.contents writer.new.0)
-        waiting.old.items (line_of_check found) waiting.new.items) }
-    ensures front { OnErr result (AppendsFront (W.contents writer.old.0) (W.contents writer.new.0)
-        (waiting.old.items ++ line_of_check found)) }
-    ensures flag { OnOk result (writer.new.1 ≡ writer.old.1) }
-    ensures failed { OnErr result (writer.new.1 ≡ true) }
-    ensures only { IfErr result (λ fault. fault ≡ RunFault.Write) }
+    ensures { PutsText (line_of_check found)
+        waiting.old.items waiting.new.items (used W.contents writer.old writer.new) result }
 {
     let Some(violation) = found else {
         return put(b"ok\n", waiting, writer);

@@ -1,11 +1,11 @@
 //! A run of the program that writes the damage of the data instead of its rows.
 
-ghost use Rattle.std.specs.Prelude.{◌≡◌, ◌<◌, ◌-◌, ◌≢◌, ◌++◌, [], IfOk, IfErr, OnOk, OnErr, true, map, string_bytes, length};
+ghost use Rattle.std.specs.Prelude.{◌≡◌, ◌<◌, ◌-◌, ◌≢◌, ◌++◌, [], IfOk, OnOk, OnErr, map, string_bytes, length};
 ghost use Rattle.std.specs.Prelude.{Some, Err};
 ghost use Rattle.hayro_ccitt.specs.PlainReading.{failed_at};
 ghost use Rattle.fax_program.specs.Devices.{AppendsFront};
 ghost use Rattle.faxrows_runs.specs.DamageText.{IsDamageText, damage_lines, last_line_of_damage, line_of_damage};
-ghost use Rattle.faxrows_runs.specs.Output.{PassesOn, WritesText, used};
+ghost use Rattle.faxrows_runs.specs.Output.{FailsByWriter, PassesOn, PutsText, WritesText, used};
 ghost use Rattle.faxrows_runs.specs.ProgramRuns.{RunsProgram};
 ghost use Rattle.faxrows_runs.specs.Runs.{rows_of};
 ghost use Rattle.faxrows_runs.specs.RunsByRow.{EndsByRow};
@@ -83,9 +83,7 @@ fn put_damage<W: Write>(
         [] (damage_lines rows.old.settings rows.old.bits rows.new.taken) waiting.new.items) }
     ensures front { OnErr result (AppendsFront (W.contents writer.old.0) (W.contents writer.new.0)
         (damage_lines rows.old.settings rows.old.bits (length (rows_of rows.old.settings rows.old.bits)))) }
-    ensures flag { OnOk result (writer.new.1 ≡ writer.old.1) }
-    ensures failed { OnErr result (writer.new.1 ≡ true) }
-    ensures only { IfErr result (λ fault. fault ≡ RunFault.Write) }
+    ensures by_writer { FailsByWriter (used W.contents writer.old writer.new) result }
 {
     loop {
         let read = rows.rows_read();
@@ -106,13 +104,8 @@ fn put_last_row<W: Write>(
     writer: &mut Device<W>,
 ) -> std::result::Result<(), RunFault>
     requires some { 0 < rows.now.taken }
-    ensures ok { OnOk result (PassesOn (W.contents writer.old.0) (W.contents writer.new.0)
-        waiting.old.items (line_of_damage (rows.now.taken - 1) rows.now.line_start rows.now.damage rows.now.cut) waiting.new.items) }
-    ensures front { OnErr result (AppendsFront (W.contents writer.old.0) (W.contents writer.new.0)
-        (waiting.old.items ++ line_of_damage (rows.now.taken - 1) rows.now.line_start rows.now.damage rows.now.cut)) }
-    ensures flag { OnOk result (writer.new.1 ≡ writer.old.1) }
-    ensures failed { OnErr result (writer.new.1 ≡ true) }
-    ensures only { IfErr result (λ fault. fault ≡ RunFault.Write) }
+    ensures { PutsText (line_of_damage (rows.now.taken - 1) rows.now.line_start rows.now.damage rows.now.cut)
+        waiting.old.items waiting.new.items (used W.contents writer.old writer.new) result }
 {
     match rows.damage() {
         Some(fault) => {
@@ -136,13 +129,8 @@ fn put_end<W: Write>(
     writer: &mut Device<W>,
 ) -> std::result::Result<(), RunFault>
     requires fails { OnErr outcome.now (rows.now.line_start ≡ failed_at rows.now.settings rows.now.bits rows.now.taken) }
-    ensures ok { OnOk result (PassesOn (W.contents writer.old.0) (W.contents writer.new.0)
-        waiting.old.items (last_line_of_damage rows.now.settings rows.now.bits rows.now.taken outcome.now) waiting.new.items) }
-    ensures front { OnErr result (AppendsFront (W.contents writer.old.0) (W.contents writer.new.0)
-        (waiting.old.items ++ last_line_of_damage rows.now.settings rows.now.bits rows.now.taken outcome.now)) }
-    ensures flag { OnOk result (writer.new.1 ≡ writer.old.1) }
-    ensures failed { OnErr result (writer.new.1 ≡ true) }
-    ensures only { IfErr result (λ fault. fault ≡ RunFault.Write) }
+    ensures { PutsText (last_line_of_damage rows.now.settings rows.now.bits rows.now.taken outcome.now)
+        waiting.old.items waiting.new.items (used W.contents writer.old writer.new) result }
 {
     match outcome {
         Ok(count) => put_good_end(

@@ -1,9 +1,8 @@
 //! Lines that report damage.
 
-ghost use Rattle.std.specs.Prelude.{◌≡◌, ◌≤◌, ◌-◌, ◌++◌, ◌∷◌, [], OnOk, OnErr, IfErr, Some, Ok, Err, drop, codes, true, ℕ};
-ghost use Rattle.fax_program.specs.Devices.{AppendsFront};
+ghost use Rattle.std.specs.Prelude.{◌≡◌, ◌≤◌, ◌-◌, ◌++◌, drop, codes};
 ghost use Rattle.faxrows_runs.specs.DamageText.{end_with_fault, line_of_cut, line_of_miss, number_and, numbered};
-ghost use Rattle.faxrows_runs.specs.Output.{PassesOn};
+ghost use Rattle.faxrows_runs.specs.Output.{PutsText, used};
 
 use crate::digits::{MOST_DIGITS, put_decimal};
 use crate::output::put;
@@ -30,13 +29,8 @@ pub(crate) fn put_number<W: Write>(
     waiting: &mut Vec<u8>,
     writer: &mut Device<W>,
 ) -> std::result::Result<(), RunFault>
-    ensures ok { OnOk result (PassesOn (W.contents writer.old.0) (W.contents writer.new.0)
-        waiting.old.items (number_and number sign) waiting.new.items) }
-    ensures front { OnErr result (AppendsFront (W.contents writer.old.0) (W.contents writer.new.0)
-        (waiting.old.items ++ number_and number sign)) }
-    ensures flag { OnOk result (writer.new.1 ≡ writer.old.1) }
-    ensures failed { OnErr result (writer.new.1 ≡ true) }
-    ensures only { IfErr result (λ fault. fault ≡ RunFault.Write) }
+    ensures { PutsText (number_and number sign)
+        waiting.old.items waiting.new.items (used W.contents writer.old writer.new) result }
 {
     let mut text = [0u8; NUMBER_ROOM];
     let start = put_number_text(number, sign, &mut text);
@@ -52,13 +46,8 @@ pub(crate) fn put_numbers<W: Write>(
     waiting: &mut Vec<u8>,
     writer: &mut Device<W>,
 ) -> std::result::Result<(), RunFault>
-    ensures ok { OnOk result (PassesOn (W.contents writer.old.0) (W.contents writer.new.0)
-        waiting.old.items (word.now ++ (number_and first 32 ++ number_and second sign)) waiting.new.items) }
-    ensures front { OnErr result (AppendsFront (W.contents writer.old.0) (W.contents writer.new.0)
-        (waiting.old.items ++ (word.now ++ (number_and first 32 ++ number_and second sign)))) }
-    ensures flag { OnOk result (writer.new.1 ≡ writer.old.1) }
-    ensures failed { OnErr result (writer.new.1 ≡ true) }
-    ensures only { IfErr result (λ fault. fault ≡ RunFault.Write) }
+    ensures { PutsText (word.now ++ (number_and first 32 ++ number_and second sign))
+        waiting.old.items waiting.new.items (used W.contents writer.old writer.new) result }
 {
     put(word, waiting, writer)?;
     put_number(first, b' ', waiting, writer)?;
@@ -87,13 +76,8 @@ pub(crate) fn put_fault<W: Write>(
     waiting: &mut Vec<u8>,
     writer: &mut Device<W>,
 ) -> std::result::Result<(), RunFault>
-    ensures ok { OnOk result (PassesOn (W.contents writer.old.0) (W.contents writer.new.0)
-        waiting.old.items (numbered word.now row start ++ end_with_fault fault) waiting.new.items) }
-    ensures front { OnErr result (AppendsFront (W.contents writer.old.0) (W.contents writer.new.0)
-        (waiting.old.items ++ (numbered word.now row start ++ end_with_fault fault))) }
-    ensures flag { OnOk result (writer.new.1 ≡ writer.old.1) }
-    ensures failed { OnErr result (writer.new.1 ≡ true) }
-    ensures only { IfErr result (λ fault. fault ≡ RunFault.Write) }
+    ensures { PutsText (numbered word.now row start ++ end_with_fault fault)
+        waiting.old.items waiting.new.items (used W.contents writer.old writer.new) result }
 {
     put_numbers(word, row, start, b' ', waiting, writer)?;
     put(fault_and_end(fault), waiting, writer)
@@ -106,13 +90,8 @@ pub(crate) fn put_missed<W: Write>(
     waiting: &mut Vec<u8>,
     writer: &mut Device<W>,
 ) -> std::result::Result<(), RunFault>
-    ensures ok { OnOk result (PassesOn (W.contents writer.old.0) (W.contents writer.new.0)
-        waiting.old.items (line_of_miss (rows - 1) missed) waiting.new.items) }
-    ensures front { OnErr result (AppendsFront (W.contents writer.old.0) (W.contents writer.new.0)
-        (waiting.old.items ++ line_of_miss (rows - 1) missed)) }
-    ensures flag { OnOk result (writer.new.1 ≡ writer.old.1) }
-    ensures failed { OnErr result (writer.new.1 ≡ true) }
-    ensures only { IfErr result (λ fault. fault ≡ RunFault.Write) }
+    ensures { PutsText (line_of_miss (rows - 1) missed)
+        waiting.old.items waiting.new.items (used W.contents writer.old writer.new) result }
 {
     match missed {
         Some(start) => {
@@ -131,13 +110,8 @@ pub(crate) fn put_cut<W: Write>(
     waiting: &mut Vec<u8>,
     writer: &mut Device<W>,
 ) -> std::result::Result<(), RunFault>
-    ensures ok { OnOk result (PassesOn (W.contents writer.old.0) (W.contents writer.new.0)
-        waiting.old.items (line_of_cut row start cut) waiting.new.items) }
-    ensures front { OnErr result (AppendsFront (W.contents writer.old.0) (W.contents writer.new.0)
-        (waiting.old.items ++ line_of_cut row start cut)) }
-    ensures flag { OnOk result (writer.new.1 ≡ writer.old.1) }
-    ensures failed { OnErr result (writer.new.1 ≡ true) }
-    ensures only { IfErr result (λ fault. fault ≡ RunFault.Write) }
+    ensures { PutsText (line_of_cut row start cut)
+        waiting.old.items waiting.new.items (used W.contents writer.old writer.new) result }
 {
     if !cut {
         return Ok(());
@@ -153,13 +127,8 @@ pub(crate) fn put_good_end<W: Write>(
     waiting: &mut Vec<u8>,
     writer: &mut Device<W>,
 ) -> std::result::Result<(), RunFault>
-    ensures ok { OnOk result (PassesOn (W.contents writer.old.0) (W.contents writer.new.0)
-        waiting.old.items (numbered (codes "ok ") rows damaged ++ number_and count 10) waiting.new.items) }
-    ensures front { OnErr result (AppendsFront (W.contents writer.old.0) (W.contents writer.new.0)
-        (waiting.old.items ++ (numbered (codes "ok ") rows damaged ++ number_and count 10))) }
-    ensures flag { OnOk result (writer.new.1 ≡ writer.old.1) }
-    ensures failed { OnErr result (writer.new.1 ≡ true) }
-    ensures only { IfErr result (λ fault. fault ≡ RunFault.Write) }
+    ensures { PutsText (numbered (codes "ok ") rows damaged ++ number_and count 10)
+        waiting.old.items waiting.new.items (used W.contents writer.old writer.new) result }
 {
     put_numbers(b"ok ", rows, damaged, b' ', waiting, writer)?;
     put_number(count, b'\n', waiting, writer)

@@ -1,9 +1,9 @@
 //! Text that is written in pieces, so that short lines take few writes.
 
-ghost use Rattle.std.specs.Prelude.{◌≡◌, ◌++◌, ◌<◌, ◌≤◌, ◌^◌, [], drop, OnOk, OnErr, IfErr, true};
+ghost use Rattle.std.specs.Prelude.{◌≡◌, ◌<◌, ◌≤◌, ◌^◌, [], drop, OnOk, OnErr};
 ghost use Rattle.std.specs.Io.KnownBytes.{Appends};
 ghost use Rattle.fax_program.specs.Devices.{AppendsFront};
-ghost use Rattle.faxrows_runs.specs.Output.{PassesOn};
+ghost use Rattle.faxrows_runs.specs.Output.{FailsByWriter, PutsText, used};
 ghost use Rattle.faxrows_runs.specs.Text.{line_of_outcome, line_of_row, text_of_change};
 
 use crate::digits::{MOST_DIGITS, put_decimal};
@@ -22,9 +22,7 @@ pub(crate) fn flush<W: Write>(
     ensures ok { OnOk result (Appends (W.contents writer.old.0) (W.contents writer.new.0) waiting.old.items) }
     ensures empty { OnOk result (waiting.new.items ≡ []) }
     ensures front { OnErr result (AppendsFront (W.contents writer.old.0) (W.contents writer.new.0) waiting.old.items) }
-    ensures flag { OnOk result (writer.new.1 ≡ writer.old.1) }
-    ensures failed { OnErr result (writer.new.1 ≡ true) }
-    ensures only { IfErr result (λ fault. fault ≡ RunFault.Write) }
+    ensures by_writer { FailsByWriter (used W.contents writer.old writer.new) result }
 {
     write_all(writer, waiting.as_slice())?;
     waiting.clear();
@@ -38,12 +36,7 @@ fn make_room<W: Write>(
     writer: &mut Device<W>,
 ) -> std::result::Result<(), RunFault>
     requires fits { count < 2 ^ 63 }
-    ensures ok { OnOk result (PassesOn (W.contents writer.old.0) (W.contents writer.new.0)
-        waiting.old.items [] waiting.new.items) }
-    ensures front { OnErr result (AppendsFront (W.contents writer.old.0) (W.contents writer.new.0) waiting.old.items) }
-    ensures flag { OnOk result (writer.new.1 ≡ writer.old.1) }
-    ensures failed { OnErr result (writer.new.1 ≡ true) }
-    ensures only { IfErr result (λ fault. fault ≡ RunFault.Write) }
+    ensures { PutsText [] waiting.old.items waiting.new.items (used W.contents writer.old writer.new) result }
 {
     if waiting.len() + count > PIECE {
         return flush(waiting, writer);
@@ -58,13 +51,7 @@ pub(crate) fn put<W: Write>(
     waiting: &mut Vec<u8>,
     writer: &mut Device<W>,
 ) -> std::result::Result<(), RunFault>
-    ensures ok { OnOk result (PassesOn (W.contents writer.old.0) (W.contents writer.new.0)
-        waiting.old.items text.now waiting.new.items) }
-    ensures front { OnErr result (AppendsFront (W.contents writer.old.0) (W.contents writer.new.0)
-        (waiting.old.items ++ text.now)) }
-    ensures flag { OnOk result (writer.new.1 ≡ writer.old.1) }
-    ensures failed { OnErr result (writer.new.1 ≡ true) }
-    ensures only { IfErr result (λ fault. fault ≡ RunFault.Write) }
+    ensures { PutsText text.now waiting.old.items waiting.new.items (used W.contents writer.old writer.new) result }
 {
     make_room(text.len(), waiting, writer)?;
     if waiting.extend_from_slice(text).is_err() {
@@ -80,13 +67,8 @@ pub(crate) fn put_row<W: Write>(
     waiting: &mut Vec<u8>,
     writer: &mut Device<W>,
 ) -> std::result::Result<(), RunFault>
-    ensures ok { OnOk result (PassesOn (W.contents writer.old.0) (W.contents writer.new.0)
-        waiting.old.items (line_of_row changes.now) waiting.new.items) }
-    ensures front { OnErr result (AppendsFront (W.contents writer.old.0) (W.contents writer.new.0)
-        (waiting.old.items ++ line_of_row changes.now)) }
-    ensures flag { OnOk result (writer.new.1 ≡ writer.old.1) }
-    ensures failed { OnErr result (writer.new.1 ≡ true) }
-    ensures only { IfErr result (λ fault. fault ≡ RunFault.Write) }
+    ensures { PutsText (line_of_row changes.now)
+        waiting.old.items waiting.new.items (used W.contents writer.old writer.new) result }
 {
     put(b"r", waiting, writer)?;
     for change in changes {
@@ -104,13 +86,8 @@ fn put_change<W: Write>(
     waiting: &mut Vec<u8>,
     writer: &mut Device<W>,
 ) -> std::result::Result<(), RunFault>
-    ensures ok { OnOk result (PassesOn (W.contents writer.old.0) (W.contents writer.new.0)
-        waiting.old.items (text_of_change change) waiting.new.items) }
-    ensures front { OnErr result (AppendsFront (W.contents writer.old.0) (W.contents writer.new.0)
-        (waiting.old.items ++ text_of_change change)) }
-    ensures flag { OnOk result (writer.new.1 ≡ writer.old.1) }
-    ensures failed { OnErr result (writer.new.1 ≡ true) }
-    ensures only { IfErr result (λ fault. fault ≡ RunFault.Write) }
+    ensures { PutsText (text_of_change change)
+        waiting.old.items waiting.new.items (used W.contents writer.old writer.new) result }
 {
     let mut text = [0u8; CHANGE_ROOM];
     let start = put_change_text(change, &mut text);
@@ -133,13 +110,8 @@ pub(crate) fn put_last_line<W: Write>(
     waiting: &mut Vec<u8>,
     writer: &mut Device<W>,
 ) -> std::result::Result<(), RunFault>
-    ensures ok { OnOk result (PassesOn (W.contents writer.old.0) (W.contents writer.new.0)
-        waiting.old.items (line_of_outcome outcome.now) waiting.new.items) }
-    ensures front { OnErr result (AppendsFront (W.contents writer.old.0) (W.contents writer.new.0)
-        (waiting.old.items ++ line_of_outcome outcome.now)) }
-    ensures flag { OnOk result (writer.new.1 ≡ writer.old.1) }
-    ensures failed { OnErr result (writer.new.1 ≡ true) }
-    ensures only { IfErr result (λ fault. fault ≡ RunFault.Write) }
+    ensures { PutsText (line_of_outcome outcome.now)
+        waiting.old.items waiting.new.items (used W.contents writer.old writer.new) result }
 {
     match outcome {
         Ok(count) => {

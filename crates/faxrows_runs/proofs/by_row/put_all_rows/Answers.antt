@@ -23,7 +23,7 @@ returns-in_err-outcome-clause-fails g c =
     let is : c.from_residual.result ≡ Err c.in_err-outcome.field-0.0 = search rules in
     if_err _ c.from_residual.result c.in_err-outcome.field-0.0 is
     (put_fails c.loop-outcome.invariant.way c.loop-outcome.invariant.reader c.in_err-outcome.ensures.puts.front
-    c.in_err-outcome.ensures.only c.in_err-outcome.ensures.failed)
+    c.in_err-outcome.ensures.by_writer.only c.in_err-outcome.ensures.by_writer.failed)
 
 pub returns-in-Some-clause-reads : goal.returns-in-Some-clause-reads
 returns-in-Some-clause-reads g c =
@@ -37,7 +37,7 @@ returns-in_err-flush-in-None-clause-fails g c =
     let is : c.from_residual-in_err-flush-in-None.result ≡ Err c.in_err-flush-in-None.field-0.0 = search rules in
     if_err _ c.from_residual-in_err-flush-in-None.result c.in_err-flush-in-None.field-0.0 is
     (waits_fail (way_put c.loop-outcome.invariant.way c.in_ok-outcome.ensures.puts) c.loop-outcome.invariant.reader
-    c.in_err-flush-in-None.ensures.front c.in_err-flush-in-None.ensures.only c.in_err-flush-in-None.ensures.failed)
+    c.in_err-flush-in-None.ensures.front c.in_err-flush-in-None.ensures.by_writer.only c.in_err-flush-in-None.ensures.by_writer.failed)
 
 -- more data is needed, and what waited was written
 module _ (g : Over) (c : After-feed_piece g) where
@@ -51,7 +51,7 @@ module _ (g : Over) (c : After-feed_piece g) where
       c.in_ok-flush-in-None.ensures.ok
 
   same_flag : c.flush.new.writer.1 ≡ c.args.writer.now.1
-  same_flag = c.in_ok-flush-in-None.ensures.flag ∙ c.in_ok-outcome.ensures.flag ∙ c.loop-outcome.invariant.writer
+  same_flag = c.in_ok-flush-in-None.ensures.by_writer.flag ∙ c.in_ok-outcome.ensures.by_writer.flag ∙ c.loop-outcome.invariant.writer
 
 pub loop-outcome-smaller : goal.loop-outcome-smaller
 loop-outcome-smaller g c =

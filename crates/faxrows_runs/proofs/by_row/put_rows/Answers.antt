@@ -30,7 +30,7 @@ loop-rows-preserved g c = record {
       (subst (λ (l : List ℕ). PassesOn (g.W.Write.contents c.loop-rows.writer.0) (g.W.Write.contents c.put_row.new.writer.0)
       c.loop-rows.waiting.items (line_of_row l) c.put_row.new.waiting.items) c.row.ensures.changes
       c.in_ok-put_row-in-Ok-Row.ensures.ok);
-  flag = c.in_ok-put_row-in-Ok-Row.ensures.flag ∙ c.loop-rows.invariant.flag;
+  flag = c.in_ok-put_row-in-Ok-Row.ensures.fails.flag ∙ c.loop-rows.invariant.flag;
 }
 
 pub returns-in_err-put_row-in-Ok-Row-clause-puts :

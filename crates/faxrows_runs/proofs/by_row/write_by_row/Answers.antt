@@ -13,8 +13,8 @@ returns-in_err-put_last_line g c =
     record {
       writes = as_fault c.from_residual-in_err-put_last_line.result c.in_err-put_last_line.field-0.0 is
           (line_fails (used g.W.Write.contents c.args.writer.now c.put_last_line.new.writer) c.in_ok-outcome.ensures.reads
-          c.in_ok-outcome.ensures.reader c.in_err-put_last_line.field-0.0 c.in_err-put_last_line.ensures.only
-          c.in_err-put_last_line.ensures.front c.in_err-put_last_line.ensures.failed);
+          c.in_ok-outcome.ensures.reader c.in_err-put_last_line.field-0.0 c.in_err-put_last_line.ensures.fails.only
+          c.in_err-put_last_line.ensures.front c.in_err-put_last_line.ensures.fails.failed);
     }
 
 pub returns-in_err-flush : goal.returns-in_err-flush
@@ -24,8 +24,8 @@ returns-in_err-flush g c =
       writes = as_fault c.from_residual-in_err-flush.result c.in_err-flush.field-0.0 is
           (flush_fails (used g.W.Write.contents c.args.writer.now c.flush.new.writer) c.in_ok-outcome.ensures.reads
           c.in_ok-outcome.ensures.reader (g.W.Write.contents c.put_last_line.new.writer.0) c.put_last_line.new.waiting.items
-          c.in_ok-put_last_line.ensures.ok c.in_err-flush.field-0.0 c.in_err-flush.ensures.only c.in_err-flush.ensures.front
-          c.in_err-flush.ensures.failed);
+          c.in_ok-put_last_line.ensures.ok c.in_err-flush.field-0.0 c.in_err-flush.ensures.by_writer.only c.in_err-flush.ensures.front
+          c.in_err-flush.ensures.by_writer.failed);
     }
 
 pub returns : goal.returns
@@ -34,5 +34,5 @@ returns g c = record {
       (all_written (used g.W.Write.contents c.args.writer.now c.flush.new.writer) c.in_ok-outcome.ensures.reads
       c.in_ok-outcome.ensures.reader (g.W.Write.contents c.put_last_line.new.writer.0) c.put_last_line.new.waiting.items
       c.in_ok-put_last_line.ensures.ok c.in_ok-flush.ensures.ok
-      (c.in_ok-flush.ensures.flag ∙ c.in_ok-put_last_line.ensures.flag ∙ c.in_ok-outcome.ensures.writer));
+      (c.in_ok-flush.ensures.by_writer.flag ∙ c.in_ok-put_last_line.ensures.fails.flag ∙ c.in_ok-outcome.ensures.writer));
 }

@@ -1,11 +1,11 @@
-use Rattle.faxrows_runs.proofs.Names.{◌++◌, ◌≡◌, ◌∙◌, List, ℕ, ap, subst, sym, OnErr, codes, failed_at, AppendsFront}
+use Rattle.faxrows_runs.proofs.Names.{◌++◌, ◌≡◌, ◌∙◌, List, ℕ, ap, subst, sym, OnErr, codes, failed_at, PutsText, used}
 use Rattle.faxrows_runs.proofs.Names.{end_with_fault}
 use Rattle.faxrows_runs.proofs.Names.{last_line_of_damage, numbered, Outcome}
 use Rattle.faxrows_runs.proofs.damage.put_end.Goals as goal
 
 -- the line is that of the fault
-pub returns-in-Err-clause-front : goal.returns-in-Err-clause-front
-returns-in-Err-clause-front g c =
+pub returns-in-Err : goal.returns-in-Err
+returns-in-Err g c =
     let rows = c.args.rows.now in
     let start = c.line_start-start.result in
     let end = end_with_fault c.in-Err.error in
@@ -16,5 +16,5 @@ returns-in-Err-clause-front g c =
     = ap (λ (n : ℕ). numbered (codes "error ") n start ++ end) c.rows_read-in-Err.ensures
     ∙ ap (λ (s : ℕ). numbered (codes "error ") rows.taken s ++ end) (c.line_start-start.ensures ∙ failed)
     ∙ ap (last_line_of_damage rows.settings rows.bits rows.taken) (sym c.in-Err.is) in
-    subst (λ (l : List ℕ). OnErr c.put_fault.result (AppendsFront (g.W.Write.contents c.args.writer.now.0)
-    (g.W.Write.contents c.put_fault.new.writer.0) (c.args.waiting.now.items ++ l))) line c.put_fault.ensures.front
+    subst (λ (l : List ℕ). PutsText l c.args.waiting.now.items c.put_fault.new.waiting.items
+    (used g.W.Write.contents c.args.writer.now c.put_fault.new.writer) c.put_fault.result) line c.put_fault.ensures

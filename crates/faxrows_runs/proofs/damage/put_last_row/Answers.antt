@@ -1,10 +1,10 @@
-use Rattle.faxrows_runs.proofs.Names.{DecodeError, Option, ◌++◌, ◌-◌, ◌≡◌, ◌∙◌, List, ℕ, Some, ap, subst, sym, OnErr}
-use Rattle.faxrows_runs.proofs.Names.{AppendsFront, line_of_damage}
+use Rattle.faxrows_runs.proofs.Names.{DecodeError, Option, ◌-◌, ◌≡◌, ◌∙◌, Bool, List, None, ℕ, Some, ap, subst, sym, PutsText}
+use Rattle.faxrows_runs.proofs.Names.{line_of_damage, used}
 use Rattle.faxrows_runs.proofs.damage.put_last_row.Goals as goal
 
 -- the line is that of the row's damage
-pub returns-in-Some-clause-front : goal.returns-in-Some-clause-front
-returns-in-Some-clause-front g c =
+pub returns-in-Some : goal.returns-in-Some
+returns-in-Some g c =
     let rows = c.args.rows.now in
     let start = c.line_start-start.result in
     let fault = c.in-Some.fault in
@@ -14,5 +14,5 @@ returns-in-Some-clause-front g c =
     ∙ ap (λ (s : ℕ). line_of_damage (rows.taken - 1) s (Some fault) rows.cut) c.line_start-start.ensures
     ∙ ap (λ (f : Option DecodeError). line_of_damage (rows.taken - 1) rows.line_start f rows.cut)
     (sym c.in-Some.is ∙ c.damage.ensures) in
-    subst (λ (l : List ℕ). OnErr c.put_fault.result (AppendsFront (g.W.Write.contents c.args.writer.now.0)
-    (g.W.Write.contents c.put_fault.new.writer.0) (c.args.waiting.now.items ++ l))) line c.put_fault.ensures.front
+    subst (λ (l : List ℕ). PutsText l c.args.waiting.now.items c.put_fault.new.waiting.items
+    (used g.W.Write.contents c.args.writer.now c.put_fault.new.writer) c.put_fault.result) line c.put_fault.ensures

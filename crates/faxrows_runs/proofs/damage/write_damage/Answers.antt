@@ -103,5 +103,5 @@ returns g c =
       writes = wrote _ _ c.done_of.result (text g at) (rw c.done_of.ensures (is_text g at))
           (subst (Appends (g.W.Write.contents c.args.writer.now.0) (g.W.Write.contents c.flush.new.writer.0)) (sym passes.2)
           (Appends-trans _ _ _ passes.0 waiting passes.1 c.in_ok-flush.ensures.ok))
-          (c.in_ok-flush.ensures.flag ∙ c.in_ok-put_end.ensures.flag ∙ c.in_ok-outcome.ensures.flag);
+          (c.in_ok-flush.ensures.by_writer.flag ∙ c.in_ok-put_end.ensures.fails.flag ∙ c.in_ok-outcome.ensures.by_writer.flag);
     }
