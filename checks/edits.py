@@ -21,17 +21,21 @@ An edit is refused for its reason if that goal stays open: a search for it ended
 is false, or its written proof no longer fits. A search that gave up at its limits, a name that a proof file lost, and a
 function that only calls one that isn't proved, show nothing. If the check's own searches gave up at the goal, it is tried once
 more by `search rules` alone, which ends. A line 'search: GOAL' in the edit names a goal of the function that stays open: it is tried by
-`search rules` from the start, which takes half the time, since the check then prints no help. If it has a written answer, that is
-left out, and the unedited body must be proved by the same search: so the edit isn't refused for its form.
+`search rules` from the start, which takes half the time, since the check then prints no help. Of the unedited body that search must
+prove the goal, unless it has no such goal. Else the line isn't heeded. If the goal has a written answer, that is left out, and must be
+replaced by the search: so the edit isn't refused for its form.
 
 An edit whose clause has a written answer and no such line is refused because that answer no longer fits, which could be for its form.
 So a right body of the same form must be proved with that answer. It is the unedited one if the edit replaces operands and operators
 one for one; else lines 'twin: TEXT', one for each 'new:', say what stands in the place of the wrong text. If it isn't proved, the edit
 may be refused for its form: the last lines say how many these are.
 
-Edits of different functions are checked together, each batch on a copy of the crate and of what a check without edits stored, of
-the functions that the edits change alone. A goal of a function isn't searched for while one that it calls isn't proved. So an edit
-that such a batch doesn't refuse for its reason is tried with functions that don't call one another, and then alone.
+Edits of different functions are checked together, each batch on a copy of the crate in which all functions that its edits don't change are
+stubs (checks/stubs.py): the goals of a function rest on the contracts of those that it calls, and on none of their bodies. In such a
+copy the functions that edits change must first be proved without edits. The batches are checked over what that check stored. Answers of
+other clauses' goals are holes, unless one that counts cites them. What an answer that counts cites counts with it.
+A goal without an answer isn't searched for while a function that is called isn't proved. So an edit that a batch doesn't refuse for its
+reason is tried with functions that don't call one another, and then alone, with all written answers.
 With --write an edit that another clause of its function refuses gets that clause's name, and each refused one its lines 'search:
 GOAL'. Look at what was written: a clause that has nothing to do with what the edit breaks means that the edit is a bad one.
 
@@ -44,6 +48,7 @@ built.
 The last line is 'N refused, M not'.
 """
 import argparse
+import collections
 import copy
 import functools
 import importlib.machinery
@@ -67,6 +72,8 @@ from beside import Beside  # noqa: E402
 from refused_before import RefusedBefore  # noqa: E402
 import stubs  # noqa: E402
 
+# The seconds of a processor that the checks of each crate took.
+SPENT = collections.Counter()
 ROOT = os.path.realpath(os.path.join(os.path.dirname(os.path.abspath(__file__)), ".."))
 FOLDERS = ("must-fail", "edits")
 
@@ -208,6 +215,11 @@ class Edit:
         self.reaches = set().union(*[source.below[item] for item in self.touched])
         self.calls = set().union(*[source.named_by[item] for item in self.touched])
         self.kept = {self.function, *(item.name for item in self.touched), *(item.name for item in source.computed)}
+
+    @property
+    def goals_of_clause(self):
+        """The goals of its clause that are tried by `search rules`."""
+        return [goal for goal in self.goals if names(goal, self.clause)]
 
     @property
     def twins(self):
@@ -538,7 +550,9 @@ def checked(rt, crate, room, flags, store):
         output = check.stdout.read()
         _, status, used = os.wait4(check.pid, 0)
         check.returncode = os.waitstatus_to_exitcode(status)
-    return output, used.ru_utime + used.ru_stime
+    seconds = used.ru_utime + used.ru_stime
+    SPENT[crate.name] += seconds
+    return output, seconds
 
 
 class Lane:
@@ -590,22 +604,26 @@ class Lane:
         return output
 
     def proves_twins(self, crate, edits):
-        """Which of these edits have a right body that is proved with the written answers; and the output of the checks."""
-        proved, outputs = set(), []
-        bad = self.apply(crate, edits, Edit.twin_text)
-        left = [edit for edit in edits if edit not in bad]
+        """Which of these edits have a right body of which the written answers of the clause prove its goals; and the output of the checks."""
+        proved, outputs, left = set(), [], edits
         while left:
+            bad = self.apply(crate, left, Edit.twin_text)
+            left = [edit for edit in left if edit not in bad]
+            for edit in left:
+                self.thin(crate, edit)
             output = self.check(crate, left, self.store(crate))
             said = read(output, crate.name)
             outputs.append(output)
             proved |= {edit for edit in left if edit.function in said and stubs.rests_on(said[edit.function].line, self.holes)}
             # Those that only call one that isn't proved are tried again without it.
             again = [edit for edit in left if edit.function in said and said[edit.function].line.startswith("no proof: it calls")]
-            if len(again) == len(left):
-                break
-            left = again
-            self.apply(crate, left, Edit.twin_text)
+            left = again if len(again) < len(left) else []
         return proved, "\n".join(outputs)
+
+    def thin(self, crate, edit):
+        """Puts holes in the place of the answers that don't count for an edit."""
+        holes = thin(answers_of(f"{self.folder}/room", edit.function), lambda goal: names(goal, edit.clause) and goal not in edit.goals)
+        self.holes |= {f"Rattle.{crate.name}.proofs.{edit.function.replace('::', '.')}.Answers.{name}" for name in holes}
 
     def judge(self, crate, edits, is_mixed, is_alone):
         """Whether each edit is refused for its reason, with what to print; and the output of the checks.
@@ -615,7 +633,7 @@ class Lane:
         bad = self.apply(crate, edits)
         for edit in edits:
             if not is_alone:
-                thin(answers_of(f"{self.folder}/room", edit.function), lambda goal, edit=edit: names(goal, edit.clause) and goal not in edit.goals)
+                self.thin(crate, edit)
             answer_named(crate.name, f"{self.folder}/room", edit.function, edit.twins if is_alone else edit.goals, edit.clause)
         cited = {edit: cited_by(answers_of(f"{self.folder}/room", edit.function), edit.clause) for edit in edits}
         found = {edit: (False, f"it cannot be applied: {why}") for edit, why in bad.items()}
@@ -635,16 +653,19 @@ class Lane:
         return found, output
 
     def searched(self, crate, goals, edits):
-        """Which of these goals, as pairs of a function and a goal of these edits, are proved by `search rules` for the unedited body."""
+        """Which of these goals, as pairs of a function and a goal of these edits, are proved by `search rules` for the unedited body; which
+        of them it doesn't have; and the output of the check."""
         copy_parts(self.rt, crate, f"{self.folder}/room")
         make_stubs(f"{self.folder}/room", crate.name, set().union(*[edit.kept for edit in edits]))
         functions = {function for function, _ in goals}
         for function in functions:
+            thin(answers_of(f"{self.folder}/room", function), lambda goal: False)
             answer_named(crate.name, f"{self.folder}/room", function, [goal for its, goal in goals if its == function])
         output = self.call(crate, ["--jobs", "1", "--allow-holes", *only(functions)], self.store(crate))
         said = read(output, crate.name)
         missed = {(name, goal) for name, it in said.items() for goal, _ in [*it.open, *it.weak]}
-        return {(function, goal) for function, goal in goals if function in said and (function, goal) not in missed}, output
+        absent = {(name, goal) for name, it in said.items() for goal, why in it.weak if LOST.search(why)}
+        return {(function, goal) for function, goal in goals if function in said and (function, goal) not in missed}, absent, output
 
 
 USE = re.compile(r"^use [^\n]*(?:\n[ }][^\n]*)*", re.MULTILINE)
@@ -702,10 +723,10 @@ def cited_by(path, clause):
 
 def thin(path, counts):
     """Puts a hole in the place of each answer that doesn't count and that no answer cites that does, and leaves out what is then not
-    cited, so that no time is spent on it."""
-    blocks = Blocks(path)
+    cited, so that no time is spent on it. Returns the names of the holes."""
+    blocks, holes = Blocks(path), set()
     if not blocks.named or not blocks.is_plain:
-        return
+        return holes
     kept = set().union(*[{name, *blocks.cited(name)} for name in blocks.named if blocks.is_answer(name) and counts(name)])
     texts = {block: name for name, block in blocks.named.items()}
     left = []
@@ -716,8 +737,10 @@ def thin(path, counts):
         elif blocks.is_answer(name):
             given = re.search(rf"^{re.escape(name)}((?: \w+)*) =", block, re.MULTILINE)
             left.append(f"pub {name} : goal.{name}\n{name}{given[1] if given else ' c'} = ?\n\n")
+            holes.add(name)
     with open(path, "w", encoding="utf-8") as file:
         file.write("".join(left))
+    return holes
 
 
 def answer_named(crate, room, function, goals, clause=None):
@@ -805,17 +828,17 @@ class Whole:
         self.have(self.is_stored, self.store, crate)
 
     def build(self, crate):
-        """Takes a crate's library or program from `rt ci`, or builds the library, if others use it, over what its check stored."""
+        """Takes a crate's library or program from `rt ci`, or builds the library, if others use it."""
         if self.beside and self.beside.is_proved(crate) and self.beside.take_built(crate):
             return
-        if crate in self.to_try:
-            self.is_stored[crate].result()
         if crate in self.used:
             failure = f"the library {crate.name} isn't built"
             self.lanes.submit(0, self.run, crate, failure, lambda it: it.build_rlib(["--jobs", "1"], anew=False)).result()
 
     def store(self, crate):
         """Checks the functions of a crate that its edits change, and keeps what the check stored."""
+        if not self.beside and crate in self.used:  # over what the library's build stored
+            self.is_built[crate].result()
         self.lanes.submit(0, self.prove, crate).result()
 
     def idle_jobs(self, crate):
@@ -826,18 +849,24 @@ class Whole:
         return self.lanes.count if is_alone else 1
 
     def prove(self, crate):
-        """Proves the functions that edits change, in a copy where all others are stubs, over what the crate's own checks stored."""
-        began = time.time()
-        room, store, edits = f"{self.kept}/{crate.name}-room", f"{self.kept}/{crate.name}", self.edits[crate]
-        copy_parts(self.rt, crate, room)
-        holes = make_stubs(room, crate.name, set().union(*[edit.kept for edit in edits]))
-        if os.path.isdir(f"{crate.folder}/out/incremental"):
-            self.rt.linked(f"{crate.folder}/out/incremental", store)
-        flags = ["--jobs", str(self.idle_jobs(crate)), "--allow-holes", *only({edit.function for edit in edits})]
+        """Proves the functions that edits change, over what the crate's own checks stored.
+
+        They are those of a copy in which all others are stubs. But over a check of a program or of the library for C others build these.
+        """
+        began, edits, kept, holes = time.time(), self.edits[crate], f"{self.kept}/{crate.name}", set()
+        room, store = (f"{kept}-room", kept) if crate.makes_rlib() else (crate.folder, f"{crate.folder}/out/incremental")
+        if crate.makes_rlib():
+            copy_parts(self.rt, crate, room)
+            holes = make_stubs(room, crate.name, set().union(*[edit.kept for edit in edits]))
+            if os.path.isdir(f"{crate.folder}/out/incremental"):
+                self.rt.linked(f"{crate.folder}/out/incremental", store)
+        flags = ["--jobs", str(self.idle_jobs(crate)), *["--allow-holes"] * bool(holes), *only({edit.function for edit in edits})]
         output, seconds = checked(self.rt, crate, room, flags, store)
+        if not crate.makes_rlib():
+            self.rt.linked(store, kept)
         lines = dict(re.findall(rf"^fn {crate.name}::(\S+): (.*)", output, re.MULTILINE))
         self.functions[crate] = set(lines)
-        missed = [f"{name}: {line[:200]}" for name, line in lines.items() if not stubs.rests_on(line, holes)]
+        missed = [f"{name}: {line[:200]}" for name, line in lines.items() if not line.startswith("proved") and not stubs.rests_on(line, holes)]
         if missed or not lines:
             print("\n".join(missed) or output[-3000:])
             raise RuntimeError(f"{crate.name} isn't proved without edits")
@@ -931,14 +960,17 @@ def main():
                     near = sorted(name for name in whole.functions[crate] if name.rpartition("::")[2] == last)
                     results[edit] = False, f"a check names no function {edit.function}: is it {' or '.join(near) or 'another'}?"
             left = [edit for edit in own if edit not in results]
-            goals = {(edit.function, goal) for edit in left for goal in (edit.written if words.twins else edit.twins)}
-            proved = threads.submit(1, search, crate, goals, left).result() if goals else set()
+            goals = {(edit.function, goal) for edit in left for goal in (edit.written if words.twins else edit.goals_of_clause)}
+            proved, absent = threads.submit(1, search, crate, goals, left).result() if goals else (set(), set())
             if words.twins:
                 results.update({edit: (True, write_twins(edit, proved)) for edit in left})
                 return
             for edit in left:
                 if any((edit.function, goal) not in proved for goal in edit.twins):
                     results[edit] = False, f"the unedited body isn't proved by `search rules`: {', '.join(edit.twins)}"
+            for edit in left:  # a search that doesn't prove the unedited body's goal shows nothing
+                unshown = {goal for function, goal in goals - proved - absent if function == edit.function} - {*edit.twins}
+                edit.goals = [goal for goal in edit.goals if goal not in unshown]
             for edit in left:
                 if edit.lacks_twin():
                     results[edit] = False, edit.lacks_twin()
@@ -968,13 +1000,13 @@ def main():
             lane = lanes.get()
             try:
                 start, spent = time.time(), lane.seconds
-                proved, output = lane.searched(crate, goals, own)
+                proved, absent, output = lane.searched(crate, goals, own)
                 if words.keep:
                     os.makedirs(words.keep, exist_ok=True)
                     with open(f"{words.keep}/{crate.name}-twins.txt", "w", encoding="utf-8") as file:
                         file.write(output)
-                print(f"{crate.name}: {len(proved)} of {len(goals)} written answers replaced by a search in {time.time() - start:.0f} s, {lane.seconds - spent:.0f} of processor", flush=True)
-                return proved
+                print(f"{crate.name}: {len(proved)} of {len(goals)} goals proved by a search without edits, {len(absent)} not there, in {time.time() - start:.0f} s, {lane.seconds - spent:.0f} of processor", flush=True)
+                return proved, absent
             finally:
                 lanes.put(lane)
 
@@ -1025,6 +1057,7 @@ def main():
     used = resource.getrusage(resource.RUSAGE_CHILDREN)
     if any(known.values()):
         print(f"{sum(reason is not None for reason in known.values())} were refused by earlier runs on this machine", end=", ")
+    print(f"seconds of a processor: {', '.join(f'{name} {seconds:.0f}' for name, seconds in sorted(SPENT.items()))}")
     print(f"{sum(numbers)} batches, {used.ru_utime + used.ru_stime:.0f} s of processor", end=", ")
     print(f"{time.time() - began:.0f} s")
     by_answer = [edit for edit in edits if edit.is_by_answer]
