@@ -21,17 +21,21 @@ An edit is refused for its reason if that goal stays open: a search for it ended
 is false, or its written proof no longer fits. A search that gave up at its limits, a name that a proof file lost, and a
 function that only calls one that isn't proved, show nothing. If the check's own searches gave up at the goal, it is tried once
 more by `search rules` alone, which ends. A line 'search: GOAL' in the edit names a goal of the function that stays open: it is tried by
-`search rules` from the start, which takes half the time, since the check then prints no help. If it has a written answer, that is
-left out, and the unedited body must be proved by the same search: so the edit isn't refused for its form.
+`search rules` from the start, which takes half the time, since the check then prints no help. Of the unedited body that search must
+prove the goal, unless it has no such goal. Else the line isn't heeded. If the goal has a written answer, that is left out, and must be
+replaced by the search: so the edit isn't refused for its form.
 
 An edit whose clause has a written answer and no such line is refused because that answer no longer fits, which could be for its form.
 So a right body of the same form must be proved with that answer. It is the unedited one if the edit replaces operands and operators
 one for one; else lines 'twin: TEXT', one for each 'new:', say what stands in the place of the wrong text. If it isn't proved, the edit
 may be refused for its form: the last lines say how many these are.
 
-Edits of different functions are checked together, each batch on a copy of the crate and of what a check without edits stored, of
-the functions that the edits change alone. A goal of a function isn't searched for while one that it calls isn't proved. So an edit
-that such a batch doesn't refuse for its reason is tried with functions that don't call one another, and then alone.
+Edits of different functions are checked together, each batch on a copy of the crate in which all functions that its edits don't change are
+stubs (checks/stubs.py): the goals of a function rest on the contracts of those that it calls, and on none of their bodies. In such a
+copy the functions that edits change must first be proved without edits. The batches are checked over what that check stored. Answers of
+other clauses' goals are holes, unless one that counts cites them. What an answer that counts cites counts with it.
+A goal without an answer isn't searched for while a function that is called isn't proved. So an edit that a batch doesn't refuse for its
+reason is tried with functions that don't call one another, and then alone, with all written answers.
 With --write an edit that another clause of its function refuses gets that clause's name, and each refused one its lines 'search:
 GOAL'. Look at what was written: a clause that has nothing to do with what the edit breaks means that the edit is a bad one.
 
@@ -44,6 +48,7 @@ built.
 The last line is 'N refused, M not'.
 """
 import argparse
+import collections
 import copy
 import functools
 import importlib.machinery
@@ -65,7 +70,10 @@ sys.dont_write_bytecode = True
 
 from beside import Beside  # noqa: E402
 from refused_before import RefusedBefore  # noqa: E402
+import stubs  # noqa: E402
 
+# The seconds of a processor that the checks of each crate took.
+SPENT = collections.Counter()
 ROOT = os.path.realpath(os.path.join(os.path.dirname(os.path.abspath(__file__)), ".."))
 FOLDERS = ("must-fail", "edits")
 
@@ -89,8 +97,9 @@ ITEM = re.compile(r"^( *)(?:pub(?:\([a-z]+\))? )?(?:extern \"C\" )?(?:const |gho
 class Item:
     """A function or a constant of a file: where its text is, and which names occur in it."""
 
-    def __init__(self, path, name, kind, begin, end, text, is_public):
+    def __init__(self, path, name, kind, begin, end, text, is_public, is_of_trait):
         self.path, self.name, self.kind, self.begin, self.end, self.is_public = path, name, kind, begin, end, is_public
+        self.is_of_trait = is_of_trait
         self.words = set(re.findall(r"\b\w+\b", re.sub(r"//.*", "", text)))
         self.has_contract = bool(re.search(r"^ *ensures\b", text, re.MULTILINE)) or name.endswith("Decoder::push_row")
         self.has_body = not re.search(r"\{\}\s*$", text)
@@ -112,12 +121,12 @@ def items_of(path, text):
         if found[2] == "fn":
             ends = re.compile(rf"^{indent}(?:\}}|[^ \n].*[;}}]$)|^{indent} +.*;\n(?={indent}\S|\n)", re.MULTILINE).search(text, found.start())
         end = ends.end() if ends else len(text)
-        holder = ""
-        if indent:
-            head = [line for at, line in starts if at < found.start()]
-            holder = f"{holder_of(head[-1])}::" if head else ""
+        holder, head = "", [line for at, line in starts if at < found.start()] if indent else []
+        if head:
+            holder = f"{holder_of(head[-1])}::"
         is_public = "pub " in found[0] and "pub(" not in found[0]
-        made.append(Item(path, f"{above}{holder}{found[3]}", found[2], found.start(), end, text[found.start() : end], is_public))
+        is_of_trait = bool(head) and head[-1].startswith(("trait", "pub trait"))
+        made.append(Item(path, f"{above}{holder}{found[3]}", found[2], found.start(), end, text[found.start() : end], is_public, is_of_trait))
     return made
 
 
@@ -130,28 +139,35 @@ def holder_of(line):
     return name + trait.rpartition("::")[2] + re.sub(r"<.*|\W", "", given.rpartition("::")[2])
 
 
+def texts_of(folder):
+    """The files of a crate's source, by their paths in its folder."""
+    found = {}
+    for at, _, names in sorted(os.walk(f"{folder}/src")):
+        for name in sorted(names):
+            with open(f"{at}/{name}", encoding="utf-8") as file:
+                found[os.path.relpath(f"{at}/{name}", folder)] = file.read()
+    return found
+
+
 class Source:
     """The items of a crate's source, and which of them reach which by calls and constants, as far as names tell."""
 
     def __init__(self, folder):
-        self.texts, self.items = {}, []
-        for at, _, names in sorted(os.walk(f"{folder}/src")):
-            for name in sorted(names):
-                path = os.path.relpath(f"{at}/{name}", folder)
-                with open(f"{folder}/{path}", encoding="utf-8") as file:
-                    self.texts[path] = file.read()
-                self.items += items_of(path, self.texts[path])
+        self.texts = texts_of(folder)
+        self.items = [item for path, text in self.texts.items() for item in items_of(path, text)]
         by_last = {}
         for item in self.items:
             by_last.setdefault(item.last, []).append(item)
-        self.below = {item: {it for word in item.words for it in by_last.get(word, []) if it is not item} for item in self.items}
+        self.named_by = {item: {it for word in item.words for it in by_last.get(word, []) if it is not item} for item in self.items}
+        self.below = {}
         for item in self.items:  # what is reached by way of others
             seen, left = set(), [item]
             while left:
-                for it in self.below[left.pop()] - seen:
+                for it in self.named_by[left.pop()] - seen:
                     seen.add(it)
                     left.append(it)
             self.below[item] = seen
+        self.computed = set().union(*[self.below[item] for item in self.items if item.kind != "fn"])
 
     def item_at(self, path, place):
         inside = [item for item in self.items if item.path == path and item.begin <= place < item.end]
@@ -196,7 +212,14 @@ class Edit:
         self.changed, self.unanswered, self.other = [item for item in found if item], [], ""
         self.touched = {*self.changed, *source.named(self.function)}
         self.made = set(re.findall(r"\bfn (\w+)", "\n".join(re.findall(r"^new:(.*)$", self.text, re.MULTILINE))))
-        self.reaches = set().union(*[source.below[item] for item in self.touched]) if self.touched else set()
+        self.reaches = set().union(*[source.below[item] for item in self.touched])
+        self.calls = set().union(*[source.named_by[item] for item in self.touched])
+        self.kept = {self.function, *(item.name for item in self.touched), *(item.name for item in source.computed)}
+
+    @property
+    def goals_of_clause(self):
+        """The goals of its clause that are tried by `search rules`."""
+        return [goal for goal in self.goals if names(goal, self.clause)]
 
     @property
     def twins(self):
@@ -239,8 +262,13 @@ class Edit:
         return bool(self.touched & other.touched or reached or self.made & other.made) or not self.touched or not other.touched
 
     def meets(self, other):
-        """Whether they overlap, or one changes a function that the other reaches."""
-        return self.overlaps(other) or bool(self.touched & other.reaches or other.touched & self.reaches)
+        """Whether they overlap, or one changes a function that the other calls."""
+        return self.overlaps(other) or bool(self.touched & other.calls or other.touched & self.calls)
+
+    @property
+    def is_hidden_by_calls(self):
+        """Whether its goals are searched only if what its function calls is proved: those that an answer is written for are always tried."""
+        return not self.goals and not self.written
 
 
 # An operand: a name or a number, with the fields and calls without arguments behind it; or an operator, or another sign.
@@ -300,7 +328,7 @@ def batches_of(edits, most, meets):
 
 
 def mixed_batches(edits, most):
-    """As many batches as `batches_of` makes of edits that don't overlap, with as few as possible that change what another reaches."""
+    """As many batches as `batches_of` makes of edits that don't overlap, with as few as possible that change what hides another's goals."""
     batches = [[] for _ in batches_of(edits, most, Edit.overlaps)]
     for edit in sorted(edits, key=lambda it: -sum(it.overlaps(other) for other in edits)):
         fitting = [batch for batch in batches if len(batch) < most and not any(edit.overlaps(other) for other in batch)]
@@ -313,8 +341,8 @@ def mixed_batches(edits, most):
 
 
 def hidden(batch):
-    """The edits of a batch whose function reaches what another one changes."""
-    return [edit for edit in batch if any(other is not edit and other.touched & edit.reaches for other in batch)]
+    """The edits of a batch whose goals aren't searched, since their function calls what another one changes."""
+    return [edit for edit in batch if edit.is_hidden_by_calls and any(other is not edit and other.touched & edit.calls for other in batch)]
 
 
 # What a check says.
@@ -398,8 +426,8 @@ def gave_up(edit, said):
     return bool(it) and any(names(goal, edit.clause) and GAVE_UP.search(why) for goal, why in it.weak)
 
 
-def judged(edit, said, output):
-    """Whether the edit is refused for its reason, and what to print."""
+def judged(edit, said, output, cited):
+    """Whether the edit is refused for its reason, and what to print. Of a goal with a written answer also what this answer cites counts."""
     it = said.get(edit.function)
     if not said:
         lines = [line for line in output.split("\n") if "error" in line] or output.split("\n")
@@ -407,11 +435,14 @@ def judged(edit, said, output):
     if not it:
         near = sorted(name for name in said if name.endswith(f"::{edit.function.rpartition('::')[2]}"))
         return False, f"no function {edit.function or '(none)'} was checked{': ' + ', '.join(near) if near else ''}"
-    if it.line.startswith(("proved", "no holes")):
+    if it.line.startswith(("proved", *stubs.ON_HOLES)):
         return False, f"{edit.function} is proved with this edit"
     found = [(goal, why) for goal, why in it.open if names(goal, edit.clause)]
     if found:
         return True, f"{found[0][0]}: {found[0][1][:150]}"
+    by = [(goal, name, why) for name, why in it.open for goal, names_cited in cited.items() if name in names_cited]
+    if by:
+        return True, f"{by[0][0]}, whose answer cites {by[0][1]}: {by[0][2][:150]}"
     others = [f"open: {goal}" for goal, _ in it.open]
     clauses = [clause_of(goal) for goal, _ in it.open if "-requires" not in goal]
     edit.other = max(clauses, key=clauses.count, default="")
@@ -491,11 +522,44 @@ class Lanes:
             self.running += running
 
 
+def copy_parts(rt, crate, room):
+    """Copies what a check reads of a crate into a folder."""
+    shutil.rmtree(room, ignore_errors=True)
+    for part in rt.rtlib.PARTS:
+        if os.path.isdir(f"{crate.folder}/{part}"):
+            shutil.copytree(f"{crate.folder}/{part}", f"{room}/{part}")
+
+
+def make_stubs(room, crate, kept, made=()):
+    """Makes stubs of all functions of a copy but those kept, and those that edits made. Returns the names of the holes in their proofs."""
+    texts = texts_of(room)
+    items = [item for path, text in texts.items() for item in items_of(path, text)]
+    return stubs.write_stubs(room, crate, texts, items, lambda item, name: item.name in kept or name in kept or item.last in made)
+
+
+def only(functions):
+    """The flags of a check of these functions alone."""
+    return [word for function in sorted(functions) for word in ("--only", function)]
+
+
+def checked(rt, crate, room, flags, store):
+    """What a check of a crate's copy over a store says, and how many seconds of a processor it took."""
+    words = [*rt.rtlib.guarded(), rt.rtlib.RATTLE, "check", *crate.words(flags, keeps=False), "--incremental", store]
+    how = {"cwd": room, "stdin": subprocess.DEVNULL, "stdout": subprocess.PIPE, "stderr": subprocess.STDOUT}
+    with subprocess.Popen(words, **how, errors="replace") as check:
+        output = check.stdout.read()
+        _, status, used = os.wait4(check.pid, 0)
+        check.returncode = os.waitstatus_to_exitcode(status)
+    seconds = used.ru_utime + used.ru_stime
+    SPENT[crate.name] += seconds
+    return output, seconds
+
+
 class Lane:
     """One check at a time, on a copy of what the check of the crate without edits stored."""
 
     def __init__(self, folder, rt, kept):
-        self.folder, self.rt, self.kept, self.stores = folder, rt, kept, {}
+        self.folder, self.rt, self.kept, self.stores, self.seconds = folder, rt, kept, {}, 0
 
     def store(self, crate):
         """The lane's store of a crate, as it was after the check without edits."""
@@ -514,13 +578,10 @@ class Lane:
         return own
 
     def apply(self, crate, edits, text_of=None):
-        """Makes a copy of the crate with these edits, or with another text of each. Returns those that couldn't be applied, with the
-        reason."""
+        """Makes a copy of the crate with these edits, or with another text of each, in which what they don't change are stubs. Returns
+        those that couldn't be applied, with the reason."""
         room, bad = f"{self.folder}/room", {}
-        shutil.rmtree(room, ignore_errors=True)
-        for part in self.rt.rtlib.PARTS:
-            if os.path.isdir(f"{crate.folder}/{part}"):
-                shutil.copytree(f"{crate.folder}/{part}", f"{room}/{part}")
+        copy_parts(self.rt, crate, room)
         for edit in edits:
             texts, why = self.rt.edited((text_of or (lambda it: it.text))(edit), room)
             if why:
@@ -529,34 +590,40 @@ class Lane:
             for path, text in texts.items():
                 with open(f"{room}/{path}", "w", encoding="utf-8") as file:
                     file.write(text)
+        made = set().union(*[edit.made for edit in edits])
+        self.holes = make_stubs(room, crate.name, set().union(*[edit.kept for edit in edits]), made)
         return bad
 
     def check(self, crate, edits, store):
         """Checks the functions that these edits are to break, in the copy and over a store, and returns what the check says."""
-        return self.call(crate, ["--jobs", "1", *[word for edit in edits for word in ("--only", edit.function)]], store)
+        return self.call(crate, ["--jobs", "1", "--allow-holes", *only({edit.function for edit in edits})], store)
 
     def call(self, crate, flags, store):
-        words = [self.rt.rtlib.RATTLE, "check", *crate.words(flags, keeps=False), "--incremental", store]
-        how = {"cwd": f"{self.folder}/room", "stdin": subprocess.DEVNULL, "stdout": subprocess.PIPE, "stderr": subprocess.STDOUT}
-        return subprocess.run([*self.rt.rtlib.guarded(), *words], **how, errors="replace", check=False).stdout
+        output, seconds = checked(self.rt, crate, f"{self.folder}/room", flags, store)
+        self.seconds += seconds
+        return output
 
     def proves_twins(self, crate, edits):
-        """Which of these edits have a right body that is proved with the written answers; and the output of the checks."""
-        proved, outputs = set(), []
-        bad = self.apply(crate, edits, Edit.twin_text)
-        left = [edit for edit in edits if edit not in bad]
+        """Which of these edits have a right body of which the written answers of the clause prove its goals; and the output of the checks."""
+        proved, outputs, left = set(), [], edits
         while left:
+            bad = self.apply(crate, left, Edit.twin_text)
+            left = [edit for edit in left if edit not in bad]
+            for edit in left:
+                self.thin(crate, edit)
             output = self.check(crate, left, self.store(crate))
             said = read(output, crate.name)
             outputs.append(output)
-            proved |= {edit for edit in left if edit.function in said and said[edit.function].line.startswith("proved")}
+            proved |= {edit for edit in left if edit.function in said and stubs.rests_on(said[edit.function].line, self.holes)}
             # Those that only call one that isn't proved are tried again without it.
             again = [edit for edit in left if edit.function in said and said[edit.function].line.startswith("no proof: it calls")]
-            if len(again) == len(left):
-                break
-            left = again
-            self.apply(crate, left, Edit.twin_text)
+            left = again if len(again) < len(left) else []
         return proved, "\n".join(outputs)
+
+    def thin(self, crate, edit):
+        """Puts holes in the place of the answers that don't count for an edit."""
+        holes = thin(answers_of(f"{self.folder}/room", edit.function), lambda goal: names(goal, edit.clause) and goal not in edit.goals)
+        self.holes |= {f"Rattle.{crate.name}.proofs.{edit.function.replace('::', '.')}.Answers.{name}" for name in holes}
 
     def judge(self, crate, edits, is_mixed, is_alone):
         """Whether each edit is refused for its reason, with what to print; and the output of the checks.
@@ -565,12 +632,15 @@ class Lane:
         """
         bad = self.apply(crate, edits)
         for edit in edits:
+            if not is_alone:
+                self.thin(crate, edit)
             answer_named(crate.name, f"{self.folder}/room", edit.function, edit.twins if is_alone else edit.goals, edit.clause)
+        cited = {edit: cited_by(answers_of(f"{self.folder}/room", edit.function), edit.clause) for edit in edits}
         found = {edit: (False, f"it cannot be applied: {why}") for edit, why in bad.items()}
         edits, store = [edit for edit in edits if edit not in bad], self.store(crate)
         output = self.check(crate, edits, store)
         said = read(output, crate.name, is_mixed)
-        found |= {edit: judged(edit, said, output) for edit in edits}
+        found |= {edit: judged(edit, said, output, cited[edit]) for edit in edits}
         for edit in edits:
             edit.unanswered = said[edit.function].unanswered if edit.function in said else []
         given_up = [edit for edit in edits if not found[edit][0] and gave_up(edit, said)]
@@ -578,21 +648,24 @@ class Lane:
             answer(output, f"{self.folder}/room", {edit.function for edit in given_up})
             more = self.check(crate, given_up, store)
             said = read(more, crate.name, is_mixed)
-            found |= {edit: judged(edit, said, more) for edit in given_up}
+            found |= {edit: judged(edit, said, more, cited[edit]) for edit in given_up}
             output += more
         return found, output
 
-
-    def searched(self, crate, goals):
-        """Which of these goals, as pairs of a function and a goal, are proved by `search rules` for the unedited body."""
-        self.apply(crate, [])
-        for function in {function for function, _ in goals}:
+    def searched(self, crate, goals, edits):
+        """Which of these goals, as pairs of a function and a goal of these edits, are proved by `search rules` for the unedited body; which
+        of them it doesn't have; and the output of the check."""
+        copy_parts(self.rt, crate, f"{self.folder}/room")
+        make_stubs(f"{self.folder}/room", crate.name, set().union(*[edit.kept for edit in edits]))
+        functions = {function for function, _ in goals}
+        for function in functions:
+            thin(answers_of(f"{self.folder}/room", function), lambda goal: False)
             answer_named(crate.name, f"{self.folder}/room", function, [goal for its, goal in goals if its == function])
-        flags = ["--jobs", "1", *[word for function in sorted({function for function, _ in goals}) for word in ("--only", function)]]
-        output = self.call(crate, flags, self.store(crate))
+        output = self.call(crate, ["--jobs", "1", "--allow-holes", *only(functions)], self.store(crate))
         said = read(output, crate.name)
         missed = {(name, goal) for name, it in said.items() for goal, _ in [*it.open, *it.weak]}
-        return {(function, goal) for function, goal in goals if function in said and (function, goal) not in missed}, output
+        absent = {(name, goal) for name, it in said.items() for goal, why in it.weak if LOST.search(why)}
+        return {(function, goal) for function, goal in goals if function in said and (function, goal) not in missed}, absent, output
 
 
 USE = re.compile(r"^use [^\n]*(?:\n[ }][^\n]*)*", re.MULTILINE)
@@ -611,6 +684,63 @@ def answer(output, room, functions):
 
 
 DECLARED = re.compile(r"^(?=(?:(?:pub|abbrev|unfoldable) )*[^\s:()]+ :(?:\s|$)|--|use |pub use |module |record |pub record )", re.MULTILINE)
+
+
+class Blocks:
+    """The declarations of a file of answers: the text of each, in their order, and which of the others each cites."""
+
+    def __init__(self, path):
+        self.path, self.blocks, self.named = path, [], {}
+        if os.path.exists(path):
+            with open(path, encoding="utf-8") as file:
+                self.blocks = DECLARED.split(file.read())
+        for block in self.blocks:
+            declared = re.match(r"(?:(?:pub|abbrev|unfoldable) )*([^\s:()]+) :(?:\s|$)", block)
+            if declared:
+                self.named[declared[1]] = block
+        # What a line between the declarations says may be about any of them.
+        self.is_plain = not re.search(r"^(?:infix|ruleset|syntax|mutual|data|open|(?:pub )?(?:module|record))", "".join(self.blocks), re.MULTILINE)
+
+    def is_answer(self, name):
+        return self.named[name].startswith(f"pub {name} : goal.{name}\n")
+
+    def cited(self, name):
+        """The declarations that this one cites, by way of others too."""
+        seen, left = set(), [name]
+        while left:
+            block = self.named[left.pop()]
+            more = {it for it in self.named if it not in seen and re.search(rf"(?<![\w-]){re.escape(it)}(?![\w-])", block)}
+            seen |= more
+            left += more
+        return seen
+
+
+def cited_by(path, clause):
+    """What the written answers of a clause's goals cite of their own file, by the goals."""
+    blocks = Blocks(path)
+    return {name: blocks.cited(name) for name in blocks.named if blocks.is_answer(name) and names(name, clause)}
+
+
+def thin(path, counts):
+    """Puts a hole in the place of each answer that doesn't count and that no answer cites that does, and leaves out what is then not
+    cited, so that no time is spent on it. Returns the names of the holes."""
+    blocks, holes = Blocks(path), set()
+    if not blocks.named or not blocks.is_plain:
+        return holes
+    kept = set().union(*[{name, *blocks.cited(name)} for name in blocks.named if blocks.is_answer(name) and counts(name)])
+    texts = {block: name for name, block in blocks.named.items()}
+    left = []
+    for block in blocks.blocks:
+        name = texts.get(block)
+        if name is None or name in kept:
+            left.append(block)
+        elif blocks.is_answer(name):
+            given = re.search(rf"^{re.escape(name)}((?: \w+)*) =", block, re.MULTILINE)
+            left.append(f"pub {name} : goal.{name}\n{name}{given[1] if given else ' c'} = ?\n\n")
+            holes.add(name)
+    with open(path, "w", encoding="utf-8") as file:
+        file.write("".join(left))
+    return holes
 
 
 def answer_named(crate, room, function, goals, clause=None):
@@ -668,12 +798,12 @@ def stamps(folder):
 class Whole:
     """What crates without edits are built to, by the `rt ci` that runs beside or here, and what checks of them store.
 
-    The changed functions are those of each crate whose edits are tried.
+    The edits are those that are tried, by their crates.
     """
 
-    def __init__(self, rt, crates, changed, kept, lanes, beside):
-        self.rt, self.changed, self.kept, self.lanes, self.beside = rt, changed, kept, lanes, beside
-        to_try = self.to_try = list(changed)
+    def __init__(self, rt, crates, edits, kept, lanes, beside):
+        self.rt, self.edits, self.kept, self.lanes, self.beside = rt, edits, kept, lanes, beside
+        to_try = self.to_try = list(edits)
         self.used = {below for crate in to_try for below in crate.below()}
         self.crates = crates if beside else [crate for crate in crates if crate in to_try or crate in self.used]
         self.is_built = {crate: Future() for crate in self.crates}
@@ -698,17 +828,17 @@ class Whole:
         self.have(self.is_stored, self.store, crate)
 
     def build(self, crate):
-        """Takes a crate's library or program from `rt ci`, or builds the library, if others use it, over what its check stored."""
+        """Takes a crate's library or program from `rt ci`, or builds the library, if others use it."""
         if self.beside and self.beside.is_proved(crate) and self.beside.take_built(crate):
             return
-        if crate in self.to_try:
-            self.is_stored[crate].result()
         if crate in self.used:
             failure = f"the library {crate.name} isn't built"
             self.lanes.submit(0, self.run, crate, failure, lambda it: it.build_rlib(["--jobs", "1"], anew=False)).result()
 
     def store(self, crate):
         """Checks the functions of a crate that its edits change, and keeps what the check stored."""
+        if not self.beside and crate in self.used:  # over what the library's build stored
+            self.is_built[crate].result()
         self.lanes.submit(0, self.prove, crate).result()
 
     def idle_jobs(self, crate):
@@ -719,13 +849,28 @@ class Whole:
         return self.lanes.count if is_alone else 1
 
     def prove(self, crate):
-        began = time.time()
-        flags = ["--jobs", str(self.idle_jobs(crate)), *[word for name in self.changed[crate] for word in ("--only", name)]]
-        words = [self.rt.rtlib.RATTLE, "check", *crate.words(flags, keeps=False), "--incremental", "out/incremental"]
-        output = self.run(crate, f"{crate.name} isn't proved without edits", lambda it: it.call(*words))
-        self.functions[crate] = set(re.findall(rf"^fn {crate.name}::(\S+): ", output, re.MULTILINE))
-        self.rt.linked(f"{crate.folder}/out/incremental", f"{self.kept}/{crate.name}")
-        print(f"{crate.name} without edits: {time.time() - began:.0f} s", flush=True)
+        """Proves the functions that edits change, over what the crate's own checks stored.
+
+        They are those of a copy in which all others are stubs. But over a check of a program or of the library for C others build these.
+        """
+        began, edits, kept, holes = time.time(), self.edits[crate], f"{self.kept}/{crate.name}", set()
+        room, store = (f"{kept}-room", kept) if crate.makes_rlib() else (crate.folder, f"{crate.folder}/out/incremental")
+        if crate.makes_rlib():
+            copy_parts(self.rt, crate, room)
+            holes = make_stubs(room, crate.name, set().union(*[edit.kept for edit in edits]))
+            if os.path.isdir(f"{crate.folder}/out/incremental"):
+                self.rt.linked(f"{crate.folder}/out/incremental", store)
+        flags = ["--jobs", str(self.idle_jobs(crate)), *["--allow-holes"] * bool(holes), *only({edit.function for edit in edits})]
+        output, seconds = checked(self.rt, crate, room, flags, store)
+        if not crate.makes_rlib():
+            self.rt.linked(store, kept)
+        lines = dict(re.findall(rf"^fn {crate.name}::(\S+): (.*)", output, re.MULTILINE))
+        self.functions[crate] = set(lines)
+        missed = [f"{name}: {line[:200]}" for name, line in lines.items() if not line.startswith("proved") and not stubs.rests_on(line, holes)]
+        if missed or not lines:
+            print("\n".join(missed) or output[-3000:])
+            raise RuntimeError(f"{crate.name} isn't proved without edits")
+        print(f"{crate.name} without edits: {time.time() - began:.0f} s, {seconds:.0f} of processor", flush=True)
 
     @staticmethod
     def run(crate, failure, call):
@@ -746,7 +891,7 @@ def main():
     words.add_argument("--only", action="append", help="a word of the names of the edits to run; may be given several times")
     words.add_argument("--crate", default="", help="the crate whose edits to run")
     words.add_argument("--lanes", type=int, default=len(os.sched_getaffinity(0)), help="how many checks run side by side")
-    words.add_argument("--most", type=int, default=24, help="how many edits a batch may have")
+    words.add_argument("--most", type=int, default=40, help="how many edits a batch may have")
     words.add_argument("--show", action="store_true", help="print what refused each edit")
     words.add_argument("--keep", default="", help="a folder for what each check printed")
     words.add_argument("--write", action="store_true", help="write into the edits what refused them")
@@ -772,11 +917,11 @@ def main():
     if lacking:
         sys.exit("\n".join(lacking))
     beside = Beside(words.ci) if words.ci else None
-    before = RefusedBefore([os.path.abspath(__file__)])
+    before = RefusedBefore([os.path.abspath(__file__), os.path.abspath(stubs.__file__)])
     known = {edit: before.reason(edit) for edit in edits if not (words.anew or words.write or words.twins)}
     results = {edit: (True, reason) for edit, reason in known.items() if reason is not None}
-    changed = {crate: sorted({edit.function for edit in edits if edit.crate is crate and edit not in results}) for crate in crates}
-    changed = {crate: functions for crate, functions in changed.items() if functions}
+    changed = {crate: [edit for edit in edits if edit.crate is crate and edit not in results] for crate in crates}
+    changed = {crate: own for crate, own in changed.items() if own}
 
     def most():
         """How many checks may run now."""
@@ -796,11 +941,11 @@ def main():
             crate = batch[0].crate
             lane = lanes.get()
             try:
-                start = time.time()
+                start, spent = time.time(), lane.seconds
                 found, output = lane.judge(crate, batch, is_mixed, is_alone)
                 keep(words.keep, crate, batch, output)
                 with printing:
-                    print(f"{crate.name}: {len(batch)} edits in {time.time() - start:.0f} s", flush=True)
+                    print(f"{crate.name}: {len(batch)} edits in {time.time() - start:.0f} s, {lane.seconds - spent:.0f} of processor", flush=True)
                 return found
             finally:
                 lanes.put(lane)
@@ -808,21 +953,24 @@ def main():
         def judge(crate):
             """Tries the edits of a crate."""
             whole.is_stored[crate].result()
-            own = [edit for edit in edits if edit.crate is crate and edit not in results]
+            own = changed[crate]
             for edit in own:
                 if edit.function not in whole.functions[crate]:
                     last = edit.function.rpartition("::")[2]
                     near = sorted(name for name in whole.functions[crate] if name.rpartition("::")[2] == last)
                     results[edit] = False, f"a check names no function {edit.function}: is it {' or '.join(near) or 'another'}?"
             left = [edit for edit in own if edit not in results]
-            goals = {(edit.function, goal) for edit in left for goal in (edit.written if words.twins else edit.twins)}
-            proved = threads.submit(1, search, crate, goals).result() if goals else set()
+            goals = {(edit.function, goal) for edit in left for goal in (edit.written if words.twins else edit.goals_of_clause)}
+            proved, absent = threads.submit(1, search, crate, goals, left).result() if goals else (set(), set())
             if words.twins:
                 results.update({edit: (True, write_twins(edit, proved)) for edit in left})
                 return
             for edit in left:
                 if any((edit.function, goal) not in proved for goal in edit.twins):
                     results[edit] = False, f"the unedited body isn't proved by `search rules`: {', '.join(edit.twins)}"
+            for edit in left:  # a search that doesn't prove the unedited body's goal shows nothing
+                unshown = {goal for function, goal in goals - proved - absent if function == edit.function} - {*edit.twins}
+                edit.goals = [goal for goal in edit.goals if goal not in unshown]
             for edit in left:
                 if edit.lacks_twin():
                     results[edit] = False, edit.lacks_twin()
@@ -839,26 +987,26 @@ def main():
             """Which edits of a batch have a right body that is proved."""
             lane = lanes.get()
             try:
-                start = time.time()
+                start, spent = time.time(), lane.seconds
                 proved, output = lane.proves_twins(batch[0].crate, batch)
                 keep(words.keep, batch[0].crate, batch, output, "-right")
-                print(f"{batch[0].crate.name}: {len(proved)} of {len(batch)} right bodies proved in {time.time() - start:.0f} s", flush=True)
+                print(f"{batch[0].crate.name}: {len(proved)} of {len(batch)} right bodies proved in {time.time() - start:.0f} s, {lane.seconds - spent:.0f} of processor", flush=True)
                 return proved
             finally:
                 lanes.put(lane)
 
-        def search(crate, goals):
+        def search(crate, goals, own):
             """Which goals of the unedited crate `search rules` proves."""
             lane = lanes.get()
             try:
-                start = time.time()
-                proved, output = lane.searched(crate, goals)
+                start, spent = time.time(), lane.seconds
+                proved, absent, output = lane.searched(crate, goals, own)
                 if words.keep:
                     os.makedirs(words.keep, exist_ok=True)
                     with open(f"{words.keep}/{crate.name}-twins.txt", "w", encoding="utf-8") as file:
                         file.write(output)
-                print(f"{crate.name}: {len(proved)} of {len(goals)} written answers replaced by a search in {time.time() - start:.0f} s", flush=True)
-                return proved
+                print(f"{crate.name}: {len(proved)} of {len(goals)} goals proved by a search without edits, {len(absent)} not there, in {time.time() - start:.0f} s, {lane.seconds - spent:.0f} of processor", flush=True)
+                return proved, absent
             finally:
                 lanes.put(lane)
 
@@ -909,6 +1057,7 @@ def main():
     used = resource.getrusage(resource.RUSAGE_CHILDREN)
     if any(known.values()):
         print(f"{sum(reason is not None for reason in known.values())} were refused by earlier runs on this machine", end=", ")
+    print(f"seconds of a processor: {', '.join(f'{name} {seconds:.0f}' for name, seconds in sorted(SPENT.items()))}")
     print(f"{sum(numbers)} batches, {used.ru_utime + used.ru_stime:.0f} s of processor", end=", ")
     print(f"{time.time() - began:.0f} s")
     by_answer = [edit for edit in edits if edit.is_by_answer]
