@@ -209,7 +209,7 @@ class Edit:
         olds = re.findall(r"^old: (.*)$", self.text, re.MULTILINE)
         places = [source.texts.get(self.path, "").find(old) for old in olds]
         found = [source.item_at(self.path, at + len(old) - len(old.lstrip())) for at, old in zip(places, olds) if at >= 0]
-        self.changed, self.unanswered, self.other = [item for item in found if item], [], ""
+        self.changed, self.unanswered, self.other, self.unshown = [item for item in found if item], [], "", set()
         self.touched = {*self.changed, *source.named(self.function)}
         self.made = set(re.findall(r"\bfn (\w+)", "\n".join(re.findall(r"^new:(.*)$", self.text, re.MULTILINE))))
         self.reaches = set().union(*[source.below[item] for item in self.touched])
@@ -986,8 +986,8 @@ def main():
                 if any((edit.function, goal) not in proved for goal in edit.twins):
                     results[edit] = False, f"the unedited body isn't proved by `search rules`: {', '.join(edit.twins)}"
             for edit in left:  # a search that doesn't prove the unedited body's goal shows nothing
-                unshown = {goal for function, goal in goals - proved - absent if function == edit.function} - {*edit.twins}
-                edit.goals = [goal for goal in edit.goals if goal not in unshown]
+                edit.unshown = {goal for function, goal in goals - proved - absent if function == edit.function} - {*edit.twins}
+                edit.goals = [goal for goal in edit.goals if goal not in edit.unshown]
             for edit in left:
                 if edit.lacks_twin():
                     results[edit] = False, edit.lacks_twin()
@@ -1104,7 +1104,7 @@ def write(edit, refused):
     if not refused and edit.other:
         text = re.sub(r"^breaks: .*$", f"breaks: {edit.function}: {edit.other}", text, flags=re.MULTILINE)
     if refused and edit.unanswered:
-        goals = sorted({*edit.goals, *edit.unanswered})
+        goals = sorted({*edit.goals, *edit.unanswered} - edit.unshown)
         text = re.sub(r"^search: .*\n", "", text, flags=re.MULTILINE) + "".join(f"search: {goal}\n" for goal in goals)
     if text != edit.text:
         with open(edit.file, "w", encoding="utf-8") as file:
