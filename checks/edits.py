@@ -196,7 +196,7 @@ class Edit:
     """An edit: what it changes, and what must refuse it."""
 
     def __init__(self, crate, file, source):
-        self.crate, self.file, self.name = crate, file, os.path.basename(file)[: -len(".edit")]
+        self.crate, self.file, self.source, self.name = crate, file, source, os.path.basename(file)[: -len(".edit")]
         with open(file, encoding="utf-8") as it:
             self.text = it.read()
         found = re.search(r"^breaks: ([\w:]+): (\S+)$", self.text, re.MULTILINE)
@@ -209,7 +209,7 @@ class Edit:
         olds = re.findall(r"^old: (.*)$", self.text, re.MULTILINE)
         places = [source.texts.get(self.path, "").find(old) for old in olds]
         found = [source.item_at(self.path, at + len(old) - len(old.lstrip())) for at, old in zip(places, olds) if at >= 0]
-        self.changed, self.unanswered, self.other = [item for item in found if item], [], ""
+        self.changed, self.unanswered, self.other, self.unshown = [item for item in found if item], [], "", set()
         self.touched = {*self.changed, *source.named(self.function)}
         self.made = set(re.findall(r"\bfn (\w+)", "\n".join(re.findall(r"^new:(.*)$", self.text, re.MULTILINE))))
         self.reaches = set().union(*[source.below[item] for item in self.touched])
@@ -558,8 +558,8 @@ def checked(rt, crate, room, flags, store):
 class Lane:
     """One check at a time, on a copy of what the check of the crate without edits stored."""
 
-    def __init__(self, folder, rt, kept):
-        self.folder, self.rt, self.kept, self.stores, self.seconds = folder, rt, kept, {}, 0
+    def __init__(self, folder, rt, whole):
+        self.folder, self.rt, self.whole, self.kept, self.stores, self.seconds = folder, rt, whole, whole.kept, {}, 0
 
     def store(self, crate):
         """The lane's store of a crate, as it was after the check without edits."""
@@ -591,7 +591,7 @@ class Lane:
                 with open(f"{room}/{path}", "w", encoding="utf-8") as file:
                     file.write(text)
         made = set().union(*[edit.made for edit in edits])
-        self.holes = make_stubs(room, crate.name, set().union(*[edit.kept for edit in edits]), made)
+        self.holes = make_stubs(room, crate.name, set().union(*[edit.kept for edit in edits]) | self.whole.proved_beside(crate, edits), made)
         return bad
 
     def check(self, crate, edits, store):
@@ -656,7 +656,7 @@ class Lane:
         """Which of these goals, as pairs of a function and a goal of these edits, are proved by `search rules` for the unedited body; which
         of them it doesn't have; and the output of the check."""
         copy_parts(self.rt, crate, f"{self.folder}/room")
-        make_stubs(f"{self.folder}/room", crate.name, set().union(*[edit.kept for edit in edits]))
+        make_stubs(f"{self.folder}/room", crate.name, self.whole.kept_in_store(crate))
         functions = {function for function, _ in goals}
         for function in functions:
             thin(answers_of(f"{self.folder}/room", function), lambda goal: False)
@@ -810,6 +810,23 @@ class Whole:
         self.is_stored = {crate: Future() for crate in to_try}
         self.functions = {}  # those that a check named
 
+    def kept_in_store(self, crate):
+        """The names of the functions that aren't stubs where the crate is checked without edits: all, if that isn't in a copy."""
+        source = self.edits[crate][0].source
+        return set().union(*[edit.kept for edit in self.edits[crate]]) if crate.makes_rlib() else {item.name for item in source.items}
+
+    def proved_beside(self, crate, edits):
+        """The names of those that can stay as they were proved without edits: all but those that rest on what these edits change, and would
+        hide goals of another."""
+        source, kept = edits[0].source if edits else self.edits[crate][0].source, self.kept_in_store(crate)
+        kept = {item for item in source.items if item.name in kept}
+        resting = left = set().union(*[edit.touched for edit in edits])
+        while left:
+            left = {item for item in kept - resting if source.named_by[item] & left}
+            resting = resting | left
+        calls = set().union(*[edit.calls for edit in edits if edit.is_hidden_by_calls])
+        return {item.name for item in kept - (resting & calls)}
+
     def have(self, futures, make, crate):
         """Waits for the libraries below a crate, makes what is wanted of it, and lets whoever waits for it go on."""
         try:
@@ -857,7 +874,7 @@ class Whole:
         room, store = (f"{kept}-room", kept) if crate.makes_rlib() else (crate.folder, f"{crate.folder}/out/incremental")
         if crate.makes_rlib():
             copy_parts(self.rt, crate, room)
-            holes = make_stubs(room, crate.name, set().union(*[edit.kept for edit in edits]))
+            holes = make_stubs(room, crate.name, self.kept_in_store(crate))
             if os.path.isdir(f"{crate.folder}/out/incremental"):
                 self.rt.linked(f"{crate.folder}/out/incremental", store)
         flags = ["--jobs", str(self.idle_jobs(crate)), *["--allow-holes"] * bool(holes), *only({edit.function for edit in edits})]
@@ -934,7 +951,7 @@ def main():
         whole = Whole(rt, crates, changed, f"{room}/kept", threads, beside)
         lanes = queue.SimpleQueue()
         for number in range(words.lanes):
-            lanes.put(Lane(f"{room}/{number}", rt, f"{room}/kept"))
+            lanes.put(Lane(f"{room}/{number}", rt, whole))
             os.mkdir(f"{room}/{number}")
 
         def work(batch, is_mixed, is_alone):
@@ -969,8 +986,8 @@ def main():
                 if any((edit.function, goal) not in proved for goal in edit.twins):
                     results[edit] = False, f"the unedited body isn't proved by `search rules`: {', '.join(edit.twins)}"
             for edit in left:  # a search that doesn't prove the unedited body's goal shows nothing
-                unshown = {goal for function, goal in goals - proved - absent if function == edit.function} - {*edit.twins}
-                edit.goals = [goal for goal in edit.goals if goal not in unshown]
+                edit.unshown = {goal for function, goal in goals - proved - absent if function == edit.function} - {*edit.twins}
+                edit.goals = [goal for goal in edit.goals if goal not in edit.unshown]
             for edit in left:
                 if edit.lacks_twin():
                     results[edit] = False, edit.lacks_twin()
@@ -1087,7 +1104,7 @@ def write(edit, refused):
     if not refused and edit.other:
         text = re.sub(r"^breaks: .*$", f"breaks: {edit.function}: {edit.other}", text, flags=re.MULTILINE)
     if refused and edit.unanswered:
-        goals = sorted({*edit.goals, *edit.unanswered})
+        goals = sorted({*edit.goals, *edit.unanswered} - edit.unshown)
         text = re.sub(r"^search: .*\n", "", text, flags=re.MULTILINE) + "".join(f"search: {goal}\n" for goal in goals)
     if text != edit.text:
         with open(edit.file, "w", encoding="utf-8") as file:

@@ -50,7 +50,7 @@ def write_stubs(room, crate, texts, items, is_kept):
 
     What a constant may be computed by, what has no body of its own lines, and what a trait gives its impls, stay as they are.
     """
-    modules, holes = modules_of_types(texts), set()
+    modules, hole = modules_of_types(texts), f"Rattle.{crate}.proofs.Stubs.unfilled"
     for path, text in texts.items():
         own = [item for item in items if item.path == path and item.kind == "fn" and not item.is_of_trait]
         for item in sorted(own, key=lambda it: -it.begin):
@@ -59,22 +59,28 @@ def write_stubs(room, crate, texts, items, is_kept):
                 continue
             indent = re.compile(" *").match(text, item.begin)[0]
             text = f"{text[: body[0]]}{{\n{indent}    unreachable!()\n{indent}}}{text[body[1] :]}"
-            holes.add(write_hole(room, crate, name, item.last))
+            write_proof(room, crate, name, item.last)
         with open(f"{room}/{path}", "w", encoding="utf-8") as file:
             file.write(text)
-    return holes
+    os.makedirs(f"{room}/proofs", exist_ok=True)
+    with open(f"{room}/proofs/Stubs.antt", "w", encoding="utf-8") as file:
+        file.write("-- the one hole, on which each stub's proof rests\npub unfilled : ⊥\nunfilled = ?\n")
+    with open(f"{room}/proofs/Lib.antt", "a", encoding="utf-8") as file:
+        file.write("pub mod Stubs\n")
+    return {hole}
 
 
-def write_hole(room, crate, name, last):
-    """Puts a hole in the place of a function's proof. Returns the hole's name in what a check says."""
+def write_proof(room, crate, name, last):
+    """Puts a proof that rests on the one hole in the place of a function's own. A proof with a hole of its own would be checked anew by
+    each check, and its goal printed."""
     folder, module = f"{room}/proofs/{name.replace('::', '/')}", f"Rattle.{crate}.proofs.{name.replace('::', '.')}"
     for file in PROOF_FILES:
         if os.path.exists(f"{folder}/{file}.antt"):
             os.remove(f"{folder}/{file}.antt")
     os.makedirs(folder, exist_ok=True)
     with open(f"{folder}/Proof.antt", "w", encoding="utf-8") as file:
-        file.write(f"use {module}.Statement.{{statement}}\n\npub {last}_spec : {{M : Type 1}} → statement M\n{last}_spec = ?\n")
-    return f"{module}.Proof.{last}_spec"
+        file.write(f"use {module}.Statement.{{statement}}\nuse Rattle.{crate}.proofs.Stubs.{{unfilled}}\n\n")
+        file.write(f"pub {last}_spec : {{M : Type 1}} → statement M\n{last}_spec = absurd unfilled\n")
 
 
 # What a check that allows holes says of a function whose own proof has none.
