@@ -64,7 +64,16 @@ fn next_fed(
 fn said_by_feed(rt: &(impl Abort + AllocGlobal), feed: &RowFeed) -> String {
     let counts = [feed.rows_read(), feed.damaged_rows(), feed.missed_eols()];
     let places = (feed.line_start(), feed.bytes_read());
-    said(rt, &(feed.row(), places.0, feed.damage(), counts, places.1))
+    said(rt, (feed.row(), places.0, feed.damage(), counts, places.1))
+}
+
+/// Compares what a feed and a reader say.
+fn are_alike(rt: &(impl Abort + AllocGlobal), feed: &RowFeed, reader: &RowReader, digits: &str) {
+    let (found, expected) = (said_by_feed(rt, feed), said_by_reader(rt, reader));
+    same_text(rt, digits, found.as_str(), expected.as_str());
+    let found = (feed.missed_eol(), feed.is_cut(), feed.cut_rows());
+    let expected = (reader.missed_eol(), reader.is_cut(), reader.cut_rows());
+    same(rt, found, expected);
 }
 
 /// Reads the rows of data that comes byte by byte, as a reader does from all of it.
@@ -81,16 +90,7 @@ fn feeds_bytes(
     for _ in 0..8 * data.len() + 4 {
         let found = next_of(&mut reader);
         same(rt, next_fed(rt, &mut feed, data, &mut fed), found);
-        same_text(
-            rt,
-            digits,
-            said_by_feed(rt, &feed).as_str(),
-            said_by_reader(rt, &reader).as_str(),
-        );
-        let missed = reader.missed_eol();
-        same(rt, feed.missed_eol(), missed);
-        let cut = (reader.is_cut(), reader.cut_rows());
-        same(rt, (feed.is_cut(), feed.cut_rows()), cut);
+        are_alike(rt, &feed, &reader, digits);
     }
 }
 
@@ -120,7 +120,7 @@ fn said_by_reader(rt: &(impl Abort + AllocGlobal), reader: &RowReader) -> String
     let places = (reader.line_start(), reader.bytes_read());
     said(
         rt,
-        &(reader.row(), places.0, reader.damage(), counts, places.1),
+        (reader.row(), places.0, reader.damage(), counts, places.1),
     )
 }
 
@@ -134,7 +134,7 @@ fn said_by_cursor(rt: &(impl Abort + AllocGlobal), cursor: &RowCursor) -> String
     let places = (cursor.line_start(), cursor.bytes_read());
     said(
         rt,
-        &(cursor.row(), places.0, cursor.damage(), counts, places.1),
+        (cursor.row(), places.0, cursor.damage(), counts, places.1),
     )
 }
 
@@ -236,12 +236,11 @@ fn cut_rows_are_told(rt: HostRuntime) {
     let data = &bytes_of(&rt, "001380");
     let mut reader = reader_of(&rt, data, settings);
     let mut cursor = cursor_of(&rt, data, settings);
-    same(&rt, reader.is_cut(), false);
+    let before = reader.is_cut();
     same(&rt, next_in(&rt, &mut cursor, data), next_of(&mut reader));
-    same(&rt, reader.is_cut(), true);
-    same(&rt, cursor.is_cut(), true);
-    same(&rt, reader.cut_rows(), 1);
-    same(&rt, cursor.cut_rows(), 1);
+    let found = (before, reader.is_cut(), reader.cut_rows());
+    same(&rt, found, (false, true, 1));
+    same(&rt, (cursor.is_cut(), cursor.cut_rows()), (true, 1));
 }
 
 /// Horizontal mode, 3 white pixels, 2 black ones, V0; then EOFB, or padding that is no mode.
