@@ -5,7 +5,7 @@ use Rattle.fax_encode.proofs.Names.{agree_below_at, and_parts, eqb-true, leb-tru
 use Rattle.fax_encode.proofs.Names.{cases_lt, length-append, Color, White, Black, Bits, Code, Has, codes_of, Spells}
 use Rattle.fax_encode.proofs.Names.{word_of_length, chosen_rest, first_makeup, shortest_words, shortest_run, ShortestRuns}
 use Rattle.fax_encode.proofs.ChosenWords.{makeup_word, rest_spelled}
-use Rattle.std.proofs.lemmas.Bool.{agree_below, lt-leb, ne_eqb}
+use Rattle.std.proofs.lemmas.Bool.{lt-leb, ne_eqb}
 use Rattle.fax_encode.proofs.Names.{chosen_run, ◌⊎◌, ltb-true}
 use Rattle.fax_encode.proofs.RunLengths.{run_parts}
 use Rattle.fax_encode.proofs.RunsWritten.{run_more, run_rest}
