@@ -81,7 +81,7 @@ fn same_text(rt: &impl Abort, case: &str, found: &str, expected: &str) {
 }
 
 /// Writes a value as `Debug` does.
-fn said<T: Debug>(rt: &(impl Abort + AllocGlobal), value: &T) -> String {
+fn said<T: Debug + Drop>(rt: &(impl Abort + AllocGlobal), value: T) -> String {
     format!(in rt.alloc(); "{value:?}").expect(rt, "memory")
 }
 

@@ -5,7 +5,7 @@ use Rattle.fax_encode.proofs.Names.{agree_below_at, and_parts, eqb-true, leb-tru
 use Rattle.fax_encode.proofs.Names.{cases_lt, length-append, Color, White, Black, Bits, Code, Has, codes_of, Spells}
 use Rattle.fax_encode.proofs.Names.{word_of_length, chosen_rest, first_makeup, shortest_words, shortest_run, ShortestRuns}
 use Rattle.fax_encode.proofs.ChosenWords.{makeup_word, rest_spelled}
-use Rattle.std.proofs.lemmas.Bool.{agree_below, lt-leb, ne_eqb}
+use Rattle.std.proofs.lemmas.Bool.{lt-leb, ne_eqb}
 use Rattle.fax_encode.proofs.Names.{chosen_run, ◌⊎◌, ltb-true}
 use Rattle.fax_encode.proofs.RunLengths.{run_parts}
 use Rattle.fax_encode.proofs.RunsWritten.{run_more, run_rest}
@@ -115,24 +115,67 @@ total_many color (suc times) many =
     best_many color times (suc times) many ∙ ap (λ (m : ℕ). one color first + m)
     (best_enough color times (suc times - first) (suc times - first) (omega (arith, long.0)) (omega arith))
 
--- one more word costs at least what it adds to the least sum
-adds_at : Color → ℕ → ℕ → Bool
-adds_at color times more = leb (total color (times + more)) (total color times + one color more)
+-- ---- One more word costs at least what it adds to the least sum.
+-- the values of a function at so many numbers, from one on
+values : (ℕ → ℕ) → ℕ → ℕ → List ℕ
+values f from zero = []
+values f from (suc count) = f from ∷ values f (suc from) count
 
-adds_below : Color → ℕ → Bool
-adds_below color times = agree_below (adds_at color times) (λ more. true) 41
+-- each of some sums is at most the first one and the bits of a word
+fit : ℕ → List ℕ → List ℕ → Bool
+fit first [] words = true
+fit first (sum ∷ sums) [] = true
+fit first (sum ∷ sums) (word ∷ words) = leb sum (first + word) && fit first sums words
 
-adds_early : (color : Color) (times : ℕ) → times < 124 → adds_below color times ≡ true
-unfolding adds_below adds_at total best one
-adds_early White times lt = agree_below_at (adds_below White) (λ m. true) 124 times refl lt
-adds_early Black times lt = agree_below_at (adds_below Black) (λ m. true) 124 times refl lt
+-- so are those from each sum on, each of which is computed once
+all_fit : List ℕ → List ℕ → Bool
+all_fit [] words = true
+all_fit (sum ∷ sums) words = fit sum (sum ∷ sums) words && all_fit sums words
+
+fit_at : (f g : ℕ → ℕ) (first from from2 count count2 k : ℕ) → fit first (values f from count) (values g from2 count2) ≡ true
+    → k < count → k < count2 → f (from + k) ≤ first + g (from2 + k)
+unfolding values fit
+fit_at f g first from from2 zero count2 k e lt lt2 = absurd (omega arith)
+fit_at f g first from from2 (suc count) zero k e lt lt2 = absurd (omega arith)
+fit_at f g first from from2 (suc count) (suc count2) zero e lt lt2 =
+    let both = and_parts (leb (f from) (first + g from2)) (fit first (values f (suc from) count) (values g (suc from2) count2)) e in
+    let at : from + zero ≡ from = omega arith in
+    let at2 : from2 + zero ≡ from2 = omega arith in
+    rw (at, at2) (leb-true (f from) (first + g from2) both.0)
+fit_at f g first from from2 (suc count) (suc count2) (suc k) e lt lt2 =
+    let both = and_parts (leb (f from) (first + g from2)) (fit first (values f (suc from) count) (values g (suc from2) count2)) e in
+    let at : from + suc k ≡ suc from + k = omega arith in
+    let at2 : from2 + suc k ≡ suc from2 + k = omega arith in
+    rw (at, at2) (fit_at f g first (suc from) (suc from2) count count2 k both.1 (omega arith) (omega arith))
+
+all_fit_at : (f g : ℕ → ℕ) (from count count2 j k : ℕ) → all_fit (values f from count) (values g 0 count2) ≡ true
+    → j + k < count → k < count2 → f ((from + j) + k) ≤ f (from + j) + g k
+unfolding values all_fit
+all_fit_at f g from zero count2 j k e lt lt2 = absurd (omega arith)
+all_fit_at f g from (suc count) count2 zero k e lt lt2 =
+    let both = and_parts (fit (f from) (f from ∷ values f (suc from) count) (values g 0 count2))
+    (all_fit (values f (suc from) count) (values g 0 count2)) e in
+    let at : from + zero ≡ from = omega arith in
+    let none : 0 + k ≡ k = omega arith in
+    let here = fit_at f g (f from) from 0 (suc count) count2 k both.0 (omega arith) lt2 in
+    rw at (subst (λ (m : ℕ). f (from + k) ≤ f from + g m) none here)
+all_fit_at f g from (suc count) count2 (suc j) k e lt lt2 =
+    let both = and_parts (fit (f from) (f from ∷ values f (suc from) count) (values g 0 count2))
+    (all_fit (values f (suc from) count) (values g 0 count2)) e in
+    let at : from + suc j ≡ suc from + j = omega arith in
+    rw at (all_fit_at f g (suc from) count count2 j k both.1 (omega arith) lt2)
+
+adds_early : (color : Color) → all_fit (values (total color) 0 164) (values (one color) 0 41) ≡ true
+unfolding values fit all_fit total best one
+adds_early White = refl
+adds_early Black = refl
 
 adds_first : (color : Color) (times more : ℕ) → times < 124 → more ≤ 40
     → total color (times + more) ≤ total color times + one color more
-unfolding adds_below adds_at
 adds_first color times more early few =
-    leb-true (total color (times + more)) (total color times + one color more)
-    (agree_below_at (adds_at color times) (λ m. true) 41 more (adds_early color times early) (omega arith))
+    let none : 0 + times ≡ times = omega arith in
+    let here = all_fit_at (total color) (one color) 0 164 41 times more (adds_early color) (omega arith) (omega arith) in
+    subst (λ (m : ℕ). total color (m + more) ≤ total color m + one color more) none here
 
 top_long : (color : Color) → (26 ≤ top color) × (top color ≤ 40) × (late color ≤ 124)
 unfolding top

@@ -1,12 +1,12 @@
 -- The examples.
 use Rattle.std.proofs.Common.{◌≡◌, ◌*◌, ℕ, ◌+◌, ◌≤◌, true, false, [], ◌∷◌, ◌++◌, length, drop, Result, Ok, Err, refl, sym, ap}
-use Rattle.std.proofs.Common.{subst, ◌∙◌, arith, ◌⊎◌, inl, inr}
-use Rattle.std.specs.Prelude.{pos, negsuc}
+use Rattle.std.proofs.Common.{List, subst, ◌∙◌, arith, ◌⊎◌, inl, inr}
+use Rattle.std.specs.Prelude.{map, pos, negsuc}
 use Rattle.std.proofs.lemmas.List.Elements.{All-cons}
 use Rattle.hayro_ccitt.specs.Color.TheVariants.{White}
 use Rattle.hayro_ccitt.specs.DecodeError.{DecodeError}
 use Rattle.hayro_ccitt.specs.Bits.{Bits, bits_of}
-use Rattle.hayro_ccitt.specs.Rows.{Row, pixels, white_row}
+use Rattle.hayro_ccitt.specs.Rows.{Row, changes, pixels, white_row}
 use Rattle.hayro_ccitt.specs.Lines.{Line}
 use Rattle.hayro_ccitt.specs.Encodings.{Spells, EncodesLine1D, EncodesLine2D, IsPicture, eol}
 use Rattle.hayro_ccitt.specs.LocalityByK.{IsTaggedBody}
@@ -14,10 +14,13 @@ use Rattle.hayro_ccitt.proofs.DamagedLines.DamageByK.{encoded_follows}
 use Rattle.hayro_ccitt.proofs.DamagedLines.EncodedBodies.{encoded_lines_are_bodies}
 use Rattle.worked_rows.specs.Examples.{hex, EncodesTwoLines, EncodesTaggedRows, with_eols, three_rows, bits_changed, bits_added}
 use Rattle.worked_rows.specs.Examples.{words_added, group3_1d, HaveLocalBodies, ReadsDamage, LimitBehindTheBody, OneLineFollows}
+use Rattle.worked_rows.specs.Examples.{reading_of}
 use Rattle.worked_rows.specs.Examples.{OneLineDiffers, ReadsDamageByK, with_tags, four_rows}
 use Rattle.hayro_ccitt.specs.Locality.{IsLocal, IsLocalByTests, ComesToLine, EndAlike}
 use Rattle.hayro_ccitt.specs.Repetition.{Turn, Reaches}
-use Rattle.hayro_ccitt.specs.PlainReading.{Progress, Move, first_line, move_on}
+use Rattle.hayro_ccitt.specs.PlainReading.{Progress, Move, first_line, move_on, plain}
+use Rattle.hayro_ccitt.proofs.PixelRows.ChangesAndPixels.{changes-recursive}
+use Rattle.hayro_ccitt.proofs.PixelRows.RowChanges.{changes_from-same}
 use Rattle.hayro_ccitt.specs.DecodeSettings.{DecodeSettings}
 use Rattle.hayro_ccitt.proofs.DamagedLines.LocalByTests.{local_by_tests}
 
@@ -282,3 +285,15 @@ one_line_differs = record {
 
 pub damage_by_k_read : ReadsDamageByK
 damage_by_k_read = (refl, refl, refl)
+
+wide_row_drawn : (plain (group3_1d 2560 0 "b") (bits_of (hex "00101F35001001001001001001"))).rows ≡ white_row 2560 ∷ []
+wide_row_drawn = refl
+
+no_changes : (columns : ℕ) → changes (white_row columns) ≡ []
+no_changes columns = changes-recursive (white_row columns) ∙ changes_from-same 0 columns false
+
+-- a row of 2560 white pixels, whose changes are not looked for one by one
+pub wide_row_read : reading_of (group3_1d 2560 0 "b") "00101F35001001001001001001" ≡ ([] ∷ [], Ok 13)
+wide_row_read =
+    let outcome = (plain (group3_1d 2560 0 "b") (bits_of (hex "00101F35001001001001001001"))).outcome in
+    ap (λ (rows : List Row). (map changes rows, outcome)) wide_row_drawn ∙ ap (λ (row : List ℕ). (row ∷ [], Ok 13)) (no_changes 2560)

@@ -125,8 +125,8 @@ fn repairs<'a>(
     recover(ctx, reader, BitReader::new(data), error)
 }
 
-/// Decodes rows of Group 4.
-fn decodes_group4(
+/// Decodes rows of a context's encoding, from a reader at its start.
+fn decodes_rows(
     rt: &impl Abort,
     ctx: &mut DecoderContext,
     reader: &mut BitReader,
@@ -134,37 +134,12 @@ fn decodes_group4(
 ) -> Result<()> {
     ctx.reset();
     let settings = ctx.settings();
-    assert!(rt; matches!(settings.encoding, EncodingMode::Group4));
     assert!(rt; settings.columns > 0 && reader.bit_pos() == 0);
-    group4::decode(ctx, reader, sink)
-}
-
-/// Decodes rows of one-dimensional Group 3.
-fn decodes_1d(
-    rt: &impl Abort,
-    ctx: &mut DecoderContext,
-    reader: &mut BitReader,
-    sink: &mut RowsAsText,
-) -> Result<()> {
-    ctx.reset();
-    let settings = ctx.settings();
-    assert!(rt; matches!(settings.encoding, EncodingMode::Group3_1D));
-    assert!(rt; settings.columns > 0 && reader.bit_pos() == 0);
-    decode_1d(ctx, reader, sink)
-}
-
-/// Decodes rows of two-dimensional Group 3.
-fn decodes_2d(
-    rt: &impl Abort,
-    ctx: &mut DecoderContext,
-    reader: &mut BitReader,
-    sink: &mut RowsAsText,
-) -> Result<()> {
-    ctx.reset();
-    let settings = ctx.settings();
-    assert!(rt; matches!(settings.encoding, EncodingMode::Group3_2D));
-    assert!(rt; settings.columns > 0 && reader.bit_pos() == 0);
-    decode_2d(ctx, reader, sink)
+    match settings.encoding {
+        EncodingMode::Group4 => group4::decode(ctx, reader, sink),
+        EncodingMode::Group3_1D => decode_1d(ctx, reader, sink),
+        EncodingMode::Group3_2D => decode_2d(ctx, reader, sink),
+    }
 }
 
 /// Returns whether a body is local.
@@ -227,19 +202,66 @@ fn error_of(argument: &str) -> DecodeError {
     }
 }
 
+/// Consumes a number of bits.
+fn consumes(rt: &impl Abort, reader: &mut BitReader, count: u32) -> Result<()> {
+    assert!(rt; count <= 32);
+    reader.consume(count as usize)
+}
+
+/// What a call returns. It is written last, since the proof of each call that makes a text takes half a second.
+#[derive(Clone, Copy)]
+enum Returned {
+    Nothing,
+    Flag(bool),
+    Number(u64),
+    Run(Result<u32>),
+    Done(Result<()>),
+    Answer(Result<bool>),
+    Mode(Result<Mode>),
+    Zeros((usize, Option<usize>)),
+    Places((u32, u32)),
+    Reach(Option<u64>),
+    Step(Option<usize>),
+    Settings(DecodeSettings),
+}
+
+/// Writes what a call returns, as `Debug` writes the value.
+fn written_as(rt: &(impl Abort + AllocGlobal), returned: Returned) -> String {
+    match returned {
+        Returned::Nothing => said(rt, ()),
+        Returned::Flag(flag) => said(rt, flag),
+        Returned::Number(number) => said(rt, number),
+        Returned::Run(run) => said(rt, run),
+        Returned::Done(done) => said(rt, done),
+        Returned::Answer(answer) => said(rt, answer),
+        Returned::Mode(mode) => said(rt, mode),
+        Returned::Zeros(zeros) => said(rt, zeros),
+        Returned::Places(places) => said(rt, places),
+        Returned::Reach(reach) => said(rt, reach),
+        Returned::Step(step) => said(rt, step),
+        Returned::Settings(settings) => said(rt, settings),
+    }
+}
+
+/// Returns a place or a count.
+fn number(value: usize) -> Returned {
+    Returned::Number(value as u64)
+}
+
 /// Calls a reader of bits that reads bits.
-fn reads(rt: &(impl Abort + AllocGlobal), call: &str, reader: &mut BitReader) -> String {
+fn reads(rt: &impl Abort, call: &str, argument: &str, reader: &mut BitReader) -> Returned {
     match call {
-        "read_bit" => said(rt, &reader.read_bit()),
-        "peek_u32" => said(rt, &reader.peek_u32()),
-        "consume_1" => said(rt, &reader.consume(1)),
-        "consume_7" => said(rt, &reader.consume(7)),
-        "consume_12" => said(rt, &reader.consume(12)),
-        "align" => said(rt, &reader.align()),
-        "at_end" => said(rt, &reader.at_end()),
-        "byte_pos" => said(rt, &reader.byte_pos()),
-        "bit_pos" => said(rt, &reader.bit_pos()),
-        "holds_one" => said(rt, &reader.holds_one()),
+        "read_bit" => Returned::Run(reader.read_bit()),
+        "peek_u32" => Returned::Number(u64::from(reader.peek_u32())),
+        "consume" => Returned::Done(consumes(rt, reader, number_in(rt, argument))),
+        "align" => {
+            reader.align();
+            Returned::Nothing
+        }
+        "at_end" => Returned::Flag(reader.at_end()),
+        "byte_pos" => number(reader.byte_pos()),
+        "bit_pos" => number(reader.bit_pos()),
+        "holds_one" => Returned::Flag(reader.holds_one()),
         _ => panic!(rt; "no call: {call}"),
     }
 }
@@ -250,18 +272,28 @@ fn reads_codes(
     call: &str,
     argument: &str,
     reader: &mut BitReader,
-) -> String {
+) -> Returned {
     match call {
-        "white_run" => said(rt, &run_of(rt, reader, Color::White)),
-        "black_run" => said(rt, &run_of(rt, reader, Color::Black)),
-        "decode_mode" => said(rt, &mode_of(reader)),
-        "zero_run" => said(rt, &zeros_of(reader)),
-        "read_eols" => said(rt, &eols_of(reader, number_in(rt, argument))),
-        "read_eol_if_available" => said(rt, &all_eols_of(reader)),
-        "read_tagged_eols" => said(rt, &tagged_eols_of(reader)),
-        "skip_to_eol" => said(rt, &has_eol_left(reader)),
-        _ => reads(rt, call, reader),
+        "white_run" => Returned::Run(run_of(rt, reader, Color::White)),
+        "black_run" => Returned::Run(run_of(rt, reader, Color::Black)),
+        "decode_mode" => Returned::Mode(mode_of(reader)),
+        "zero_run" => Returned::Zeros(zeros_of(reader)),
+        "read_eols" => number(eols_of(reader, number_in(rt, argument))),
+        "read_eol_if_available" => number(all_eols_of(reader)),
+        "read_tagged_eols" => number(tagged_eols_of(reader)),
+        "skip_to_eol" => Returned::Flag(has_eol_left(reader)),
+        _ => reads(rt, call, argument, reader),
     }
+}
+
+/// Sets what a context keeps.
+fn sets(ctx: &mut DecoderContext, call: &str, argument: &str) -> Returned {
+    match call {
+        "set_has_eols" => ctx.set_has_eols(argument == "true"),
+        "tick" => counts_tick(ctx),
+        _ => ctx.reset(),
+    }
+    Returned::Nothing
 }
 
 /// Asks or sets what a context keeps, or calls a reader of bits.
@@ -269,31 +301,41 @@ fn asks(
     rt: &(impl Abort + AllocGlobal),
     call: &str,
     argument: &str,
-    data: &[u8],
     ctx: &mut DecoderContext,
     reader: &mut BitReader,
-) -> String {
+) -> Returned {
     match call {
-        "body_is_local" => said(rt, &is_local_by(rt, data, ctx, argument)),
-        "rows_reached" => said(
-            rt,
-            &reach_of(rt, data, ctx, number_in(rt, argument) as usize),
-        ),
-        "in_step_from" => said(
-            rt,
-            &step_of(rt, data, ctx, number_in(rt, argument) as usize),
-        ),
-        "settings" => said(rt, &ctx.settings()),
-        "decoded_rows" => said(rt, &ctx.decoded_rows()),
-        "has_eols" => said(rt, &ctx.has_eols()),
-        "set_has_eols" => said(rt, &ctx.set_has_eols(argument == "true")),
-        "tick" => said(rt, &counts_tick(ctx)),
-        "reset" => said(rt, &ctx.reset()),
+        "settings" => Returned::Settings(ctx.settings()),
+        "decoded_rows" => Returned::Number(ctx.decoded_rows()),
+        "has_eols" => Returned::Flag(ctx.has_eols()),
+        "set_has_eols" | "tick" | "reset" => sets(ctx, call, argument),
         _ => reads_codes(rt, call, argument, reader),
     }
 }
 
-/// Draws a line in a context, or calls what `asks` does.
+/// Asks about damage, or calls what `asks` does.
+fn asks_of_damage(
+    rt: &(impl Abort + AllocGlobal),
+    call: &str,
+    argument: &str,
+    data: &[u8],
+    ctx: &mut DecoderContext,
+    reader: &mut BitReader,
+) -> Returned {
+    match call {
+        "body_is_local" => Returned::Answer(is_local_by(rt, data, ctx, argument)),
+        "rows_reached" => Returned::Reach(reach_of(
+            rt,
+            data,
+            ctx,
+            number_in(rt, argument) as usize,
+        )),
+        "in_step_from" => Returned::Step(step_of(rt, data, ctx, number_in(rt, argument) as usize)),
+        _ => asks(rt, call, argument, ctx, reader),
+    }
+}
+
+/// Draws a line in a context, or calls what `asks_of_damage` does.
 fn draws(
     rt: &(impl Abort + AllocGlobal),
     call: &str,
@@ -301,14 +343,14 @@ fn draws(
     data: &[u8],
     ctx: &mut DecoderContext,
     reader: &mut BitReader,
-) -> String {
+) -> Returned {
     match call {
-        "decode_1d_line" => said(rt, &draws_1d(ctx, reader)),
-        "decode_2d_line" => said(rt, &draws_2d(ctx, reader)),
-        "push_pixels" => said(rt, &paints(ctx, number_in(rt, argument))),
-        "fill_white" => said(rt, &fills(ctx)),
-        "b1_and_b2" => said(rt, &places_of(ctx)),
-        _ => asks(rt, call, argument, data, ctx, reader),
+        "decode_1d_line" => Returned::Done(draws_1d(ctx, reader)),
+        "decode_2d_line" => Returned::Done(draws_2d(ctx, reader)),
+        "push_pixels" => Returned::Done(paints(ctx, number_in(rt, argument))),
+        "fill_white" => Returned::Done(fills(ctx)),
+        "b1_and_b2" => Returned::Places(places_of(ctx)),
+        _ => asks_of_damage(rt, call, argument, data, ctx, reader),
     }
 }
 
@@ -321,17 +363,21 @@ fn calls<'a>(
     ctx: &mut DecoderContext,
     reader: &mut BitReader<'a>,
     sink: &mut RowsAsText,
-) -> String {
+) -> Returned {
     match call {
-        "group4::decode" => said(rt, &decodes_group4(rt, ctx, reader, sink)),
-        "decode_1d" => said(rt, &decodes_1d(rt, ctx, reader, sink)),
-        "decode_2d" => said(rt, &decodes_2d(rt, ctx, reader, sink)),
-        "next_line" => said(rt, &moves_on(rt, ctx, sink)),
-        "rows" => joined(rt, sink.text.as_str()),
-        "check_eob" => said(rt, &is_over(rt, ctx, reader)),
-        "recover" => said(rt, &repairs(rt, ctx, reader, data, error_of(argument))),
+        "decode" => Returned::Done(decodes_rows(rt, ctx, reader, sink)),
+        "next_line" => Returned::Done(moves_on(rt, ctx, sink)),
+        "check_eob" => Returned::Answer(is_over(rt, ctx, reader)),
+        "recover" => Returned::Done(repairs(rt, ctx, reader, data, error_of(argument))),
         _ => draws(rt, call, argument, data, ctx, reader),
     }
+}
+
+/// Returns the name of a call, its argument, and what is expected.
+fn parts_of(line: &str) -> Option<(&str, &str, &str)> {
+    let (call, expected) = line.split_once('=')?;
+    let (name, argument) = call.trim().split_once(' ').unwrap_or((call.trim(), ""));
+    Some((name, argument, expected.trim()))
 }
 
 /// Makes the calls of a case, and compares what each returns.
@@ -346,11 +392,14 @@ fn makes_calls(
     let mut reader = BitReader::new(data);
     let mut sink = sink_of(rt, 2);
     for line in listed.split(';') {
-        let (call, expected) = line.split_once('=').expect(rt, line);
-        let call = call.trim();
-        let (name, argument) = call.split_once(' ').unwrap_or((call, ""));
-        let found = calls(rt, name, argument, data, &mut ctx, &mut reader, &mut sink);
-        same_text(rt, line, found.as_str(), expected.trim());
+        let (name, argument, expected) = parts_of(line).expect(rt, line);
+        let found = if name == "rows" {
+            joined(rt, sink.text.as_str())
+        } else {
+            let returned = calls(rt, name, argument, data, &mut ctx, &mut reader, &mut sink);
+            written_as(rt, returned)
+        };
+        same_text(rt, line, found.as_str(), expected);
     }
 }
 

@@ -11,9 +11,9 @@ fn reads_bits(rt: HostRuntime) {
     calls_each(
         &rt,
         "Group4 8 columns 0 rows | A580 | read_bit = Ok(1); read_bit = Ok(0); bit_pos = 2; byte_pos = 0; \
-         peek_u32 = 2516582400; align = (); bit_pos = 8; byte_pos = 1; consume_7 = Ok(()); at_end = false; \
+         peek_u32 = 2516582400; align = (); bit_pos = 8; byte_pos = 1; consume 7 = Ok(()); at_end = false; \
          read_bit = Ok(0); at_end = true; read_bit = Err(UnexpectedEof)
-        Group4 8 columns 0 rows | 000000000180 | holds_one = true; consume_12 = Ok(()); holds_one = true; bit_pos = 12
+        Group4 8 columns 0 rows | 000000000180 | holds_one = true; consume 12 = Ok(()); holds_one = true; bit_pos = 12
         Group4 8 columns 0 rows | 0000000000 | holds_one = false; bit_pos = 0
         Group4 8 columns 0 rows | | holds_one = false",
     );
@@ -59,8 +59,8 @@ fn reads_line_ends(rt: HostRuntime) {
         Group4 8 columns 0 rows | 00 | zero_run = (8, None); read_eol_if_available = 0; bit_pos = 0
         Group4 8 columns 0 rows | 0020 | read_eol_if_available = 0; bit_pos = 0
         Group4 8 columns 0 rows | 0001 | read_eol_if_available = 1; bit_pos = 16
-        Group3_1D 8 columns 0 rows | 0019F800CC | skip_to_eol = true; bit_pos = 0; consume_12 = Ok(()); skip_to_eol = true; \
-         bit_pos = 21; consume_1 = Ok(()); skip_to_eol = false; bit_pos = 22
+        Group3_1D 8 columns 0 rows | 0019F800CC | skip_to_eol = true; bit_pos = 0; consume 12 = Ok(()); skip_to_eol = true; \
+         bit_pos = 21; consume 1 = Ok(()); skip_to_eol = false; bit_pos = 22
         Group3_2D 8 columns 0 rows | 001800C006003001800C | read_tagged_eols = 6; bit_pos = 78
         Group3_2D 8 columns 0 rows | 001800C0 | read_tagged_eols = 2; bit_pos = 25
         Group3_2D 8 columns 0 rows | 0018 | read_tagged_eols = 1; bit_pos = 12
@@ -74,7 +74,7 @@ fn makes_and_resets_a_context(rt: HostRuntime) {
         &rt,
         "Group4 8 columns 2 rows s | C0 | settings = DecodeSettings { columns: 8, rows: 2, end_of_block: false, \
          end_of_line: false, rows_are_byte_aligned: false, encoding: Group4, strict: true }; decoded_rows = 0; \
-         has_eols = false; tick = (); group4::decode = Ok(()); rows = [],[]; set_has_eols true = (); decoded_rows = 2; \
+         has_eols = false; tick = (); decode = Ok(()); rows = [],[]; set_has_eols true = (); decoded_rows = 2; \
          has_eols = true; reset = (); decoded_rows = 0; has_eols = false",
     );
 }
@@ -103,9 +103,9 @@ fn draws_lines(rt: HostRuntime) {
 fn decodes_from_a_reader(rt: HostRuntime) {
     calls_each(
         &rt,
-        "Group4 8 columns 0 rows b | 80080080 | group4::decode = Ok(()); bit_pos = 25; rows = []
-        Group3_1D 8 columns 0 rows b | 001980080080080080080080 | decode_1d = Ok(()); bit_pos = 89; rows = []
-        Group3_2D 8 columns 0 rows b | 001CC005001800C006003001800C | decode_2d = Ok(()); bit_pos = 110; rows = [],[]",
+        "Group4 8 columns 0 rows b | 80080080 | decode = Ok(()); bit_pos = 25; rows = []
+        Group3_1D 8 columns 0 rows b | 001980080080080080080080 | decode = Ok(()); bit_pos = 89; rows = []
+        Group3_2D 8 columns 0 rows b | 001CC005001800C006003001800C | decode = Ok(()); bit_pos = 110; rows = [],[]",
     );
 }
 

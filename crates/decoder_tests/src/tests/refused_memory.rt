@@ -184,10 +184,11 @@ fn calls_without_memory(rt: HostRuntime) {
         (filled, moved, places_of(&mut ctx)),
         (Ok(()), Ok(()), (8, 8)),
     );
-    same(&rt, moves_on(&rt, &mut ctx, &mut sink), Err(Refused));
+    let moved = moves_on(&rt, &mut ctx, &mut sink);
     ctx.reset();
-    same(&rt, (ctx.decoded_rows(), ctx.has_eols()), (0, false));
-    same(&rt, was_refused(rt.alloc()), false);
+    let is_refused = was_refused(rt.alloc());
+    let found = (moved, ctx.decoded_rows(), ctx.has_eols(), is_refused);
+    same(&rt, found, (Err(Refused), 0, false, false));
 }
 
 #[test]
@@ -196,9 +197,10 @@ fn reach_without_memory(rt: HostRuntime) {
     let mut ctx = context_of(&rt, settings);
     let lines = bytes_of(&rt, "001CC005400398");
     refuse_request(rt.alloc(), 1);
-    same(&rt, reach_of(&rt, &lines, &mut ctx, 18), Some(2));
-    same(&rt, step_of(&rt, &lines, &mut ctx, 0), None);
-    same(&rt, was_refused(rt.alloc()), false);
+    let reach = reach_of(&rt, &lines, &mut ctx, 18);
+    let step = step_of(&rt, &lines, &mut ctx, 0);
+    let is_refused = was_refused(rt.alloc());
+    same(&rt, (reach, step, is_refused), (Some(2), None, false));
 }
 
 /// Decodes while the first allocation is to be refused, and none is made.

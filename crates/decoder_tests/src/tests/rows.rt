@@ -64,7 +64,16 @@ fn next_fed(
 fn said_by_feed(rt: &(impl Abort + AllocGlobal), feed: &RowFeed) -> String {
     let counts = [feed.rows_read(), feed.damaged_rows(), feed.missed_eols()];
     let places = (feed.line_start(), feed.bytes_read());
-    said(rt, &(feed.row(), places.0, feed.damage(), counts, places.1))
+    said(rt, (feed.row(), places.0, feed.damage(), counts, places.1))
+}
+
+/// Compares what a feed and a reader say.
+fn are_alike(rt: &(impl Abort + AllocGlobal), feed: &RowFeed, reader: &RowReader, digits: &str) {
+    let (found, expected) = (said_by_feed(rt, feed), said_by_reader(rt, reader));
+    same_text(rt, digits, found.as_str(), expected.as_str());
+    let found = (feed.missed_eol(), feed.is_cut(), feed.cut_rows());
+    let expected = (reader.missed_eol(), reader.is_cut(), reader.cut_rows());
+    same(rt, found, expected);
 }
 
 /// Reads the rows of data that comes byte by byte, as a reader does from all of it.
@@ -81,16 +90,7 @@ fn feeds_bytes(
     for _ in 0..8 * data.len() + 4 {
         let found = next_of(&mut reader);
         same(rt, next_fed(rt, &mut feed, data, &mut fed), found);
-        same_text(
-            rt,
-            digits,
-            said_by_feed(rt, &feed).as_str(),
-            said_by_reader(rt, &reader).as_str(),
-        );
-        let missed = reader.missed_eol();
-        same(rt, feed.missed_eol(), missed);
-        let cut = (reader.is_cut(), reader.cut_rows());
-        same(rt, (feed.is_cut(), feed.cut_rows()), cut);
+        are_alike(rt, &feed, &reader, digits);
     }
 }
 
@@ -120,7 +120,7 @@ fn said_by_reader(rt: &(impl Abort + AllocGlobal), reader: &RowReader) -> String
     let places = (reader.line_start(), reader.bytes_read());
     said(
         rt,
-        &(reader.row(), places.0, reader.damage(), counts, places.1),
+        (reader.row(), places.0, reader.damage(), counts, places.1),
     )
 }
 
@@ -134,7 +134,7 @@ fn said_by_cursor(rt: &(impl Abort + AllocGlobal), cursor: &RowCursor) -> String
     let places = (cursor.line_start(), cursor.bytes_read());
     said(
         rt,
-        &(cursor.row(), places.0, cursor.damage(), counts, places.1),
+        (cursor.row(), places.0, cursor.damage(), counts, places.1),
     )
 }
 
@@ -147,7 +147,9 @@ fn reads_next(
     expected: &str,
 ) {
     let found = next_of(reader);
-    same(rt, next_in(rt, cursor, data), found);
+    let in_cursor = next_in(rt, cursor, data);
+    let missed = reader.missed_eol();
+    same(rt, (in_cursor, cursor.missed_eol()), (found, missed));
     let entry = said_by_reader(rt, reader);
     same_text(
         rt,
@@ -155,34 +157,48 @@ fn reads_next(
         said_by_cursor(rt, cursor).as_str(),
         entry.as_str(),
     );
-    let missed = reader.missed_eol();
-    same(rt, cursor.missed_eol(), missed);
     let found = format!(in rt.alloc(); "{found:?} {entry} {missed:?}").expect(rt, "memory");
     same_text(rt, "by a reader", found.as_str(), expected);
 }
 
-/// Reads the rows of each case of a text: each call of `next_row` with what it returns, the last row, the offset of its line,
-/// its damage, how many rows were read and damaged and EOLs missed, the bytes read, and the EOL that was missed.
+/// Compares what a reader and a cursor say before the first row.
+fn start_alike(
+    rt: &(impl Abort + AllocGlobal),
+    reader: &RowReader,
+    cursor: &RowCursor,
+    columns: u32,
+    digits: &str,
+) {
+    let found = (cursor.settings().columns, reader.missed_eol());
+    same(rt, found, (columns, None));
+    let (by_reader, by_cursor) = (said_by_reader(rt, reader), said_by_cursor(rt, cursor));
+    same_text(rt, digits, by_cursor.as_str(), by_reader.as_str());
+    assert!(rt; by_reader.as_str().starts_with("([], 0, None, [0, 0, 0], "));
+}
+
+/// Reads the rows of a case: each call of `next_row` with what it returns, the last row, the offset of its line, its damage, how
+/// many rows were read and damaged and EOLs missed, the bytes read, and the EOL that was missed.
+fn reads_case(
+    rt: &(impl Abort + AllocGlobal),
+    settings: DecodeSettings,
+    data: &[u8],
+    digits: &str,
+    expected: &str,
+) {
+    let mut reader = reader_of(rt, data, settings);
+    let mut cursor = cursor_of(rt, data, settings);
+    start_alike(rt, &reader, &cursor, settings.columns, digits);
+    for entry in expected.split(';') {
+        reads_next(rt, &mut reader, &mut cursor, data, entry.trim());
+    }
+    feeds_bytes(rt, data, settings, digits);
+}
+
+/// Reads the rows of each case of a text.
 fn reads_each(rt: &(impl Abort + AllocGlobal), text: &str) {
     for (words, digits, expected) in &cases_of(rt, text) {
-        let settings = settings_in(rt, words);
-        let data = &bytes_of(rt, digits);
-        let mut reader = reader_of(rt, data, settings);
-        let mut cursor = cursor_of(rt, data, settings);
-        same(rt, cursor.settings().columns, settings.columns);
-        let before = said_by_reader(rt, &reader);
-        same_text(
-            rt,
-            digits,
-            said_by_cursor(rt, &cursor).as_str(),
-            before.as_str(),
-        );
-        assert!(rt; before.as_str().starts_with("([], 0, None, [0, 0, 0], "));
-        same(rt, reader.missed_eol(), None);
-        for entry in expected.split(';') {
-            reads_next(rt, &mut reader, &mut cursor, data, entry.trim());
-        }
-        feeds_bytes(rt, data, settings, digits);
+        let data = bytes_of(rt, digits);
+        reads_case(rt, settings_in(rt, words), &data, digits, expected);
     }
 }
 
@@ -236,12 +252,11 @@ fn cut_rows_are_told(rt: HostRuntime) {
     let data = &bytes_of(&rt, "001380");
     let mut reader = reader_of(&rt, data, settings);
     let mut cursor = cursor_of(&rt, data, settings);
-    same(&rt, reader.is_cut(), false);
+    let before = reader.is_cut();
     same(&rt, next_in(&rt, &mut cursor, data), next_of(&mut reader));
-    same(&rt, reader.is_cut(), true);
-    same(&rt, cursor.is_cut(), true);
-    same(&rt, reader.cut_rows(), 1);
-    same(&rt, cursor.cut_rows(), 1);
+    let found = (before, reader.is_cut(), reader.cut_rows());
+    same(&rt, found, (false, true, 1));
+    same(&rt, (cursor.is_cut(), cursor.cut_rows()), (true, 1));
 }
 
 /// Horizontal mode, 3 white pixels, 2 black ones, V0; then EOFB, or padding that is no mode.
@@ -264,10 +279,11 @@ fn long_gaps_come_byte_by_byte(rt: HostRuntime) {
     let settings = settings_in(&rt, "Group3_1D 8 columns 0 rows l");
     let mut feed = RowFeed::new(rt.alloc(), BitOrder::HighestFirst, settings).expect(&rt, "memory");
     feeds_alike(&rt, &mut feed, 0x00, 100_000);
-    feeds_row(&rt, &mut feed, &bytes_of(&rt, "0019FF"));
-    same(&rt, feed.line_start(), 800_012);
+    let line = bytes_of(&rt, "0019FF");
+    feeds_row(&rt, &mut feed, &line);
+    let first = feed.line_start();
     feeds_alike(&rt, &mut feed, 0xFF, 100_000);
-    feeds_row(&rt, &mut feed, &bytes_of(&rt, "0019FF"));
-    same(&rt, feed.line_start(), 1_600_036);
-    same(&rt, feed.missed_eol(), Some(800_017));
+    feeds_row(&rt, &mut feed, &line);
+    let found = (first, feed.line_start(), feed.missed_eol());
+    same(&rt, found, (800_012, 1_600_036, Some(800_017)));
 }
