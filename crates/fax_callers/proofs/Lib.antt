@@ -1,7 +1,10 @@
 mod FirstTaken
 mod OnceTaken
+mod PageReadings
 mod PagesCut
+mod PagesFed
 mod PagesRead
+mod ReadsOnward
 mod RtcFound
 mod RtcPassed
 mod RunsCounted
