@@ -1,8 +1,10 @@
 mod FirstTaken
 mod OnceTaken
 mod PageReadings
+mod PageTurns
 mod PagesCut
 mod PagesFed
+mod PagesInTurn
 mod PagesRead
 mod ReadsOnward
 mod RtcFound

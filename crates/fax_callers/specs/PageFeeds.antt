@@ -188,6 +188,7 @@ left_to_give feed = (length feed.held - feed.next) + (if feed.page.finished then
 pub record GivesOn (old new : PageFeeding) (answer : Result Bool DecodeError) : Type 0 where
   pub stays : (whole : List ℕ) (start : ℕ) → IsPageFeedOf whole start old → Stays whole start old new
   pub only_memory : (whole : List ℕ) (start : ℕ) → IsPageFeedOf whole start old → IfErr answer (λ e. e ≡ OutOfMemory)
+  pub order : new.order ≡ old.order
   pub finished : new.finished ≡ old.finished
   pub none : answer ≡ Ok false → (old.page.finished ≡ true) ⊎ (old.finished ≡ false)
   pub smaller : answer ≡ Ok true → left_to_give new < left_to_give old

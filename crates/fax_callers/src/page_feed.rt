@@ -9,6 +9,7 @@ ghost use Rattle.fax_callers.specs.PageFeeds.{BytesComeNext, GivesNext, GivesOn,
 ghost use Rattle.fax_callers.specs.PageFeeds.{DropsRead, EndsPageHere, Waits, bytes_read, fed_from_start};
 ghost use Rattle.fax_callers.specs.Pages.{IsPage};
 
+use crate::pages_by::pages_are_read;
 use crate::rtc::{EolsSeen, find_page_end, none_seen};
 use hayro_ccitt::bit_reader::BitOrder;
 use hayro_ccitt::{DecodeError, DecodeSettings, Fed, Result, RowFeed};
@@ -169,6 +170,8 @@ impl PageFeed {
         ensures gives { (whole : List ℕ) (start : ℕ) → IsPageFeedOf whole start self.old
             → GivesNext whole start self.old self.new result }
         ensures waits { result ≡ Ok PageFed.NeedsMore → Waits self.old self.new }
+        ensures order { self.new.order ≡ self.old.order }
+        ensures finished { self.new.finished ≡ self.old.finished }
     {
         match self.page.next_row()? {
             Fed::Row => Ok(PageFed::Row),
@@ -226,6 +229,7 @@ impl PageFeed {
             → IsPage (settings_of self.old) rows count (bits_in self.old.order (drop start whole))
             → GivesPage whole start rows count self.old self.new result }
     {
+        pages_are_read(self.page.settings(), self.order);
         if self.has_no_page() {
             return Ok(PageFed::End);
         }

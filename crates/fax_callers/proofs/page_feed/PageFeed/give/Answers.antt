@@ -46,6 +46,7 @@ returns-then-self-len c =
           all_given c.finish.new.self refl c.finish.ensures.same (sym c.if-is_finished.ensures) c.finish.ensures.finished last
           (omega (arith, c.if-self-len.true, c.len.ensures)) is;
       only_memory = λ whole start is. tt;
+      order = refl;
       finished = refl;
       none = λ e. absurd cc;
       smaller = λ e.
@@ -66,6 +67,7 @@ returns-in_err-count c =
           c.in_err-count.ensures.ctx c.in_err-count.ensures.rows refl refl;
       only_memory = λ whole start is.
           (c.in_err-count.ensures.failed (drop start whole) _ c.self.inside.given is.page (comes at whole start is)).0;
+      order = refl;
       finished = refl;
       none = λ e. absurd cc;
       smaller = λ e. absurd cc;
@@ -84,6 +86,7 @@ returns c =
           (c.self.inside.given + c.in_ok-count.count) c.in_ok-count.count refl is refl refl within reading
           (ap (λ (x : Context). x.held.settings) gives.ctx)) gives.ctx gives.rows refl refl;
       only_memory = λ whole start is. tt;
+      order = refl;
       finished = refl;
       none = λ e. absurd cc;
       smaller = λ e.
