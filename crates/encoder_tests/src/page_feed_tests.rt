@@ -20,9 +20,7 @@ const ROW: u32 = 1000;
 const PAGE: u32 = 2000;
 
 /// Three rows and the end of their page, and two and the end of theirs.
-const TWO_PAGES: [u32; 14] = [
-    3, 5, ROW, 3, 5, ROW, ROW, PAGE, 0, ROW, 3, 5, ROW, PAGE,
-];
+const TWO_PAGES: [u32; 14] = [3, 5, ROW, 3, 5, ROW, ROW, PAGE, 0, ROW, 3, 5, ROW, PAGE];
 
 /// Returns room for notes.
 fn no_notes(rt: &(impl Abort + AllocGlobal)) -> Vec<u32> {
@@ -107,9 +105,15 @@ fn pages_by_pieces(rt: HostRuntime) {
         append_page(&rt, &mut data, words, &rows_of(&rt, "0/3,5"));
         for size in 1..=data.len() {
             let mut notes = no_notes(&rt);
-            let mut pages = PageFeed::new(rt.alloc(), order_by(words), pages_by(8, words)).expect(&rt, words);
+            let mut pages = PageFeed::new(rt.alloc(), order_by(words), pages_by(8, words)).expect(
+                &rt, words,
+            );
             notes_pieces(&rt, &mut pages, &data, size, &mut notes);
-            same(&rt, (words, size, notes.as_slice()), (words, size, TWO_PAGES.as_slice()));
+            same(
+                &rt,
+                (words, size, notes.as_slice()),
+                (words, size, TWO_PAGES.as_slice()),
+            );
         }
     }
 }
@@ -127,7 +131,10 @@ fn pages_of_one_row(rt: HostRuntime) {
         same(
             &rt,
             (size, notes.as_slice()),
-            (size, [3, 5, ROW, PAGE, 3, 5, ROW, PAGE, 3, 5, ROW, PAGE].as_slice()),
+            (
+                size,
+                [3, 5, ROW, PAGE, 3, 5, ROW, PAGE, 3, 5, ROW, PAGE].as_slice(),
+            ),
         );
     }
 }
@@ -168,8 +175,9 @@ fn reads_in_want(rt: &(impl Abort + AllocGlobal), words: &str, data: &[u8], numb
     requires { number < 100 }
 {
     let mut notes = no_notes(rt);
-    let mut pages =
-        PageFeed::new(rt.alloc(), order_by(words), pages_by(8, words)).expect(rt, words);
+    let mut pages = PageFeed::new(rt.alloc(), order_by(words), pages_by(8, words)).expect(
+        rt, words,
+    );
     refuse_request(rt.alloc(), number);
     notes_pieces(rt, &mut pages, data, 7, &mut notes);
     let was_refused = was_refused(rt.alloc());

@@ -114,8 +114,7 @@ module _ {order : BitOrder} {seen : EolsSeen} {old new : Feeding} (bytes piece r
   reads_on more fit =
       let same : take (given + n) bytes ++ more ≡ take given bytes ++ (take n piece ++ more)
       = ap (λ (l : List ℕ). l ++ more) (longer bytes piece rest given is.within split n le) ∙ append_assoc (take given bytes) (take n piece) more in
-      let before = is.reads (take n piece ++ more) (λ last. absurd (false≢true (sym unfinished ∙ last))) (subst BitsFit same fit) in
-      (
+      let before = is.reads (take n piece ++ more) (λ last. absurd (false≢true (sym unfinished ∙ last))) (subst BitsFit same fit) in (
         before.0,
         subst (λ (l : List ℕ). IsFeedOf (bits_in order l) before.0 new) (sym same)
             (fed (bits_in order (take given bytes ++ (take n piece ++ more))) before.0 before.1 (comes more)),

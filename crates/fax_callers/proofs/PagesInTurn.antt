@@ -168,17 +168,20 @@ pub none_left : {whole : List ℕ} {start : ℕ} {feed : PageFeeding} → IsPage
 none_left {whole} {start} {feed} is last none = record {
   row = λ e. absurd cc;
   page_end = λ e. absurd cc;
-  end = λ e. inl (last, omega (
-    arith,
-    none,
-    is.place,
-    is.next,
-    is.within,
-    ap length is.bytes,
-    ap length (is.none last),
-    length-append feed.held is.more,
-    length-drop is.dropped whole,
-  ));
+  end = λ e. inl (
+    last,
+    omega (
+      arith,
+      none,
+      is.place,
+      is.next,
+      is.within,
+      ap length is.bytes,
+      ap length (is.none last),
+      length-append feed.held is.more,
+      length-drop is.dropped whole,
+    ),
+  );
   fault = tt;
   none = λ e. record {
     settings = refl;

@@ -95,6 +95,10 @@ BytesComeNext whole start feed bytes = (rest : List ℕ) × (drop (start + fed_f
 
 -- ---- What a call leaves
 
+-- the page has a fault
+abbrev pub HasFailed : PageFeeding → DecodeError → Type 0
+HasFailed feed error = ended feed.page.rows.stand ≡ Some (Err error)
+
 -- the bits that the page at an offset may occupy
 abbrev pub page_bits : List ℕ → ℕ → PageFeeding → Bits
 page_bits whole start feed = bits_in feed.order (page_bytes (settings_of feed) feed.order whole start)

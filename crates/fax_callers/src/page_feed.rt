@@ -6,7 +6,7 @@ ghost use Rattle.hayro_ccitt.specs.Bits.{BitsFit, bits_in};
 ghost use Rattle.hayro_ccitt.specs.RowFeeds.{fed_bits};
 ghost use Rattle.hayro_ccitt.specs.Rows.{Row};
 ghost use Rattle.fax_callers.specs.PageFeeds.{BytesComeNext, GivesNext, GivesOn, GivesPage, GivesPiece, IsPageFeedOf, settings_of};
-ghost use Rattle.fax_callers.specs.PageFeeds.{DropsRead, EndsPageHere, Waits, bytes_read, fed_from_start};
+ghost use Rattle.fax_callers.specs.PageFeeds.{DropsRead, EndsPageHere, HasFailed, Waits, bytes_read, fed_from_start};
 ghost use Rattle.fax_callers.specs.Pages.{IsPage};
 
 use crate::pages_by::pages_are_read;
@@ -170,6 +170,7 @@ impl PageFeed {
         ensures gives { (whole : List ℕ) (start : ℕ) → IsPageFeedOf whole start self.old
             → GivesNext whole start self.old self.new result }
         ensures waits { result ≡ Ok PageFed.NeedsMore → Waits self.old self.new }
+        ensures failed { (error : DecodeError) → HasFailed self.old error → (self.new ≡ self.old) × (result ≡ Err error) }
         ensures order { self.new.order ≡ self.old.order }
         ensures finished { self.new.finished ≡ self.old.finished }
     {
@@ -224,6 +225,8 @@ impl PageFeed {
             → result ≡ Ok PageFed.NeedsMore → self.new.finished ≡ false }
         ensures order { self.new.order ≡ self.old.order }
         ensures finished { self.new.finished ≡ self.old.finished }
+        ensures failed { (error : DecodeError) → HasFailed self.old error → 0 < fed_from_start self.old
+            → (self.new ≡ self.old) × (result ≡ Err error) }
         // A page that is closed by RTC or EOFB is read as its rows, and ends behind them.
         ensures pages { (whole : List ℕ) (start : ℕ) (rows : List Row) (count : ℕ) → IsPageFeedOf whole start self.old
             → IsPage (settings_of self.old) rows count (bits_in self.old.order (drop start whole))

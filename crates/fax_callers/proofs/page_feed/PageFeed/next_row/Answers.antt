@@ -1,7 +1,8 @@
 use Rattle.hayro_ccitt.proofs.Names.{◌≡◌, ◌∙◌, ◌+◌, ◌-◌, ℕ, List, Ok, Err, Result, ap, arith, cond, rules, subst, sym, inl, inr, false≢true, false}
 use Rattle.hayro_ccitt.proofs.Names.{Bool, length}
+use Rattle.hayro_ccitt.specs.DecodeError.{DecodeError}
 use Rattle.hayro_ccitt.specs.DecodeSettings.{DecodeSettings}
-use Rattle.fax_callers.specs.PageFeeds.{GivesNext, IsPageFeedOf, PageFeeding, Stays, left_to_give, settings_of}
+use Rattle.fax_callers.specs.PageFeeds.{GivesNext, HasFailed, IsPageFeedOf, PageFeeding, Stays, left_to_give, settings_of}
 use Rattle.fax_callers.specs.Pages.{ReadsPages}
 use Rattle.fax_callers.specs.declared.page_feed.PageFed.TheVariants.{NeedsMore}
 use Rattle.fax_callers.proofs.PagesInTurn.{gives_later, given_page, needs_stays, none_left, stays_fails, stays_later, stays_needs}
@@ -18,6 +19,15 @@ module _ (c : After-read_page-answer) where
   gives whole start is =
       let stays = c.loop-answer.invariant.stays whole start is in
       gives_later stays c.read_page-answer.result (c.read_page-answer.ensures.gives whole start stays.is)
+
+  -- a page that has a fault keeps it
+  failed : (error : DecodeError) → HasFailed c.args.self.now error
+      → (c.read_page-answer.new.self ≡ c.args.self.now) × (c.read_page-answer.result ≡ Err error)
+  failed error e =
+      let same = c.loop-answer.invariant.failed error e in
+      let again = c.read_page-answer.ensures.failed error
+      (subst (λ (f : PageFeeding). HasFailed f error) (sym same) e) in
+      (again.0 ∙ same, again.1)
 
 -- the page's reading was given more, or there was no memory
 module _ (c : After-give) where
@@ -56,6 +66,22 @@ pub returns-then-not-needs_more-clause-pages : goal.returns-then-not-needs_more-
 returns-then-not-needs_more-clause-pages c = λ whole start rows count is page.
     let at = (goal.at.returns-then-not-needs_more-clause-pages c).After-read_page-answer in
     given_page c.read_page-answer.result (gives at whole start is) (law at) rows count page
+
+pub returns-then-not-needs_more-clause-failed : goal.returns-then-not-needs_more-clause-failed
+returns-then-not-needs_more-clause-failed c = λ error e some.
+    failed (goal.at.returns-then-not-needs_more-clause-failed c).After-read_page-answer error e
+
+pub returns-in_err-give-clause-failed : goal.returns-in_err-give-clause-failed
+returns-in_err-give-clause-failed c = λ error e some.
+    let at = (goal.at.returns-in_err-give-clause-failed c).After-give in
+    absurd (let never = sym (more at)
+    ∙ (failed (goal.at.returns-in_err-give-clause-failed c).After-read_page-answer error e).1 in cc)
+
+pub returns-then-not-branch-clause-failed : goal.returns-then-not-branch-clause-failed
+returns-then-not-branch-clause-failed c = λ error e some.
+    let at = (goal.at.returns-then-not-branch-clause-failed c).After-give in
+    absurd (let never = sym (more at)
+    ∙ (failed (goal.at.returns-then-not-branch-clause-failed c).After-read_page-answer error e).1 in cc)
 
 pub returns-in_err-give-clause-gives : goal.returns-in_err-give-clause-gives
 returns-in_err-give-clause-gives c =
@@ -97,6 +123,8 @@ loop-answer-preserved c =
       stays = stays_now at;
       order = c.give.ensures.order ∙ c.read_page-answer.ensures.order ∙ c.loop-answer.invariant.order;
       finished = c.give.ensures.finished ∙ c.read_page-answer.ensures.finished ∙ c.loop-answer.invariant.finished;
+      failed = λ error e. absurd (let never = sym (more at) ∙ (failed (goal.at.loop-answer-preserved c).After-read_page-answer error e).1
+          in cc);
     }
 
 pub loop-answer-smaller : goal.loop-answer-smaller
