@@ -1,9 +1,9 @@
 -- The reading of a page that is given its bytes in pieces.
-use Rattle.hayro_ccitt.proofs.Names.{◌≡◌, ◌≢◌, ℕ, ◌+◌, ◌-◌, ◌*◌, ◌<◌, ◌≤◌, ◌++◌, ◌∙◌, Bool, true, false, List, [], Option, None, Some}
-use Rattle.hayro_ccitt.proofs.Names.{Result, Ok, Err, IfSome, refl, sym, ap, subst, arith, length, drop, take, append_assoc}
-use Rattle.hayro_ccitt.proofs.Names.{length-append, append-nil, Bits, bits_in, Context, DecodeSettings, OutOfMemory, ended, false≢true}
-use Rattle.hayro_ccitt.proofs.Names.{DecodeError, is_some, IfErr, EncodingMode}
-use Rattle.std.specs.Prelude.{IfNone, ◌^◌}
+use Rattle.hayro_ccitt.proofs.Names.{◌≡◌, ◌≢◌, ℕ, ◌+◌, ◌*◌, ◌≤◌, ◌++◌, ◌∙◌, true, false, List, [], Option, None, Some}
+use Rattle.hayro_ccitt.proofs.Names.{Err, IfSome, refl, sym, ap, subst, arith, length, drop, take, append_assoc}
+use Rattle.hayro_ccitt.proofs.Names.{length-append, Bits, bits_in, Context, DecodeSettings, OutOfMemory, ended, false≢true}
+use Rattle.hayro_ccitt.proofs.Names.{is_some}
+use Rattle.std.specs.Prelude.{IfNone}
 use Rattle.std.specs.Option.{unwrap_or}
 use Rattle.std.proofs.lemmas.List.{take-append-drop, take-append-le, length-take-le}
 use Rattle.std.proofs.Math.Seq.{drop-append_seam, take-add}

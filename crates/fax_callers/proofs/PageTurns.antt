@@ -1,8 +1,8 @@
 -- What a call of a page's reading leaves.
-use Rattle.hayro_ccitt.proofs.Names.{◌≡◌, ◌≢◌, ℕ, ◌+◌, ◌-◌, ◌*◌, ◌/◌, ◌<◌, ◌≤◌, ◌++◌, ◌∙◌, ◌⊎◌, inl, inr, Bool, true, false, List, []}
-use Rattle.hayro_ccitt.proofs.Names.{Option, None, Some, Result, Ok, Err, refl, sym, ap, subst, arith, length, drop, take, min, length-drop}
-use Rattle.hayro_ccitt.proofs.Names.{Bits, bits_in, Context, DecodeError, DecodeSettings, OutOfMemory, HasEnded, HasFailed, IfErr, IsFault}
-use Rattle.hayro_ccitt.proofs.Names.{MissIsTold, ReaderStands, ReadsNext, RowsRead, ended, missed_before, plain}
+use Rattle.hayro_ccitt.proofs.Names.{◌≡◌, ◌≢◌, ℕ, ◌+◌, ◌≤◌, ◌++◌, ◌∙◌, inr, Bool, true, false, List}
+use Rattle.hayro_ccitt.proofs.Names.{Option, None, Some, Result, Ok, Err, refl, sym, ap, subst, arith, length, drop, length-drop}
+use Rattle.hayro_ccitt.proofs.Names.{Bits, bits_in, DecodeError, DecodeSettings, OutOfMemory, HasEnded, IfErr, IsFault}
+use Rattle.hayro_ccitt.proofs.Names.{MissIsTold, ReadsNext, RowsRead, ended, missed_before}
 use Rattle.hayro_ccitt.specs.BitOrder.{BitOrder}
 use Rattle.hayro_ccitt.specs.Bits.{BitsFit}
 use Rattle.hayro_ccitt.specs.RowFeeds.{Feeding, FeedsNext, IsFeedOf, KeepsBits, StandsIn, StaysThere, fed_end, fed_over}
@@ -15,7 +15,7 @@ use Rattle.hayro_ccitt.proofs.ErrorKinds.{by_kind}
 use Rattle.hayro_ccitt.proofs.Readings.RowByRow.{failed_stands}
 use Rattle.fax_callers.specs.PageFeeds.{EndsPage, EndsPageHere, GivesNext, HasNoRow, IsPageFeedOf, IsPageReading, PageFeeding, SameRows}
 use Rattle.fax_callers.specs.PageFeeds.{bytes_read, page_bits, settings_of}
-use Rattle.fax_callers.specs.Pages.{page_by, page_bytes}
+use Rattle.fax_callers.specs.Pages.{page_bytes}
 use Rattle.fax_callers.specs.declared.page_feed.PageFed.{PageFed}
 use Rattle.fax_callers.specs.declared.page_feed.PageFed.TheVariants.{Row as OneRow, NeedsMore, End, PageEnd}
 use Rattle.fax_callers.specs.Rtc.{none_seen}

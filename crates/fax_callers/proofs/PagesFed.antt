@@ -1,23 +1,22 @@
 -- Pages that are fed in pieces.
-use Rattle.hayro_ccitt.proofs.Names.{◌≡◌, ◌≢◌, ℕ, zero, suc, ◌+◌, ◌-◌, ◌*◌, ◌/◌, ◌<◌, ◌≤◌, ◌++◌, ◌∷◌, ◌∙◌, ◌⊎◌, inl, inr, Bool, true, false}
+use Rattle.hayro_ccitt.proofs.Names.{◌≡◌, ℕ, ◌+◌, ◌-◌, ◌*◌, ◌/◌, ◌<◌, ◌≤◌, ◌++◌, ◌∷◌, ◌∙◌, ◌⊎◌, inl, inr, Bool, true, false}
 use Rattle.hayro_ccitt.proofs.Names.{List, [], Option, None, Some, Result, Ok, Err, refl, sym, ap, subst, arith, length, drop, take, min}
 use Rattle.hayro_ccitt.proofs.Names.{length-append, length-drop, append-nil, append_assoc, drop-drop, Bits, bits_in, Context, DecodeError}
-use Rattle.hayro_ccitt.proofs.Names.{DecodeSettings, OutOfMemory, EncodingMode, Group4, Group3_1D, Group3_2D, HasEnded, ReadsNext, ended}
-use Rattle.hayro_ccitt.proofs.Names.{false≢true, plain, Reading, whole_reading, end_of, cond, eqb, IfErr, AreWholeBytes, ReaderStands}
+use Rattle.hayro_ccitt.proofs.Names.{DecodeSettings, EncodingMode, Group4, Group3_1D, Group3_2D, HasEnded, ended}
+use Rattle.hayro_ccitt.proofs.Names.{false≢true, plain, whole_reading, end_of, cond, eqb, AreWholeBytes, ReaderStands}
 use Rattle.std.specs.Prelude.{◌^◌}
 use Rattle.std.proofs.lemmas.List.{drop-append-le, length-take-le, take-append-drop}
-use Rattle.std.proofs.Math.Seq.{drop-append-add, drop-append_seam, take-add}
+use Rattle.std.proofs.Math.Seq.{drop-append_seam, take-add}
 use Rattle.hayro_ccitt.specs.BitOrder.{BitOrder}
 use Rattle.hayro_ccitt.specs.Bits.{BitsFit}
 use Rattle.hayro_ccitt.specs.PlainReading.{bytes_before}
 use Rattle.hayro_ccitt.specs.RowFeeds.{Feeding, IsFeedOf, StandsIn, fed_bits, fed_over}
 use Rattle.hayro_ccitt.specs.declared.row_reader.RowState.{RowState}
-use Rattle.hayro_ccitt.specs.declared.row_reader.Stand.TheVariants.{AtEnd}
 use Rattle.hayro_ccitt.proofs.BitReading.BitLists.{bits_are_whole, length-bits_in}
 use Rattle.hayro_ccitt.proofs.Readings.RowByRow.{ended_stands}
-use Rattle.fax_callers.specs.PageFeeds.{BytesComeNext, DropsRead, EndsPage, IsPageFeedOf, IsPageReading, PageFeeding, SameRows, Stays}
-use Rattle.fax_callers.specs.PageFeeds.{bytes_read, fed_from_start, page_bits, settings_of}
-use Rattle.fax_callers.specs.Pages.{page_by, page_bytes}
+use Rattle.fax_callers.specs.PageFeeds.{BytesComeNext, DropsRead, IsPageFeedOf, IsPageReading, PageFeeding, SameRows, Stays}
+use Rattle.fax_callers.specs.PageFeeds.{fed_from_start, page_bits, settings_of}
+use Rattle.fax_callers.specs.Pages.{page_by}
 use Rattle.fax_callers.specs.Rtc.{GoesOnBehind, PassesBits, behind_rtc, none_seen, page_size, rtc_size, size_before}
 use Rattle.fax_callers.specs.declared.rtc.EolsSeen.{EolsSeen}
 use Rattle.fax_callers.proofs.PageReadings.{page_finished}

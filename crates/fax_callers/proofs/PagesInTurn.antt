@@ -1,21 +1,20 @@
 -- Pages that are read while they are fed.
-use Rattle.hayro_ccitt.proofs.Names.{◌≡◌, ◌≢◌, ℕ, suc, ◌+◌, ◌-◌, ◌*◌, ◌/◌, ◌<◌, ◌≤◌, ◌++◌, ◌∷◌, ◌∙◌, ◌⊎◌, inl, inr, Bool, true, false, List, []}
-use Rattle.hayro_ccitt.proofs.Names.{Option, None, Some, Result, Ok, Err, refl, sym, ap, subst, arith, length, drop, take, get_or, cond}
+use Rattle.hayro_ccitt.proofs.Names.{◌≡◌, ◌≢◌, ℕ, ◌+◌, ◌/◌, ◌<◌, ◌≤◌, ◌++◌, ◌∷◌, ◌∙◌, inl, inr, Bool, true, false, List, []}
+use Rattle.hayro_ccitt.proofs.Names.{None, Some, Result, Ok, Err, refl, sym, ap, subst, arith, length, drop, get_or}
 use Rattle.hayro_ccitt.proofs.Names.{length-append, length-drop, replicate, Bits, bits_in, DecodeError, DecodeSettings, OutOfMemory, HasEnded}
-use Rattle.hayro_ccitt.proofs.Names.{HasFailed, IfErr, IfOk, IsFault, OnErr, ReadsNext, Row, RowsRead, eol, ended, failed_at, fault_in, cut_in}
-use Rattle.hayro_ccitt.proofs.Names.{cuts_by_line, line_starts, missed_before, plain, repairs_by_line, row_ends, Reading, false≢true}
+use Rattle.hayro_ccitt.proofs.Names.{HasFailed, IfErr, IsFault, OnErr, ReadsNext, Row, RowsRead, eol, failed_at, fault_in, cut_in}
+use Rattle.hayro_ccitt.proofs.Names.{cuts_by_line, line_starts, missed_before, plain, repairs_by_line, row_ends}
 use Rattle.hayro_ccitt.specs.BitOrder.{BitOrder}
 use Rattle.hayro_ccitt.specs.Encodings.{tag_of}
-use Rattle.hayro_ccitt.specs.DecodeError.TheVariants.{Refused}
 use Rattle.hayro_ccitt.specs.RowFeeds.{Feeding, fed_over}
 use Rattle.hayro_ccitt.proofs.BitReading.BitLists.{length-bits_in}
 use Rattle.hayro_ccitt.proofs.ErrorKinds.{by_kind}
-use Rattle.fax_callers.specs.PageFeeds.{EndsPage, GivesNext, GivesOn, GivesPage, HasNoRow, IsPageFeedOf, NoPageIsLeft, PageFeeding}
-use Rattle.fax_callers.specs.PageFeeds.{SameRows, Stays, Waits, fed_from_start, left_to_give, page_bits, settings_of}
+use Rattle.fax_callers.specs.PageFeeds.{EndsPage, GivesNext, GivesPage, IsPageFeedOf, NoPageIsLeft, PageFeeding}
+use Rattle.fax_callers.specs.PageFeeds.{SameRows, Stays, Waits, fed_from_start, page_bits, settings_of}
 use Rattle.fax_callers.specs.Pages.{IsPage, ReadsPages, page_by, page_bytes}
 use Rattle.fax_callers.specs.Readings.{reading_of}
 use Rattle.fax_callers.specs.declared.page_feed.PageFed.{PageFed}
-use Rattle.fax_callers.specs.declared.page_feed.PageFed.TheVariants.{Row as OneRow, NeedsMore, End, PageEnd}
+use Rattle.fax_callers.specs.declared.page_feed.PageFed.TheVariants.{NeedsMore, End}
 
 -- ---- A row after calls that give none
 

@@ -1,24 +1,23 @@
 -- A reading ends no earlier than where it stands.
-use Rattle.hayro_ccitt.proofs.Names.{◌≡◌, ◌≢◌, ℕ, suc, ◌+◌, ◌-◌, ◌*◌, ◌/◌, ◌<◌, ◌≤◌, ◌++◌, ◌∷◌, ◌&&◌, ◌||◌, ◌∙◌, Bool, true, false, List, []}
-use Rattle.hayro_ccitt.proofs.Names.{Option, None, Some, Result, Ok, Err, refl, sym, ap, subst, arith, length, drop, cond, not, min, eqb}
-use Rattle.hayro_ccitt.proofs.Names.{length-drop, Bits, Row, Line, DecodeError, DecodeSettings, OutOfMemory, bits_in, ◌%◌}
-use Rattle.hayro_ccitt.proofs.Names.{Ending, Progress, Reading, Turn, Reaches, Held, HasEnded, HasFailed}
+use Rattle.hayro_ccitt.proofs.Names.{◌≡◌, ◌≢◌, ℕ, suc, ◌+◌, ◌-◌, ◌*◌, ◌/◌, ◌<◌, ◌≤◌, ◌&&◌, ◌||◌, ◌∙◌, Bool, true, false, []}
+use Rattle.hayro_ccitt.proofs.Names.{Option, None, Some, Result, Ok, Err, refl, sym, ap, subst, arith, length, drop, cond, not, min}
+use Rattle.hayro_ccitt.proofs.Names.{length-drop, Bits, Row, Line, DecodeError, DecodeSettings, OutOfMemory, ◌%◌}
+use Rattle.hayro_ccitt.proofs.Names.{Ending, Progress, Turn, Reaches, HasFailed}
 use Rattle.hayro_ccitt.proofs.Names.{aligned, add_row, end_of, eols_here, first_gap, is_over, misses_eol, next_eol}
-use Rattle.hayro_ccitt.proofs.Names.{line_here, line_of_turn, move_on, plain, row_before, row_of_line, whole_reading, with_row, ended}
-use Rattle.hayro_ccitt.proofs.Names.{ReaderStands, StandsAtLine, StandsBehindRow, IsFault}
-use Rattle.hayro_ccitt.specs.PlainReading.{Move, after_line, behind_row, bytes_before, ends_with, ending_behind, ending_from, pass_gap}
+use Rattle.hayro_ccitt.proofs.Names.{line_here, move_on, plain, row_before, whole_reading, with_row, ended}
+use Rattle.hayro_ccitt.proofs.Names.{ReaderStands}
+use Rattle.hayro_ccitt.specs.PlainReading.{Move, after_line, behind_row, bytes_before, ends_with, ending_behind, pass_gap}
 use Rattle.hayro_ccitt.specs.Repetition.{repeated}
 use Rattle.hayro_ccitt.specs.RowFeeds.{Feeding, IsFeedOf, StandsIn}
-use Rattle.hayro_ccitt.specs.DecodeError.TheVariants.{UnexpectedEof, Refused}
+use Rattle.hayro_ccitt.specs.DecodeError.TheVariants.{UnexpectedEof}
 use Rattle.hayro_ccitt.specs.declared.row_reader.Stand.{Stand}
 use Rattle.hayro_ccitt.specs.declared.row_reader.Stand.TheVariants.{AtLine, BehindRow, AtEnd, AtFault}
-use Rattle.hayro_ccitt.specs.declared.row_reader.RowState.{RowState}
 use Rattle.hayro_ccitt.proofs.ErrorKinds.{by_kind}
 use Rattle.hayro_ccitt.proofs.BitReading.ConsecutiveEols.{cond_le, next_eol_found}
 use Rattle.hayro_ccitt.proofs.DrawingLines.ReadLines.{TookBits}
 use Rattle.hayro_ccitt.proofs.Readings.Repeated.{after_turn, repeated_keeps, repeated_same, repeated_turn}
 use Rattle.hayro_ccitt.proofs.Readings.PlainAnswers.{some_columns}
-use Rattle.hayro_ccitt.proofs.Readings.RowsAndGaps.{after_damage-is, after_row, after_whole-is, pass_gap-is, row_added, seek_eol}
+use Rattle.hayro_ccitt.proofs.Readings.RowsAndGaps.{after_damage-is, after_row, pass_gap-is, seek_eol}
 use Rattle.hayro_ccitt.proofs.Readings.RowsAndGaps.{seek_from, unless_over}
 use Rattle.hayro_ccitt.proofs.Readings.TurnsMoveOn.{eols_here_counted, left_below, left_to_read, line_by_took, move_shrinks}
 

@@ -1,6 +1,6 @@
-use Rattle.hayro_ccitt.proofs.Names.{◌≡◌, ◌≢◌, ◌∙◌, ◌+◌, ◌*◌, ◌-◌, ◌<◌, ◌≤◌, ◌++◌, ◌⊎◌, ℕ, List, Some, Ok, Err, arith, ap, sym, subst, refl}
+use Rattle.hayro_ccitt.proofs.Names.{◌≡◌, ◌≢◌, ◌∙◌, ◌+◌, ◌*◌, ◌<◌, ◌≤◌, ◌++◌, ℕ, List, Some, Err, arith, ap, sym, subst}
 use Rattle.hayro_ccitt.proofs.Names.{rules, drop, length, take, inl, inr, Context, DecodeSettings, OutOfMemory, ended, true, false, is_some}
-use Rattle.std.specs.Prelude.{IfNone, ◌^◌}
+use Rattle.std.specs.Prelude.{◌^◌}
 use Rattle.std.specs.Option.{unwrap_or}
 use Rattle.std.proofs.lemmas.List.{length-take-le}
 use Rattle.std.proofs.Math.Seq.{take-length}

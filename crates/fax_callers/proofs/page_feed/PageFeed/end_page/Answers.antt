@@ -1,4 +1,4 @@
-use Rattle.hayro_ccitt.proofs.Names.{refl, arith, ℕ, ◌-◌, ◌∙◌, ap}
+use Rattle.hayro_ccitt.proofs.Names.{refl, arith, ◌∙◌}
 use Rattle.fax_callers.proofs.PagesFed.{fresh_page}
 use Rattle.fax_callers.proofs.page_feed.PageFeed.end_page.Goals as goal
 

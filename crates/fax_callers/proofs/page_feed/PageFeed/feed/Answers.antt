@@ -1,6 +1,6 @@
-use Rattle.hayro_ccitt.proofs.Names.{◌≡◌, ◌∙◌, ◌++◌, ◌+◌, List, ℕ, ap, sym, subst, drop, length}
+use Rattle.hayro_ccitt.proofs.Names.{◌≡◌, ◌∙◌, ◌++◌, ◌+◌, List, ℕ, ap, sym, subst, drop}
 use Rattle.std.proofs.lemmas.Result.{err_from_is_err_and}
-use Rattle.fax_callers.specs.PageFeeds.{IsPageFeedOf, PageFeeding, fed_from_start, page_feeding_of}
+use Rattle.fax_callers.specs.PageFeeds.{IsPageFeedOf, PageFeeding, page_feeding_of}
 use Rattle.fax_callers.proofs.PagesFed.{page_drops, page_holds, drops_count}
 use Rattle.fax_callers.proofs.page_feed.PageFeed.feed.Goals as goal
 

@@ -1,8 +1,8 @@
-use Rattle.hayro_ccitt.proofs.Names.{◌≡◌, ◌∙◌, ◌++◌, ◌+◌, ◌-◌, ◌*◌, ◌<◌, ◌≤◌, List, ℕ, Ok, Err, ap, sym, subst, refl, drop, length, take}
-use Rattle.hayro_ccitt.proofs.Names.{arith, rules, inl, inr, true, false, min, length-drop, Context, cond}
+use Rattle.hayro_ccitt.proofs.Names.{◌≡◌, ◌∙◌, ◌++◌, ◌+◌, ◌-◌, ◌<◌, ◌≤◌, List, ℕ, Err, ap, sym, subst, refl, drop, length, take}
+use Rattle.hayro_ccitt.proofs.Names.{arith, rules, min, length-drop, Context, cond}
 use Rattle.std.proofs.lemmas.List.{take_rest}
 use Rattle.hayro_ccitt.specs.RowFeeds.{Feeding}
-use Rattle.fax_callers.specs.PageFeeds.{IsPageFeedOf, PageFeeding, page_feeding_of, GivesOn, GivesPiece, Stays}
+use Rattle.fax_callers.specs.PageFeeds.{IsPageFeedOf, page_feeding_of}
 use Rattle.fax_callers.proofs.PagesFed.{all_given, less_to_give, page_moves, piece_comes, stays_on}
 use Rattle.fax_callers.proofs.page_feed.PageFeed.give.Goals.{After-give_piece}
 use Rattle.fax_callers.proofs.page_feed.PageFeed.give.Goals as goal

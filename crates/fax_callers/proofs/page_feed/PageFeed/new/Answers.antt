@@ -1,4 +1,4 @@
-use Rattle.hayro_ccitt.proofs.Names.{refl, sym, subst, ℕ}
+use Rattle.hayro_ccitt.proofs.Names.{refl, sym, subst}
 use Rattle.fax_callers.specs.PageFeeds.{IsPageReading}
 use Rattle.fax_callers.specs.declared.rtc.EolsSeen.{EolsSeen}
 use Rattle.fax_callers.proofs.PagesFed.{fresh_page, new_feed}

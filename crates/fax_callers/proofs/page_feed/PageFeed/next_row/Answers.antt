@@ -1,11 +1,11 @@
-use Rattle.hayro_ccitt.proofs.Names.{◌≡◌, ◌∙◌, ◌+◌, ◌-◌, ℕ, List, Ok, Err, Result, ap, arith, cond, rules, subst, sym, inl, inr, false≢true, false}
+use Rattle.hayro_ccitt.proofs.Names.{◌≡◌, ◌∙◌, ℕ, List, Ok, Err, ap, arith, cond, rules, subst, sym, inl, inr, false≢true}
 use Rattle.hayro_ccitt.proofs.Names.{Bool, length}
 use Rattle.hayro_ccitt.specs.DecodeError.{DecodeError}
 use Rattle.hayro_ccitt.specs.DecodeSettings.{DecodeSettings}
 use Rattle.fax_callers.specs.PageFeeds.{GivesNext, HasFailed, IsPageFeedOf, PageFeeding, Stays, left_to_give, settings_of}
 use Rattle.fax_callers.specs.Pages.{ReadsPages}
 use Rattle.fax_callers.specs.declared.page_feed.PageFed.TheVariants.{NeedsMore}
-use Rattle.fax_callers.proofs.PagesInTurn.{gives_later, given_page, needs_stays, none_left, stays_fails, stays_later, stays_needs}
+use Rattle.fax_callers.proofs.PagesInTurn.{gives_later, given_page, needs_stays, stays_fails, stays_later, stays_needs}
 use Rattle.fax_callers.proofs.page_feed.PageFeed.next_row.Goals.{After-read_page-answer, After-give}
 use Rattle.fax_callers.proofs.page_feed.PageFeed.next_row.Goals as goal
 

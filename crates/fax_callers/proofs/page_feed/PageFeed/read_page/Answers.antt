@@ -1,7 +1,7 @@
-use Rattle.hayro_ccitt.proofs.Names.{◌≡◌, ◌∙◌, Err, Ok, Result, ap, refl, rules, subst, sym}
+use Rattle.hayro_ccitt.proofs.Names.{◌≡◌, ◌∙◌, Err, Ok, ap, refl, rules, subst, sym}
 use Rattle.hayro_ccitt.specs.DecodeError.{DecodeError}
 use Rattle.hayro_ccitt.specs.RowFeeds.{Feeding}
-use Rattle.fax_callers.specs.PageFeeds.{EndsPageHere, HasFailed, PageFeeding, page_feeding_of}
+use Rattle.fax_callers.specs.PageFeeds.{HasFailed, PageFeeding, page_feeding_of}
 use Rattle.fax_callers.proofs.PageTurns.{gives_end, gives_fault, gives_none, gives_row, waits_unended, waits_unfinished}
 use Rattle.fax_callers.proofs.page_feed.PageFeed.read_page.Goals.{After-next_row}
 use Rattle.fax_callers.proofs.page_feed.PageFeed.read_page.Goals as goal
