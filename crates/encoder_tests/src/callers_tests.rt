@@ -215,7 +215,7 @@ fn pages_of_any_encoding(rt: HostRuntime) {
 }
 
 /// Appends the encoding of an image, by the settings that words name, and returns how many bytes there are then.
-fn append_page(
+pub fn append_page(
     rt: &(impl Abort + AllocGlobal),
     data: &mut Vec<u8>,
     words: &str,

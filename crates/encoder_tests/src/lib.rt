@@ -13,6 +13,8 @@ mod conforms_tests;
 #[cfg(test)]
 mod large_tests;
 #[cfg(test)]
+mod page_feed_tests;
+#[cfg(test)]
 mod settings_tests;
 #[cfg(test)]
 mod tests;

@@ -1,7 +1,12 @@
 mod FirstTaken
 mod OnceTaken
+mod PageReadings
+mod PageTurns
 mod PagesCut
+mod PagesFed
+mod PagesInTurn
 mod PagesRead
+mod ReadsOnward
 mod RtcFound
 mod RtcPassed
 mod RunsCounted

@@ -229,4 +229,5 @@ module _ (settings : DecodeSettings) (order : BitOrder) (law : ReadsClosedPictur
       let cut = cut_is_read rows count (drop begin bytes) is in
       let size : length (take count (drop begin bytes)) ≡ count =
       length-take-le count (drop begin bytes) (page_within rows count (drop begin bytes) is) in
-      ((page_is_read rows count (drop begin bytes) is).1, (cut.0, cut.1 ∙ ap Ok (sym size)))
+      let page = page_is_read rows count (drop begin bytes) is in
+      (page.1, (cut.0, cut.1 ∙ ap Ok (sym size)), page.0)

@@ -33,7 +33,7 @@ size_found None tags order bytes after some passes =
     sym (ap (size_before (bits_in order bytes) (length bytes)) found)
 
 -- the bits of bytes, and then of others
-bits_more : (order : BitOrder) (one two : List ℕ) → bits_in order (one ++ two) ≡ bits_in order one ++ bits_in order two
+pub bits_more : (order : BitOrder) (one two : List ℕ) → bits_in order (one ++ two) ≡ bits_in order one ++ bits_in order two
 bits_more order one two = flat_map-append (bits_of_byte order) one two
 
 -- some bytes more are passed
@@ -90,7 +90,7 @@ passes_found None tags order piece seen after passes = λ front before. passes_m
 -- ---- Pages
 
 -- what follows RTC is shorter
-behind_shorter : (tags : Bool) (seen : EolsSeen) (here rest : Bits) → behind_rtc tags seen here ≡ Some rest
+pub behind_shorter : (tags : Bool) (seen : EolsSeen) (here rest : Bits) → behind_rtc tags seen here ≡ Some rest
     → length rest < length here
 behind_shorter tags seen [] rest e = absurd cc
 behind_shorter tags seen (bit ∷ here) rest e =

@@ -2,6 +2,7 @@ pub mod Blank
 pub mod Counting
 pub mod FirstRows
 pub mod InStep
+pub mod PageFeeds
 pub mod PageSearches
 pub mod Pages
 pub mod Readings

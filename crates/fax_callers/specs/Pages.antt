@@ -111,12 +111,13 @@ abbrev pub AreRead : DecodeSettings → BitOrder → List Row → List ℕ → T
 AreRead settings order rows bytes =
     ((reading_of settings order bytes).rows ≡ rows) × ((reading_of settings order bytes).outcome ≡ Ok (length bytes))
 
--- A page is read up to its end, wherever it begins and whatever follows it, and its bytes alone as its rows (T.4, 4.1.4 and
--- 4.2.4; T.6, 2.4.1.1).
+-- A page is read up to its end, wherever it begins and whatever follows it, and its bytes alone as its rows, as are all that it
+-- may occupy (T.4, 4.1.4 and 4.2.4; T.6, 2.4.1.1).
 abbrev pub ReadsPages : DecodeSettings → BitOrder → Type 0
 ReadsPages settings order = (bytes : List ℕ) (begin : ℕ) (rows : List Row) (count : ℕ)
     → IsPage settings rows count (bits_in order (drop begin bytes))
     → (page_by settings order bytes begin ≡ Ok count) × AreRead settings order rows (take count (drop begin bytes))
+    × ((reading_of settings order (page_bytes settings order bytes begin)).rows ≡ rows)
 
 -- a page occupies a number of bytes from an offset on
 abbrev pub PageFrom : DecodeSettings → BitOrder → List ℕ → ℕ → ℕ → Type 0

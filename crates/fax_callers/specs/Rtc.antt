@@ -53,6 +53,12 @@ behind_rtc tags seen (bit ∷ here) =
 abbrev pub PassesBits : Bool → EolsSeen → Bits → EolsSeen → Type 0
 PassesBits tags seen bits after = (more : Bits) → behind_rtc tags seen (bits ++ more) ≡ behind_rtc tags after more
 
+-- a page goes on behind these bytes: in Group 3 no RTC ends within them, after which this was seen (T.4, 4.1.4 and 4.2.4)
+abbrev pub GoesOnBehind : EncodingMode → BitOrder → List ℕ → EolsSeen → Type 0
+GoesOnBehind Group4 order front seen = Unit {0}
+GoesOnBehind Group3_1D order front seen = PassesBits false none_seen (bits_in order front) seen
+GoesOnBehind Group3_2D order front seen = PassesBits true none_seen (bits_in order front) seen
+
 -- the first RTC ends within this number of bytes, and not before the last of them, whatever follows
 abbrev pub FindsRtc : Bool → BitOrder → EolsSeen → List ℕ → ℕ → Type 0
 FindsRtc tags order seen bytes count = (rest : Bits)

@@ -41,7 +41,7 @@ fn have_32_bits(columns: u32, rows: u32)
 {}
 
 /// Every page is read as its rows up to its end, whatever follows it.
-fn pages_are_read(settings: DecodeSettings, order: BitOrder)
+pub(crate) fn pages_are_read(settings: DecodeSettings, order: BitOrder)
     ensures { ReadsPages settings order }
 {
     have_32_bits(settings.columns, settings.rows);

@@ -1,9 +1,9 @@
 //! Where a page of Group 3 ends: behind RTC, the first six EOLs in a row.
 
-ghost use Rattle.std.specs.Prelude.{◌≡◌, ◌≤◌, ◌++◌, true, false, Some, IfNone, IfSome, length};
+ghost use Rattle.std.specs.Prelude.{◌≡◌, ◌≤◌, ◌+◌, ◌++◌, ℕ, List, true, false, Some, IfNone, IfSome, length};
 ghost use Rattle.hayro_ccitt.specs.Bits.{Bits, BitsFit, bits_in, here};
 ghost use Rattle.fax_callers.specs.Rtc.{behind_rtc, is_rtc, none_seen, one_more_up_to, page_size, rtc_size, with_bit, with_one};
-ghost use Rattle.fax_callers.specs.Rtc.{FindsRtc, PassesBits};
+ghost use Rattle.fax_callers.specs.Rtc.{FindsRtc, GoesOnBehind, PassesBits};
 
 use hayro_ccitt::EncodingMode;
 use hayro_ccitt::bit_reader::{BitOrder, BitReader};
@@ -156,5 +156,26 @@ pub(crate) fn page_size(encoding: EncodingMode, order: BitOrder, data: &[u8]) ->
         EncodingMode::Group4 => data.len(),
         EncodingMode::Group3_1D => rtc_size(false, order, data),
         EncodingMode::Group3_2D => rtc_size(true, order, data),
+    }
+}
+
+/// Returns how many of the bytes that come next the page ends within; or `None` if it goes on behind them, and brings what was seen
+/// up to date. In Group 3 it ends with the first RTC, and in Group 4 where the reading finds its end.
+pub(crate) fn find_page_end(
+    encoding: EncodingMode,
+    order: BitOrder,
+    seen: &mut EolsSeen,
+    piece: &[u8],
+) -> Option<usize>
+    requires fit { BitsFit piece.now }
+    ensures found { IfSome result (λ n. (n ≤ length piece.now) × ((front more : List ℕ) → GoesOnBehind encoding order front seen.old
+        → page_size encoding order (front ++ (piece.now ++ more)) ≡ length front + n)) }
+    ensures none { IfNone result ((front : List ℕ) → GoesOnBehind encoding order front seen.old
+        → GoesOnBehind encoding order (front ++ piece.now) seen.new) }
+{
+    match encoding {
+        EncodingMode::Group4 => None,
+        EncodingMode::Group3_1D => find_rtc(false, order, seen, piece),
+        EncodingMode::Group3_2D => find_rtc(true, order, seen, piece),
     }
 }
