@@ -8,13 +8,14 @@ ghost use Rattle.hayro_ccitt.specs.Rows.{AreChanges, pixels, opposite};
 ghost use Rattle.hayro_ccitt.specs.Space.{room_for};
 ghost use Rattle.hayro_ccitt.specs.UsualModes.{AreEnded, changes_in, IsNear, IsB1};
 ghost use Rattle.hayro_ccitt.specs.TwoRunsHere.{AreTwoRunsHere};
-ghost use Rattle.hayro_ccitt.specs.Window.{moved};
+ghost use Rattle.hayro_ccitt.specs.Window.{moved, AtHand};
 
 use crate::changes::{change_or_end, make_room};
 use crate::usual::{TwoRuns, has_room, is_next, lay_down, pair_at_hand, run_at_hand, turn_at};
 use fax_bits::bit_reader::BitsAtHand;
 use fax_bits::codes::{Color, Mode, Ticks, mode_of, tick_times};
 use fax_bits::tables::Tables;
+use std::mem;
 
 /// What doesn't change while a line is drawn.
 #[derive(Clone, Copy)]
@@ -53,7 +54,7 @@ struct VerticalMode {
 fn has_room_for_window(row: &Vec<u32>) -> bool
     ensures { result ≡ true → vec_len row.now + 64 ≤ vec_capacity row.now }
 {
-    row.capacity() - row.len() >= 64
+    row.len() + 64 <= row.capacity()
 }
 
 /// Fills the window if it has fewer than 32 bits; returns false if it can't be filled, or there is no room for its changes.
@@ -73,6 +74,20 @@ pub(crate) fn has_mode(hand: &mut BitsAtHand<'_>, row: &mut Vec<u32>) -> bool
         return false;
     }
     has_room_for_window(row) || make_room(row)
+}
+
+/// Fills the window if it has fewer than 16 bits; returns false if it can't be filled, or there is no room for its changes.
+#[inline(always)]
+fn has_next_mode(hand: &mut BitsAtHand<'_>, row: &Vec<u32>) -> bool
+    requires room { vec_len row.now + hand.old.left ≤ vec_capacity row.now }
+    ensures same { hand.new.at ≡ hand.old.at }
+    ensures enough { result ≡ true → 16 ≤ hand.new.left }
+    ensures room { vec_len row.now + hand.new.left ≤ vec_capacity row.now }
+{
+    if hand.left() >= 16 {
+        return true;
+    }
+    has_room_for_window(row) && hand.refill()
 }
 
 /// Returns the mode whose code word is here, if there is one, and the number of its bits.
@@ -149,7 +164,50 @@ fn b1_after_left(line: &CodingLine<'_>, stroke: Stroke, place: u32) -> usize
     }
 }
 
-/// Draws V0: a change below b1, or the rest of the row.
+/// Draws V0 inside the row: a change below b1, which is at this place.
+#[inline(always)]
+fn draw_v0_below(
+    hand: &mut BitsAtHand<'_>,
+    row: &mut Vec<u32>,
+    _line: &CodingLine<'_>,
+    stroke: Stroke,
+    place: u32,
+    ticks: &mut Ticks,
+) -> Stroke
+    requires mode { IsNextMode (Mode.Vertical (pos 0)) 1 hand.old }
+    requires can { CanDraw _line.now stroke hand.old row.old }
+    requires b1 { place ≡ get_or (changes_in _line.now.places.now) stroke.index _line.now.columns }
+    requires inside { place < _line.now.columns }
+    ensures drawn { DrawsMode _line.now stroke hand.old row.old ticks.old result hand.new row.new ticks.new }
+    ensures below { (result.painted ≡ place) × (result.index ≡ stroke.index + 1) }
+    ensures passed { (hand.new.at ≡ moved 1 hand.old.at) × (hand.new.left + 1 ≡ hand.old.left) }
+    ensures kept { KeepsRoom hand.old row.old hand.new row.new }
+{
+    hand.pass(1);
+    tick_times(ticks, 2);
+    turn_at(row, place);
+    Stroke {
+        painted: place,
+        index: stroke.index + 1,
+        color: stroke.color.opposite(),
+    }
+}
+
+/// Returns whether the next two bits are ones: V0 twice.
+#[inline(always)]
+fn has_two_v0(hand: &BitsAtHand<'_>) -> bool
+    requires enough { 16 ≤ hand.now.left }
+    ensures { result ≡ true → (next : AtHand) → next.at ≡ moved 1 hand.now.at → next.left + 1 ≡ hand.now.left
+        → IsNextMode (Mode.Vertical (pos 0)) 1 next }
+{
+    let bits = hand.seven();
+    if bits < 96 {
+        return false;
+    }
+    true
+}
+
+/// Draws V0: a change below b1, or the rest of the row; and V0 once more if it is next, and inside the row.
 #[inline(always)]
 fn draw_v0(
     hand: &mut BitsAtHand<'_>,
@@ -159,6 +217,7 @@ fn draw_v0(
     ticks: &mut Ticks,
 ) -> Stroke
     requires mode { IsNextMode (Mode.Vertical (pos 0)) 1 hand.old }
+    requires enough { 16 ≤ hand.old.left }
     requires can { CanDraw line.now stroke hand.old row.old }
     ensures drawn { DrawsMode line.now stroke hand.old row.old ticks.old result hand.new row.new ticks.new }
     ensures kept { KeepsRoom hand.old row.old hand.new row.new }
@@ -173,14 +232,14 @@ fn draw_v0(
             ..stroke
         };
     }
-    hand.pass(1);
-    tick_times(ticks, 2);
-    turn_at(row, place);
-    Stroke {
-        painted: place,
-        index: stroke.index + 1,
-        color: stroke.color.opposite(),
+    if has_two_v0(hand) {
+        let next = change_at(line, stroke.index + 1);
+        if next < line.columns {
+            let first = draw_v0_below(hand, row, line, stroke, place, ticks);
+            return draw_v0_below(hand, row, line, first, next, ticks);
+        }
     }
+    draw_v0_below(hand, row, line, stroke, place, ticks)
 }
 
 /// Draws VR up to the row's end. Returns `None`, and draws nothing, if it doesn't end there.
@@ -370,7 +429,7 @@ fn runs_at_hand(
     line: &CodingLine<'_>,
     color: Color,
 ) -> Option<TwoRuns>
-    requires enough { 32 ≤ hand.old.left }
+    requires enough { 16 ≤ hand.old.left }
     requires room { vec_len row.now + hand.old.left ≤ vec_capacity row.now }
     ensures same { hand.new.at ≡ hand.old.at }
     ensures room { IfSome result (λ runs. vec_len row.now + hand.new.left ≤ vec_capacity row.now) }
@@ -405,7 +464,7 @@ fn draw_short_runs(
     ticks: &mut Ticks,
 ) -> Option<Stroke>
     requires mode { IsNextMode Mode.Horizontal 3 hand.old }
-    requires enough { 32 ≤ hand.old.left }
+    requires enough { 16 ≤ hand.old.left }
     requires can { CanDraw line.now stroke hand.old row.old }
     ensures drawn { IfSome result (λ next. DrawsMode line.now stroke hand.old row.old ticks.old next hand.new row.new ticks.new) }
     ensures left { IfNone result ((hand.new ≡ hand.old) × (row.new ≡ row.old) × (ticks.new ≡ ticks.old)) }
@@ -440,7 +499,7 @@ fn draw_runs_of_words(
     ticks: &mut Ticks,
 ) -> Option<Stroke>
     requires mode { IsNextMode Mode.Horizontal 3 hand.old }
-    requires enough { 32 ≤ hand.old.left }
+    requires enough { 16 ≤ hand.old.left }
     requires can { CanDraw line.now stroke hand.old row.old }
     ensures drawn { IfSome result (λ next. DrawsMode line.now stroke hand.old row.old ticks.old next hand.new row.new ticks.new) }
     ensures left { IfNone result (DrawsNothing hand.old row.old ticks.old hand.new row.new ticks.new) }
@@ -488,7 +547,7 @@ fn draw_horizontal(
     ticks: &mut Ticks,
 ) -> Option<Stroke>
     requires mode { IsNextMode Mode.Horizontal 3 hand.old }
-    requires enough { 32 ≤ hand.old.left }
+    requires enough { 16 ≤ hand.old.left }
     requires can { CanDraw line.now stroke hand.old row.old }
     ensures drawn { IfSome result (λ next. DrawsMode line.now stroke hand.old row.old ticks.old next hand.new row.new ticks.new) }
     ensures left { IfNone result (DrawsNothing hand.old row.old ticks.old hand.new row.new ticks.new) }
@@ -509,7 +568,7 @@ fn draw_mode_at_hand(
     stroke: Stroke,
     ticks: &mut Ticks,
 ) -> Option<Stroke>
-    requires enough { 32 ≤ hand.old.left }
+    requires enough { 16 ≤ hand.old.left }
     requires can { CanDraw line.now stroke hand.old row.old }
     ensures drawn { IfSome result (λ next. DrawsMode line.now stroke hand.old row.old ticks.old next hand.new row.new ticks.new) }
     ensures there { IfSome result (λ reached. hand.old.at.place < length hand.old.at.bits) }
@@ -608,11 +667,11 @@ fn draw_in_color(
     ensures turned { result.1 ≡ false → (result.0.color ≡ opposite stroke.color) × (CanDraw line.now result.0 hand.new row.new)
         × (hand.old.at.place < hand.new.at.place) × (hand.old.at.place < length hand.old.at.bits) }
     ensures longer { vec_len row.old ≤ vec_len row.new }
-    ensures space { vec_capacity row.new ≤ max (vec_capacity row.old) (room_for (vec_len row.new)) }
+    ensures space { vec_capacity row.new ≡ vec_capacity row.old }
 {
     let mut now = stroke;
     'modes: loop {
-        if !has_mode(hand, row) {
+        if !has_next_mode(hand, row) {
             return (now, true);
         }
         match draw_mode_at_hand(hand, row, line, now, ticks) {
@@ -634,25 +693,54 @@ fn draw_in_color(
     }
 }
 
-/// Draws modes from a line's start on, while they are of the usual kind. Returns the stroke that is reached then.
+/// Draws modes of a black run, if that is next, up to a white one. Returns the stroke that is reached then, and whether that is
+/// all.
 #[inline(always)]
-pub(crate) fn draw_modes(
+fn draw_to_white(
     hand: &mut BitsAtHand<'_>,
     row: &mut Vec<u32>,
     line: &CodingLine<'_>,
+    stroke: Stroke,
+    ticks: &mut Ticks,
+) -> (Stroke, bool)
+    requires can { CanDraw line.now stroke hand.old row.old }
+    ensures drawn { Draws line.now stroke hand.old row.old ticks.old result.0 hand.new row.new ticks.new }
+    ensures same_bits { hand.new.at.bits ≡ hand.old.at.bits }
+    ensures turned { result.1 ≡ false → (result.0.color ≡ Color.White) × (CanDraw line.now result.0 hand.new row.new) }
+    ensures longer { vec_len row.old ≤ vec_len row.new }
+    ensures space { vec_capacity row.new ≡ vec_capacity row.old }
+{
+    match stroke.color {
+        Color::White => (stroke, false),
+        Color::Black => draw_in_color(hand, row, line, stroke, ticks),
+    }
+}
+
+/// Draws modes while they are of the usual kind, and there is room. Returns the stroke that is reached then.
+#[inline(always)]
+fn draw_turns(
+    hand: &mut BitsAtHand<'_>,
+    row: &mut Vec<u32>,
+    line: &CodingLine<'_>,
+    stroke: Stroke,
     ticks: &mut Ticks,
 ) -> Stroke
-    requires can { CanDraw line.now line_start hand.old row.old }
-    ensures drawn { Draws line.now line_start hand.old row.old ticks.old result hand.new row.new ticks.new }
+    requires can { CanDraw line.now stroke hand.old row.old }
+    ensures drawn { Draws line.now stroke hand.old row.old ticks.old result hand.new row.new ticks.new }
     ensures same_bits { hand.new.at.bits ≡ hand.old.at.bits }
-    ensures space { vec_capacity row.new ≤ max (vec_capacity row.old) (room_for (vec_len row.new)) }
+    ensures longer { vec_len row.old ≤ vec_len row.new }
+    ensures space { vec_capacity row.new ≡ vec_capacity row.old }
 {
     // A copy of the window, so that its fields are values of this call.
     let mut bits = hand.copy();
+    let (first, is_done) = draw_to_white(&mut bits, row, line, stroke, ticks);
+    if is_done {
+        *hand = bits;
+        return first;
+    }
     let mut white = Stroke {
-        painted: 0,
-        index: 0,
         color: Color::White,
+        ..first
     };
     'turns: loop {
         let (next, is_over) = draw_in_color(&mut bits, row, line, white, ticks);
@@ -674,6 +762,67 @@ pub(crate) fn draw_modes(
             ..next
         };
     }
+}
+
+/// The same with a list of its own meanwhile, so that the list's fields are values of this call.
+#[inline(always)]
+fn draw_own_row(
+    hand: &mut BitsAtHand<'_>,
+    row: &mut Vec<u32>,
+    line: &CodingLine<'_>,
+    stroke: Stroke,
+    ticks: &mut Ticks,
+) -> Stroke
+    requires can { CanDraw line.now stroke hand.old row.old }
+    ensures drawn { Draws line.now stroke hand.old row.old ticks.old result hand.new row.new ticks.new }
+    ensures same_bits { hand.new.at.bits ≡ hand.old.at.bits }
+    ensures longer { vec_len row.old ≤ vec_len row.new }
+    ensures space { vec_capacity row.new ≡ vec_capacity row.old }
+{
+    let mut own = Vec::new(*row.allocator());
+    mem::swap(row, &mut own);
+    let reached = draw_turns(hand, &mut own, line, stroke, ticks);
+    mem::swap(row, &mut own);
+    reached
+}
+
+/// Draws modes from a line's start on, while they are of the usual kind, and makes room as it is needed. Returns the stroke that is
+/// reached then.
+#[inline(always)]
+pub(crate) fn draw_modes(
+    hand: &mut BitsAtHand<'_>,
+    row: &mut Vec<u32>,
+    line: &CodingLine<'_>,
+    ticks: &mut Ticks,
+) -> Stroke
+    requires can { CanDraw line.now line_start hand.old row.old }
+    ensures drawn { Draws line.now line_start hand.old row.old ticks.old result hand.new row.new ticks.new }
+    ensures same_bits { hand.new.at.bits ≡ hand.old.at.bits }
+    ensures space { vec_capacity row.new ≤ max (vec_capacity row.old) (room_for (vec_len row.new)) }
+{
+    let mut now = Stroke {
+        painted: 0,
+        index: 0,
+        color: Color::White,
+    };
+    // Each time the room doubles.
+    'rooms: for _ in 0..32 {
+        let reached = draw_own_row(hand, row, line, now, ticks);
+        if reached.painted == line.columns {
+            return reached;
+        }
+        if hand.left() >= 16 {
+            return reached;
+        }
+        if has_room_for_window(row) {
+            return reached;
+        }
+        if !make_room(row) {
+            return reached;
+        }
+        now = reached;
+    }
+    now
 }
 
 /// Prepares a front for `context`: a change at the front's end is removed, unless the row is full.

@@ -41,6 +41,11 @@ pub draws_on : {A : Type 0} {line : CodingLine} {a b c : Stroke} {hand hand2 sam
 draws_on first at items second =
     record { drawn = twice_2d first.drawn (rw (at, items) at second.drawn); reached = second.reached }
 
+-- what is drawn is of the changes alone, and not of their room
+pub same_row_drawn : {A : Type 0} {line : CodingLine} {a b : Stroke} {hand rest : AtHand} {row longer even : Vec ℕ A} {m n : ℕ}
+    → Draws line a hand row m b rest longer n → even.items ≡ longer.items → Draws line a hand row m b rest even n
+same_row_drawn drawn items = record { drawn = rw items drawn.drawn; reached = rw items drawn.reached }
+
 -- what a mode draws, from its parts
 pub draws_mode : {A : Type 0} {line : CodingLine} {stroke next : Stroke} {hand rest : AtHand} {row longer : Vec ℕ A}
     {ticks now : ℕ} → GoesOn2d line.strict line.columns (row_in line.columns line.places.now) (pen_here stroke hand row)

@@ -1,31 +1,26 @@
-use Rattle.std.specs.Prelude.{vec_len}
-use Rattle.hayro_ccitt.proofs.Names.{◌∙◌, ◌≡◌, refl, ap, arith, length, Stroke, Draws, CanDraw}
+use Rattle.hayro_ccitt.proofs.Names.{◌∙◌, refl, arith, Stroke, Draws, CanDraw}
 use Rattle.hayro_ccitt.proofs.DrawingLines.UsualModes.{draws_on, recolored}
 use Rattle.hayro_ccitt.proofs.modes.draw_in_color.Goals as goal
 
 pub returns-then-next-line-clause-drawn : goal.returns-then-next-line-clause-drawn
 returns-then-next-line-clause-drawn c =
-    let has = c.has_mode.ensures in
-    draws_on c.modes.invariant.drawn has.same has.same_row c.in-Some.ensures.drawn.drawn
+    draws_on c.modes.invariant.drawn c.has_next_mode.ensures.same refl c.in-Some.ensures.drawn.drawn
 
 pub returns-then-is_turned-clause-drawn : goal.returns-then-is_turned-clause-drawn
 returns-then-is_turned-clause-drawn c =
-    let has = c.has_mode.ensures in
-    draws_on c.modes.invariant.drawn has.same has.same_row c.in-Some.ensures.drawn.drawn
+    draws_on c.modes.invariant.drawn c.has_next_mode.ensures.same refl c.in-Some.ensures.drawn.drawn
 
 pub modes-preserved : goal.modes-preserved
 modes-preserved c =
     let on = c.in-Some.ensures.drawn in
     let kept = c.in-Some.ensures.kept in
-    let has = c.has_mode.ensures in
+    let has = c.has_next_mode.ensures in
     let next = c.in-Some.next in
     let same = c.is_turned.ensures.same c.if-is_turned.false in
-    let len : vec_len c.has_mode.new.row ≡ vec_len c.modes.row =
-    omega (arith, ap length has.same_row, c.has_mode.new.row.ok.0, c.modes.row.ok.0) in
     record {
       drawn = recolored next (λ (s : Stroke). Draws c.args.line.now c.args.stroke c.args.hand.now c.args.row.now c.args.ticks.now
           s c.draw_mode_at_hand.new.hand c.draw_mode_at_hand.new.row c.draw_mode_at_hand.new.ticks) same
-          (draws_on c.modes.invariant.drawn has.same has.same_row on.drawn);
+          (draws_on c.modes.invariant.drawn has.same refl on.drawn);
       can = recolored next
           (λ (s : Stroke). CanDraw c.args.line.now s c.draw_mode_at_hand.new.hand c.draw_mode_at_hand.new.row) same (record {
             ended = c.requires.can.ended;
@@ -36,6 +31,6 @@ modes-preserved c =
       color = refl;
       same_bits = rw has.same at kept.same_bits ∙ c.modes.invariant.same_bits;
       onward = omega (arith, rw has.same at on.onward, c.modes.invariant.onward);
-      longer = omega (arith, len, kept.count, c.modes.invariant.longer);
-      space = omega (arith, len, has.space, kept.capacity, kept.count, c.modes.invariant.space);
+      longer = omega (arith, kept.count, c.modes.invariant.longer);
+      space = kept.capacity ∙ c.modes.invariant.space;
     }

@@ -1,6 +1,5 @@
-use Rattle.std.specs.Prelude.{max, vec_len, vec_capacity}
+use Rattle.std.specs.Prelude.{vec_len, vec_capacity}
 use Rattle.hayro_ccitt.specs.DrawnModes.{CanDraw, Draws}
-use Rattle.hayro_ccitt.specs.Space.{room_for}
 use Rattle.hayro_ccitt.proofs.Names.{◌≡◌, ◌-◌, ◌≤◌, length}
 use Rattle.hayro_ccitt.proofs.modes.draw_in_color.Given as goal
 
@@ -13,7 +12,7 @@ invariant-modes l = record {
   same_bits : l.hand.at.bits ≡ l.fn.hand.at.bits;
   onward : l.fn.hand.at.place ≤ l.hand.at.place;
   longer : vec_len l.fn.row ≤ vec_len l.row;
-  space : vec_capacity l.row ≤ max (vec_capacity l.fn.row) (room_for (vec_len l.row));
+  space : vec_capacity l.row ≡ vec_capacity l.fn.row;
 }
 
 abbrev pub decreases-modes : goal.decreases-modes

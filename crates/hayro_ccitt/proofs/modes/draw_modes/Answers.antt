@@ -1,34 +1,36 @@
-use Rattle.hayro_ccitt.proofs.Names.{◌∙◌, refl, ap, arith, opposite, Stroke, Draws, CanDraw, line_start}
-use Rattle.hayro_ccitt.proofs.DrawingLines.UsualModes.{draws_on, recolored}
+use Rattle.std.specs.Prelude.{vec_len}
+use Rattle.hayro_ccitt.proofs.Names.{◌∙◌, ◌≡◌, refl, ap, arith, length}
+use Rattle.hayro_ccitt.proofs.DrawingLines.UsualModes.{draws_on, same_row_drawn}
 use Rattle.hayro_ccitt.proofs.modes.draw_modes.Goals as goal
 
-pub returns-then-is_over-clause-drawn : goal.returns-then-is_over-clause-drawn
-returns-then-is_over-clause-drawn c = draws_on c.turns.invariant.drawn refl refl c.draw_in_color-is_over.ensures.drawn
-
-pub returns-then-is_over-2-clause-drawn : goal.returns-then-is_over-2-clause-drawn
-returns-then-is_over-2-clause-drawn c =
-    let a = c.args in
-    let first = c.draw_in_color-is_over in
-    let turned = first.ensures.turned c.if-is_over.false in
-    draws_on (recolored first.result.0 (λ (s : Stroke). Draws a.line.now line_start a.hand.now a.row.now a.ticks.now s
-    first.new.hand first.new.row first.new.ticks) (turned.0 ∙ ap opposite c.turns.invariant.color)
-    (draws_on c.turns.invariant.drawn refl refl first.ensures.drawn)) refl refl c.draw_in_color-is_over-in-turns.ensures.drawn
-
-pub turns-preserved : goal.turns-preserved
-turns-preserved c =
-    let a = c.args in
-    let first = c.draw_in_color-is_over in
-    let second = c.draw_in_color-is_over-in-turns in
-    let turned = first.ensures.turned c.if-is_over.false in
-    let turned2 = second.ensures.turned c.if-is_over-2.false in
-    let half = recolored first.result.0 (λ (s : Stroke). Draws a.line.now line_start a.hand.now a.row.now a.ticks.now s
-    first.new.hand first.new.row first.new.ticks) (turned.0 ∙ ap opposite c.turns.invariant.color)
-    (draws_on c.turns.invariant.drawn refl refl first.ensures.drawn) in
+pub rooms-preserved : goal.rooms-preserved
+rooms-preserved c =
+    let own = c.draw_own_row-reached in
+    let made = c.make_room.ensures in
+    let on = same_row_drawn (draws_on c.rooms.invariant.drawn refl refl own.ensures.drawn) made.same in
+    let len : vec_len c.make_room.new.changes ≡ vec_len own.new.row =
+    omega (arith, ap length made.same, c.make_room.new.changes.ok.0, own.new.row.ok.0) in
     record {
-      drawn = recolored second.result.0 (λ (s : Stroke). Draws a.line.now line_start a.hand.now a.row.now a.ticks.now s
-          second.new.hand second.new.row second.new.ticks) turned2.0 (draws_on half refl refl second.ensures.drawn);
-      can = recolored second.result.0 (λ (s : Stroke). CanDraw a.line.now s second.new.hand second.new.row) turned2.0 turned2.1;
-      color = refl;
-      same_bits = second.ensures.same_bits ∙ first.ensures.same_bits ∙ c.turns.invariant.same_bits;
-      space = omega (arith, first.ensures.space, second.ensures.space, second.ensures.longer, c.turns.invariant.space);
+      drawn = on;
+      can = record {
+        ended = c.requires.can.ended;
+        inside = omega (arith, on.reached.within, c.if-reached-line.false);
+        reached = on.reached;
+        room = omega (arith, len, made.room);
+      };
+      same_bits = own.ensures.same_bits ∙ c.rooms.invariant.same_bits;
+      space = omega (arith, len, made.space, own.ensures.space, own.ensures.longer, c.rooms.invariant.space);
     }
+
+pub returns-then-reached-line-clause-drawn : goal.returns-then-reached-line-clause-drawn
+returns-then-reached-line-clause-drawn c = draws_on c.rooms.invariant.drawn refl refl c.draw_own_row-reached.ensures.drawn
+
+pub returns-then-left-ge16-clause-drawn : goal.returns-then-left-ge16-clause-drawn
+returns-then-left-ge16-clause-drawn c = draws_on c.rooms.invariant.drawn refl refl c.draw_own_row-reached.ensures.drawn
+
+pub returns-then-has_room_for_window-clause-drawn : goal.returns-then-has_room_for_window-clause-drawn
+returns-then-has_room_for_window-clause-drawn c = draws_on c.rooms.invariant.drawn refl refl c.draw_own_row-reached.ensures.drawn
+
+pub returns-then-not-make_room-clause-drawn : goal.returns-then-not-make_room-clause-drawn
+returns-then-not-make_room-clause-drawn c =
+    same_row_drawn (draws_on c.rooms.invariant.drawn refl refl c.draw_own_row-reached.ensures.drawn) c.make_room.ensures.same
