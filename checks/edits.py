@@ -39,8 +39,8 @@ reason is tried with functions that don't call one another, and then alone, with
 With --write an edit that another clause of its function refuses gets that clause's name, and each refused one its lines 'search:
 GOAL'. Look at what was written: a clause that has nothing to do with what the edit breaks means that the edit is a bad one.
 
-An edit that was refused is not tried again on this machine while its text, the crate, the crates below, the kit and this file stay
-the same.
+An edit that was refused is not tried again on this machine while its text, the crate, the crates below, the kit, this file and
+stubs.py stay the same.
 
 With --ci an `rt ci` runs beside, on a checkout with the same files: the folder has what it prints, in the file `ci`, the path of its
 checkout, in the file `checkout`, and once it has ended the file `ci.end`. Libraries and programs are copied from it once they are
