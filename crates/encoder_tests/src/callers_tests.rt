@@ -235,6 +235,31 @@ fn is_page(rt: &(impl Abort + AllocGlobal), words: &str, data: &[u8], expected: 
     assert!(rt; bitmap.as_slice() == expected, "{words}");
 }
 
+/// Returns two pages that the encoder makes, one after the other, and where they end.
+fn two_pages(rt: &(impl Abort + AllocGlobal), words: &str) -> (Vec<u8>, [usize; 2]) {
+    let mut data = Vec::new(rt.alloc());
+    let first = append_page(rt, &mut data, words, &rows_of(rt, "3,5/3,5/white"));
+    let second = append_page(rt, &mut data, words, &rows_of(rt, "0/3,5"));
+    (data, [first, second])
+}
+
+/// Finds the ends of pages, and compares them.
+fn has_ends(rt: &(impl Abort + AllocGlobal), words: &str, data: &[u8], expected: &[usize]) {
+    assert!(rt; bits_fit(data));
+    let found = page_ends_by(rt.alloc(), pages_by(8, words), order_by(words), data);
+    let ends = found.expect(rt, words);
+    same(rt, (words, ends.as_slice()), (words, expected));
+}
+
+/// Encodes two pages, finds them, and reads each.
+fn finds_pages(rt: &(impl Abort + AllocGlobal), words: &str) {
+    let (data, ends) = two_pages(rt, words);
+    has_ends(rt, words, &data, &ends);
+    let (one, two) = data.split_at(ends[0].min(data.len()));
+    is_page(rt, words, one, &[0x18, 0x18, 0x00]);
+    is_page(rt, words, two, &[0xFF, 0x18]);
+}
+
 /// Two pages that the encoder makes are found, and the bytes of each are read as its rows.
 #[test]
 fn encoded_pages(rt: HostRuntime) {
@@ -247,20 +272,7 @@ fn encoded_pages(rt: HostRuntime) {
         "g4 rtc",
         "g4 rtc low",
     ] {
-        let mut data = Vec::new(rt.alloc());
-        let first = append_page(&rt, &mut data, words, &rows_of(&rt, "3,5/3,5/white"));
-        let second = append_page(&rt, &mut data, words, &rows_of(&rt, "0/3,5"));
-        assert!(&rt; bits_fit(&data));
-        let found = page_ends_by(rt.alloc(), pages_by(8, words), order_by(words), &data);
-        let ends = found.expect(&rt, words);
-        same(
-            &rt,
-            (words, ends.as_slice()),
-            (words, [first, second].as_slice()),
-        );
-        let (one, two) = data.split_at(first.min(data.len()));
-        is_page(&rt, words, one, &[0x18, 0x18, 0x00]);
-        is_page(&rt, words, two, &[0xFF, 0x18]);
+        finds_pages(&rt, words);
     }
 }
 
@@ -297,6 +309,21 @@ fn new_search(words: &str) -> PageSearch {
     )
 }
 
+/// Finds the ends of pages in two pieces, and compares them.
+fn has_ends_if_cut(
+    rt: &(impl Abort + AllocGlobal),
+    words: &str,
+    data: &[u8],
+    cut: usize,
+    expected: &[usize],
+) {
+    let mut ends = Vec::new(rt.alloc());
+    let (one, two) = data.split_at(cut.min(data.len()));
+    let search = find_ends(rt, words, new_search(words), one, &mut ends, 0);
+    find_ends(rt, words, search, two, &mut ends, cut);
+    same(rt, (words, cut, ends.as_slice()), (words, cut, expected));
+}
+
 /// The ends of two pages that the encoder makes are found, wherever the data is cut.
 #[test]
 fn pages_in_pieces(rt: HostRuntime) {
@@ -306,19 +333,9 @@ fn pages_in_pieces(rt: HostRuntime) {
         "2d eol rtc k=9",
         "2d eol rtc low",
     ] {
-        let mut data = Vec::new(rt.alloc());
-        let first = append_page(&rt, &mut data, words, &rows_of(&rt, "3,5/3,5/white"));
-        let second = append_page(&rt, &mut data, words, &rows_of(&rt, "0/3,5"));
+        let (data, ends) = two_pages(&rt, words);
         for cut in 0..=data.len() {
-            let mut ends = Vec::new(rt.alloc());
-            let (one, two) = data.split_at(cut.min(data.len()));
-            let search = find_ends(&rt, words, new_search(words), one, &mut ends, 0);
-            find_ends(&rt, words, search, two, &mut ends, cut);
-            same(
-                &rt,
-                (words, cut, ends.as_slice()),
-                (words, cut, [first, second].as_slice()),
-            );
+            has_ends_if_cut(&rt, words, &data, cut, &ends);
         }
     }
 }

@@ -152,12 +152,12 @@ fn found_in(
     assert!(rt; bits_fit(bytes));
     let (alloc, settings) = (rt.alloc(), group4_pages(columns));
     match name {
-        "rows_of_bitmap" => said(rt, &rows_of_bitmap(alloc, columns, bytes)),
-        "count_black" => said(rt, &count_black(alloc, settings, order, bytes)),
-        "is_blank" => said(rt, &is_blank(alloc, settings, order, bytes)),
-        "group4_pages" => said(rt, &settings),
-        "page_end" => said(rt, &page_end(alloc, columns, order, bytes)),
-        "page_ends" => said(rt, &page_ends(alloc, columns, order, bytes)),
+        "rows_of_bitmap" => said(rt, rows_of_bitmap(alloc, columns, bytes)),
+        "count_black" => said(rt, count_black(alloc, settings, order, bytes)),
+        "is_blank" => said(rt, is_blank(alloc, settings, order, bytes)),
+        "group4_pages" => said(rt, settings),
+        "page_end" => said(rt, page_end(alloc, columns, order, bytes)),
+        "page_ends" => said(rt, page_ends(alloc, columns, order, bytes)),
         "strip_to_bitmap" => { bytes_or_error(rt, strip_to_bitmap(alloc, settings, order, bytes)) }
         _ => panic!(rt; "no call is named {name}"),
     }
@@ -183,14 +183,14 @@ fn pages_in(
     assert!(rt; bits_fit(bytes));
     let (alloc, settings, order) = (rt.alloc(), pages_by(columns, call), order_by(call));
     match name {
-        "group3_pages" => said(rt, &settings),
-        "page_end_by" => said(rt, &page_end_by(alloc, settings, order, bytes)),
-        _ => said(rt, &page_ends_by(alloc, settings, order, bytes)),
+        "group3_pages" => said(rt, settings),
+        "page_end_by" => said(rt, page_end_by(alloc, settings, order, bytes)),
+        _ => said(rt, page_ends_by(alloc, settings, order, bytes)),
     }
 }
 
 /// Writes a value as `Debug` does.
-fn said<T: Debug>(rt: &(impl Abort + AllocGlobal), value: &T) -> String {
+fn said<T: Debug + Drop>(rt: &(impl Abort + AllocGlobal), value: T) -> String {
     format!(in rt.alloc(); "{value:?}").expect(rt, "memory")
 }
 
@@ -267,7 +267,7 @@ fn bytes_or_error<E: Debug + Drop>(
 ) -> String {
     match found {
         Ok(bytes) => digits_of(rt, &bytes),
-        Err(error) => said(rt, &error),
+        Err(error) => said(rt, error),
     }
 }
 

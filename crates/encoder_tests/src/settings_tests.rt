@@ -244,6 +244,29 @@ fn comes_back(rt: &(impl Abort + AllocGlobal), settings: EncodeSettings) {
     has_bytes(rt, again, &bytes);
 }
 
+/// Encodes the picture, and decodes it, by settings that name an encoding.
+fn comes_back_by(
+    rt: &(impl Abort + AllocGlobal),
+    encoding: EncodingMode,
+    order: BitOrder,
+    flags: u32,
+) {
+    let settings = EncodeSettings {
+        encoding,
+        k: 4,
+        end_of_line: flags & 1 == 1,
+        eols_end_at_bytes: flags & 2 == 2,
+        rows_are_byte_aligned: flags & 4 == 4,
+        end_of_block: flags & 8 == 8,
+        order,
+        effort: Effort::Procedure,
+    };
+    let first = encode_bitmap(rt.alloc(), 24, &BITMAP, settings).err();
+    if first != Some(EncodeError::NoEncoding) {
+        comes_back(rt, settings);
+    }
+}
+
 #[test]
 fn all_settings_come_back(rt: HostRuntime) {
     for encoding in [
@@ -251,23 +274,9 @@ fn all_settings_come_back(rt: HostRuntime) {
         EncodingMode::Group3_1D,
         EncodingMode::Group3_2D,
     ] {
-        for order in [BitOrder::HighestFirst, BitOrder::LowestFirst] {
-            for flags in 0..16u32 {
-                let settings = EncodeSettings {
-                    encoding,
-                    k: 4,
-                    end_of_line: flags & 1 == 1,
-                    eols_end_at_bytes: flags & 2 == 2,
-                    rows_are_byte_aligned: flags & 4 == 4,
-                    end_of_block: flags & 8 == 8,
-                    order,
-                    effort: Effort::Procedure,
-                };
-                let first = encode_bitmap(rt.alloc(), 24, &BITMAP, settings).err();
-                if first != Some(EncodeError::NoEncoding) {
-                    comes_back(&rt, settings);
-                }
-            }
+        for flags in 0..16u32 {
+            comes_back_by(&rt, encoding, BitOrder::HighestFirst, flags);
+            comes_back_by(&rt, encoding, BitOrder::LowestFirst, flags);
         }
     }
 }

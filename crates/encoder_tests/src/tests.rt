@@ -161,6 +161,21 @@ fn changes_of(rt: &(impl Abort + AllocGlobal), pixels: u8, columns: u32) -> Vec<
     changes
 }
 
+/// Finds the changes of a bitmap's rows, and packs them in each encoding.
+fn packs_each_way(
+    rt: &(impl Abort + AllocGlobal),
+    ctx: &mut DecoderContext,
+    lists: &[Vec<u32>],
+    bytes: &[u8],
+) {
+    let columns = ctx.settings().columns;
+    let found = rows_of_bitmap(rt.alloc(), columns, bytes).expect(rt, "memory");
+    same(rt, (columns, found.as_slice()), (columns, lists));
+    packs(rt, columns, lists, false, bytes);
+    packs(rt, columns, lists, true, bytes);
+    packs_1d(rt, ctx, lists, bytes);
+}
+
 /// Finds the changes of the first rows of a picture, and packs them. It is given by its bits, three rows one after another, the
 /// first the lowest.
 fn small_picture(rt: &(impl Abort + AllocGlobal), ctx: &mut DecoderContext, picture: u16) {
@@ -175,11 +190,7 @@ fn small_picture(rt: &(impl Abort + AllocGlobal), ctx: &mut DecoderContext, pict
         lists
             .push(changes_of(rt, left, columns))
             .expect(rt, "memory");
-        let found = rows_of_bitmap(rt.alloc(), columns, &bytes).expect(rt, "memory");
-        same(rt, (columns, found.as_slice()), (columns, lists.as_slice()));
-        packs(rt, columns, &lists, false, &bytes);
-        packs(rt, columns, &lists, true, &bytes);
-        packs_1d(rt, ctx, &lists, &bytes);
+        packs_each_way(rt, ctx, &lists, &bytes);
     }
 }
 

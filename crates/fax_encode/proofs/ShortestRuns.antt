@@ -132,21 +132,21 @@ all_fit : List ℕ → List ℕ → Bool
 all_fit [] words = true
 all_fit (sum ∷ sums) words = fit sum (sum ∷ sums) words && all_fit sums words
 
-fit_at : (f g : ℕ → ℕ) (first from from2 count count2 k : ℕ) → fit first (values f from count) (values g from2 count2) ≡ true
-    → k < count → k < count2 → f (from + k) ≤ first + g (from2 + k)
+fit_at : (f g : ℕ → ℕ) (sum from from2 count count2 k : ℕ) → fit sum (values f from count) (values g from2 count2) ≡ true
+    → k < count → k < count2 → f (from + k) ≤ sum + g (from2 + k)
 unfolding values fit
-fit_at f g first from from2 zero count2 k e lt lt2 = absurd (omega arith)
-fit_at f g first from from2 (suc count) zero k e lt lt2 = absurd (omega arith)
-fit_at f g first from from2 (suc count) (suc count2) zero e lt lt2 =
-    let both = and_parts (leb (f from) (first + g from2)) (fit first (values f (suc from) count) (values g (suc from2) count2)) e in
+fit_at f g sum from from2 zero count2 k e lt lt2 = absurd (omega arith)
+fit_at f g sum from from2 (suc count) zero k e lt lt2 = absurd (omega arith)
+fit_at f g sum from from2 (suc count) (suc count2) zero e lt lt2 =
+    let both = and_parts (leb (f from) (sum + g from2)) (fit sum (values f (suc from) count) (values g (suc from2) count2)) e in
     let at : from + zero ≡ from = omega arith in
     let at2 : from2 + zero ≡ from2 = omega arith in
-    rw (at, at2) (leb-true (f from) (first + g from2) both.0)
-fit_at f g first from from2 (suc count) (suc count2) (suc k) e lt lt2 =
-    let both = and_parts (leb (f from) (first + g from2)) (fit first (values f (suc from) count) (values g (suc from2) count2)) e in
+    rw (at, at2) (leb-true (f from) (sum + g from2) both.0)
+fit_at f g sum from from2 (suc count) (suc count2) (suc k) e lt lt2 =
+    let both = and_parts (leb (f from) (sum + g from2)) (fit sum (values f (suc from) count) (values g (suc from2) count2)) e in
     let at : from + suc k ≡ suc from + k = omega arith in
     let at2 : from2 + suc k ≡ suc from2 + k = omega arith in
-    rw (at, at2) (fit_at f g first (suc from) (suc from2) count count2 k both.1 (omega arith) (omega arith))
+    rw (at, at2) (fit_at f g sum (suc from) (suc from2) count count2 k both.1 (omega arith) (omega arith))
 
 all_fit_at : (f g : ℕ → ℕ) (from count count2 j k : ℕ) → all_fit (values f from count) (values g 0 count2) ≡ true
     → j + k < count → k < count2 → f ((from + j) + k) ≤ f (from + j) + g k

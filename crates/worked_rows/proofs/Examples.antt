@@ -296,4 +296,5 @@ no_changes columns = changes-recursive (white_row columns) ∙ changes_from-same
 pub wide_row_read : reading_of (group3_1d 2560 0 "b") "00101F35001001001001001001" ≡ ([] ∷ [], Ok 13)
 wide_row_read =
     let outcome = (plain (group3_1d 2560 0 "b") (bits_of (hex "00101F35001001001001001001"))).outcome in
-    ap (λ (rows : List Row). (map changes rows, outcome)) wide_row_drawn ∙ ap (λ (row : List ℕ). (row ∷ [], Ok 13)) (no_changes 2560)
+    let drawn = ap (λ (rows : List Row). (map changes rows, outcome)) wide_row_drawn in
+    drawn ∙ ap (λ (row : List ℕ). (row ∷ [], Ok 13)) (no_changes 2560)
