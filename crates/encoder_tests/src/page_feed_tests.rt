@@ -31,9 +31,7 @@ fn no_notes(rt: &(impl Abort + AllocGlobal)) -> Vec<u32> {
 fn notes_next(rt: &impl Abort, pages: &mut PageFeed, notes: &mut Vec<u32>) -> Result<bool> {
     match pages.next_row()? {
         PageFed::Row => {
-            notes
-                .extend_from_slice(pages.page().row())
-                .expect(rt, "memory");
+            notes.extend_from_slice(pages.row()).expect(rt, "memory");
             notes.push(ROW).expect(rt, "memory");
             Ok(true)
         }

@@ -31,7 +31,8 @@ pub some_is : (P : ℕ → Type 0) (o : Option ℕ) (n size : ℕ) → n ≡ unw
 some_is P None n size is e p = absurd cc
 some_is P (Some m) n size is e p = subst P (sym is) p
 
-pub count_within : (P : ℕ → Type 0) (o : Option ℕ) (n size : ℕ) → n ≡ unwrap_or o size → IfSome o (λ m. (m ≤ size) × P m) → n ≤ size
+pub count_within : (P : ℕ → Type 0) (o : Option ℕ) (n size : ℕ) → n ≡ unwrap_or o size → IfSome o (λ m. (m ≤ size) × P m)
+    → n ≤ size
 count_within P None n size is p = omega (arith, is)
 count_within P (Some m) n size is p = omega (arith, is, p.0)
 
@@ -113,8 +114,10 @@ module _ {order : BitOrder} {seen : EolsSeen} {old new : Feeding} (bytes piece r
       → (tried : ℕ) × IsFeedOf (bits_in order (take (given + n) bytes ++ more)) tried new
   reads_on more fit =
       let same : take (given + n) bytes ++ more ≡ take given bytes ++ (take n piece ++ more)
-      = ap (λ (l : List ℕ). l ++ more) (longer bytes piece rest given is.within split n le) ∙ append_assoc (take given bytes) (take n piece) more in
-      let before = is.reads (take n piece ++ more) (λ last. absurd (false≢true (sym unfinished ∙ last))) (subst BitsFit same fit) in (
+      = ap (λ (l : List ℕ). l ++ more) (longer bytes piece rest given is.within split n le)
+      ∙ append_assoc (take given bytes) (take n piece) more in
+      let before = is.reads (take n piece ++ more) (λ last. absurd (false≢true (sym unfinished
+      ∙ last))) (subst BitsFit same fit) in (
         before.0,
         subst (λ (l : List ℕ). IsFeedOf (bits_in order l) before.0 new) (sym same)
             (fed (bits_in order (take given bytes ++ (take n piece ++ more))) before.0 before.1 (comes more)),

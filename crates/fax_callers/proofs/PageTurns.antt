@@ -13,7 +13,8 @@ use Rattle.hayro_ccitt.specs.declared.row_reader.Stand.{Stand}
 use Rattle.hayro_ccitt.specs.declared.row_reader.Stand.TheVariants.{AtLine, BehindRow, AtEnd, AtFault}
 use Rattle.hayro_ccitt.proofs.ErrorKinds.{by_kind}
 use Rattle.hayro_ccitt.proofs.Readings.RowByRow.{failed_stands}
-use Rattle.fax_callers.specs.PageFeeds.{EndsPage, EndsPageHere, GivesNext, HasNoRow, IsPageFeedOf, IsPageReading, PageFeeding, SameRows}
+use Rattle.fax_callers.specs.PageFeeds.{EndsPage, EndsPageHere, GivesNext, HasNoRow, IsPageFeedOf, IsPageReading, PageFeeding}
+use Rattle.fax_callers.specs.PageFeeds.{SameRows}
 use Rattle.fax_callers.specs.PageFeeds.{bytes_read, page_bits, settings_of}
 use Rattle.fax_callers.specs.Pages.{page_bytes}
 use Rattle.fax_callers.specs.declared.page_feed.PageFed.{PageFed}
@@ -43,7 +44,8 @@ turned {whole} {tried} {old} {new} (Err error) next =
     (λ next. let stays = next.none refl in (stays.settings, λ e. let never = sym stays.unended ∙ e in cc))
     (λ next. absurd ((next.fault (λ is. cc)).error.2.not_refused refl)) error next
   where
-    other : (e : DecodeError) → IsFault e → ◌≡◌ {A = Option (Result (Unit {0}) DecodeError)} (Some (Err e)) (Some (Err OutOfMemory)) → ⊥
+    other : (e : DecodeError) → IsFault e → ◌≡◌ {A = Option (Result (Unit {0}) DecodeError)} (Some (Err e)) (Some
+        (Err OutOfMemory)) → ⊥
     other e fault same = let is : e ≡ OutOfMemory = cc in subst IsFault is fault
 
 -- what is unchanged where no row was read
@@ -166,12 +168,14 @@ module _ (feed : PageFeeding) (new : Feeding) (answer : Result Fed DecodeError) 
         (λ end e. subst (IsPageReading feed.order (drop start whole) feed.given feed.seen) (sym (at_end end e).0) is.page)
 
     is_after : IsPageFeedOf whole start after
-    is_after = page_moves new feed.seen feed.next feed.given 0 refl is (omega arith) (omega arith) is.next new_reading new_settings
+    is_after = page_moves new feed.seen feed.next feed.given 0 refl is (omega arith)
+        (omega arith) is.next new_reading new_settings
 
     -- a row was read
     pub gives_row : answer ≡ Ok ReadRow → GivesNext whole start feed after (Ok OneRow)
     gives_row e = record {
-      row = λ f. (next_of e (either_way _ (λ none. none) (λ end some. absurd (no_row end (sym e ∙ (at_end end some).1))))).row refl;
+      row = λ f. (next_of e (either_way _ (λ none. none) (λ end some. absurd (no_row end (sym e
+          ∙ (at_end end some).1))))).row refl;
       page_end = λ f. absurd cc;
       end = λ f. absurd cc;
       fault = tt;
@@ -247,7 +251,8 @@ module _ (feed : PageFeeding) (new : Feeding) (answer : Result Fed DecodeError) 
             within = omega (arith, is.within, count_within, is.page.within, length-drop start whole);
             page = subst (λ (n : ℕ). IsPageReading last.order (drop (start + bytes_read after) whole) n last.seen last.page)
                 (sym back.1) (subst (λ (s : EolsSeen). IsPageReading last.order (drop (start + bytes_read after) whole) 0 s
-                last.page) (sym back.2) (subst (λ (o : BitOrder). IsPageReading o (drop (start + bytes_read after) whole) 0 none_seen
+                last.page) (sym back.2) (subst (λ (o : BitOrder). IsPageReading o (drop
+                (start + bytes_read after) whole) 0 none_seen
                 last.page) (sym ends.order) reading));
             dropped = is.dropped;
             more = is.more;

@@ -1,7 +1,9 @@
 -- Pages that are fed in pieces.
 use Rattle.hayro_ccitt.proofs.Names.{◌≡◌, ℕ, ◌+◌, ◌-◌, ◌*◌, ◌/◌, ◌<◌, ◌≤◌, ◌++◌, ◌∷◌, ◌∙◌, ◌⊎◌, inl, inr, Bool, true, false}
-use Rattle.hayro_ccitt.proofs.Names.{List, [], Option, None, Some, Result, Ok, Err, refl, sym, ap, subst, arith, length, drop, take, min}
-use Rattle.hayro_ccitt.proofs.Names.{length-append, length-drop, append-nil, append_assoc, drop-drop, Bits, bits_in, Context, DecodeError}
+use Rattle.hayro_ccitt.proofs.Names.{List, [], Option, None, Some, Result, Ok, Err, refl, sym, ap, subst, arith, length, drop}
+use Rattle.hayro_ccitt.proofs.Names.{take, min}
+use Rattle.hayro_ccitt.proofs.Names.{length-append, length-drop, append-nil, append_assoc, drop-drop, Bits, bits_in, Context}
+use Rattle.hayro_ccitt.proofs.Names.{DecodeError}
 use Rattle.hayro_ccitt.proofs.Names.{DecodeSettings, EncodingMode, Group4, Group3_1D, Group3_2D, HasEnded, ended}
 use Rattle.hayro_ccitt.proofs.Names.{false≢true, plain, whole_reading, end_of, cond, eqb, AreWholeBytes, ReaderStands}
 use Rattle.std.specs.Prelude.{◌^◌}
@@ -234,7 +236,8 @@ page_holds {whole} {start} {old} {new} bytes frame unfinished is come = subst (I
   page = is.page;
   dropped = is.dropped;
   more = come.0;
-  bytes = is.bytes ∙ ap (λ (l : List ℕ). old.held ++ l) (sym (behind_held is) ∙ come.1) ∙ sym (append_assoc old.held bytes come.0);
+  bytes = is.bytes ∙ ap (λ (l : List ℕ). old.held ++ l) (sym (behind_held is) ∙ come.1)
+      ∙ sym (append_assoc old.held bytes come.0);
   next = omega (arith, is.next, length-append old.held bytes);
   place = is.place;
   none = λ last. absurd (false≢true (sym unfinished ∙ last));
@@ -338,7 +341,8 @@ all_given {whole} {start} {old} {new} page frame finished unfinished finish last
     let size = size_within (settings_of old).encoding old.order (drop start whole) in
     let reading = page_finished is.page.fit is.page.within is.page.order_is is.page.counted (λ more fit.
     is.page.reads more (λ e. absurd (false≢true (sym unfinished ∙ e))) fit)
-    (omega (arith, given_within is.page, size, given_all is last all, length-drop start whole)) is.page.has_memory finish finished in
+    (omega (arith, given_within is.page, size, given_all is last all, length-drop start whole)) is.page.has_memory finish
+    finished in
     let moved : new ≡ record old { page = page; seen = old.seen; next = old.next; given = old.given } = frame in
     stays_on (page_moves page old.seen old.next old.given 0 moved is (omega arith) (omega arith) is.next reading
     (ap (λ (f : Feeding). f.ctx.held.settings) finished)) (ap (λ (f : PageFeeding). f.page.ctx) frame

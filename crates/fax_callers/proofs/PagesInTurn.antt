@@ -1,7 +1,8 @@
 -- Pages that are read while they are fed.
 use Rattle.hayro_ccitt.proofs.Names.{◌≡◌, ◌≢◌, ℕ, ◌+◌, ◌/◌, ◌<◌, ◌≤◌, ◌++◌, ◌∷◌, ◌∙◌, inl, inr, Bool, true, false, List, []}
 use Rattle.hayro_ccitt.proofs.Names.{None, Some, Result, Ok, Err, refl, sym, ap, subst, arith, length, drop, get_or}
-use Rattle.hayro_ccitt.proofs.Names.{length-append, length-drop, replicate, Bits, bits_in, DecodeError, DecodeSettings, OutOfMemory, HasEnded}
+use Rattle.hayro_ccitt.proofs.Names.{length-append, length-drop, replicate, Bits, bits_in, DecodeError, DecodeSettings}
+use Rattle.hayro_ccitt.proofs.Names.{OutOfMemory, HasEnded}
 use Rattle.hayro_ccitt.proofs.Names.{HasFailed, IfErr, IsFault, OnErr, ReadsNext, Row, RowsRead, eol, failed_at, fault_in, cut_in}
 use Rattle.hayro_ccitt.proofs.Names.{cuts_by_line, line_starts, missed_before, plain, repairs_by_line, row_ends}
 use Rattle.hayro_ccitt.specs.BitOrder.{BitOrder}
@@ -10,11 +11,11 @@ use Rattle.hayro_ccitt.specs.RowFeeds.{Feeding, fed_over}
 use Rattle.hayro_ccitt.proofs.BitReading.BitLists.{length-bits_in}
 use Rattle.hayro_ccitt.proofs.ErrorKinds.{by_kind}
 use Rattle.fax_callers.specs.PageFeeds.{EndsPage, GivesNext, GivesPage, IsPageFeedOf, NoPageIsLeft, PageFeeding}
-use Rattle.fax_callers.specs.PageFeeds.{SameRows, Stays, Waits, fed_from_start, page_bits, settings_of}
+use Rattle.fax_callers.specs.PageFeeds.{SameRows, Stays, Waits, page_bits, settings_of}
 use Rattle.fax_callers.specs.Pages.{IsPage, ReadsPages, page_by, page_bytes}
 use Rattle.fax_callers.specs.Readings.{reading_of}
 use Rattle.fax_callers.specs.declared.page_feed.PageFed.{PageFed}
-use Rattle.fax_callers.specs.declared.page_feed.PageFed.TheVariants.{NeedsMore, End}
+use Rattle.fax_callers.specs.declared.page_feed.PageFed.TheVariants.{NeedsMore}
 
 -- ---- A row after calls that give none
 
@@ -24,7 +25,8 @@ reads_later {before} {mid} {new} {result} same bits unended reads = record {
   settings = reads.settings ∙ same.settings;
   bits = reads.bits ∙ bits;
   counts = omega (arith, reads.counts, same.counts);
-  more = at (λ s b n. result ≡ Ok true → (new.end ≡ None) × (new.taken ≡ n + 1) × (new.taken ≤ length (plain s b).rows)) reads.more;
+  more = at (λ s b n. result ≡ Ok true → (new.end ≡ None) × (new.taken ≡ n + 1) × (new.taken ≤ length
+      (plain s b).rows)) reads.more;
   row = at (λ s b n. result ≡ Ok true → new.row ≡ get_or (plain s b).rows n []) reads.row;
   line_start = at (λ s b n. result ≡ Ok true → new.line_start ≡ get_or (line_starts s b) n 0) reads.line_start;
   place = at (λ s b n. result ≡ Ok true → new.place ≡ get_or (row_ends s b) n 0) reads.place;
@@ -161,39 +163,6 @@ stays_fails error memory stays = record {
   stands = λ e. stays.is;
 }
 
--- no byte is left for a page
-pub none_left : {whole : List ℕ} {start : ℕ} {feed : PageFeeding} → IsPageFeedOf whole start feed → feed.finished ≡ true
-    → fed_from_start feed ≡ 0 → GivesNext whole start feed feed (Ok End)
-none_left {whole} {start} {feed} is last none = record {
-  row = λ e. absurd cc;
-  page_end = λ e. absurd cc;
-  end = λ e. inl (
-    last,
-    omega (
-      arith,
-      none,
-      is.place,
-      is.next,
-      is.within,
-      ap length is.bytes,
-      ap length (is.none last),
-      length-append feed.held is.more,
-      length-drop is.dropped whole,
-    ),
-  );
-  fault = tt;
-  none = λ e. record {
-    settings = refl;
-    counts = omega arith;
-    taken = refl;
-    row = refl;
-    damage = refl;
-    cut = refl;
-    line_start = refl;
-  };
-  stands = λ e. is;
-}
-
 -- ---- A page that is closed
 
 -- has bytes
@@ -272,5 +241,6 @@ given_page {whole} {start} {old} {new} answer gives law rows count page = record
     by_fault (Err error) fault =
         by_kind (λ (e : DecodeError). (e ≢ OutOfMemory → ReadsNext (fed_over (page_bits whole start old) old.page)
         (fed_over (page_bits whole start old) new.page) (Err e)) → e ≡ OutOfMemory)
-        (λ e is_fault reads. absurd (let never = sym ((reads (λ same. subst IsFault same is_fault)).error.2.fault is_fault) ∙ outcome
+        (λ e is_fault reads. absurd (let never = sym ((reads (λ same. subst IsFault same is_fault)).error.2.fault is_fault)
+        ∙ outcome
         in cc)) (λ reads. refl) (λ reads. absurd ((reads (λ same. cc)).error.2.not_refused refl)) error fault

@@ -1,6 +1,7 @@
 -- A reading ends no earlier than where it stands.
 use Rattle.hayro_ccitt.proofs.Names.{◌≡◌, ◌≢◌, ℕ, suc, ◌+◌, ◌-◌, ◌*◌, ◌/◌, ◌<◌, ◌≤◌, ◌&&◌, ◌||◌, ◌∙◌, Bool, true, false, []}
-use Rattle.hayro_ccitt.proofs.Names.{Option, None, Some, Result, Ok, Err, refl, sym, ap, subst, arith, length, drop, cond, not, min}
+use Rattle.hayro_ccitt.proofs.Names.{Option, None, Some, Result, Ok, Err, refl, sym, ap, subst, arith, length, drop, cond, not}
+use Rattle.hayro_ccitt.proofs.Names.{min}
 use Rattle.hayro_ccitt.proofs.Names.{length-drop, Bits, Row, Line, DecodeError, DecodeSettings, OutOfMemory, ◌%◌}
 use Rattle.hayro_ccitt.proofs.Names.{Ending, Progress, Turn, Reaches, HasFailed}
 use Rattle.hayro_ccitt.proofs.Names.{aligned, add_row, end_of, eols_here, first_gap, is_over, misses_eol, next_eol}

@@ -1,11 +1,13 @@
 //! Pages of any encoding, one after another, in data that comes in pieces.
 
-ghost use Rattle.std.specs.Prelude.{◌≡◌, ◌≢◌, ◌≤◌, ◌<◌, ◌+◌, ◌-◌, ◌*◌, ◌/◌, ◌⊎◌, ◌↔◌, ℕ, List, [], true, false, Ok, Err, drop, length, min, take};
+ghost use Rattle.std.specs.Prelude.{◌≡◌, ◌≢◌, ◌≤◌, ◌<◌, ◌+◌, ◌-◌, ◌*◌, ◌/◌, ◌⊎◌, ◌↔◌, ℕ, List, [], true, false, Ok, Err, drop};
+ghost use Rattle.std.specs.Prelude.{length, min, take};
 ghost use Rattle.std.specs.Prelude.{IfOk, IfErr, IfNone, IfSome, IsOkUnless, OnOk, OnErr, Result};
 ghost use Rattle.hayro_ccitt.specs.Bits.{BitsFit, bits_in};
 ghost use Rattle.hayro_ccitt.specs.RowFeeds.{fed_bits};
-ghost use Rattle.hayro_ccitt.specs.Rows.{Row};
-ghost use Rattle.fax_callers.specs.PageFeeds.{BytesComeNext, GivesNext, GivesOn, GivesPage, GivesPiece, IsPageFeedOf, settings_of};
+ghost use Rattle.hayro_ccitt.specs.Rows.{AreChanges, Row, changes};
+ghost use Rattle.fax_callers.specs.PageFeeds.{BytesComeNext, GivesNext, GivesOn, GivesPage, GivesPiece, IsPageFeedOf};
+ghost use Rattle.fax_callers.specs.PageFeeds.{settings_of};
 ghost use Rattle.fax_callers.specs.PageFeeds.{DropsRead, EndsPageHere, HasFailed, Waits, bytes_read, fed_from_start};
 ghost use Rattle.fax_callers.specs.Pages.{IsPage};
 
@@ -29,7 +31,8 @@ pub enum PageFed {
     End,
 }
 
-/// The most bytes that the reading of a page is given at once. What it is given behind its end is given again to that of the next.
+/// The most bytes that the reading of a page is given at once. What it is given behind its end is given again to that of the
+/// next.
 const MOST_GIVEN: usize = 4096;
 
 /// Returns the first bytes, as many as are given at once.
@@ -89,7 +92,7 @@ fn needs_more(answer: &Result<PageFed>) -> bool
 /// fn show_pages(pages: &mut PageFeed) -> Result<()> {
 ///     loop {
 ///         match pages.next_row()? {
-///             PageFed::Row => show(pages.page().row()),
+///             PageFed::Row => show(pages.row()),
 ///             PageFed::PageEnd => turn_over(),
 ///             PageFed::NeedsMore | PageFed::End => return Ok(()),
 ///         }
@@ -210,14 +213,14 @@ impl PageFeed {
         self.is_last && self.given == 0 && self.next == self.held.len()
     }
 
-    /// Reads the next row, or ends the page, if no data that follows can change it. After [`PageFed::NeedsMore`] feed more, or finish
-    /// the data. After [`PageFed::PageEnd`] the next call begins the next page. There is none, and each further call returns
+    /// Reads the next row, or ends the page, if no data that follows can change it. After [`PageFed::NeedsMore`] feed more,
+    /// or finish the data. After [`PageFed::PageEnd`] the next call begins the next page. There is none, and each further call returns
     /// [`PageFed::End`], when no data is left, or when no byte of the rest is read, as with no columns.
     ///
     /// # Errors
     ///
-    /// Those of [`RowFeed::next_row`]. After a fault of a page each further call returns it again; after `OutOfMemory` nothing was
-    /// read, and the call can be made again.
+    /// Those of [`RowFeed::next_row`]. After a fault of a page each further call returns it again; after `OutOfMemory`
+    /// nothing was read, and the call can be made again.
     pub fn next_row(&mut self) -> Result<PageFed>
         ensures gives { (whole : List ℕ) (start : ℕ) → IsPageFeedOf whole start self.old
             → GivesNext whole start self.old self.new result }
@@ -299,10 +302,12 @@ impl PageFeed {
         self.is_last
     }
 
-    /// Returns the reading of the page that is next or under way: its last row, and what is known of it.
-    pub fn page(&self) -> &RowFeed
-        ensures { result.now ≡ self.now.page }
+    /// Returns the changes of the last row of the page that was read, in ascending order, as [`RowFeed::row`] does. There
+    /// are none before its first row.
+    pub fn row(&self) -> &[u32]
+        ensures changes { result.now ≡ changes self.now.page.ctx.held.reference }
+        ensures lawful { AreChanges (settings_of self.now).columns result.now }
     {
-        &self.page
+        self.page.row()
     }
 }

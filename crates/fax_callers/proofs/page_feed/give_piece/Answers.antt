@@ -1,5 +1,6 @@
 use Rattle.hayro_ccitt.proofs.Names.{◌≡◌, ◌≢◌, ◌∙◌, ◌+◌, ◌*◌, ◌<◌, ◌≤◌, ◌++◌, ℕ, List, Some, Err, arith, ap, sym, subst}
-use Rattle.hayro_ccitt.proofs.Names.{rules, drop, length, take, inl, inr, Context, DecodeSettings, OutOfMemory, ended, true, false, is_some}
+use Rattle.hayro_ccitt.proofs.Names.{rules, drop, length, take, inl, inr, Context, DecodeSettings, OutOfMemory, ended, true}
+use Rattle.hayro_ccitt.proofs.Names.{false, is_some}
 use Rattle.std.specs.Prelude.{◌^◌}
 use Rattle.std.specs.Option.{unwrap_or}
 use Rattle.std.proofs.lemmas.List.{length-take-le}
@@ -8,7 +9,8 @@ use Rattle.hayro_ccitt.specs.RowFeeds.{Feeding, fed_bits}
 use Rattle.hayro_ccitt.specs.declared.row_reader.RowState.{RowState}
 use Rattle.fax_callers.specs.PageFeeds.{IsPageReading}
 use Rattle.fax_callers.specs.Rtc.{GoesOnBehind, page_size}
-use Rattle.fax_callers.proofs.PageReadings.{bytes_are, count_within, front_length, kept_page, longer, longer_within, none_all, none_is}
+use Rattle.fax_callers.proofs.PageReadings.{bytes_are, count_within, front_length, kept_page, longer, longer_within, none_all}
+use Rattle.fax_callers.proofs.PageReadings.{none_is}
 use Rattle.fax_callers.proofs.PageReadings.{page_finished, page_goes_on, reads_on, some_is}
 use Rattle.fax_callers.proofs.page_feed.give_piece.Goals.{After-feed}
 use Rattle.fax_callers.proofs.page_feed.give_piece.Goals as goal
@@ -96,13 +98,15 @@ returns-then-is_some c =
           c.args.seen.now) (sym c.settings.ensures) (page.sought c.requires.unfinished)) in
           page_finished page.fit (longer_within bytes c.args.piece.now rest given page.within split (n at) (within at))
           (feed.same.2 ∙ page.order_is) (omega (arith, count, page.counted))
-          (reads_on bytes c.args.piece.now rest given page split c.requires.unfinished (n at) (within at) feed.fed count feed.same.0
+          (reads_on bytes c.args.piece.now rest given page split c.requires.unfinished (n at)
+          (within at) feed.fed count feed.same.0
           feed.same.1 feed.same.2)
           (sym (ap (λ (b : List ℕ). page_size c.settings.result.encoding c.args.order b)
           (bytes_are bytes c.args.piece.now rest given page.within split)
           ∙ ends ∙ ap (λ (k : ℕ). k + n at) (front_length bytes c.args.piece.now rest given page.within split))
           ∙ ap (λ (s : DecodeSettings). page_size s.encoding c.args.order bytes) c.settings.ensures
-          ∙ ap (λ (x : Context). page_size x.held.settings.encoding c.args.order bytes) (sym feed.same.0)) (subst (λ (r : RowState). ended r.stand ≢ Some (Err OutOfMemory)) (sym feed.same.1) page.has_memory)
+          ∙ ap (λ (x : Context). page_size x.held.settings.encoding c.args.order bytes) (sym feed.same.0)) (subst (λ
+          (r : RowState). ended r.stand ≢ Some (Err OutOfMemory)) (sym feed.same.1) page.has_memory)
           c.finish.ensures.finished frame;
       failed = λ bytes rest given page split. tt;
     }
@@ -123,6 +127,7 @@ returns-else-is_some c =
       given = λ bytes rest given page split.
           page_goes_on bytes c.args.piece.now rest given page split c.requires.unfinished (n at) (within at) feed.fed count
           feed.same.0 feed.same.1 feed.same.2 c.find_page_end-end.new.seen (feed.same.3 ∙ c.requires.unfinished)
-          (behind at bytes rest given page split all (none_is _ c.find_page_end-end.result none c.find_page_end-end.ensures.none));
+          (behind at bytes rest given page split all (none_is _ c.find_page_end-end.result none
+          c.find_page_end-end.ensures.none));
       failed = λ bytes rest given page split. tt;
     }

@@ -7,5 +7,6 @@ use Rattle.fax_callers.proofs.page_feed.PageFeed.new.Goals as goal
 pub returns-clause-reading : goal.returns-clause-reading
 returns-clause-reading c = λ whole fit.
     let new = c.in_ok-new.ensures in
-    new_feed fit (subst (λ (seen : EolsSeen). IsPageReading c.args.order whole 0 seen c.in_ok-new.field-0) (sym c.none_seen.ensures)
+    new_feed fit (subst (λ (seen : EolsSeen). IsPageReading c.args.order whole 0 seen c.in_ok-new.field-0)
+    (sym c.none_seen.ensures)
     (fresh_page new.reading new.order new.none_fed new.none_read.1 whole fit)) c.new-2.ensures.items refl refl refl

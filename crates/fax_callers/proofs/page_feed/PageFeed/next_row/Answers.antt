@@ -123,7 +123,8 @@ loop-answer-preserved c =
       stays = stays_now at;
       order = c.give.ensures.order ∙ c.read_page-answer.ensures.order ∙ c.loop-answer.invariant.order;
       finished = c.give.ensures.finished ∙ c.read_page-answer.ensures.finished ∙ c.loop-answer.invariant.finished;
-      failed = λ error e. absurd (let never = sym (more at) ∙ (failed (goal.at.loop-answer-preserved c).After-read_page-answer error e).1
+      failed = λ error e. absurd (let never = sym (more at) ∙ (failed
+          (goal.at.loop-answer-preserved c).After-read_page-answer error e).1
           in cc);
     }
 

@@ -16,7 +16,8 @@ returns-in_err-next_row-clause-failed c = λ error e.
     let again = failed (goal.at.returns-in_err-next_row-clause-failed c).After-next_row error e in
     let is_err : c.from_residual.result ≡ Err c.in_err-next_row.field-0.0 = search rules in (
       ap (λ (p : Feeding). record (page_feeding_of c.self.inside) { page = p }) again.0 ∙ c.self.view_is,
-      is_err ∙ (let same : c.in_err-next_row.field-0.0 ≡ error = let both = sym c.in_err-next_row.was ∙ again.1 in cc in ap Err same),
+      is_err ∙ (let same : c.in_err-next_row.field-0.0 ≡ error = let both = sym c.in_err-next_row.was
+          ∙ again.1 in cc in ap Err same),
     )
 
 pub returns-in-Row-clause-failed : goal.returns-in-Row-clause-failed
