@@ -197,7 +197,7 @@ fn draw_v0_below(
 #[inline(always)]
 fn has_two_v0(hand: &BitsAtHand<'_>) -> bool
     requires enough { 16 ≤ hand.now.left }
-    ensures { result ≡ true → (next : AtHand) → next.at ≡ moved 1 hand.now.at → next.left + 1 ≡ hand.now.left
+    ensures two { result ≡ true → (next : AtHand) → next.at ≡ moved 1 hand.now.at → next.left + 1 ≡ hand.now.left
         → IsNextMode (Mode.Vertical (pos 0)) 1 next }
 {
     let bits = hand.seven();

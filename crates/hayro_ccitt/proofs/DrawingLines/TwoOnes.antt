@@ -1,6 +1,6 @@
 -- V0 twice: seven bits that begin with two ones.
-use Rattle.hayro_ccitt.proofs.Names.{◌≡◌, ℕ, ◌+◌, ◌<◌, ◌≤◌, ◌∷◌, [], Bool, true, false, length, drop, get_or, sym, ap, ◌∙◌, arith}
-use Rattle.hayro_ccitt.proofs.Names.{drop-drop, Bits, BitsAt, here, moved, Vertical, pos, Ok, read_code, mode_codes}
+use Rattle.hayro_ccitt.proofs.Names.{◌≡◌, ℕ, ◌+◌, ◌<◌, ◌≤◌, ◌∷◌, [], Bool, true, false, length, drop, get_or, sym, ap, ◌∙◌}
+use Rattle.hayro_ccitt.proofs.Names.{arith, drop-drop, Bits, BitsAt, here, moved, Vertical, pos, Ok, read_code, mode_codes}
 use Rattle.hayro_ccitt.proofs.Names.{eq-eqb, ◌/◌, ◌%◌}
 use Rattle.std.specs.Prelude.{◌^◌}
 use Rattle.fax_bits.specs.LookUps.{seven_bits, padded}
@@ -24,5 +24,7 @@ pub v0_after_one : (at : BitsAt) (n : ℕ) → seven_bits n ≡ padded 7 (here a
 v0_after_one at n e least most len =
     let one : here (moved 1 at) ≡ drop 1 (here at) = sym (drop-drop 1 at.place at.bits) in
     let sum : at.place + 1 + 1 ≡ at.place + 2 = omega arith in
-    let two : here (moved 1 (moved 1 at)) ≡ drop 2 (here at) = ap (λ (n : ℕ). drop n at.bits) sum ∙ sym (drop-drop 2 at.place at.bits) in
-    ap (read_code mode_codes) (one ∙ after_one (here at) n e least most len) ∙ ap (λ (rest : Bits). Ok (Vertical (pos 0), rest)) (sym two)
+    let two : here (moved 1 (moved 1 at)) ≡ drop 2 (here at) =
+    ap (λ (n : ℕ). drop n at.bits) sum ∙ sym (drop-drop 2 at.place at.bits) in
+    ap (read_code mode_codes) (one ∙ after_one (here at) n e least most len)
+    ∙ ap (λ (rest : Bits). Ok (Vertical (pos 0), rest)) (sym two)

@@ -3,12 +3,17 @@ use Rattle.hayro_ccitt.proofs.DrawingLines.TwoOnes.{v0_after_one}
 use Rattle.hayro_ccitt.proofs.modes.has_two_v0.Goals as goal
 
 pub returns : goal.returns
-returns c = λ ones next at left.
-    let here_at = c.args.hand.now.at in
-    let there : 7 ≤ length (here here_at) = omega (arith, length-drop here_at.place here_at.bits, c.seven-bits.ensures.there, c.requires.enough) in
+returns c =
+    let at_hand = c.args.hand.now.at in
+    let bits = c.seven-bits.ensures in
+    let there : 7 ≤ length (here at_hand) =
+    omega (arith, length-drop at_hand.place at_hand.bits, bits.there, c.requires.enough) in
     record {
-      read = rw at (v0_after_one here_at c.seven-bits.result c.seven-bits.ensures.bits (omega (arith, c.if-bits-lt96.false)) (omega (arith, c.seven-bits.ensures.few)) (omega (arith, there)));
-      some = omega arith;
-      few = omega arith;
-      within = omega (arith, left, c.requires.enough);
+      two = λ ones next at left. record {
+        read = rw at (v0_after_one at_hand c.seven-bits.result bits.bits (omega (arith, c.if-bits-lt96.false))
+            (omega (arith, bits.few)) (omega (arith, there)));
+        some = omega arith;
+        few = omega arith;
+        within = omega (arith, left, c.requires.enough);
+      };
     }
