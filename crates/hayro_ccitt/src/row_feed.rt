@@ -16,7 +16,9 @@ ghost use Rattle.hayro_ccitt.specs.RowFeeds.{unused};
 ghost use Rattle.hayro_ccitt.specs.Rows.{AreChanges, changes};
 
 use crate::context::DecoderContext;
-use crate::gap_look::{GapLook, GapRules, GapStage, first_rules, rules_behind_row};
+use crate::gap_look::{
+    GapLook, GapRules, GapStage, first_rules, is_settled_at_once, rules_behind_row,
+};
 use crate::line_parts::{KeptPart, begin_part, continue_line};
 use crate::row_reader::{RowState, Stand, first_stand, has_ended, is_at_line};
 use crate::rows::try_row;
@@ -58,7 +60,7 @@ fn look_waits(
     ensures seen { IsSeen rules.now look.new (here reader.now) }
     ensures space { ctx.new.space ≡ ctx.old.space }
 {
-    if is_last {
+    if is_last || is_settled_at_once(rules, reader) {
         return false;
     }
     let ahead = at_bit(reader, reader.bit_pos() + look.bits);
