@@ -383,9 +383,9 @@ impl RowFeed {
     {
         let mut part = part;
         let mut reader = placed_at(&self.data, self.order, self.place + read);
-        let is_short = continue_line(&mut self.ctx, &mut reader, &mut part);
+        let (is_short, reached) = continue_line(&mut self.ctx, &mut reader, &mut part);
         if is_short {
-            self.line_read = reader.bit_pos() - self.place;
+            self.line_read = reached - self.place;
             self.part = Some(part);
         }
         is_short
