@@ -540,8 +540,11 @@ impl RowFeed {
         ensures { DropsRead self.old self.new }
     {
         let bytes = self.place / 8;
-        self.data.rotate_left(bytes);
+        if bytes == 0 {
+            return;
+        }
         let left = self.data.len() - bytes;
+        self.data.copy_within(bytes.., 0);
         self.data.truncate(left);
         self.dropped += bytes * 8;
         self.place -= bytes * 8;
