@@ -44,6 +44,7 @@ pub enum Fed {
 const MOST_BYTES: usize = (usize::MAX - 64) / 8;
 
 /// Looks on at the gap that begins here, by these rules, and returns whether it must wait for more data.
+#[inline(always)]
 fn look_waits(
     ctx: &mut DecoderContext,
     look: &mut GapLook,
@@ -459,6 +460,7 @@ impl RowFeed {
     }
 
     /// Reads the row of the line here.
+    #[inline(always)]
     fn read_here(&mut self) -> Result<Fed>
         requires begun { self.old.begun ≡ true }
         requires line { is_at_line self.old.rows.stand ≡ true }
