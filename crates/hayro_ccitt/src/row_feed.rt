@@ -334,6 +334,7 @@ impl RowFeed {
 
     /// Passes the gap before the next line, if no data that follows can change it. Returns whether there is a line after it,
     /// or `None` if more data is needed.
+    #[inline(always)]
     fn come_to_line(&mut self) -> Result<Option<bool>>
         requires begun { self.old.begun ≡ true }
         requires unended { ended self.old.rows.stand ≡ None }
@@ -355,6 +356,7 @@ impl RowFeed {
     }
 
     /// Reads the line here from its start, if no data that follows can change it, and returns whether it was read.
+    #[inline(always)]
     fn read_whole_line(&mut self) -> Result<bool>
         requires begun { self.old.begun ≡ true }
         requires rows { self.old.ctx.held.taken + 1 < 2 ^ 64 }
@@ -431,6 +433,7 @@ impl RowFeed {
 
     /// Reads the line here, if no data that follows can change it, and returns whether it was read. A line that is short goes on
     /// from where it was short in the call before.
+    #[inline(always)]
     fn read_line(&mut self) -> Result<bool>
         requires begun { self.old.begun ≡ true }
         requires rows { self.old.ctx.held.taken + 1 < 2 ^ 64 }
@@ -476,6 +479,7 @@ impl RowFeed {
     }
 
     /// Reads the next row behind the first line's start.
+    #[inline(always)]
     fn read_on(&mut self) -> Result<Fed>
         requires begun { self.old.begun ≡ true }
         requires unended { ended self.old.rows.stand ≡ None }
@@ -494,6 +498,8 @@ impl RowFeed {
     }
 
     /// Reads the first row, behind what is before it.
+    #[cold]
+    #[inline(never)]
     fn read_first(&mut self) -> Result<Fed>
         requires unbegun { self.old.begun ≡ false }
         ensures reads { (whole : Bits) (tried : ℕ) → IsFeedOf whole tried self.old

@@ -12,7 +12,8 @@ not_true false e = refl
 pub returns-then-holds_near_one : goal.returns-then-holds_near_one
 returns-then-holds_near_one c = λ unsought.
     let near = c.holds_near_one in
-    settled_at_one c.args.rules.now (here c.args.reader.now) (not_true c.args.rules.now.seeks unsought) (near.ensures.near c.if-holds_near_one.true)
+    settled_at_one c.args.rules.now (here c.args.reader.now) (not_true c.args.rules.now.seeks unsought)
+    (near.ensures.near c.if-holds_near_one.true)
     (near.ensures.one c.if-holds_near_one.true)
 
 pub returns : goal.returns

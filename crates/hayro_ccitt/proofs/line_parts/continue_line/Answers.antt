@@ -34,7 +34,8 @@ pub returns-in-Missing-clause-goes_on : goal.returns-in-Missing-clause-goes_on
 returns-in-Missing-clause-goes_on c =
     let at = (goal.at.returns-in-Missing-clause-goes_on c).After-read_on in
     lacks_word c.args.part.now c.words.part c.read_on.new.part c.args.ctx.now c.words.ctx.ticks c.read_on.new.ctx
-    c.args.reader.now c.words.reader c.read_on.new.reader (words_so_far at) (record c.args.reader.now { place = c.bit_pos-word_start.result }) (put_back at)
+    c.args.reader.now c.words.reader c.read_on.new.reader (words_so_far at)
+    (record c.args.reader.now { place = c.bit_pos-word_start.result }) (put_back at)
     (omega (arith, c.bit_pos-start.ensures.place, c.bit_pos-start.ensures.within))
     (omega (arith, c.bit_pos-word_start.ensures.place, c.bit_pos-word_start.ensures.within))
     (word_read at Word.Missing c.in-Missing.is)
@@ -43,8 +44,8 @@ pub returns-in-Ends-clause-goes_on : goal.returns-in-Ends-clause-goes_on
 returns-in-Ends-clause-goes_on c =
     let at = (goal.at.returns-in-Ends-clause-goes_on c).After-read_on in
     ends_with_word c.args.part.now c.words.part c.read_on.new.part c.args.ctx.now c.words.ctx.ticks c.read_on.new.ctx
-    c.args.reader.now c.words.reader c.read_on.new.reader (words_so_far at) (record c.args.reader.now { place = c.bit_pos-word_start.result })
-    (put_back at)
+    c.args.reader.now c.words.reader c.read_on.new.reader (words_so_far at)
+    (record c.args.reader.now { place = c.bit_pos-word_start.result }) (put_back at)
     (omega (arith, c.bit_pos-start.ensures.place, c.bit_pos-start.ensures.within))
     (omega (arith, c.bit_pos-word_start.ensures.place, c.bit_pos-word_start.ensures.within))
     (word_read at Word.Ends c.in-Ends.is)
