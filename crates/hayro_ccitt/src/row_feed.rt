@@ -334,7 +334,6 @@ impl RowFeed {
 
     /// Passes the gap before the next line, if no data that follows can change it. Returns whether there is a line after it,
     /// or `None` if more data is needed.
-    #[inline(always)]
     fn come_to_line(&mut self) -> Result<Option<bool>>
         requires begun { self.old.begun ≡ true }
         requires unended { ended self.old.rows.stand ≡ None }
@@ -356,7 +355,6 @@ impl RowFeed {
     }
 
     /// Reads the line here from its start, if no data that follows can change it, and returns whether it was read.
-    #[inline(always)]
     fn read_whole_line(&mut self) -> Result<bool>
         requires begun { self.old.begun ≡ true }
         requires rows { self.old.ctx.held.taken + 1 < 2 ^ 64 }
@@ -412,6 +410,8 @@ impl RowFeed {
 
     /// Keeps the part from which the line here goes on, which is short, unless it was tried for the first time: mostly it is whole
     /// at the next.
+    #[cold]
+    #[inline(never)]
     fn keep_part(&mut self)
         requires none_kept { self.old.part ≡ None }
         requires begun { self.old.begun ≡ true }
@@ -433,7 +433,6 @@ impl RowFeed {
 
     /// Reads the line here, if no data that follows can change it, and returns whether it was read. A line that is short goes on
     /// from where it was short in the call before.
-    #[inline(always)]
     fn read_line(&mut self) -> Result<bool>
         requires begun { self.old.begun ≡ true }
         requires rows { self.old.ctx.held.taken + 1 < 2 ^ 64 }
@@ -479,7 +478,6 @@ impl RowFeed {
     }
 
     /// Reads the next row behind the first line's start.
-    #[inline(always)]
     fn read_on(&mut self) -> Result<Fed>
         requires begun { self.old.begun ≡ true }
         requires unended { ended self.old.rows.stand ≡ None }
@@ -498,8 +496,6 @@ impl RowFeed {
     }
 
     /// Reads the first row, behind what is before it.
-    #[cold]
-    #[inline(never)]
     fn read_first(&mut self) -> Result<Fed>
         requires unbegun { self.old.begun ≡ false }
         ensures reads { (whole : Bits) (tried : ℕ) → IsFeedOf whole tried self.old
