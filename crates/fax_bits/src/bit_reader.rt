@@ -237,10 +237,16 @@ impl<'a> BitReader<'a> {
             self.edge = self.data.len();
             return Ok(());
         }
-        *self = at_place(self.data, self.order, next.min(end));
         if next > end {
+            // No bit is left.
+            self.place = end;
+            self.limit = end;
+            self.window = 0;
+            self.ahead = 0;
+            self.edge = self.data.len();
             return Err(DecodeError::UnexpectedEof);
         }
+        *self = at_place(self.data, self.order, next);
         Ok(())
     }
 

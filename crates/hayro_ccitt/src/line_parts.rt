@@ -15,7 +15,7 @@ ghost use Rattle.hayro_ccitt.specs.Rows.{Row, paint};
 use crate::context::DecoderContext;
 use crate::{DecodeError, EncodingMode};
 use fax_bits::DecodeSettings;
-use fax_bits::bit_reader::{BitReader, at_bit};
+use fax_bits::bit_reader::BitReader;
 use fax_bits::codes::{Color, Mode};
 
 /// A run of which words are read.
@@ -308,15 +308,18 @@ pub(crate) fn begin_part(ctx: &mut DecoderContext, reader: &mut BitReader<'_>) -
 }
 
 /// Reads words from a part of a line on, and returns whether the data ends within the line. If it does, the part is then that
-/// from which the line goes on, and the reader is there. Otherwise the reader is where the word begins with which the line ends.
-/// Each word that is looked for is a tick, and so is each change of the reference row that is examined.
+/// from which the line goes on, and the second number is the offset there. Otherwise it is the offset of the word with which the
+/// line ends. The reader's offset is then unspecified. Each word that is looked for is a tick, and so is each change of the
+/// reference row that is examined.
 pub(crate) fn continue_line(
     ctx: &mut DecoderContext,
     reader: &mut BitReader<'_>,
     part: &mut KeptPart,
-) -> bool
+) -> (bool, usize)
     requires { IsLawfulPart ctx.old.held.settings ctx.old.held.reference part.old }
-    ensures { ContinuesLine part.old part.new ctx.old ctx.new reader.old reader.new result }
+    ensures goes_on { ContinuesLine part.old part.new ctx.old ctx.new reader.old
+        (record reader.old { place = result.1 }) result.0 }
+    ensures within { result.1 ≤ length reader.old.bits }
 {
     // An offset is known to be within the data once it is read.
     let _start = reader.bit_pos();
@@ -324,14 +327,8 @@ pub(crate) fn continue_line(
         let word_start = reader.bit_pos();
         match read_on(ctx, reader, part) {
             Word::GoesOn => {}
-            Word::Missing => {
-                *reader = at_bit(reader, word_start);
-                return true;
-            }
-            Word::Ends => {
-                *reader = at_bit(reader, word_start);
-                return false;
-            }
+            Word::Missing => return (true, word_start),
+            Word::Ends => return (false, word_start),
         }
     }
 }

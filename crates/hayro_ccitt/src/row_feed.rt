@@ -16,7 +16,9 @@ ghost use Rattle.hayro_ccitt.specs.RowFeeds.{unused};
 ghost use Rattle.hayro_ccitt.specs.Rows.{AreChanges, changes};
 
 use crate::context::DecoderContext;
-use crate::gap_look::{GapLook, GapRules, GapStage, first_rules, rules_behind_row};
+use crate::gap_look::{
+    GapLook, GapRules, GapStage, first_rules, is_settled_at_once, rules_behind_row,
+};
 use crate::line_parts::{KeptPart, begin_part, continue_line};
 use crate::row_reader::{RowState, Stand, first_stand, has_ended, is_at_line};
 use crate::rows::try_row;
@@ -42,6 +44,7 @@ pub enum Fed {
 const MOST_BYTES: usize = (usize::MAX - 64) / 8;
 
 /// Looks on at the gap that begins here, by these rules, and returns whether it must wait for more data.
+#[inline(always)]
 fn look_waits(
     ctx: &mut DecoderContext,
     look: &mut GapLook,
@@ -58,7 +61,7 @@ fn look_waits(
     ensures seen { IsSeen rules.now look.new (here reader.now) }
     ensures space { ctx.new.space ≡ ctx.old.space }
 {
-    if is_last {
+    if is_last || is_settled_at_once(rules, reader) {
         return false;
     }
     let ahead = at_bit(reader, reader.bit_pos() + look.bits);
@@ -265,6 +268,8 @@ pub struct RowFeed {
     part: Option<KeptPart>,
     /// How many bits of that line were read.
     line_read: usize,
+    /// The offset of the last line that was tried and found to be short, a greater one than any before the first.
+    tried: usize,
 }
 
 impl Model for RowFeed {
@@ -306,6 +311,7 @@ impl RowFeed {
             look: GapLook::new(),
             part: None,
             line_read: 0,
+            tried: usize::MAX,
         })
     }
 
@@ -378,9 +384,9 @@ impl RowFeed {
     {
         let mut part = part;
         let mut reader = placed_at(&self.data, self.order, self.place + read);
-        let is_short = continue_line(&mut self.ctx, &mut reader, &mut part);
+        let (is_short, reached) = continue_line(&mut self.ctx, &mut reader, &mut part);
         if is_short {
-            self.line_read = reader.bit_pos() - self.place;
+            self.line_read = reached - self.place;
             self.part = Some(part);
         }
         is_short
@@ -402,7 +408,10 @@ impl RowFeed {
         self.go_on_from(part, read)
     }
 
-    /// Keeps the part from which the line here goes on, which is short.
+    /// Keeps the part from which the line here goes on, which is short, unless it was tried for the first time: mostly it is whole
+    /// at the next.
+    #[cold]
+    #[inline(never)]
     fn keep_part(&mut self)
         requires none_kept { self.old.part ≡ None }
         requires begun { self.old.begun ≡ true }
@@ -410,6 +419,11 @@ impl RowFeed {
         requires none_drawn { redrawn self.old.ctx.held [] Color.White ≡ self.old.ctx.held }
         ensures { KeepsPart self.old self.new }
     {
+        let line_start = self.dropped + self.place;
+        if self.tried != line_start {
+            self.tried = line_start;
+            return;
+        }
         let mut reader = placed_at(&self.data, self.order, self.place);
         if let Some(part) = begin_part(&mut self.ctx, &mut reader) {
             let read = reader.bit_pos() - self.place;
@@ -448,6 +462,7 @@ impl RowFeed {
     }
 
     /// Reads the row of the line here.
+    #[inline(always)]
     fn read_here(&mut self) -> Result<Fed>
         requires begun { self.old.begun ≡ true }
         requires line { is_at_line self.old.rows.stand ≡ true }
@@ -529,8 +544,11 @@ impl RowFeed {
         ensures { DropsRead self.old self.new }
     {
         let bytes = self.place / 8;
-        self.data.rotate_left(bytes);
+        if bytes == 0 {
+            return;
+        }
         let left = self.data.len() - bytes;
+        self.data.copy_within(bytes.., 0);
         self.data.truncate(left);
         self.dropped += bytes * 8;
         self.place -= bytes * 8;

@@ -87,6 +87,7 @@ impl Feeding {
     }
 
     /// Reads the row that is to be returned next, unless it was read before.
+    #[inline(always)]
     fn come_to_row(&mut self) -> Result<Fed>
         ensures turns { TurnsToFed self.old.is_kept self.old.rows self.new.rows result }
         ensures none_kept { self.new.is_kept ≡ false }

@@ -7,7 +7,7 @@ use Rattle.hayro_ccitt.proofs.Names.{append-nil, append_assoc, drop, length-repl
 use Rattle.hayro_ccitt.proofs.Names.{EncodingMode, Group4, Group3_1D, Group3_2D, DecodeSettings}
 use Rattle.hayro_ccitt.proofs.Names.{after_eol, all_eols, next_eol, at_end, eols_by, limit_met}
 use Rattle.hayro_ccitt.specs.EndOfLine.{eols, eols_with_tags, one_more, past_tag, pass_last_tag}
-use Rattle.hayro_ccitt.specs.GapsContinued.{holds_one, eols_are_settled}
+use Rattle.hayro_ccitt.specs.GapsContinued.{behind_line_tag, holds_one, eols_are_settled}
 use Rattle.hayro_ccitt.specs.GapsContinued.{next_eols_are_settled, gap_is_settled, first_gap_is_settled}
 use Rattle.hayro_ccitt.specs.GapsSeen.{IsSeen, LooksTo, ends_at_two, first_rules, has_tags, is_settled, nothing_seen}
 use Rattle.hayro_ccitt.specs.GapsSeen.{one_eol_more, rules_behind_row, stage_after, stage_behind, zeros_behind}
@@ -625,3 +625,36 @@ looked_within {rules} {look} {here} {rest} looks = (
   omega (arith, looks.bits, ap length looks.are, length-append looks.looked rest),
   omega (arith, looks.bits, looks.zeros, few_zeros 0 looks.looked),
 )
+
+-- ---- A gap that the bits here settle
+
+-- no EOL is here, nor is one sought
+pub settled_at_one : (rules : GapRules) (here : Bits) → rules.seeks ≡ false → after_eol 0 here ≡ None → holds_one here ≡ true
+    → is_settled (stage_behind rules Start 0 here) ≡ true
+settled_at_one rules here unsought none one = start_settles rules 0 here unsought none ∙ one
+
+-- where one is behind an EOL and its tag, no EOL is
+settled_behind_tag : (rules : GapRules) (here : Bits) → after_eol 0 here ≡ None → holds_one here ≡ true
+    → is_settled (stage_behind rules BehindTag 0 here) ≡ true
+settled_behind_tag rules here none one = tag_settles rules 0 here none ∙ one
+
+-- the bits behind an EOL are those behind the tag of one of its line
+tag_of_one : (here : Bits) → behind_line_tag (1, here) ≡ behind_one here
+tag_of_one [] = refl
+tag_of_one (false ∷ here) = refl
+tag_of_one (true ∷ here) = refl
+
+-- an EOL is here without a tag, and none behind it
+pub settled_behind_eol : (rules : GapRules) (here rest : Bits) → after_eol 0 here ≡ Some rest → rules.has_tags ≡ false
+    → after_eol 0 rest ≡ None → holds_one rest ≡ true → is_settled (stage_behind rules Start 0 here) ≡ true
+settled_behind_eol rules here rest eol tags none one =
+    ap is_settled (eol_seen rules Start 0 here rest eol) ∙ no_tag rules rest tags ∙ settled_behind_tag rules rest none one
+
+-- or with one
+pub settled_behind_tagged : (rules : GapRules) (here rest behind : Bits) → after_eol 0 here ≡ Some rest → rules.has_tags ≡ true
+    → behind ≡ behind_line_tag (1, rest) → after_eol 0 behind ≡ None → holds_one behind ≡ true
+    → is_settled (stage_behind rules Start 0 here) ≡ true
+settled_behind_tagged rules here rest behind eol tags is none one =
+    let tag : behind ≡ behind_one rest = is ∙ tag_of_one rest in
+    ap is_settled (eol_seen rules Start 0 here rest eol) ∙ one_tag rules rest tags
+    ∙ ap (λ (b : Bits). is_settled (stage_behind rules BehindTag 0 b)) (sym tag) ∙ settled_behind_tag rules behind none one

@@ -1,4 +1,4 @@
-use Rattle.hayro_ccitt.proofs.Names.{◌≡◌, ◌∙◌, ap, subst, arith, Context, Bits, ℕ}
+use Rattle.hayro_ccitt.proofs.Names.{◌≡◌, ◌∙◌, ap, sym, subst, arith, Context, Bits, ℕ}
 use Rattle.hayro_ccitt.specs.declared.line_parts.Word.{Word}
 use Rattle.hayro_ccitt.specs.LineParts.{ReadsWord}
 use Rattle.hayro_ccitt.proofs.DrawingLines.PartsOfLines.{WentOn, ends_with_word, lacks_word, went_on}
@@ -20,9 +20,9 @@ word_read c word is =
     (subst (ReadsWord c.words.part c.read_on.new.part c.words.ctx c.read_on.new.ctx c.words.reader c.read_on.new.reader) is
     c.read_on.ensures.reads)
 
-put_back : (c : After-read_on) → (record c.read_on.new.reader { place = c.bit_pos-word_start.result }) ≡ c.words.reader
-put_back c = ap (λ (n : ℕ). record c.read_on.new.reader { place = n }) c.bit_pos-word_start.ensures.place
-    ∙ ap (λ (b : Bits). record c.words.reader { bits = b }) c.read_on.ensures.reads.same_bits
+put_back : (c : After-read_on) → (record c.args.reader.now { place = c.bit_pos-word_start.result }) ≡ c.words.reader
+put_back c = ap (λ (n : ℕ). record c.args.reader.now { place = n }) c.bit_pos-word_start.ensures.place
+    ∙ ap (λ (b : Bits). record c.words.reader { bits = b }) (sym (words_so_far c).same_bits)
 
 pub words-preserved : goal.words-preserved
 words-preserved c =
@@ -30,21 +30,22 @@ words-preserved c =
     went_on c.args.part.now c.words.part c.read_on.new.part c.args.ctx.now c.words.ctx.ticks c.read_on.new.ctx c.args.reader.now
     c.words.reader c.read_on.new.reader (words_so_far at) (word_read at Word.GoesOn c.in-GoesOn.is)
 
-pub returns-in-Missing : goal.returns-in-Missing
-returns-in-Missing c =
-    let at = (goal.at.returns-in-Missing c).After-read_on in
+pub returns-in-Missing-clause-goes_on : goal.returns-in-Missing-clause-goes_on
+returns-in-Missing-clause-goes_on c =
+    let at = (goal.at.returns-in-Missing-clause-goes_on c).After-read_on in
     lacks_word c.args.part.now c.words.part c.read_on.new.part c.args.ctx.now c.words.ctx.ticks c.read_on.new.ctx
-    c.args.reader.now c.words.reader c.read_on.new.reader (words_so_far at) c.at_bit.result (c.at_bit.ensures ∙ put_back at)
+    c.args.reader.now c.words.reader c.read_on.new.reader (words_so_far at)
+    (record c.args.reader.now { place = c.bit_pos-word_start.result }) (put_back at)
     (omega (arith, c.bit_pos-start.ensures.place, c.bit_pos-start.ensures.within))
     (omega (arith, c.bit_pos-word_start.ensures.place, c.bit_pos-word_start.ensures.within))
     (word_read at Word.Missing c.in-Missing.is)
 
-pub returns-in-Ends : goal.returns-in-Ends
-returns-in-Ends c =
-    let at = (goal.at.returns-in-Ends c).After-read_on in
+pub returns-in-Ends-clause-goes_on : goal.returns-in-Ends-clause-goes_on
+returns-in-Ends-clause-goes_on c =
+    let at = (goal.at.returns-in-Ends-clause-goes_on c).After-read_on in
     ends_with_word c.args.part.now c.words.part c.read_on.new.part c.args.ctx.now c.words.ctx.ticks c.read_on.new.ctx
-    c.args.reader.now c.words.reader c.read_on.new.reader (words_so_far at) c.at_bit-in-Ends.result
-    (c.at_bit-in-Ends.ensures ∙ put_back at)
+    c.args.reader.now c.words.reader c.read_on.new.reader (words_so_far at)
+    (record c.args.reader.now { place = c.bit_pos-word_start.result }) (put_back at)
     (omega (arith, c.bit_pos-start.ensures.place, c.bit_pos-start.ensures.within))
     (omega (arith, c.bit_pos-word_start.ensures.place, c.bit_pos-word_start.ensures.within))
     (word_read at Word.Ends c.in-Ends.is)

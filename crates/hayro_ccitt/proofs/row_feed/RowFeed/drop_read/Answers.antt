@@ -1,12 +1,19 @@
 use Rattle.hayro_ccitt.proofs.Names.{◌≡◌, ◌∙◌, ◌++◌, ◌+◌, ◌-◌, ◌*◌, ◌/◌, ap, sym, refl, arith, length, length-drop}
 use Rattle.hayro_ccitt.proofs.Names.{drop, drop-drop, take, bits_in, subst, Bits, List, ℕ}
 use Rattle.hayro_ccitt.specs.RowFeeds.{PartIsKept}
-use Rattle.std.proofs.Math.Seq.{take-append_seam}
+use Rattle.std.proofs.Math.Seq.{paste, take-append_seam}
+use Rattle.std.proofs.lemmas.List.Edits.{paste_all}
 use Rattle.hayro_ccitt.proofs.BitReading.BitLists.{length-bits_in}
 use Rattle.hayro_ccitt.proofs.Readings.FeedsOn.{bits-dropped}
 use Rattle.hayro_ccitt.proofs.Readings.LooksKept.{seen_there}
 use Rattle.hayro_ccitt.proofs.row_feed.RowFeed.drop_read.Goals.{After-truncate}
 use Rattle.hayro_ccitt.proofs.row_feed.RowFeed.drop_read.Goals as goal
+
+-- bytes that are written over the first ones
+paste_front : (over bytes : List ℕ) (n : ℕ) → n ≡ length bytes → paste over 0 bytes n ≡ bytes ++ drop n over
+paste_front over bytes n whole =
+    let from : 0 + n ≡ n = omega arith in
+    paste_all over 0 bytes n whole ∙ ap (λ (k : ℕ). bytes ++ drop k over) from
 
 -- the bytes that are left
 module _ (c : After-truncate) where
@@ -21,12 +28,14 @@ module _ (c : After-truncate) where
       let left : c.len.result - bytes ≡ length (drop bytes items) = omega (
         arith,
         c.len.ensures,
-        c.rotate_left.ensures.len,
         length-drop bytes items,
       ) in
-      c.truncate.ensures.items ∙ ap (take (c.len.result - bytes)) c.rotate_left.ensures.items
-      ∙ ap (λ (n : ℕ). take n (drop bytes items ++ take bytes items)) left
-      ∙ take-append_seam (drop bytes items) (take bytes items)
+      let behind = drop (c.len.result - bytes) items in
+      c.truncate.ensures.items ∙ ap (take (c.len.result - bytes)) (c.copy_within.ensures.items
+      ∙ ap (λ (n : ℕ). paste items 0 (drop bytes items) (n - bytes)) (sym c.len.ensures))
+      ∙ ap (take (c.len.result - bytes)) (paste_front items (drop bytes items) (c.len.result - bytes) left)
+      ∙ ap (λ (n : ℕ). take n (drop bytes items ++ behind)) left
+      ∙ take-append_seam (drop bytes items) behind
 
   pub bits_left : bits_in c.self.inside.order c.truncate.new.self.items ≡ drop (8 * bytes) (bits_in c.self.inside.order items)
   bits_left = ap (bits_in c.self.inside.order) items_left ∙ bits-dropped c.self.inside.order bytes items
@@ -53,6 +62,25 @@ invariant_of-self c =
       part = subst (λ (b : Bits). PartIsKept inside.part inside.begun inside.rows.stand inside.ctx.held b inside.line_read)
           (sym same) c.self.invariant.part;
     }
+
+pub returns-then-bytes-eq0 : goal.returns-then-bytes-eq0
+returns-then-bytes-eq0 c =
+    rw (← c.self.view_is) (record {
+      bytes = 0;
+      read = omega arith;
+      kept = refl;
+      dropped = omega arith;
+      place = omega arith;
+      looked = refl;
+      within = omega (arith, c.self.invariant.within, length-bits_in c.self.inside.order c.self.inside.«data».items);
+      ctx = refl;
+      rows = refl;
+      order = refl;
+      begun = refl;
+      finished = refl;
+      part = refl;
+      line_read = refl;
+    })
 
 pub returns : goal.returns
 returns c =

@@ -1,5 +1,5 @@
-use Rattle.hayro_ccitt.proofs.Names.{◌≡◌, ◌∙◌, ◌+◌, ◌-◌, ◌*◌, ap, sym, subst, arith, length, length-drop, drop, false≢true}
-use Rattle.hayro_ccitt.proofs.Names.{bits_in, List, ℕ, Some, Context, Held}
+use Rattle.hayro_ccitt.proofs.Names.{◌≡◌, ◌∙◌, ◌+◌, ◌-◌, ap, sym, subst, arith, length, length-drop, drop, false≢true}
+use Rattle.hayro_ccitt.proofs.Names.{bits_in, List, ℕ, Some, Context, Held, BitsAt}
 use Rattle.hayro_ccitt.specs.GapsSeen.{IsSeen, rules_for}
 use Rattle.hayro_ccitt.proofs.BitReading.BitLists.{length-bits_in}
 use Rattle.hayro_ccitt.proofs.Readings.PartsFed.{part_reached, said_short, scan_most, scan_work}
@@ -46,6 +46,10 @@ starts_at c = c.placed_at-reader.ensures ∙ ap (λ (items : List ℕ). record {
   place = c.self.inside.place + c.args.read;
 }) c.deref.ensures.value
 
+-- where the scan ended
+abbrev reached : (c : After-continue_line-is_short) → BitsAt
+reached c = record c.placed_at-reader.result { place = c.continue_line-is_short.result.1 }
+
 -- what is seen afterwards
 abbrev scanned : (c : After-continue_line-is_short) → Feeding
 scanned c = record (feeding_of c.self.inside) { ctx = c.continue_line-is_short.new.ctx }
@@ -63,16 +67,12 @@ invariant_of-self c =
       rows = λ e. absurd (false≢true (sym e ∙ was.is_begun));
       seen = subst (λ (h : Held). IsSeen (rules_for c.self.inside.begun h) c.self.inside.look
           (drop c.self.inside.place (bits_in c.self.inside.order c.self.inside.«data».items)))
-          (sym (ap (λ (x : Context). x.held) c.continue_line-is_short.ensures.frame)) c.self.invariant.seen;
+          (sym (ap (λ (x : Context). x.held) c.continue_line-is_short.ensures.goes_on.frame)) c.self.invariant.seen;
       line = c.self.invariant.line;
-      part = subst (λ (n : ℕ). LineGoesOn c.self.inside.begun c.self.inside.rows.stand c.continue_line-is_short.new.ctx.held
-          (drop c.self.inside.place (bits_in c.self.inside.order c.self.inside.«data».items)) (n - c.self.inside.place)
-          c.continue_line-is_short.new.part) (sym c.bit_pos.ensures.place)
-          (part_reached (feeding_of c.self.inside) (scanned at) c.args.part c.continue_line-is_short.new.part c.args.read
-          c.placed_at-reader.result c.continue_line-is_short.new.reader c.continue_line-is_short.result (starts_at at)
+      part = part_reached (feeding_of c.self.inside) (scanned at) c.args.part c.continue_line-is_short.new.part c.args.read
+          c.placed_at-reader.result (reached at) c.continue_line-is_short.result.0 (starts_at at)
           (omega (arith, c.self.invariant.within, length-bits_in c.self.inside.order c.self.inside.«data».items))
-          c.continue_line-is_short.ensures was
-          (omega (arith, c.bit_pos.ensures.place, c.bit_pos.ensures.within)) c.if-is_short.true);
+          c.continue_line-is_short.ensures.goes_on was c.continue_line-is_short.ensures.within c.if-is_short.true;
     }
 
 pub returns-then-is_short : goal.returns-then-is_short
@@ -90,19 +90,17 @@ returns-then-is_short c =
           frame = ap (λ (x : Context). record (feeding_of inside) {
             ctx = x;
             part = Some part;
-            line_read = c.bit_pos.result - inside.place;
-          }) on.ensures.frame;
-          counts = on.ensures.counts;
+            line_read = on.result.1 - inside.place;
+          }) on.ensures.goes_on.frame;
+          counts = on.ensures.goes_on.counts;
         };
-        said = said_short (feeding_of inside) (scanned at) c.args.part part c.args.read c.placed_at-reader.result on.new.reader
-            on.result (starts_at at) within on.ensures was;
+        said = said_short (feeding_of inside) (scanned at) c.args.part part c.args.read c.placed_at-reader.result (reached at)
+            on.result.0 (starts_at at) within on.ensures.goes_on was;
         none = λ e. absurd (false≢true (sym e ∙ c.if-is_short.true));
-        work = λ e. subst (λ (n : ℕ). on.new.ctx.ticks + (c.args.part.passed + 2 * c.args.read)
-            ≤ inside.ctx.ticks + (part.passed + 2 * (n - inside.place) + 2)) (sym c.bit_pos.ensures.place)
-            (scan_work (feeding_of inside) (scanned at) c.args.part part c.args.read c.placed_at-reader.result on.new.reader
-            on.result (starts_at at) within on.ensures was (omega (arith, c.bit_pos.ensures.place, c.bit_pos.ensures.within)));
-        most = scan_most (feeding_of inside) (scanned at) c.args.part part c.args.read c.placed_at-reader.result on.new.reader
-            on.result (starts_at at) within on.ensures was;
+        work = λ e. scan_work (feeding_of inside) (scanned at) c.args.part part c.args.read c.placed_at-reader.result (reached at)
+            on.result.0 (starts_at at) within on.ensures.goes_on was on.ensures.within;
+        most = scan_most (feeding_of inside) (scanned at) c.args.part part c.args.read c.placed_at-reader.result (reached at)
+            on.result.0 (starts_at at) within on.ensures.goes_on was;
       };
     })
 
@@ -118,14 +116,14 @@ returns-else-is_short c =
     rw (← c.self.view_is) (record {
       scans = record {
         scans = record {
-          frame = ap (λ (x : Context). record (feeding_of inside) { ctx = x }) on.ensures.frame;
-          counts = on.ensures.counts;
+          frame = ap (λ (x : Context). record (feeding_of inside) { ctx = x }) on.ensures.goes_on.frame;
+          counts = on.ensures.goes_on.counts;
         };
-        said = said_short (feeding_of inside) (scanned at) c.args.part part c.args.read c.placed_at-reader.result on.new.reader
-            on.result (starts_at at) within on.ensures was;
+        said = said_short (feeding_of inside) (scanned at) c.args.part part c.args.read c.placed_at-reader.result (reached at)
+            on.result.0 (starts_at at) within on.ensures.goes_on was;
         none = λ e. ap (λ (f : Feeding). f.part) c.self.view_is ∙ c.requires.none_kept;
         work = λ e. absurd (false≢true (sym c.if-is_short.false ∙ e));
-        most = scan_most (feeding_of inside) (scanned at) c.args.part part c.args.read c.placed_at-reader.result on.new.reader
-            on.result (starts_at at) within on.ensures was;
+        most = scan_most (feeding_of inside) (scanned at) c.args.part part c.args.read c.placed_at-reader.result (reached at)
+            on.result.0 (starts_at at) within on.ensures.goes_on was;
       };
     })
