@@ -2,6 +2,7 @@ pub mod BitsHeld
 pub mod BlackGoesOn
 pub mod FeedsOn
 pub mod FirstGaps
+pub mod GapsNear
 pub mod GapsPassed
 pub mod GapsSeen
 pub mod LinesRead

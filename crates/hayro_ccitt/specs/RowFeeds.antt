@@ -225,6 +225,8 @@ pub record ComesOn (is_last : Bool) (gap_start : ℕ) (rows kept : RowState) (lo
   pub looked : answer ≡ Ok None → (extra + look.bits ≡ kept_look.bits)
       × IsSeen (rules_for true old.held) kept_look (here before)
   pub none_looked : answer ≢ Ok None → kept_look ≡ nothing_seen
+  -- of a gap that is passed no more than twelve bits beyond its end were looked at
+  pub near : answer ≢ Ok None → is_last ≡ false → extra + look.bits + before.place ≤ after.place + 12
   pub same_bits : after.bits ≡ before.bits
   pub within : after.place ≤ length after.bits
   pub space : new.space ≡ old.space
