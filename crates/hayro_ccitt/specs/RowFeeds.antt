@@ -1,6 +1,6 @@
 -- Rows from data that comes in pieces: what is kept of it, what is seen of a reading, and which data it is a reading of.
 use Rattle.std.specs.Prelude.{◌≡◌, ◌≢◌, ◌≤◌, ◌<◌, ◌+◌, ◌*◌, ◌/◌, ◌^◌, ℕ, Bool, true, false, ◌++◌, [], not, ◌&&◌, ◌⊎◌}
-use Rattle.std.specs.Prelude.{max, drop, length, Option, None, Some, Result, Ok, Err, IfErr}
+use Rattle.std.specs.Prelude.{max, drop, length, replicate, ◌∷◌, Option, None, Some, Result, Ok, Err, IfErr}
 use Rattle.fax_bits.specs.declared.bit_reader.BitOrder.{BitOrder}
 use Rattle.fax_bits.specs.declared.codes.Color.TheVariants.{White}
 use Rattle.fax_bits.specs.declared.error.DecodeError.{DecodeError}
@@ -20,7 +20,7 @@ use Rattle.hayro_ccitt.specs.GapsSeen.{IsSeen, nothing_seen, rules_for}
 use Rattle.hayro_ccitt.specs.declared.gap_look.GapLook.{GapLook}
 use Rattle.hayro_ccitt.specs.LineParts.{IsLawfulPart, IsPartOf}
 use Rattle.hayro_ccitt.specs.Lines.{Line}
-use Rattle.hayro_ccitt.specs.PlainReading.{line_here, lines_of}
+use Rattle.hayro_ccitt.specs.PlainReading.{line_here, lines_of, row_of_line}
 use Rattle.hayro_ccitt.specs.Rows.{changes}
 use Rattle.hayro_ccitt.specs.RowsRead.{IsStanding, IsStandingAtLine, ReachesNextLine, ReadsNext, RowsRead, ended, is_at_line}
 use Rattle.hayro_ccitt.specs.RowsRead.{seen}
@@ -183,6 +183,33 @@ pub record LineWork (old new : Feeding) (answer : Result Fed DecodeError) (count
   pub read : (HasNone answer → ⊥) → counted + paid_for_line old ≤ most_for_line old + 4
   pub at_once : (HasNone answer → ⊥) → old.part ≡ None → counted ≡ 0
 
+-- an EOL is among some bits, which begin at this offset, and ends no later than another (T.4, 4.1.2)
+pub record PassesEol (gap : Bits) (from to : ℕ) : Type 0 where
+  pub fill : Bits
+  pub behind : Bits
+  pub place : gap ≡ fill ++ replicate 11 false ++ true ∷ behind
+  pub passed : from + length fill + 12 ≤ to
+
+-- How a call goes on in the data, and what it counts for that: where a gap is passed, no more than twelve bits beyond it were
+-- looked at; the changes of a row are no more than the words of its line, and one; and the lists of changes have no more room
+-- than before, or than a row needs.
+pub record CallGoesOn (old new : Feeding) (answer : Result Fed DecodeError) (gap extra : ℕ) : Type 0 where
+  pub counts : old.ctx.ticks + extra ≤ new.ctx.ticks
+  pub stored : answer ≡ Ok Fed.Row → length (changes new.ctx.held.reference) + (old.ctx.ticks + extra) ≤ new.ctx.ticks + 1
+  pub onward : ended new.rows.stand ≡ None → old.dropped + old.place ≤ new.dropped + new.place
+  pub near : old.begun ≡ true → old.finished ≡ false → ended new.rows.stand ≡ None
+      → gap + old.looked + (old.dropped + old.place) ≤ new.dropped + new.place + new.looked + 12
+  pub stays : HasNone answer → (old.begun && is_at_line old.rows.stand) ≡ true → new.place ≡ old.place
+  -- what a line yields that was left before
+  pub row_is : answer ≡ Ok Fed.Row → old.part ≢ None
+      → row_of_line old.ctx.held.settings old.ctx.held.has_eols (drop old.place old.kept) (line_of_feed old)
+      ≡ Ok (new.ctx.held.reference, drop new.place new.kept)
+  -- an EOL is passed, where EOLs are sought and more data may come (T.4, 4.1.2)
+  pub past_eol : old.finished ≡ false → old.begun ≡ true → is_at_line old.rows.stand ≡ false → old.ctx.held.has_eols ≡ true
+      → ended new.rows.stand ≡ None → (answer ≡ Ok Fed.NeedsMore → is_at_line new.rows.stand ≡ true)
+      → PassesEol (drop old.place old.kept) (old.dropped + old.place) (new.dropped + new.place)
+  pub space : new.ctx.space ≤ max old.ctx.space (2 * old.ctx.held.settings.columns + 66)
+
 -- What a call that reads the next row leaves, of whatever data those fed are a beginning: the next row of its plain reading,
 -- its end
 -- or its fault; or nothing is read, since what is next can still be changed, or since a change of a row that paints a black
@@ -208,6 +235,7 @@ pub record FeedsNext (whole : Bits) (tried : ℕ) (old new : Feeding) (answer : 
   pub looks : LooksAhead old.finished (old.begun && is_at_line old.rows.stand) old.looked (drop old.place old.kept) gap
   pub looked : answer ≡ Ok Fed.NeedsMore → is_at_line new.rows.stand ≡ false → gap + old.looked ≡ new.looked
   pub line_work : LineWork old new answer line_extra
+  pub goes_on : CallGoesOn old new answer gap extra
 
 -- ---- The steps of a call: not part of the trusted specification
 
@@ -227,6 +255,11 @@ pub record ComesOn (is_last : Bool) (gap_start : ℕ) (rows kept : RowState) (lo
   pub none_looked : answer ≢ Ok None → kept_look ≡ nothing_seen
   -- of a gap that is passed no more than twelve bits beyond its end were looked at
   pub near : answer ≢ Ok None → is_last ≡ false → extra + look.bits + before.place ≤ after.place + 12
+  pub counts : old.ticks + extra ≤ new.ticks
+  pub onward : answer ≡ Ok (Some true) → before.place ≤ after.place
+  pub at_line : is_at_line rows.stand ≡ true → after ≡ before
+  pub past_eol : is_last ≡ false → is_at_line rows.stand ≡ false → old.held.has_eols ≡ true → answer ≡ Ok (Some true)
+      → PassesEol (here before) before.place after.place
   pub same_bits : after.bits ≡ before.bits
   pub within : after.place ≤ length after.bits
   pub space : new.space ≡ old.space
@@ -286,6 +319,18 @@ line_first BehindRow = Ok true
 line_first AtEnd = Ok false
 line_first (AtFault error) = Err error
 
+-- a line is reached behind a gap
+pub record ReachesLine (old new : Feeding) (extra : ℕ) : Type 0 where
+  pub counts : old.ctx.ticks + extra ≤ new.ctx.ticks
+  pub onward : old.dropped + old.place ≤ new.dropped + new.place
+  pub near : old.begun ≡ true → old.finished ≡ false
+      → extra + old.looked + (old.dropped + old.place) ≤ new.dropped + new.place + 12
+  pub past_eol : old.finished ≡ false → old.begun ≡ true → is_at_line old.rows.stand ≡ false → old.ctx.held.has_eols ≡ true
+      → PassesEol (drop old.place old.kept) (old.dropped + old.place) (new.dropped + new.place)
+  pub at_line : (old.begun && is_at_line old.rows.stand) ≡ true → new.place ≡ old.place
+  pub space : new.ctx.space ≡ old.ctx.space
+  pub settings : new.ctx.held.settings ≡ old.ctx.held.settings
+
 -- what is before the first line is passed, if no data that follows can change it
 pub record Begins (old new : Feeding) (answer : Bool) : Type 0 where
   pub extra : ℕ
@@ -297,6 +342,7 @@ pub record Begins (old new : Feeding) (answer : Bool) : Type 0 where
   pub waits : answer ≡ false → (new.ctx.held ≡ old.ctx.held) × (new.ctx.ticks ≡ old.ctx.ticks + extra) × (new.rows ≡ old.rows)
       × (new.place ≡ old.place) × (old.finished ≡ false)
       × (first_gap_is_settled old.ctx.held.settings.encoding old.ctx.held.settings old.kept ≡ false)
+  pub reaches : (whole : Bits) (tried : ℕ) → answer ≡ true → IsFeedOf whole tried old → ReachesLine old new extra
   pub unfailed : answer ≡ true → (error : DecodeError) → ended new.rows.stand ≢ Some (Err error)
   pub passes : (whole : Bits) (tried : ℕ) → answer ≡ true → IsFeedOf whole tried old
       → ReachesNextLine (fed_over whole old) (fed_over whole new) (line_first new.rows.stand)
@@ -317,6 +363,8 @@ pub record ComesInFeed (old new : Feeding) (answer : Result (Option Bool) Decode
       → ReachesNextLine (fed_over whole old) (fed_over whole new) (came answer)
   pub stands : (whole : Bits) (tried : ℕ) → answer ≢ Ok None → IsFeedOf whole tried old → IsFeedOf whole (tried + extra) new
   pub line : answer ≡ Ok (Some true) → is_at_line new.rows.stand ≡ true
+  pub counts : old.ctx.ticks + extra ≤ new.ctx.ticks
+  pub reaches : (whole : Bits) (tried : ℕ) → answer ≡ Ok (Some true) → IsFeedOf whole tried old → ReachesLine old new extra
   pub only_code : IfErr answer (λ e. e ≡ InvalidCode)
   pub waiting : (whole : Bits) (tried : ℕ) → answer ≡ Ok None → IsFeedOf whole tried old → IsFeedOf whole (tried + extra) new
 
@@ -345,6 +393,12 @@ pub record ReadsInFeed (old new : Feeding) (answer : Result Bool DecodeError) : 
       → ReadsNext (fed_over whole old) (fed_over whole new) answer
   pub stands : (whole : Bits) (tried : ℕ) → IsFeedOf whole tried old → IsFeedOf whole (tried + extra) new
   pub most : new.ctx.space ≤ max old.ctx.space (2 * old.ctx.held.settings.columns + 66)
+  pub counted : old.ctx.ticks + extra ≤ new.ctx.ticks
+  pub stored : answer ≡ Ok true → length (changes new.ctx.held.reference) + (old.ctx.ticks + extra) ≤ new.ctx.ticks + 1
+  pub looked : new.looked ≡ old.looked
+  pub row_is : (whole : Bits) (tried : ℕ) → answer ≡ Ok true → IsFeedOf whole tried old
+      → (row_of_line old.ctx.held.settings old.ctx.held.has_eols (drop old.place old.kept) (line_of_feed old)
+      ≡ Ok (new.ctx.held.reference, drop new.place new.kept)) × (old.place ≤ new.place)
   pub work : LineIsPaid old new answer extra
 
 -- a short line is read on: nothing changes but the count of work, and what is kept of the line

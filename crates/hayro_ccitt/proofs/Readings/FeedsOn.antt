@@ -30,6 +30,10 @@ use Rattle.hayro_ccitt.specs.RowFeeds.{ComeNext, DropsRead, FeedsNext, IsAtFront
 use Rattle.hayro_ccitt.specs.RowFeeds.{LineWork, fed_bits, fed_row, is_left, line_first, paid_by}
 use Rattle.hayro_ccitt.proofs.Names.{changes}
 use Rattle.fax_reading.proofs.Work.WordsPay.{found_within}
+use Rattle.hayro_ccitt.proofs.Work.TurnsPaid.{row_shorter}
+use Rattle.hayro_ccitt.proofs.Names.{append-nil, row_of_line, Row}
+use Rattle.hayro_ccitt.specs.RowFeeds.{Begins, CallGoesOn, ReachesLine, line_of_feed}
+use Rattle.hayro_ccitt.proofs.Names.{and_parts}
 use Rattle.hayro_ccitt.specs.declared.line_parts.KeptPart.{KeptPart}
 use Rattle.fax_bits.specs.declared.error.DecodeError.TheVariants.{InvalidCode, OutOfMemory}
 use Rattle.hayro_ccitt.specs.declared.row_feed.Fed.{Fed}
@@ -121,6 +125,32 @@ module _ (old new : Feeding) (before after : BitsAt) (before_is : before ≡ rec
     stands = λ whole tried passed feed. stays_fed feed on.extra (on.stands tried whole old.dropped passed (lies feed) starts
         (stood feed));
     line = on.line;
+    counts = on.counts;
+    reaches = λ whole tried e feed. record {
+      counts = on.counts;
+      onward = omega (arith, keeps.dropped, ends, ap (λ (b : BitsAt). b.place) before_is, on.onward e);
+      near = λ was_begun unfinished. omega (
+        arith,
+        on.near (λ none. let never = sym e ∙ none in absurd cc) unfinished,
+        was,
+        keeps.dropped,
+        ends,
+        ap (λ (b : BitsAt). b.place) before_is,
+      );
+      past_eol = λ unfinished was_begun no_line sought.
+          let eol = on.past_eol unfinished no_line sought e in
+          record {
+            fill = eol.fill;
+            behind = eol.behind;
+            place = ap here (sym before_is) ∙ eol.place;
+            passed = omega (arith, eol.passed, keeps.dropped, ends, ap (λ (b : BitsAt). b.place) before_is);
+          };
+      at_line = λ at. ends ∙ ap (λ (b : BitsAt). b.place) (on.at_line (and_parts old.begun (is_at_line old.rows.stand) at).1
+          ∙ before_is);
+      space = on.space;
+      settings = (on.comes tried whole old.dropped (λ none. let never = sym e ∙ none in absurd cc) (lies feed) starts
+          (stood feed)).settings;
+    };
     only_code = on.only_code;
     waiting = λ whole tried e feed.
         let w = on.waits e in
@@ -135,7 +165,8 @@ module _ (old new : Feeding) (before after : BitsAt) (before_is : before ≡ rec
   module _ (mid : Context)
       (frame : mid ≡ record old.ctx { held = redrawn old.ctx.held [] White; passed = 0; cut = false })
       (width : length old.ctx.held.reference ≡ old.ctx.held.settings.columns) (line : is_at_line old.rows.stand ≡ true)
-      (unkept : old.part ≡ None)
+      (unkept : old.part ≡ None) (same_look : new.looked ≡ old.looked)
+      (inside : old.place ≤ length old.kept)
       (answer : Result Bool DecodeError)
       (tries : TriesLine old.finished at old.rows new.rows mid new.ctx before after answer) where
     counted : old.ctx.ticks ≤ new.ctx.ticks
@@ -150,6 +181,10 @@ module _ (old new : Feeding) (before after : BitsAt) (before_is : before ≡ rec
     same_line P left known =
         subst (λ (h : Held). P h.settings h.reference (drop old.place old.kept)) (sym (tries.tried.left left))
         (subst (λ (b : BitsAt). P mid.held.settings mid.held.reference (here b)) before_is known)
+
+    -- no bits follow
+    no_more : CanCome old.finished []
+    no_more = record { bytes = refl; none = λ e. refl }
 
     module _ {whole : Bits} {tried : ℕ} (feed : IsFeedOf whole tried old) where
       same : mid.held ≡ old.ctx.held
@@ -212,6 +247,64 @@ module _ (old new : Feeding) (before after : BitsAt) (before_is : before ≡ rec
           (record { bits = whole; place = old.dropped + after.place })) (sym none)
           (tries.stands tried whole old.dropped (left_not answer read_so) (lies feed) starts begins_there))
 
+      -- what the line yields, of the bits kept
+      line_row : answer ≡ Ok true
+          → (row_of_line old.ctx.held.settings old.ctx.held.has_eols (drop old.place old.kept) (line_of_feed old)
+          ≡ Ok (new.ctx.held.reference, drop new.place new.kept)) × (old.place ≤ new.place)
+      line_row e =
+          let row = (tries.tried.read e [] no_more).row.taken in
+          let here_is : here before ≡ drop old.place old.kept = ap here before_is in
+          let behind : here after ≡ drop new.place new.kept =
+          ap (drop after.place) (tries.same_bits ∙ ap (λ (b : BitsAt). b.bits) before_is ∙ sym keeps.kept)
+          ∙ ap (λ (n : ℕ). drop n new.kept) (sym ends) in
+          let is : row_of_line mid.held.settings mid.held.has_eols (here before)
+          (line_here mid.held.settings mid.held.reference (here before)) ≡ Ok (new.ctx.held.reference, here after) =
+          subst (λ (b : Bits). row_of_line mid.held.settings mid.held.has_eols b
+          (line_here mid.held.settings mid.held.reference b) ≡ Ok (new.ctx.held.reference, here after))
+          (append-nil (here before)) (row.is ∙ ap (λ (x : Row × Bits). Ok x)
+          (taken_is row.taken (ap (λ (h : Held). h.reference) row.held))) in
+          let yields = subst (λ (h : Held). row_of_line h.settings h.has_eols (drop old.place old.kept)
+          (line_here h.settings h.reference (drop old.place old.kept)) ≡ Ok (new.ctx.held.reference, drop new.place new.kept))
+          same (subst (λ (b : Bits). row_of_line mid.held.settings mid.held.has_eols (drop old.place old.kept)
+          (line_here mid.held.settings mid.held.reference (drop old.place old.kept)) ≡ Ok (new.ctx.held.reference, b)) behind
+          (subst (λ (b : Bits). row_of_line mid.held.settings mid.held.has_eols b
+          (line_here mid.held.settings mid.held.reference b) ≡ Ok (new.ctx.held.reference, here after)) here_is is)) in
+          let wide = (at_line_stands old.rows.stand old.ctx.held.settings whole old.ctx.held at line (stood feed).0).wide in
+          (
+            yields,
+            omega (
+              arith,
+              row_shorter old.ctx.held.settings old.ctx.held.has_eols old.ctx.held.reference (drop old.place old.kept)
+                  (drop new.place new.kept) new.ctx.held.reference wide yields,
+              inside,
+              length-drop old.place old.kept,
+              length-drop new.place new.kept,
+              ap length keeps.kept,
+              tries.within,
+              ap length tries.same_bits,
+              ap (λ (b : BitsAt). length b.bits) before_is,
+              ends,
+            ),
+          )
+        where
+          taken_is : (taken : Row) → new.ctx.held.reference ≡ taken
+              → ◌≡◌ {A = Row × Bits} (taken, here after ++ []) (new.ctx.held.reference, here after)
+          taken_is taken held =
+              ap (λ (r : Row). (r, here after ++ [])) (sym held)
+              ∙ ap (λ (b : Bits). (new.ctx.held.reference, b)) (append-nil (here after))
+
+    line_stored : answer ≡ Ok true → length (changes new.ctx.held.reference)
+        + (old.ctx.ticks + cond (is_left answer) (new.ctx.ticks - old.ctx.ticks) 0) ≤ new.ctx.ticks + 1
+    line_stored e =
+        let reads = tries.tried.read e [] no_more in
+        omega (
+          arith,
+          reads.at_least,
+          reads.stored,
+          ap (λ (x : Context). x.ticks) frame,
+          at_none (is_left answer) (new.ctx.ticks - old.ctx.ticks) (ap is_left e),
+        )
+
     pub feed_reads : ReadsInFeed old new answer
     feed_reads = record {
       extra = cond (is_left answer) (new.ctx.ticks - old.ctx.ticks) 0;
@@ -241,6 +334,10 @@ module _ (old new : Feeding) (before after : BitsAt) (before_is : before ≡ rec
         ap (λ (x : Context). x.held.settings.columns) frame,
       );
       counts = counted;
+      counted = omega (arith, counted, at_most (is_left answer) (new.ctx.ticks - old.ctx.ticks));
+      stored = λ e. line_stored e;
+      looked = same_look;
+      row_is = λ whole tried e feed. line_row feed e;
       work = record {
         goes_on = λ e some. absurd (some unkept);
         begins = λ e none. omega (
@@ -482,9 +579,9 @@ both_true false b is also = absurd (false≢true is)
 pub feeds_on : {whole : Bits} {tried : ℕ} (more : ℕ) {old mid new : Feeding} {answer : Result Fed DecodeError}
     → LooksAhead old.finished (old.begun && is_at_line old.rows.stand) old.looked (drop old.place old.kept) more
     → old.part ≡ None → mid.part ≡ None → mid.begun ≡ true
-    → ReachesNextLine (fed_over whole old) (fed_over whole mid) (Ok true) → FeedsNext whole (tried + more) mid new answer
-    → FeedsNext whole tried old new answer
-feeds_on {whole} {tried} more {old} {mid} {new} {answer} looks unkept none begun reached next = record {
+    → ReachesNextLine (fed_over whole old) (fed_over whole mid) (Ok true) → ReachesLine old mid more
+    → FeedsNext whole (tried + more) mid new answer → FeedsNext whole tried old new answer
+feeds_on {whole} {tried} more {old} {mid} {new} {answer} looks unkept none begun reached reaches next = record {
   row = λ e. reads_on (fed_over whole old) (fed_over whole mid) (fed_over whole new) (Ok true) reached (next.row e);
   end = λ e. reads_on (fed_over whole old) (fed_over whole mid) (fed_over whole new) (Ok false) reached (next.end e);
   fault = IfErr-weaker answer _ _ (λ e known fault.
@@ -525,6 +622,30 @@ feeds_on {whole} {tried} more {old} {mid} {new} {answer} looks unkept none begun
   looks = looks;
   looked = λ e away.
       let stays = next.none (subst HasNone (sym e) refl) in absurd (false≢true (sym away ∙ stays.line (reached.line refl)));
+  goes_on = record {
+    counts = omega (arith, reaches.counts, next.goes_on.counts);
+    stored = λ e. omega (arith, reaches.counts, next.goes_on.stored e);
+    onward = λ unended. omega (arith, reaches.onward, next.goes_on.onward unended);
+    near = λ was_begun unfinished unended.
+        omega (arith, reaches.near was_begun unfinished, next.goes_on.onward unended);
+    stays = λ left at. next.goes_on.stays left (both_true mid.begun (is_at_line mid.rows.stand) begun (reached.line refl))
+        ∙ reaches.at_line at;
+    row_is = λ e some. absurd (some unkept);
+    past_eol = λ unfinished was_begun no_line sought unended waits.
+        let eol = reaches.past_eol unfinished was_begun no_line sought in
+        record {
+          fill = eol.fill;
+          behind = eol.behind;
+          place = eol.place;
+          passed = omega (arith, eol.passed, next.goes_on.onward unended);
+        };
+    space = omega (
+      arith,
+      next.goes_on.space,
+      reaches.space,
+      ap (λ (s : DecodeSettings). s.columns) reaches.settings,
+    );
+  };
 }
 
 -- at a line, and behind a row, nothing has ended
@@ -610,6 +731,45 @@ line_paid {old} {new} (Err error) reads = record {
   at_once = λ other none. reads.work.at_once (λ left. other left) none;
 }
 
+left_as_none : (answer : Result Bool DecodeError) → HasNone (fed_row answer) → IsLeft answer
+left_as_none (Ok true) left = cc
+left_as_none (Ok false) left = refl
+left_as_none (Err error) left = left
+
+-- a reading that failed has ended
+fault_ends : {old new : RowsRead} {error : DecodeError} → ReadsNext old new (Err error) → new.end ≡ None → ⊥
+fault_ends reads unended = let never = sym reads.error.0 ∙ unended in cc
+
+line_onward : {whole : Bits} {tried : ℕ} {old new : Feeding} (answer : Result Bool DecodeError) → ReadsInFeed old new answer
+    → IsFeedOf whole tried old → ended new.rows.stand ≡ None → old.place ≤ new.place
+line_onward {whole} {tried} {old} {new} (Ok true) reads feed unended = (reads.row_is whole tried refl feed).1
+line_onward {whole} {tried} {old} {new} (Ok false) reads feed unended = omega (arith, (reads.left refl).1)
+line_onward {whole} {tried} {old} {new} (Err error) reads feed unended = by_left (is_left (Err error)) refl
+  where
+    by_left : (b : Bool) → is_left (Err error) ≡ b → old.place ≤ new.place
+    by_left true e = omega (arith, (reads.left (left_is (Err error) e)).1)
+    by_left false e = absurd (fault_ends (reads.reads whole tried (left_not (Err error) e) feed) unended)
+
+line_goes_on : {whole : Bits} {tried : ℕ} {old new : Feeding} (answer : Result Bool DecodeError)
+    → (reads : ReadsInFeed old new answer) → is_at_line old.rows.stand ≡ true → IsFeedOf whole tried old
+    → CallGoesOn old new (fed_row answer) 0 reads.extra
+line_goes_on {whole} {tried} {old} {new} answer reads line feed = record {
+  counts = reads.counted;
+  stored = λ e. reads.stored (row_read answer e);
+  onward = λ unended. omega (arith, line_onward answer reads feed unended, reads.keeps.dropped);
+  near = λ begun unfinished unended.
+      omega (arith, line_onward answer reads feed unended, reads.keeps.dropped, reads.looked);
+  stays = λ left at. (reads.left (left_as_none answer left)).1;
+  row_is = λ e some. (reads.row_is whole tried (row_read answer e) feed).0;
+  past_eol = λ unfinished begun no_line sought unended waits. absurd (false≢true (sym no_line ∙ line));
+  space = reads.most;
+}
+  where
+    row_read : (answer : Result Bool DecodeError) → fed_row answer ≡ Ok Fed.Row → answer ≡ Ok true
+    row_read (Ok true) e = refl
+    row_read (Ok false) e = cc
+    row_read (Err error) e = cc
+
 -- the line is read, or left
 pub line_feeds : {whole : Bits} {tried : ℕ} {old new : Feeding} (answer : Result Bool DecodeError) → ReadsInFeed old new answer
     → old.begun ≡ true → is_at_line old.rows.stand ≡ true → IsFeedOf whole tried old → FeedsNext whole tried old new
@@ -626,6 +786,7 @@ line_feeds {whole} {tried} {old} {new} (Ok true) reads begun line feed = record 
   line_extra = reads.extra;
   extra_is = omega arith;
   line_work = line_paid (Ok true) reads;
+  goes_on = line_goes_on (Ok true) reads line feed;
   stands = reads.stands whole tried feed;
   gap = 0;
   looks = none_looked old.finished (old.begun && is_at_line old.rows.stand) old.looked (drop old.place old.kept);
@@ -649,6 +810,7 @@ line_feeds {whole} {tried} {old} {new} (Ok false) reads begun line feed = record
   line_extra = reads.extra;
   extra_is = omega arith;
   line_work = line_paid (Ok false) reads;
+  goes_on = line_goes_on (Ok false) reads line feed;
   stands = reads.stands whole tried feed;
   gap = 0;
   looks = none_looked old.finished (old.begun && is_at_line old.rows.stand) old.looked (drop old.place old.kept);
@@ -670,6 +832,7 @@ line_feeds {whole} {tried} {old} {new} (Err error) reads begun line feed = recor
   line_extra = reads.extra;
   extra_is = omega arith;
   line_work = line_paid (Err error) reads;
+  goes_on = line_goes_on (Err error) reads line feed;
   stands = reads.stands whole tried feed;
   gap = 0;
   looks = none_looked old.finished (old.begun && is_at_line old.rows.stand) old.looked (drop old.place old.kept);
@@ -683,6 +846,21 @@ no_line_paid {old} {new} {answer} unkept = record {
   begins = λ e none. omega arith;
   read = λ other. omega (arith, none_paid old.part old.line_read unkept);
   at_once = λ other none. refl;
+}
+
+-- where the reading ends in a gap
+gap_ended : {old new : Feeding} {answer : Result Fed DecodeError} {extra : ℕ} → old.ctx.ticks + extra ≤ new.ctx.ticks
+    → new.ctx.space ≡ old.ctx.space → old.part ≡ None → (ended new.rows.stand ≡ None → ⊥) → (HasNone answer → ⊥)
+    → answer ≢ Ok Fed.Row → CallGoesOn old new answer extra extra
+gap_ended counts space unkept over some other = record {
+  counts = counts;
+  stored = λ e. absurd (other e);
+  onward = λ unended. absurd (over unended);
+  near = λ begun unfinished unended. absurd (over unended);
+  stays = λ left at. absurd (some left);
+  row_is = λ e kept. absurd (other e);
+  past_eol = λ unfinished begun no_line sought unended waits. absurd (over unended);
+  space = omega (arith, space);
 }
 
 -- no line is reached: more data is needed, or it is the end
@@ -722,6 +900,17 @@ gap_feeds {whole} {tried} {old} {new} (Ok None) comes other begun unended unkept
       line_extra = 0;
       extra_is = omega arith;
       line_work = no_line_paid unkept;
+      goes_on = record {
+        counts = comes.counts;
+        stored = λ e. cc;
+        onward = λ open_end. omega (arith, w.3, comes.keeps.dropped);
+        near = λ was_begun unfinished open_end. omega (arith, w.3, comes.keeps.dropped, comes.looked refl);
+        stays = λ left at. w.3;
+        row_is = λ e kept. cc;
+        past_eol = λ unfinished was_begun no_line sought open_end waits.
+            absurd (false≢true (sym no_line ∙ sym (ap (λ (r : RowState). is_at_line r.stand) w.2) ∙ waits refl));
+        space = omega (arith, comes.space);
+      };
       stands = comes.waiting whole tried refl feed;
       gap = comes.extra;
       looks = looks_begun old.begun begun comes.looks;
@@ -740,6 +929,8 @@ gap_feeds {whole} {tried} {old} {new} (Ok (Some false)) comes other begun unende
   line_extra = 0;
   extra_is = omega arith;
   line_work = no_line_paid unkept;
+  goes_on = gap_ended comes.counts comes.space unkept (λ open_end.
+      let never = sym ((comes.comes whole tried (λ is. cc) feed).end refl).0 ∙ open_end in cc) (λ left. cc) (λ e. cc);
   stands = comes.stands whole tried (λ is. cc) feed;
   gap = comes.extra;
   looks = looks_begun old.begun begun comes.looks;
@@ -759,6 +950,9 @@ gap_feeds {whole} {tried} {old} {new} (Err error) comes other begun unended unke
   line_extra = 0;
   extra_is = omega arith;
   line_work = no_line_paid unkept;
+  goes_on = gap_ended comes.counts comes.space unkept (λ open_end.
+      let never = sym (comes.comes whole tried (λ is. cc) feed).error.0 ∙ open_end in cc)
+      (λ left. let never : InvalidCode ≡ OutOfMemory = sym comes.only_code ∙ left in cc) (λ e. cc);
   stands = comes.stands whole tried (λ is. cc) feed;
   gap = comes.extra;
   looks = looks_begun old.begun begun comes.looks;
@@ -800,7 +994,111 @@ reached_here {whole} {tried} {old} {mid} {new} line comes is unkept none reads b
     (came r))
     is (comes.comes whole tried some feed) in
     feeds_on comes.extra (looks_begun old.begun begun comes.looks) unkept none comes.begun reached
-    (reads (tried + comes.extra) (comes.stands whole tried some feed))
+    (comes.reaches whole tried is feed) (reads (tried + comes.extra) (comes.stands whole tried some feed))
+
+-- nothing has begun
+pub unbegun_looks : (begun line : Bool) {finished : Bool} {looked counted : ℕ} {gap : Bits} → begun ≡ false
+    → LooksAhead finished false looked gap counted → LooksAhead finished (begun && line) looked gap counted
+unbegun_looks false line is looks = looks
+unbegun_looks true line is looks = absurd (false≢true (sym is))
+
+open_front : (begun : Bool) (stand : Stand) (ctx : Context) (next : Bits) → begun ≡ false
+    → first_gap_is_settled ctx.held.settings.encoding ctx.held.settings next ≡ false → IsOpenAt begun stand ctx next
+open_front false stand ctx next unbegun waits = waits
+open_front true stand ctx next unbegun waits = absurd (false≢true (sym unbegun))
+
+not_begun : (begun line : Bool) → begun ≡ false → (begun && line) ≡ true → ⊥
+not_begun false line is e = false≢true e
+not_begun true line is e = false≢true (sym is)
+
+-- what is before the first line waits for more data
+pub front_waits_feeds : {whole : Bits} {tried : ℕ} {old new : Feeding} → Begins old new false → old.begun ≡ false
+    → old.part ≡ None → IsFeedOf whole tried old → FeedsNext whole tried old new (Ok Fed.NeedsMore)
+front_waits_feeds {whole} {tried} {old} {new} begins unbegun unkept feed =
+    let w = begins.waits refl in
+    let front = at_front old.begun tried old.rows old.ctx
+    (record { bits = whole; place = old.dropped + old.place }) unbegun feed.stands in
+    let none_passed : new.place ≡ 0 = omega (arith, w.3, front.start) in
+    let there : old.kept ≡ drop new.place new.kept =
+    ap (λ (n : ℕ). drop n old.kept) (sym none_passed)
+    ∙ ap (drop new.place) (sym begins.keeps.kept) in
+    record {
+      row = λ e. cc;
+      end = λ e. cc;
+      fault = tt;
+      none = λ left. record {
+        settings = ap (λ (h : Held). h.settings) w.0;
+        bits = refl;
+        counts = omega (arith, w.1);
+        taken = ap (λ (h : Held). h.taken) w.0;
+        row = ap (λ (h : Held). h.reference) w.0;
+        damage = ap (λ (r : RowState). r.damage) w.2;
+        cut = ap (λ (r : RowState). r.cut) w.2;
+        line_start = ap (λ (r : RowState). r.started_at) w.2;
+        unended = ap (λ (r : RowState). ended r.stand) (w.2 ∙ front.state);
+        line = λ e. ap (λ (r : RowState). is_at_line r.stand) w.2 ∙ e;
+      };
+      unsettled = λ e. (
+        begins.keeps.finished ∙ w.4,
+        open_front new.begun new.rows.stand new.ctx (drop new.place new.kept) begins.begun
+            (ap (λ (h : Held). first_gap_is_settled h.settings.encoding h.settings (drop new.place new.kept)) w.0
+            ∙ ap (first_gap_is_settled old.ctx.held.settings.encoding old.ctx.held.settings) (sym there) ∙ w.5),
+      );
+      memory = λ e. cc;
+      paints = λ e. cc;
+      extra = begins.extra;
+      line_extra = 0;
+      extra_is = omega arith;
+      line_work = no_line_paid unkept;
+      stands = begins.stands whole tried feed;
+      gap = begins.extra;
+      looks = unbegun_looks old.begun (is_at_line old.rows.stand) unbegun begins.looks;
+      looked = λ e away. begins.looked refl;
+      goes_on = record {
+        counts = omega (arith, w.1);
+        stored = λ e. cc;
+        onward = λ unended. omega (arith, w.3, begins.keeps.dropped);
+        near = λ begun unfinished unended. absurd (false≢true (sym unbegun ∙ begun));
+        stays = λ left at. absurd (not_begun old.begun (is_at_line old.rows.stand) unbegun at);
+        row_is = λ e kept. cc;
+        past_eol = λ unfinished begun no_line sought unended waits. absurd (false≢true (sym unbegun ∙ begun));
+        space = omega (arith, begins.space);
+      };
+    }
+
+first_line_ends : (stand : Stand) → is_some (ended stand) ≡ true → ((error : DecodeError) → ended stand ≢ Some (Err error))
+    → line_first stand ≡ Ok false
+first_line_ends AtLine is unfailed = absurd cc
+first_line_ends BehindRow is unfailed = absurd cc
+first_line_ends AtEnd is unfailed = refl
+first_line_ends (AtFault error) is unfailed = absurd (unfailed error refl)
+
+-- the reading ends there
+pub front_ends_feeds : {whole : Bits} {tried : ℕ} {old new : Feeding} → Begins old new true → old.begun ≡ false
+    → old.part ≡ None → is_some (ended new.rows.stand) ≡ true → IsFeedOf whole tried old
+    → FeedsNext whole tried old new (Ok Fed.End)
+front_ends_feeds {whole} {tried} {old} {new} begins unbegun unkept over feed =
+    let reached = subst (ReachesNextLine (fed_over whole old) (fed_over whole new))
+    (first_line_ends new.rows.stand over (begins.unfailed refl)) (begins.passes whole tried refl feed) in
+    record {
+      row = λ e. cc;
+      end = λ e. none_behind (Ok false) (λ is. cc) reached;
+      fault = tt;
+      none = λ left. cc;
+      unsettled = λ e. cc;
+      memory = λ e. cc;
+      paints = λ e. cc;
+      extra = begins.extra;
+      line_extra = 0;
+      extra_is = omega arith;
+      line_work = no_line_paid unkept;
+      stands = begins.stands whole tried feed;
+      gap = begins.extra;
+      looks = unbegun_looks old.begun (is_at_line old.rows.stand) unbegun begins.looks;
+      looked = λ e. cc;
+      goes_on = gap_ended (begins.reaches whole tried refl feed).counts begins.space unkept (λ open_end.
+          let never = sym (reached.end refl).0 ∙ open_end in cc) (λ left. cc) (λ e. cc);
+    }
 
 -- ---- More data
 

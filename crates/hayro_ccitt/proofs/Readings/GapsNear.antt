@@ -476,3 +476,60 @@ passed_near settings taken has_eols start rest settled over still said put_back 
     left_is (Ok true) back = refl
     left_is (Ok false) back = refl
     left_is (Err e) back = ap length (sym back)
+
+-- no bits are added
+pub passed_shorter : (settings : DecodeSettings) (taken : ℕ) (has_eols : Bool) (start rest : Bits)
+    (over : Result Bool DecodeError) (still : Bool)
+    → gap_behind_row settings taken has_eols start ≡ gap_said over still rest → OnErr over (rest ≡ start)
+    → length rest ≤ length start
+passed_shorter settings taken has_eols start rest (Ok true) still said back = omega (
+  arith,
+  left_shorter settings taken has_eols start,
+  ap (λ (gap : Gap). length (left_by start gap)) said,
+)
+passed_shorter settings taken has_eols start rest (Ok false) still said back = omega (
+  arith,
+  left_shorter settings taken has_eols start,
+  ap (λ (gap : Gap). length (left_by start gap)) said,
+)
+passed_shorter settings taken has_eols start rest (Err e) still said back = omega (arith, ap length back)
+
+-- whether EOLs are sought at a line behind some
+flag_behind : (settings : DecodeSettings) (taken : ℕ) (has_eols still : Bool) (found : ℕ × Bits) (rest : Bits)
+    → behind_eols settings taken has_eols found ≡ Gap.line_at still rest → still ≡ has_eols
+flag_behind settings taken has_eols still (count, here) rest = either_way (is_over settings taken (count, here))
+  where
+    either_way : (b : Bool) → cond b (Gap.over (Ok here)) (Gap.line_at has_eols here) ≡ Gap.line_at still rest
+        → still ≡ has_eols
+    either_way true e = absurd cc
+    either_way false e = cc
+
+-- Where EOLs are sought, they are after a gap that is settled.
+pub settled_sought : (settings : DecodeSettings) (taken : ℕ) (here rest : Bits) (still : Bool)
+    → gap_is_settled settings taken true here ≡ true → gap_behind_row settings taken true here ≡ Gap.line_at still rest
+    → still ≡ true
+settled_sought settings taken here rest still settled = by_missed (misses_eol settings taken true here) (tested settled)
+  where
+    tested : gap_is_settled settings taken true here ≡ true → (not (misses_eol settings taken true here) || settings.strict
+        || next_eols_are_settled settings (next_eol here)) ≡ true
+    tested is = (and_parts (eols_are_settled settings.encoding settings.end_of_block (eols_here settings here))
+        (not (misses_eol settings taken true here) || settings.strict
+        || next_eols_are_settled settings (next_eol here)) is).1
+
+    by_next : (o : Option Bits) → next_eols_are_settled settings o ≡ true
+        → from_next_eol settings taken here o ≡ Gap.line_at still rest → still ≡ true
+    by_next (Some found) is e = flag_behind settings taken true still (eols_here settings found) rest e
+    by_next None is e = absurd (false≢true is)
+
+    by_strict : (strict : Bool) → (strict || next_eols_are_settled settings (next_eol here)) ≡ true
+        → cond strict (Gap.over (Err InvalidCode)) (from_next_eol settings taken here (next_eol here)) ≡ Gap.line_at still rest
+        → still ≡ true
+    by_strict true is e = absurd cc
+    by_strict false is e = by_next (next_eol here) is e
+
+    by_missed : (missed : Bool) → (not missed || settings.strict
+        || next_eols_are_settled settings (next_eol here)) ≡ true
+        → cond missed (missing_eol settings taken here) (behind_eols settings taken true (eols_here settings here))
+        ≡ Gap.line_at still rest → still ≡ true
+    by_missed true is e = by_strict settings.strict is e
+    by_missed false is e = flag_behind settings taken true still (eols_here settings here) rest e

@@ -7,7 +7,7 @@ use Rattle.hayro_ccitt.proofs.Names.{redrawn, here, Stand, false≢true, length-
 use Rattle.hayro_ccitt.proofs.Names.{drop-drop, ◌++◌, append_assoc, length-append}
 use Rattle.std.proofs.lemmas.List.{drop-append-le}
 use Rattle.hayro_ccitt.specs.LinesGoOn.{line_from_part}
-use Rattle.hayro_ccitt.proofs.Names.{changes, line_here}
+use Rattle.hayro_ccitt.proofs.Names.{changes, line_here, row_of_line}
 use Rattle.hayro_ccitt.specs.declared.line_parts.KeptPart.{KeptPart}
 use Rattle.hayro_ccitt.specs.Continuations.{is_short}
 use Rattle.hayro_ccitt.specs.LineParts.{ContinuesLine, IsPartOf, part_at}
@@ -208,6 +208,13 @@ scanned_before {old} {mid} {new} answer stays begun reads =
         ap (λ (f : Feeding). f.ctx.space) frame,
         ap (λ (f : Feeding). f.ctx.held.settings.columns) frame,
       );
+      counted = omega (arith, reads.counted, scans.counts);
+      stored = λ e. omega (arith, reads.stored e, scans.counts);
+      looked = reads.looked ∙ ap (λ (f : Feeding). f.looked) frame;
+      row_is = λ whole tried e feed. subst (λ (f : Feeding).
+          (row_of_line f.ctx.held.settings f.ctx.held.has_eols (drop f.place f.kept) (line_of_feed f)
+          ≡ Ok (new.ctx.held.reference, drop new.place new.kept)) × (f.place ≤ new.place)) frame
+          (reads.row_is whole (tried + more) e (scanned_fed scans begun feed));
       work = record {
         goes_on = λ e some. absurd (settled_not stays reads e (stays.settled refl some));
         begins = λ e unkept. omega (
@@ -258,6 +265,10 @@ scanned_after {old} {mid} {new} reads none unkept keeps_part =
           let same : (tried + reads.extra) + more ≡ tried + (reads.extra + more) = omega arith in
           subst (λ (n : ℕ). IsFeedOf whole n new) same (scanned_fed scans reads.begun (reads.stands whole tried feed));
       most = omega (arith, reads.most, ap (λ (f : Feeding). f.ctx.space) frame);
+      counted = omega (arith, reads.counted, scans.counts);
+      stored = λ e. cc;
+      looked = ap (λ (f : Feeding). f.looked) frame ∙ reads.looked;
+      row_is = λ whole tried e feed. cc;
       work = record {
         goes_on = λ e some. absurd (some none);
         begins = λ e kept. omega (
@@ -303,6 +314,10 @@ stays_short {old} {new} stays begun =
       reads = λ whole tried other feed. absurd (other refl);
       stands = λ whole tried feed. scanned_fed stays.scans begun feed;
       most = omega (arith, ap (λ (f : Feeding). f.ctx.space) frame);
+      counted = omega (arith, stays.scans.counts);
+      stored = λ e. cc;
+      looked = ap (λ (f : Feeding). f.looked) frame;
+      row_is = λ whole tried e feed. cc;
       work = record {
         goes_on = λ e some. omega (arith, stays.work refl, stays.scans.counts);
         begins = λ e none. absurd (false≢true (sym (stays.unkept none).0));

@@ -1,5 +1,5 @@
 use Rattle.hayro_ccitt.proofs.Names.{◌≡◌, ◌∙◌, ◌+◌, ◌-◌, ◌⊎◌, ap, sym, subst, refl, arith, length, true, false, Bool, ℕ, BitsAt}
-use Rattle.hayro_ccitt.proofs.Names.{Bits, bits_in, List, None}
+use Rattle.hayro_ccitt.proofs.Names.{Bits, bits_in, List, None, and_parts, is_at_line}
 use Rattle.hayro_ccitt.proofs.Names.{Held, here, drop, false≢true, fresh}
 use Rattle.hayro_ccitt.proofs.BitReading.BitLists.{length-bits_in}
 use Rattle.hayro_ccitt.proofs.Names.{◌≤◌}
@@ -68,6 +68,7 @@ returns-then-front_waits-clause-begins c =
             ∙ ap (λ (b : BitsAt). b.bits) (front_is at))) ∙ waits.1,
       );
       unfailed = λ e. cc;
+      reaches = λ whole tried e. cc;
       passes = λ whole tried e. cc;
       stands = λ whole tried feed.
           let front = at_front c.self.inside.begun tried c.self.inside.rows c.self.inside.ctx
@@ -155,6 +156,16 @@ returns-clause-begins c =
       space = stood.ensures.space ∙ c.front_waits.ensures.space;
       waits = λ e. cc;
       unfailed = λ e. stood.ensures.unfailed;
+      reaches = λ whole tried e feed. record {
+        counts = omega (arith, ticks, stood.ensures.first.counts);
+        onward = omega (arith, c.self.invariant.start (begun_not at));
+        near = λ begun unfinished. absurd (false≢true (sym (begun_not at) ∙ begun));
+        past_eol = λ unfinished begun no_line sought. absurd (false≢true (sym (begun_not at) ∙ begun));
+        at_line = λ line. absurd (false≢true (sym (begun_not at) ∙ (and_parts inside.begun (is_at_line inside.rows.stand)
+            line).0));
+        space = stood.ensures.space ∙ c.front_waits.ensures.space;
+        settings = settings_are ∙ ap (λ (h : Held). h.settings) same;
+      };
       passes = λ whole tried e feed. front_reaches (feeding_of inside) now mid c.placed_at-reader.result
           stood.new.reader stood.result more
           (front_is at) (record { order = refl; finished = refl; kept = refl; dropped = refl })
