@@ -3,6 +3,7 @@ use Rattle.std.specs.Prelude.{◌≡◌, ◌≢◌, ◌≤◌, ◌<◌, ◌+◌,
 use Rattle.std.specs.Prelude.{max, drop, length, replicate, ◌∷◌, Option, None, Some, Result, Ok, Err, IfErr}
 use Rattle.fax_bits.specs.declared.bit_reader.BitOrder.{BitOrder}
 use Rattle.fax_bits.specs.declared.codes.Color.TheVariants.{White}
+use Rattle.fax_bits.specs.declared.settings.EncodingMode.TheVariants.{Group3_2D}
 use Rattle.fax_bits.specs.declared.error.DecodeError.{DecodeError}
 use Rattle.fax_bits.specs.declared.error.DecodeError.TheVariants.{InvalidCode, OutOfMemory}
 use Rattle.hayro_ccitt.specs.declared.line_parts.KeptPart.{KeptPart}
@@ -173,6 +174,10 @@ paid_for_line feed = paid_by feed.part feed.line_read
 abbrev pub most_for_line : Feeding → ℕ
 most_for_line feed = length (changes feed.ctx.held.reference) + 2 * length (drop feed.place feed.kept)
 
+-- the most that is counted to find a line to be short, or to draw what memory is left for
+abbrev pub most_to_find : Feeding → ℕ
+most_to_find feed = 4 * length (drop feed.place feed.kept) + length (changes feed.ctx.held.reference)
+
 -- What a call counts for a line that it leaves, or that was left before. Where a short line goes on, only the bits that are read
 -- newly are counted, and the changes that are passed newly; where it is found to be short first, four ticks a bit more, and the
 -- changes once. Where it is read, what went before counts no more than once for the whole line (T.4, 4.1 and 4.2; T.6, 2.2).
@@ -182,6 +187,13 @@ pub record LineWork (old new : Feeding) (answer : Result Fed DecodeError) (count
       + (4 * length (drop new.place new.kept) + length (changes new.ctx.held.reference) + 2)
   pub read : (HasNone answer → ⊥) → counted + paid_for_line old ≤ most_for_line old + 4
   pub at_once : (HasNone answer → ⊥) → old.part ≡ None → counted ≡ 0
+  -- the part that is kept goes on, and where none is kept nothing is counted
+  pub some : answer ≡ Ok Fed.NeedsMore → old.part ≢ None → new.part ≢ None
+  pub unread : answer ≡ Ok Fed.NeedsMore → old.part ≡ None → new.part ≡ None → counted ≡ 0
+  -- a line that was left before is read on once more, and then from its start
+  pub failed : answer ≡ Err OutOfMemory
+      → counted + paid_for_line old ≤ most_for_line old + most_to_find new + 6
+  pub failed_at_once : answer ≡ Err OutOfMemory → old.part ≡ None → counted ≤ most_to_find new + 2
 
 -- an EOL is among some bits, which begin at this offset, and ends no later than another (T.4, 4.1.2)
 pub record PassesEol (gap : Bits) (from to : ℕ) : Type 0 where
@@ -208,6 +220,8 @@ pub record CallGoesOn (old new : Feeding) (answer : Result Fed DecodeError) (gap
   pub past_eol : old.finished ≡ false → old.begun ≡ true → is_at_line old.rows.stand ≡ false → old.ctx.held.has_eols ≡ true
       → ended new.rows.stand ≡ None → (answer ≡ Ok Fed.NeedsMore → is_at_line new.rows.stand ≡ true)
       → PassesEol (drop old.place old.kept) (old.dropped + old.place) (new.dropped + new.place)
+  pub unkept : (answer ≡ Ok Fed.NeedsMore → is_at_line new.rows.stand ≡ false) → new.part ≡ None
+  pub unbegun : new.begun ≡ false → (answer ≡ Ok Fed.NeedsMore) × (is_at_line new.rows.stand ≡ false)
   pub space : new.ctx.space ≤ max old.ctx.space (2 * old.ctx.held.settings.columns + 66)
 
 -- What a call that reads the next row leaves, of whatever data those fed are a beginning: the next row of its plain reading,
@@ -375,6 +389,9 @@ pub record LineIsPaid (old new : Feeding) (answer : Result Bool DecodeError) (co
       + (4 * length (drop old.place old.kept) + length (changes old.ctx.held.reference) + 2)
   pub read : (IsLeft answer → ⊥) → counted + paid_for_line old ≤ most_for_line old + 4
   pub at_once : (IsLeft answer → ⊥) → old.part ≡ None → counted ≡ 0
+  pub some : answer ≡ Ok false → old.part ≢ None → new.part ≢ None
+  pub failed : answer ≡ Err OutOfMemory → counted + paid_for_line old ≤ most_for_line old + most_to_find old + 6
+  pub failed_at_once : answer ≡ Err OutOfMemory → old.part ≡ None → counted ≤ most_to_find old + 2
 
 -- and the line here is read
 pub record ReadsInFeed (old new : Feeding) (answer : Result Bool DecodeError) : Type 0 where
@@ -396,6 +413,7 @@ pub record ReadsInFeed (old new : Feeding) (answer : Result Bool DecodeError) : 
   pub counted : old.ctx.ticks + extra ≤ new.ctx.ticks
   pub stored : answer ≡ Ok true → length (changes new.ctx.held.reference) + (old.ctx.ticks + extra) ≤ new.ctx.ticks + 1
   pub looked : new.looked ≡ old.looked
+  pub done : answer ≢ Ok false → new.part ≡ None
   pub row_is : (whole : Bits) (tried : ℕ) → answer ≡ Ok true → IsFeedOf whole tried old
       → (row_of_line old.ctx.held.settings old.ctx.held.has_eols (drop old.place old.kept) (line_of_feed old)
       ≡ Ok (new.ctx.held.reference, drop new.place new.kept)) × (old.place ≤ new.place)
@@ -415,6 +433,7 @@ pub record ScansLine (passed read : ℕ) (old new : Feeding) (short : Bool) : Ty
   pub scans : Scans old new
   pub said : is_short (line_of_feed old) ≡ short
   pub none : short ≡ false → new.part ≡ None
+  pub some : short ≡ true → new.part ≢ None
   pub work : short ≡ true → new.ctx.ticks + (passed + 2 * read) ≤ old.ctx.ticks + paid_for_line new
   pub most : new.ctx.ticks + (passed + 2 * read) ≤ old.ctx.ticks + most_for_line old + 2
 
@@ -425,6 +444,7 @@ pub record StaysShort (old new : Feeding) (short : Bool) : Type 0 where
       → (is_short (line_of_feed old) ≡ true) × (old.finished ≡ false) × (redrawn old.ctx.held [] White ≡ old.ctx.held)
   pub settled : short ≡ false → old.part ≢ None → (old.finished ≡ true) ⊎ (is_short (line_of_feed old) ≡ false)
   pub none : short ≡ false → new.part ≡ None
+  pub some : short ≡ true → new.part ≢ None
   pub unkept : old.part ≡ None → (short ≡ false) × (new.ctx.ticks ≡ old.ctx.ticks)
   pub work : short ≡ true → new.ctx.ticks + paid_for_line old ≤ old.ctx.ticks + paid_for_line new + 2
   pub most : new.ctx.ticks + paid_for_line old ≤ old.ctx.ticks + most_for_line old + 4
@@ -433,6 +453,9 @@ pub record StaysShort (old new : Feeding) (short : Bool) : Type 0 where
 pub record KeepsPart (old new : Feeding) : Type 0 where
   pub scans : Scans old new
   pub work : is_short (line_of_feed old) ≡ true → new.ctx.ticks ≤ old.ctx.ticks + paid_for_line new
+  -- where none is, the tag is missing
+  pub no_tag : is_short (line_of_feed old) ≡ true → new.part ≡ None
+      → (old.ctx.held.settings.encoding ≡ Group3_2D) × (drop old.place old.kept ≡ []) × (new.ctx.ticks ≡ old.ctx.ticks)
 
 -- what a call answers where a line was tried
 abbrev pub fed_row : Result Bool DecodeError → Result Fed DecodeError

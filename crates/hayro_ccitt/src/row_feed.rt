@@ -20,7 +20,7 @@ use crate::gap_look::{GapLook, GapRules, GapStage, first_rules, rules_behind_row
 use crate::line_parts::{KeptPart, begin_part, continue_line};
 use crate::row_reader::{RowState, Stand, first_stand, has_ended, is_at_line};
 use crate::rows::try_row;
-use crate::{DecodeError, Result};
+use crate::{DecodeError, EncodingMode, Result};
 use fax_bits::DecodeSettings;
 use fax_bits::bit_reader::{BitOrder, BitReader, at_bit, placed_at};
 use fax_bits::codes::Color;
@@ -215,7 +215,9 @@ impl RowState {
         requires rows { ctx.old.held.taken + 1 < 2 ^ 64 }
         requires damaged { ctx.old.held.repairs.rows ≤ ctx.old.held.taken }
         requires begun { ctx.old.held.front ≡ [] }
-        ensures { TriesLine is_last line_start self.old self.new ctx.old ctx.new reader.old reader.new result }
+        ensures tries { TriesLine is_last line_start self.old self.new ctx.old ctx.new reader.old reader.new result }
+        ensures no_tag { ctx.old.held.settings.encoding ≡ EncodingMode.Group3_2D → here reader.old ≡ [] → result ≡ Ok false
+            → ctx.new.ticks ≡ ctx.old.ticks }
     {
         // An offset is known to be within the data once it is read.
         let _start = reader.bit_pos();
@@ -360,6 +362,8 @@ impl RowFeed {
         requires none_kept { self.old.part ≡ None }
         ensures reads { ReadsInFeed self.old self.new result }
         ensures none_kept { self.new.part ≡ None }
+        ensures no_tag { self.old.ctx.held.settings.encoding ≡ EncodingMode.Group3_2D
+            → drop self.old.place self.old.kept ≡ [] → result ≡ Ok false → self.new.ctx.ticks ≡ self.old.ctx.ticks }
     {
         let mut reader = placed_at(&self.data, self.order, self.place);
         let line_start = self.dropped + self.place;
@@ -427,7 +431,9 @@ impl RowFeed {
         requires rows { self.old.ctx.held.taken + 1 < 2 ^ 64 }
         requires damaged { self.old.ctx.held.repairs.rows ≤ self.old.ctx.held.taken }
         requires line { is_at_line self.old.rows.stand ≡ true }
-        ensures { ReadsInFeed self.old self.new result }
+        ensures reads { ReadsInFeed self.old self.new result }
+        ensures unread { result ≡ Ok false → self.old.part ≡ None → self.new.part ≡ None
+            → self.new.ctx.ticks ≡ self.old.ctx.ticks }
     {
         if self.is_still_short() {
             return Ok(false);

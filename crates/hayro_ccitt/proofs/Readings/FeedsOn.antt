@@ -32,7 +32,7 @@ use Rattle.hayro_ccitt.proofs.Names.{changes}
 use Rattle.fax_reading.proofs.Work.WordsPay.{found_within}
 use Rattle.hayro_ccitt.proofs.Work.TurnsPaid.{row_shorter}
 use Rattle.hayro_ccitt.proofs.Names.{append-nil, row_of_line, Row}
-use Rattle.hayro_ccitt.specs.RowFeeds.{Begins, CallGoesOn, ReachesLine, line_of_feed}
+use Rattle.hayro_ccitt.specs.RowFeeds.{Begins, CallGoesOn, ReachesLine, line_of_feed, most_to_find}
 use Rattle.hayro_ccitt.proofs.Names.{and_parts}
 use Rattle.hayro_ccitt.specs.declared.line_parts.KeptPart.{KeptPart}
 use Rattle.fax_bits.specs.declared.error.DecodeError.TheVariants.{InvalidCode, OutOfMemory}
@@ -166,7 +166,7 @@ module _ (old new : Feeding) (before after : BitsAt) (before_is : before ≡ rec
       (frame : mid ≡ record old.ctx { held = redrawn old.ctx.held [] White; passed = 0; cut = false })
       (width : length old.ctx.held.reference ≡ old.ctx.held.settings.columns) (line : is_at_line old.rows.stand ≡ true)
       (unkept : old.part ≡ None) (same_look : new.looked ≡ old.looked)
-      (inside : old.place ≤ length old.kept)
+      (none_new : new.part ≡ None) (inside : old.place ≤ length old.kept)
       (answer : Result Bool DecodeError)
       (tries : TriesLine old.finished at old.rows new.rows mid new.ctx before after answer) where
     counted : old.ctx.ticks ≤ new.ctx.ticks
@@ -305,6 +305,18 @@ module _ (old new : Feeding) (before after : BitsAt) (before_is : before ≡ rec
           at_none (is_left answer) (new.ctx.ticks - old.ctx.ticks) (ap is_left e),
         )
 
+    line_found : cond (is_left answer) (new.ctx.ticks - old.ctx.ticks) 0 ≤ most_to_find old + 2
+    line_found = omega (
+      arith,
+      at_most (is_left answer) (new.ctx.ticks - old.ctx.ticks),
+      tries.tried.at_most,
+      found_within mid.held.settings.encoding mid.held.settings.strict mid.held.settings.columns mid.held.reference
+          (here before),
+      ap (λ (x : Context). x.ticks) frame,
+      ap (λ (x : Context). length (changes x.held.reference)) frame,
+      ap (λ (b : BitsAt). length (here b)) before_is,
+    )
+
     pub feed_reads : ReadsInFeed old new answer
     feed_reads = record {
       extra = cond (is_left answer) (new.ctx.ticks - old.ctx.ticks) 0;
@@ -337,6 +349,7 @@ module _ (old new : Feeding) (before after : BitsAt) (before_is : before ≡ rec
       counted = omega (arith, counted, at_most (is_left answer) (new.ctx.ticks - old.ctx.ticks));
       stored = λ e. line_stored e;
       looked = same_look;
+      done = λ e. none_new;
       row_is = λ whole tried e feed. line_row feed e;
       work = record {
         goes_on = λ e some. absurd (some unkept);
@@ -356,6 +369,9 @@ module _ (old new : Feeding) (before after : BitsAt) (before_is : before ≡ rec
           none_paid old.part old.line_read unkept,
         );
         at_once = λ other none. at_none (is_left answer) (new.ctx.ticks - old.ctx.ticks) (unleft answer other);
+        some = λ e some. absurd (some unkept);
+        failed = λ e. omega (arith, line_found, none_paid old.part old.line_read unkept);
+        failed_at_once = λ e none. line_found;
       };
     }
 
@@ -615,6 +631,10 @@ feeds_on {whole} {tried} more {old} {mid} {new} {answer} looks unkept none begun
     begins = λ e kept. next.line_work.begins e none;
     read = λ other. omega (arith, next.line_work.at_once other none, none_paid old.part old.line_read unkept);
     at_once = λ other kept. next.line_work.at_once other none;
+    some = λ e some. absurd (some unkept);
+    unread = λ e kept still. next.line_work.unread e none still;
+    failed = λ e. omega (arith, next.line_work.failed_at_once e none, none_paid old.part old.line_read unkept);
+    failed_at_once = λ e kept. next.line_work.failed_at_once e none;
   };
   stands = let same : (tried + more) + next.extra ≡ tried + (more + next.extra) = omega arith in
       subst (λ (n : ℕ). IsFeedOf whole n new) same next.stands;
@@ -639,6 +659,8 @@ feeds_on {whole} {tried} more {old} {mid} {new} {answer} looks unkept none begun
           place = eol.place;
           passed = omega (arith, eol.passed, next.goes_on.onward unended);
         };
+    unkept = next.goes_on.unkept;
+    unbegun = next.goes_on.unbegun;
     space = omega (
       arith,
       next.goes_on.space,
@@ -706,14 +728,19 @@ looks_begun false is looks = absurd (false≢true is)
 
 -- what is counted for the line
 line_paid : {old new : Feeding} (answer : Result Bool DecodeError) → (reads : ReadsInFeed old new answer)
+    → (answer ≡ Ok false → old.part ≡ None → new.part ≡ None → new.ctx.ticks ≡ old.ctx.ticks)
     → LineWork old new (fed_row answer) reads.extra
-line_paid {old} {new} (Ok true) reads = record {
+line_paid {old} {new} (Ok true) reads unread = record {
   goes_on = λ e some. cc;
   begins = λ e none. cc;
   read = λ other. reads.work.read (λ left. cc);
   at_once = λ other none. reads.work.at_once (λ left. cc) none;
+  some = λ e some. cc;
+  unread = λ e none still. cc;
+  failed = λ e. cc;
+  failed_at_once = λ e none. cc;
 }
-line_paid {old} {new} (Ok false) reads = record {
+line_paid {old} {new} (Ok false) reads unread = record {
   goes_on = λ e some. reads.work.goes_on refl some;
   begins = λ e none. omega (
     arith,
@@ -723,13 +750,38 @@ line_paid {old} {new} (Ok false) reads = record {
   );
   read = λ other. absurd (other refl);
   at_once = λ other none. absurd (other refl);
+  some = λ e some. reads.work.some refl some;
+  unread = λ e none still. omega (arith, reads.counted, unread refl none still);
+  failed = λ e. cc;
+  failed_at_once = λ e none. cc;
 }
-line_paid {old} {new} (Err error) reads = record {
+line_paid {old} {new} (Err error) reads unread = record {
   goes_on = λ e some. cc;
   begins = λ e none. cc;
   read = λ other. reads.work.read (λ left. other left);
   at_once = λ other none. reads.work.at_once (λ left. other left) none;
+  some = λ e some. cc;
+  unread = λ e none still. cc;
+  failed = λ e. omega (
+    arith,
+    reads.work.failed (failure e),
+    ap length (next_is reads.keeps (reads.left (failed_so e)).1),
+    ap (λ (h : Held). length (changes h.reference)) (reads.left (failed_so e)).2,
+  );
+  failed_at_once = λ e none. omega (
+    arith,
+    reads.work.failed_at_once (failure e) none,
+    ap length (next_is reads.keeps (reads.left (failed_so e)).1),
+    ap (λ (h : Held). length (changes h.reference)) (reads.left (failed_so e)).2,
+  );
 }
+  where
+    failed_so : ◌≡◌ {A = Result Fed DecodeError} (Err error) (Err OutOfMemory) → error ≡ OutOfMemory
+    failed_so e = cc
+
+    failure : ◌≡◌ {A = Result Fed DecodeError} (Err error) (Err OutOfMemory)
+        → ◌≡◌ {A = Result Bool DecodeError} (Err error) (Err OutOfMemory)
+    failure e = ap (λ (x : DecodeError). Err x) (failed_so e)
 
 left_as_none : (answer : Result Bool DecodeError) → HasNone (fed_row answer) → IsLeft answer
 left_as_none (Ok true) left = cc
@@ -762,9 +814,18 @@ line_goes_on {whole} {tried} {old} {new} answer reads line feed = record {
   stays = λ left at. (reads.left (left_as_none answer left)).1;
   row_is = λ e some. (reads.row_is whole tried (row_read answer e) feed).0;
   past_eol = λ unfinished begun no_line sought unended waits. absurd (false≢true (sym no_line ∙ line));
+  unkept = λ away. line_unkept answer reads away;
+  unbegun = λ none. absurd (false≢true (sym none ∙ reads.begun));
   space = reads.most;
 }
   where
+    line_unkept : (answer : Result Bool DecodeError) → ReadsInFeed old new answer
+        → (fed_row answer ≡ Ok Fed.NeedsMore → is_at_line new.rows.stand ≡ false) → new.part ≡ None
+    line_unkept (Ok true) reads away = reads.done (λ e. cc)
+    line_unkept (Ok false) reads away =
+        absurd (false≢true (sym (away refl) ∙ ap (λ (r : RowState). is_at_line r.stand) (reads.left refl).0 ∙ line))
+    line_unkept (Err error) reads away = reads.done (λ e. cc)
+
     row_read : (answer : Result Bool DecodeError) → fed_row answer ≡ Ok Fed.Row → answer ≡ Ok true
     row_read (Ok true) e = refl
     row_read (Ok false) e = cc
@@ -772,9 +833,9 @@ line_goes_on {whole} {tried} {old} {new} answer reads line feed = record {
 
 -- the line is read, or left
 pub line_feeds : {whole : Bits} {tried : ℕ} {old new : Feeding} (answer : Result Bool DecodeError) → ReadsInFeed old new answer
-    → old.begun ≡ true → is_at_line old.rows.stand ≡ true → IsFeedOf whole tried old → FeedsNext whole tried old new
+    → (answer ≡ Ok false → old.part ≡ None → new.part ≡ None → new.ctx.ticks ≡ old.ctx.ticks) → old.begun ≡ true → is_at_line old.rows.stand ≡ true → IsFeedOf whole tried old → FeedsNext whole tried old new
     (fed_row answer)
-line_feeds {whole} {tried} {old} {new} (Ok true) reads begun line feed = record {
+line_feeds {whole} {tried} {old} {new} (Ok true) reads unread begun line feed = record {
   row = λ e. reads.reads whole tried (λ left. cc) feed;
   end = λ e. cc;
   fault = tt;
@@ -785,14 +846,14 @@ line_feeds {whole} {tried} {old} {new} (Ok true) reads begun line feed = record 
   extra = reads.extra;
   line_extra = reads.extra;
   extra_is = omega arith;
-  line_work = line_paid (Ok true) reads;
+  line_work = line_paid (Ok true) reads unread;
   goes_on = line_goes_on (Ok true) reads line feed;
   stands = reads.stands whole tried feed;
   gap = 0;
   looks = none_looked old.finished (old.begun && is_at_line old.rows.stand) old.looked (drop old.place old.kept);
   looked = λ e. cc;
 }
-line_feeds {whole} {tried} {old} {new} (Ok false) reads begun line feed = record {
+line_feeds {whole} {tried} {old} {new} (Ok false) reads unread begun line feed = record {
   row = λ e. cc;
   end = λ e. cc;
   fault = tt;
@@ -809,14 +870,14 @@ line_feeds {whole} {tried} {old} {new} (Ok false) reads begun line feed = record
   extra = reads.extra;
   line_extra = reads.extra;
   extra_is = omega arith;
-  line_work = line_paid (Ok false) reads;
+  line_work = line_paid (Ok false) reads unread;
   goes_on = line_goes_on (Ok false) reads line feed;
   stands = reads.stands whole tried feed;
   gap = 0;
   looks = none_looked old.finished (old.begun && is_at_line old.rows.stand) old.looked (drop old.place old.kept);
   looked = λ e away. absurd (false≢true (sym away ∙ ap (λ (r : RowState). is_at_line r.stand) (reads.left refl).0 ∙ line));
 }
-line_feeds {whole} {tried} {old} {new} (Err error) reads begun line feed = record {
+line_feeds {whole} {tried} {old} {new} (Err error) reads unread begun line feed = record {
   row = λ e. cc;
   end = λ e. cc;
   fault = λ other. reads.reads whole tried other feed;
@@ -831,7 +892,7 @@ line_feeds {whole} {tried} {old} {new} (Err error) reads begun line feed = recor
   extra = reads.extra;
   line_extra = reads.extra;
   extra_is = omega arith;
-  line_work = line_paid (Err error) reads;
+  line_work = line_paid (Err error) reads unread;
   goes_on = line_goes_on (Err error) reads line feed;
   stands = reads.stands whole tried feed;
   gap = 0;
@@ -842,6 +903,10 @@ line_feeds {whole} {tried} {old} {new} (Err error) reads begun line feed = recor
 -- without a line nothing is counted for it
 no_line_paid : {old new : Feeding} {answer : Result Fed DecodeError} → old.part ≡ None → LineWork old new answer 0
 no_line_paid {old} {new} {answer} unkept = record {
+  some = λ e some. absurd (some unkept);
+  unread = λ e none still. refl;
+  failed = λ e. omega (arith, none_paid old.part old.line_read unkept);
+  failed_at_once = λ e none. omega arith;
   goes_on = λ e some. absurd (some unkept);
   begins = λ e none. omega arith;
   read = λ other. omega (arith, none_paid old.part old.line_read unkept);
@@ -851,8 +916,8 @@ no_line_paid {old} {new} {answer} unkept = record {
 -- where the reading ends in a gap
 gap_ended : {old new : Feeding} {answer : Result Fed DecodeError} {extra : ℕ} → old.ctx.ticks + extra ≤ new.ctx.ticks
     → new.ctx.space ≡ old.ctx.space → old.part ≡ None → (ended new.rows.stand ≡ None → ⊥) → (HasNone answer → ⊥)
-    → answer ≢ Ok Fed.Row → CallGoesOn old new answer extra extra
-gap_ended counts space unkept over some other = record {
+    → answer ≢ Ok Fed.Row → new.part ≡ None → new.begun ≡ true → CallGoesOn old new answer extra extra
+gap_ended counts space unkept over some other none begun = record {
   counts = counts;
   stored = λ e. absurd (other e);
   onward = λ unended. absurd (over unended);
@@ -860,15 +925,18 @@ gap_ended counts space unkept over some other = record {
   stays = λ left at. absurd (some left);
   row_is = λ e kept. absurd (other e);
   past_eol = λ unfinished begun no_line sought unended waits. absurd (over unended);
+  unkept = λ away. none;
+  unbegun = λ e. absurd (false≢true (sym e ∙ begun));
   space = omega (arith, space);
 }
 
 -- no line is reached: more data is needed, or it is the end
 pub gap_feeds : {whole : Bits} {tried : ℕ} {old new : Feeding} (answer : Result (Option Bool) DecodeError)
     → ComesInFeed old new answer
-    → answer ≢ Ok (Some true) → old.begun ≡ true → ended old.rows.stand ≡ None → old.part ≡ None → IsFeedOf whole tried old
+    → answer ≢ Ok (Some true) → old.begun ≡ true → ended old.rows.stand ≡ None → old.part ≡ None → new.part ≡ None
+    → IsFeedOf whole tried old
     → FeedsNext whole tried old new (fed_none answer)
-gap_feeds {whole} {tried} {old} {new} (Ok None) comes other begun unended unkept feed =
+gap_feeds {whole} {tried} {old} {new} (Ok None) comes other begun unended unkept none feed =
     let w = comes.waits refl in
     record {
       row = λ e. cc;
@@ -909,6 +977,8 @@ gap_feeds {whole} {tried} {old} {new} (Ok None) comes other begun unended unkept
         row_is = λ e kept. cc;
         past_eol = λ unfinished was_begun no_line sought open_end waits.
             absurd (false≢true (sym no_line ∙ sym (ap (λ (r : RowState). is_at_line r.stand) w.2) ∙ waits refl));
+        unkept = λ away. none;
+        unbegun = λ e. absurd (false≢true (sym e ∙ comes.begun));
         space = omega (arith, comes.space);
       };
       stands = comes.waiting whole tried refl feed;
@@ -916,8 +986,8 @@ gap_feeds {whole} {tried} {old} {new} (Ok None) comes other begun unended unkept
       looks = looks_begun old.begun begun comes.looks;
       looked = λ e away. comes.looked refl;
     }
-gap_feeds {whole} {tried} {old} {new} (Ok (Some true)) comes other begun unended unkept feed = absurd (other refl)
-gap_feeds {whole} {tried} {old} {new} (Ok (Some false)) comes other begun unended unkept feed = record {
+gap_feeds {whole} {tried} {old} {new} (Ok (Some true)) comes other begun unended unkept none feed = absurd (other refl)
+gap_feeds {whole} {tried} {old} {new} (Ok (Some false)) comes other begun unended unkept none feed = record {
   row = λ e. cc;
   end = λ e. none_behind (Ok false) (λ is. cc) (comes.comes whole tried (λ is. cc) feed);
   fault = tt;
@@ -930,13 +1000,13 @@ gap_feeds {whole} {tried} {old} {new} (Ok (Some false)) comes other begun unende
   extra_is = omega arith;
   line_work = no_line_paid unkept;
   goes_on = gap_ended comes.counts comes.space unkept (λ open_end.
-      let never = sym ((comes.comes whole tried (λ is. cc) feed).end refl).0 ∙ open_end in cc) (λ left. cc) (λ e. cc);
+      let never = sym ((comes.comes whole tried (λ is. cc) feed).end refl).0 ∙ open_end in cc) (λ left. cc) (λ e. cc) none comes.begun;
   stands = comes.stands whole tried (λ is. cc) feed;
   gap = comes.extra;
   looks = looks_begun old.begun begun comes.looks;
   looked = λ e. cc;
 }
-gap_feeds {whole} {tried} {old} {new} (Err error) comes other begun unended unkept feed = record {
+gap_feeds {whole} {tried} {old} {new} (Err error) comes other begun unended unkept none feed = record {
   row = λ e. cc;
   end = λ e. cc;
   fault = λ other. none_behind (Err error) (λ is. cc) (comes.comes whole tried (λ is. cc) feed);
@@ -952,7 +1022,8 @@ gap_feeds {whole} {tried} {old} {new} (Err error) comes other begun unended unke
   line_work = no_line_paid unkept;
   goes_on = gap_ended comes.counts comes.space unkept (λ open_end.
       let never = sym (comes.comes whole tried (λ is. cc) feed).error.0 ∙ open_end in cc)
-      (λ left. let never : InvalidCode ≡ OutOfMemory = sym comes.only_code ∙ left in cc) (λ e. cc);
+      (λ left. let never : InvalidCode ≡ OutOfMemory = sym comes.only_code ∙ left in cc) (λ e. cc) none
+      comes.begun;
   stands = comes.stands whole tried (λ is. cc) feed;
   gap = comes.extra;
   looks = looks_begun old.begun begun comes.looks;
@@ -1013,8 +1084,8 @@ not_begun true line is e = false≢true (sym is)
 
 -- what is before the first line waits for more data
 pub front_waits_feeds : {whole : Bits} {tried : ℕ} {old new : Feeding} → Begins old new false → old.begun ≡ false
-    → old.part ≡ None → IsFeedOf whole tried old → FeedsNext whole tried old new (Ok Fed.NeedsMore)
-front_waits_feeds {whole} {tried} {old} {new} begins unbegun unkept feed =
+    → old.part ≡ None → new.part ≡ None → IsFeedOf whole tried old → FeedsNext whole tried old new (Ok Fed.NeedsMore)
+front_waits_feeds {whole} {tried} {old} {new} begins unbegun unkept none feed =
     let w = begins.waits refl in
     let front = at_front old.begun tried old.rows old.ctx
     (record { bits = whole; place = old.dropped + old.place }) unbegun feed.stands in
@@ -1062,6 +1133,8 @@ front_waits_feeds {whole} {tried} {old} {new} begins unbegun unkept feed =
         stays = λ left at. absurd (not_begun old.begun (is_at_line old.rows.stand) unbegun at);
         row_is = λ e kept. cc;
         past_eol = λ unfinished begun no_line sought unended waits. absurd (false≢true (sym unbegun ∙ begun));
+        unkept = λ away. none;
+        unbegun = λ e. (refl, ap (λ (r : RowState). is_at_line r.stand) (w.2 ∙ front.state));
         space = omega (arith, begins.space);
       };
     }
@@ -1075,9 +1148,9 @@ first_line_ends (AtFault error) is unfailed = absurd (unfailed error refl)
 
 -- the reading ends there
 pub front_ends_feeds : {whole : Bits} {tried : ℕ} {old new : Feeding} → Begins old new true → old.begun ≡ false
-    → old.part ≡ None → is_some (ended new.rows.stand) ≡ true → IsFeedOf whole tried old
+    → old.part ≡ None → new.part ≡ None → is_some (ended new.rows.stand) ≡ true → IsFeedOf whole tried old
     → FeedsNext whole tried old new (Ok Fed.End)
-front_ends_feeds {whole} {tried} {old} {new} begins unbegun unkept over feed =
+front_ends_feeds {whole} {tried} {old} {new} begins unbegun unkept none over feed =
     let reached = subst (ReachesNextLine (fed_over whole old) (fed_over whole new))
     (first_line_ends new.rows.stand over (begins.unfailed refl)) (begins.passes whole tried refl feed) in
     record {
@@ -1097,7 +1170,8 @@ front_ends_feeds {whole} {tried} {old} {new} begins unbegun unkept over feed =
       looks = unbegun_looks old.begun (is_at_line old.rows.stand) unbegun begins.looks;
       looked = λ e. cc;
       goes_on = gap_ended (begins.reaches whole tried refl feed).counts begins.space unkept (λ open_end.
-          let never = sym (reached.end refl).0 ∙ open_end in cc) (λ left. cc) (λ e. cc);
+          let never = sym (reached.end refl).0 ∙ open_end in cc) (λ left. cc) (λ e. cc) none
+          begins.begun;
     }
 
 -- ---- More data

@@ -14,7 +14,7 @@ use Rattle.hayro_ccitt.specs.LineParts.{ContinuesLine, IsPartOf, part_at}
 use Rattle.hayro_ccitt.specs.RowsTried.{IsLeft}
 use Rattle.hayro_ccitt.proofs.Readings.FeedsOn.{none_paid}
 use Rattle.hayro_ccitt.specs.RowFeeds.{KeepsPart, Feeding, IsFeedOf, LineGoesOn, PartIsKept, ReadsInFeed, Scans, StandsIn}
-use Rattle.hayro_ccitt.specs.RowFeeds.{StaysShort, fed_over, line_of_feed, most_for_line}
+use Rattle.hayro_ccitt.specs.RowFeeds.{StaysShort, fed_over, line_of_feed, most_for_line, most_to_find}
 use Rattle.hayro_ccitt.specs.Answers.{HasBlack}
 use Rattle.hayro_ccitt.proofs.Names.{RowsRead, ReadsNext, front_of}
 use Rattle.hayro_ccitt.proofs.Readings.RowsFed.{stands_later}
@@ -211,6 +211,7 @@ scanned_before {old} {mid} {new} answer stays begun reads =
       counted = omega (arith, reads.counted, scans.counts);
       stored = λ e. omega (arith, reads.stored e, scans.counts);
       looked = reads.looked ∙ ap (λ (f : Feeding). f.looked) frame;
+      done = reads.done;
       row_is = λ whole tried e feed. subst (λ (f : Feeding).
           (row_of_line f.ctx.held.settings f.ctx.held.has_eols (drop f.place f.kept) (line_of_feed f)
           ≡ Ok (new.ctx.held.reference, drop new.place new.kept)) × (f.place ≤ new.place)) frame
@@ -226,6 +227,20 @@ scanned_before {old} {mid} {new} answer stays begun reads =
         );
         read = λ other. omega (arith, reads.work.at_once other none, stays.most, scans.counts);
         at_once = λ other unkept. omega (arith, reads.work.at_once other none, (stays.unkept unkept).1);
+        some = λ e some. absurd (settled_not stays reads e (stays.settled refl some));
+        failed = λ e. omega (
+          arith,
+          reads.work.failed_at_once e none,
+          stays.most,
+          scans.counts,
+          ap (λ (f : Feeding). most_to_find f) frame,
+        );
+        failed_at_once = λ e unkept. omega (
+          arith,
+          reads.work.failed_at_once e none,
+          (stays.unkept unkept).1,
+          ap (λ (f : Feeding). most_to_find f) frame,
+        );
       };
     }
 
@@ -268,6 +283,7 @@ scanned_after {old} {mid} {new} reads none unkept keeps_part =
       counted = omega (arith, reads.counted, scans.counts);
       stored = λ e. cc;
       looked = ap (λ (f : Feeding). f.looked) frame ∙ reads.looked;
+      done = λ e. absurd (e refl);
       row_is = λ whole tried e feed. cc;
       work = record {
         goes_on = λ e some. absurd (some none);
@@ -281,6 +297,9 @@ scanned_after {old} {mid} {new} reads none unkept keeps_part =
         );
         read = λ other. absurd (other refl);
         at_once = λ other kept. absurd (other refl);
+        some = λ e some. absurd (some none);
+        failed = λ e. cc;
+        failed_at_once = λ e kept. cc;
       };
     }
 
@@ -317,11 +336,15 @@ stays_short {old} {new} stays begun =
       counted = omega (arith, stays.scans.counts);
       stored = λ e. cc;
       looked = ap (λ (f : Feeding). f.looked) frame;
+      done = λ e. absurd (e refl);
       row_is = λ whole tried e feed. cc;
       work = record {
         goes_on = λ e some. omega (arith, stays.work refl, stays.scans.counts);
         begins = λ e none. absurd (false≢true (sym (stays.unkept none).0));
         read = λ other. absurd (other refl);
         at_once = λ other none. absurd (other refl);
+        some = λ e some. stays.some refl;
+        failed = λ e. cc;
+        failed_at_once = λ e none. cc;
       };
     }

@@ -97,6 +97,7 @@ returns-then-is_short c =
         said = said_short (feeding_of inside) (scanned at) c.args.part part c.args.read c.placed_at-reader.result on.new.reader
             on.result (starts_at at) within on.ensures was;
         none = λ e. absurd (false≢true (sym e ∙ c.if-is_short.true));
+        some = λ e kept. cc;
         work = λ e. subst (λ (n : ℕ). on.new.ctx.ticks + (c.args.part.passed + 2 * c.args.read)
             ≤ inside.ctx.ticks + (part.passed + 2 * (n - inside.place) + 2)) (sym c.bit_pos.ensures.place)
             (scan_work (feeding_of inside) (scanned at) c.args.part part c.args.read c.placed_at-reader.result on.new.reader
@@ -124,6 +125,7 @@ returns-else-is_short c =
         said = said_short (feeding_of inside) (scanned at) c.args.part part c.args.read c.placed_at-reader.result on.new.reader
             on.result (starts_at at) within on.ensures was;
         none = λ e. ap (λ (f : Feeding). f.part) c.self.view_is ∙ c.requires.none_kept;
+        some = λ e. absurd (false≢true (sym c.if-is_short.false ∙ e));
         work = λ e. absurd (false≢true (sym c.if-is_short.false ∙ e));
         most = scan_most (feeding_of inside) (scanned at) c.args.part part c.args.read c.placed_at-reader.result on.new.reader
             on.result (starts_at at) within on.ensures was;

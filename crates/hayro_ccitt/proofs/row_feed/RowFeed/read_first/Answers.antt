@@ -6,12 +6,12 @@ use Rattle.hayro_ccitt.proofs.row_feed.RowFeed.read_first.Goals as goal
 pub returns-then-not-begin-clause-reads : goal.returns-then-not-begin-clause-reads
 returns-then-not-begin-clause-reads c whole tried feed =
     let begins = subst (Begins c.args.self.now c.begin.new.self) c.if-not-begin.true c.begin.ensures.begins in
-    front_waits_feeds begins c.requires.unbegun c.begin.ensures.none_kept.0 feed
+    front_waits_feeds begins c.requires.unbegun c.begin.ensures.none_kept.0 c.begin.ensures.none_kept.1 feed
 
 pub returns-then-has_ended-clause-reads : goal.returns-then-has_ended-clause-reads
 returns-then-has_ended-clause-reads c whole tried feed =
     let begins = subst (Begins c.args.self.now c.begin.new.self) c.if-not-begin.false c.begin.ensures.begins in
-    front_ends_feeds begins c.requires.unbegun c.begin.ensures.none_kept.0
+    front_ends_feeds begins c.requires.unbegun c.begin.ensures.none_kept.0 c.begin.ensures.none_kept.1
     (ap (λ (f : Feeding). is_some (ended f.rows.stand)) (sym c.self.view_is) ∙ sym c.has_ended.ensures ∙ c.if-has_ended.true)
     feed
 

@@ -32,7 +32,7 @@ invariant_of-self c =
       within = omega (
         arith,
         c.bit_pos-self-inside.ensures.within,
-        ap length c.try_line-row.ensures.same_bits,
+        ap length c.try_line-row.ensures.tries.same_bits,
         ap (λ (b : BitsAt). length b.bits) (line_is_at at),
         length-bits_in c.self.inside.order c.self.inside.«data».items,
       );
@@ -55,5 +55,6 @@ returns-clause-reads c =
     (line_begun at) (line_begun at) c.begin_line.new.self c.begin_line.ensures.frame c.begin_line.ensures.width
     (ap (λ (f : Feeding). is_at_line f.rows.stand) c.self.view_is ∙ c.requires.line)
     (ap (λ (f : Feeding). f.part) c.self.view_is ∙ c.requires.none_kept) refl
+    (ap (λ (f : Feeding). f.part) c.self.view_is ∙ c.requires.none_kept)
     (omega (arith, c.self.invariant.within, length-bits_in c.self.inside.order c.self.inside.«data».items))
-    c.try_line-row.result c.try_line-row.ensures)
+    c.try_line-row.result c.try_line-row.ensures.tries)

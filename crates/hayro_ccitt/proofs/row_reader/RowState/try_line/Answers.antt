@@ -5,8 +5,8 @@ use Rattle.hayro_ccitt.specs.RowFeeds.{line_answer}
 use Rattle.hayro_ccitt.proofs.row_reader.RowState.try_line.Goals.{After-note_line}
 use Rattle.hayro_ccitt.proofs.row_reader.RowState.try_line.Goals as goal
 
-pub returns-then-is_left : goal.returns-then-is_left
-returns-then-is_left c =
+pub returns-then-is_left-clause-tries : goal.returns-then-is_left-clause-tries
+returns-then-is_left-clause-tries c =
     let row = c.try_row-row.ensures in
     let left = left_is c.try_row-row.result (sym c.is_left.ensures ∙ c.if-is_left.true) in
     record {
@@ -24,8 +24,8 @@ kept_behind_try : (c : After-note_line) → c.note_line.new.self ≡ rows_behind
     c.args.line_start c.args.ctx.now.held.repairs.rows c.args.ctx.now.held.repairs.cut c.try_row-row.new.ctx.held.repairs
 kept_behind_try c = search rules
 
-pub returns : goal.returns
-returns c =
+pub returns-clause-tries : goal.returns-clause-tries
+returns-clause-tries c =
     let row = c.try_row-row.ensures in
     let answer = c.try_row-row.result in
     let other = sym c.is_left.ensures ∙ c.if-is_left.false in
