@@ -220,8 +220,15 @@ pub record CallGoesOn (old new : Feeding) (answer : Result Fed DecodeError) (gap
   pub past_eol : old.finished ≡ false → old.begun ≡ true → is_at_line old.rows.stand ≡ false → old.ctx.held.has_eols ≡ true
       → ended new.rows.stand ≡ None → (answer ≡ Ok Fed.NeedsMore → is_at_line new.rows.stand ≡ true)
       → PassesEol (drop old.place old.kept) (old.dropped + old.place) (new.dropped + new.place)
+  pub behind : answer ≡ Ok Fed.Row → is_at_line new.rows.stand ≡ false
+  pub sought : answer ≡ Ok Fed.Row → old.part ≢ None → new.ctx.held.has_eols ≡ old.ctx.held.has_eols
+  pub waits : answer ≡ Ok Fed.NeedsMore → is_at_line new.rows.stand ≡ false
+      → (new.place ≡ old.place) × (new.ctx.held.has_eols ≡ old.ctx.held.has_eols)
+  pub within : new.place ≤ length new.kept
+  pub paid : paid_for_line new ≤ most_for_line new + 2
   pub unkept : (answer ≡ Ok Fed.NeedsMore → is_at_line new.rows.stand ≡ false) → new.part ≡ None
-  pub unbegun : new.begun ≡ false → (answer ≡ Ok Fed.NeedsMore) × (is_at_line new.rows.stand ≡ false)
+  pub unbegun : new.begun ≡ false
+      → (old.begun ≡ false) × (answer ≡ Ok Fed.NeedsMore) × (is_at_line new.rows.stand ≡ false)
   pub space : new.ctx.space ≤ max old.ctx.space (2 * old.ctx.held.settings.columns + 66)
 
 -- What a call that reads the next row leaves, of whatever data those fed are a beginning: the next row of its plain reading,
@@ -297,6 +304,7 @@ pub record TriesLine (is_last : Bool) (line_start : ℕ) (rows kept : RowState) 
   pub same_bits : after.bits ≡ before.bits
   pub within : after.place ≤ length after.bits
   pub left : IsLeft answer → (kept ≡ rows) × (after ≡ before)
+  pub behind : answer ≡ Ok true → is_at_line kept.stand ≡ false
   pub reads : (from : ℕ) (whole : Bits) (dropped : ℕ) → (IsLeft answer → ⊥) → LieIn whole dropped is_last before.bits
       → line_start ≡ dropped + before.place → IsStandingAtLine from rows old (record { bits = whole; place = line_start })
       → ReadsNext (seen rows old (record { bits = whole; place = line_start }))
@@ -352,6 +360,7 @@ pub record Begins (old new : Feeding) (answer : Bool) : Type 0 where
   pub looked : answer ≡ false → extra + old.looked ≡ new.looked
   pub keeps : KeepsBits old new
   pub begun : new.begun ≡ answer
+  pub within : new.place ≤ length new.kept
   pub space : new.ctx.space ≡ old.ctx.space
   pub waits : answer ≡ false → (new.ctx.held ≡ old.ctx.held) × (new.ctx.ticks ≡ old.ctx.ticks + extra) × (new.rows ≡ old.rows)
       × (new.place ≡ old.place) × (old.finished ≡ false)
@@ -369,6 +378,7 @@ pub record ComesInFeed (old new : Feeding) (answer : Result (Option Bool) Decode
   pub looked : answer ≡ Ok None → extra + old.looked ≡ new.looked
   pub keeps : KeepsBits old new
   pub begun : new.begun ≡ true
+  pub within : new.place ≤ length new.kept
   pub space : new.ctx.space ≡ old.ctx.space
   pub waits : answer ≡ Ok None → (new.ctx.held ≡ old.ctx.held) × (new.ctx.ticks ≡ old.ctx.ticks + extra) × (new.rows ≡ old.rows)
       × (new.place ≡ old.place) × (old.finished ≡ false) × (is_at_line old.rows.stand ≡ false)
@@ -414,9 +424,13 @@ pub record ReadsInFeed (old new : Feeding) (answer : Result Bool DecodeError) : 
   pub stored : answer ≡ Ok true → length (changes new.ctx.held.reference) + (old.ctx.ticks + extra) ≤ new.ctx.ticks + 1
   pub looked : new.looked ≡ old.looked
   pub done : answer ≢ Ok false → new.part ≡ None
+  pub behind : answer ≡ Ok true → is_at_line new.rows.stand ≡ false
+  pub within : new.place ≤ length new.kept
+  pub paid : paid_for_line new ≤ most_for_line new + 2
   pub row_is : (whole : Bits) (tried : ℕ) → answer ≡ Ok true → IsFeedOf whole tried old
       → (row_of_line old.ctx.held.settings old.ctx.held.has_eols (drop old.place old.kept) (line_of_feed old)
       ≡ Ok (new.ctx.held.reference, drop new.place new.kept)) × (old.place ≤ new.place)
+      × (new.ctx.held.has_eols ≡ old.ctx.held.has_eols)
   pub work : LineIsPaid old new answer extra
 
 -- a short line is read on: nothing changes but the count of work, and what is kept of the line
@@ -434,6 +448,7 @@ pub record ScansLine (passed read : ℕ) (old new : Feeding) (short : Bool) : Ty
   pub said : is_short (line_of_feed old) ≡ short
   pub none : short ≡ false → new.part ≡ None
   pub some : short ≡ true → new.part ≢ None
+  pub kept : short ≡ true → (new.place ≤ length new.kept) × (paid_for_line new ≤ most_for_line new + 2)
   pub work : short ≡ true → new.ctx.ticks + (passed + 2 * read) ≤ old.ctx.ticks + paid_for_line new
   pub most : new.ctx.ticks + (passed + 2 * read) ≤ old.ctx.ticks + most_for_line old + 2
 
@@ -445,6 +460,7 @@ pub record StaysShort (old new : Feeding) (short : Bool) : Type 0 where
   pub settled : short ≡ false → old.part ≢ None → (old.finished ≡ true) ⊎ (is_short (line_of_feed old) ≡ false)
   pub none : short ≡ false → new.part ≡ None
   pub some : short ≡ true → new.part ≢ None
+  pub kept : short ≡ true → (new.place ≤ length new.kept) × (paid_for_line new ≤ most_for_line new + 2)
   pub unkept : old.part ≡ None → (short ≡ false) × (new.ctx.ticks ≡ old.ctx.ticks)
   pub work : short ≡ true → new.ctx.ticks + paid_for_line old ≤ old.ctx.ticks + paid_for_line new + 2
   pub most : new.ctx.ticks + paid_for_line old ≤ old.ctx.ticks + most_for_line old + 4
@@ -453,6 +469,7 @@ pub record StaysShort (old new : Feeding) (short : Bool) : Type 0 where
 pub record KeepsPart (old new : Feeding) : Type 0 where
   pub scans : Scans old new
   pub work : is_short (line_of_feed old) ≡ true → new.ctx.ticks ≤ old.ctx.ticks + paid_for_line new
+  pub paid : new.part ≢ None → paid_for_line new ≤ most_for_line new + 2
   -- where none is, the tag is missing
   pub no_tag : is_short (line_of_feed old) ≡ true → new.part ≡ None
       → (old.ctx.held.settings.encoding ≡ Group3_2D) × (drop old.place old.kept ≡ []) × (new.ctx.ticks ≡ old.ctx.ticks)
@@ -491,6 +508,11 @@ pub record HoldsMore (next : Bits) (old new : Feeding) : Type 0 where
   pub fed : fed_bits new ≡ fed_bits old + length next
   pub place : new.dropped + new.place ≡ old.dropped + old.place
   pub begun : new.begun ≡ old.begun
+  pub looked : new.looked ≡ old.looked
+  pub part : new.part ≡ old.part
+  pub line_read : new.line_read ≡ old.line_read
+  pub within : old.place ≤ length old.kept
+  pub reading : (new.ctx ≡ old.ctx) × (new.rows ≡ old.rows) × (new.finished ≡ old.finished)
 
 -- these bits are those of the whole data that come next, and whole bytes follow them
 pub record ComeNext (whole : Bits) (feed : Feeding) (next : Bits) : Type 0 where

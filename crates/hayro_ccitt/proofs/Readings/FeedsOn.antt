@@ -125,6 +125,8 @@ module _ (old new : Feeding) (before after : BitsAt) (before_is : before ≡ rec
     stands = λ whole tried passed feed. stays_fed feed on.extra (on.stands tried whole old.dropped passed (lies feed) starts
         (stood feed));
     line = on.line;
+    within = omega (arith, on.within, ends, ap length on.same_bits, ap (λ (b : BitsAt). length b.bits) before_is,
+        ap length keeps.kept);
     counts = on.counts;
     reaches = λ whole tried e feed. record {
       counts = on.counts;
@@ -251,6 +253,7 @@ module _ (old new : Feeding) (before after : BitsAt) (before_is : before ≡ rec
       line_row : answer ≡ Ok true
           → (row_of_line old.ctx.held.settings old.ctx.held.has_eols (drop old.place old.kept) (line_of_feed old)
           ≡ Ok (new.ctx.held.reference, drop new.place new.kept)) × (old.place ≤ new.place)
+          × (new.ctx.held.has_eols ≡ old.ctx.held.has_eols)
       line_row e =
           let row = (tries.tried.read e [] no_more).row.taken in
           let here_is : here before ≡ drop old.place old.kept = ap here before_is in
@@ -285,6 +288,7 @@ module _ (old new : Feeding) (before after : BitsAt) (before_is : before ≡ rec
               ap (λ (b : BitsAt). length b.bits) before_is,
               ends,
             ),
+            ap (λ (h : Held). h.has_eols) row.held ∙ ap (λ (h : Held). h.has_eols) same,
           )
         where
           taken_is : (taken : Row) → new.ctx.held.reference ≡ taken
@@ -350,6 +354,10 @@ module _ (old new : Feeding) (before after : BitsAt) (before_is : before ≡ rec
       stored = λ e. line_stored e;
       looked = same_look;
       done = λ e. none_new;
+      behind = tries.behind;
+      within = omega (arith, tries.within, ends, ap length tries.same_bits, ap (λ (b : BitsAt). length b.bits) before_is,
+          ap length keeps.kept);
+      paid = omega (arith, none_paid new.part new.line_read none_new);
       row_is = λ whole tried e feed. line_row feed e;
       work = record {
         goes_on = λ e some. absurd (some unkept);
@@ -659,8 +667,15 @@ feeds_on {whole} {tried} more {old} {mid} {new} {answer} looks unkept none begun
           place = eol.place;
           passed = omega (arith, eol.passed, next.goes_on.onward unended);
         };
+    behind = next.goes_on.behind;
+    sought = λ e some. absurd (some unkept);
+    waits = λ e away.
+        let stays = next.none (subst HasNone (sym e) refl) in
+        absurd (false≢true (sym away ∙ stays.line (reached.line refl)));
+    within = next.goes_on.within;
+    paid = next.goes_on.paid;
     unkept = next.goes_on.unkept;
-    unbegun = next.goes_on.unbegun;
+    unbegun = λ e. absurd (false≢true (sym (next.goes_on.unbegun e).0 ∙ begun));
     space = omega (
       arith,
       next.goes_on.space,
@@ -814,11 +829,22 @@ line_goes_on {whole} {tried} {old} {new} answer reads line feed = record {
   stays = λ left at. (reads.left (left_as_none answer left)).1;
   row_is = λ e some. (reads.row_is whole tried (row_read answer e) feed).0;
   past_eol = λ unfinished begun no_line sought unended waits. absurd (false≢true (sym no_line ∙ line));
+  behind = λ e. reads.behind (row_read answer e);
+  sought = λ e some. (reads.row_is whole tried (row_read answer e) feed).2;
+  waits = λ e away. absurd (false≢true (sym away ∙ still_at_line answer reads e));
+  within = reads.within;
+  paid = reads.paid;
   unkept = λ away. line_unkept answer reads away;
   unbegun = λ none. absurd (false≢true (sym none ∙ reads.begun));
   space = reads.most;
 }
   where
+    still_at_line : (answer : Result Bool DecodeError) → ReadsInFeed old new answer → fed_row answer ≡ Ok Fed.NeedsMore
+        → is_at_line new.rows.stand ≡ true
+    still_at_line (Ok true) reads e = cc
+    still_at_line (Ok false) reads e = ap (λ (r : RowState). is_at_line r.stand) (reads.left refl).0 ∙ line
+    still_at_line (Err error) reads e = cc
+
     line_unkept : (answer : Result Bool DecodeError) → ReadsInFeed old new answer
         → (fed_row answer ≡ Ok Fed.NeedsMore → is_at_line new.rows.stand ≡ false) → new.part ≡ None
     line_unkept (Ok true) reads away = reads.done (λ e. cc)
@@ -916,8 +942,14 @@ no_line_paid {old} {new} {answer} unkept = record {
 -- where the reading ends in a gap
 gap_ended : {old new : Feeding} {answer : Result Fed DecodeError} {extra : ℕ} → old.ctx.ticks + extra ≤ new.ctx.ticks
     → new.ctx.space ≡ old.ctx.space → old.part ≡ None → (ended new.rows.stand ≡ None → ⊥) → (HasNone answer → ⊥)
-    → answer ≢ Ok Fed.Row → new.part ≡ None → new.begun ≡ true → CallGoesOn old new answer extra extra
-gap_ended counts space unkept over some other none begun = record {
+    → answer ≢ Ok Fed.Row → new.part ≡ None → new.begun ≡ true → new.place ≤ length new.kept
+    → CallGoesOn old new answer extra extra
+gap_ended {new = new} {answer = answer} counts space unkept over some other none begun within = record {
+  behind = λ e. absurd (other e);
+  sought = λ e kept. absurd (other e);
+  waits = λ e away. absurd (some (subst HasNone (sym e) refl));
+  within = within;
+  paid = omega (arith, none_paid new.part new.line_read none);
   counts = counts;
   stored = λ e. absurd (other e);
   onward = λ unended. absurd (over unended);
@@ -977,6 +1009,11 @@ gap_feeds {whole} {tried} {old} {new} (Ok None) comes other begun unended unkept
         row_is = λ e kept. cc;
         past_eol = λ unfinished was_begun no_line sought open_end waits.
             absurd (false≢true (sym no_line ∙ sym (ap (λ (r : RowState). is_at_line r.stand) w.2) ∙ waits refl));
+        behind = λ e. cc;
+        sought = λ e kept. cc;
+        waits = λ e away. (w.3, ap (λ (h : Held). h.has_eols) w.0);
+        within = comes.within;
+        paid = omega (arith, none_paid new.part new.line_read none);
         unkept = λ away. none;
         unbegun = λ e. absurd (false≢true (sym e ∙ comes.begun));
         space = omega (arith, comes.space);
@@ -1000,7 +1037,7 @@ gap_feeds {whole} {tried} {old} {new} (Ok (Some false)) comes other begun unende
   extra_is = omega arith;
   line_work = no_line_paid unkept;
   goes_on = gap_ended comes.counts comes.space unkept (λ open_end.
-      let never = sym ((comes.comes whole tried (λ is. cc) feed).end refl).0 ∙ open_end in cc) (λ left. cc) (λ e. cc) none comes.begun;
+      let never = sym ((comes.comes whole tried (λ is. cc) feed).end refl).0 ∙ open_end in cc) (λ left. cc) (λ e. cc) none comes.begun comes.within;
   stands = comes.stands whole tried (λ is. cc) feed;
   gap = comes.extra;
   looks = looks_begun old.begun begun comes.looks;
@@ -1023,7 +1060,7 @@ gap_feeds {whole} {tried} {old} {new} (Err error) comes other begun unended unke
   goes_on = gap_ended comes.counts comes.space unkept (λ open_end.
       let never = sym (comes.comes whole tried (λ is. cc) feed).error.0 ∙ open_end in cc)
       (λ left. let never : InvalidCode ≡ OutOfMemory = sym comes.only_code ∙ left in cc) (λ e. cc) none
-      comes.begun;
+      comes.begun comes.within;
   stands = comes.stands whole tried (λ is. cc) feed;
   gap = comes.extra;
   looks = looks_begun old.begun begun comes.looks;
@@ -1133,8 +1170,13 @@ front_waits_feeds {whole} {tried} {old} {new} begins unbegun unkept none feed =
         stays = λ left at. absurd (not_begun old.begun (is_at_line old.rows.stand) unbegun at);
         row_is = λ e kept. cc;
         past_eol = λ unfinished begun no_line sought unended waits. absurd (false≢true (sym unbegun ∙ begun));
+        behind = λ e. cc;
+        sought = λ e kept. cc;
+        waits = λ e away. (w.3, ap (λ (h : Held). h.has_eols) w.0);
+        within = begins.within;
+        paid = omega (arith, none_paid new.part new.line_read none);
         unkept = λ away. none;
-        unbegun = λ e. (refl, ap (λ (r : RowState). is_at_line r.stand) (w.2 ∙ front.state));
+        unbegun = λ e. (unbegun, refl, ap (λ (r : RowState). is_at_line r.stand) (w.2 ∙ front.state));
         space = omega (arith, begins.space);
       };
     }
@@ -1171,7 +1213,7 @@ front_ends_feeds {whole} {tried} {old} {new} begins unbegun unkept none over fee
       looked = λ e. cc;
       goes_on = gap_ended (begins.reaches whole tried refl feed).counts begins.space unkept (λ open_end.
           let never = sym (reached.end refl).0 ∙ open_end in cc) (λ left. cc) (λ e. cc) none
-          begins.begun;
+          begins.begun begins.within;
     }
 
 -- ---- More data

@@ -1,6 +1,6 @@
 -- What is kept of a short line in data that comes in pieces.
 use Rattle.hayro_ccitt.proofs.Names.{◌⊎◌, inl, inr}
-use Rattle.hayro_ccitt.proofs.Names.{◌≡◌, ◌∙◌, ◌+◌, ◌-◌, ◌*◌, ◌≤◌, [], ℕ, Bool, true, false, Result, Ok, None, Some}
+use Rattle.hayro_ccitt.proofs.Names.{◌≡◌, ◌≢◌, ◌∙◌, ◌+◌, ◌-◌, ◌*◌, ◌≤◌, [], ℕ, Bool, true, false, Result, Ok, None, Some}
 use Rattle.hayro_ccitt.proofs.Names.{Option, refl, sym, ap, subst, arith, length, drop, Bits, BitsAt, Held, Context}
 use Rattle.hayro_ccitt.proofs.Names.{DecodeError, White}
 use Rattle.hayro_ccitt.proofs.Names.{redrawn, here, Stand, false≢true, length-drop}
@@ -14,7 +14,7 @@ use Rattle.hayro_ccitt.specs.LineParts.{ContinuesLine, IsPartOf, part_at}
 use Rattle.hayro_ccitt.specs.RowsTried.{IsLeft}
 use Rattle.hayro_ccitt.proofs.Readings.FeedsOn.{none_paid}
 use Rattle.hayro_ccitt.specs.RowFeeds.{KeepsPart, Feeding, IsFeedOf, LineGoesOn, PartIsKept, ReadsInFeed, Scans, StandsIn}
-use Rattle.hayro_ccitt.specs.RowFeeds.{StaysShort, fed_over, line_of_feed, most_for_line, most_to_find}
+use Rattle.hayro_ccitt.specs.RowFeeds.{StaysShort, fed_over, line_of_feed, most_for_line, most_to_find, paid_by}
 use Rattle.hayro_ccitt.specs.Answers.{HasBlack}
 use Rattle.hayro_ccitt.proofs.Names.{RowsRead, ReadsNext, front_of}
 use Rattle.hayro_ccitt.proofs.Readings.RowsFed.{stands_later}
@@ -110,6 +110,19 @@ module _ (old new : Feeding) (part next : KeptPart) (read : ℕ) (before after :
     length-drop old.place old.kept,
     inside,
     ap length bits_are,
+    on.onward,
+    place_is,
+  )
+
+  -- no more is paid for it than the whole line's most
+  pub scan_paid : after.place ≤ length after.bits → next.passed + 2 * (after.place - old.place) + 2
+      ≤ length (changes old.ctx.held.reference) + 2 * length (drop old.place old.kept) + 2
+  scan_paid inside = omega (
+    arith,
+    on.lawful.passed.within,
+    inside,
+    ap length bits_are,
+    length-drop old.place old.kept,
     on.onward,
     place_is,
   )
@@ -212,9 +225,13 @@ scanned_before {old} {mid} {new} answer stays begun reads =
       stored = λ e. omega (arith, reads.stored e, scans.counts);
       looked = reads.looked ∙ ap (λ (f : Feeding). f.looked) frame;
       done = reads.done;
+      behind = reads.behind;
+      within = reads.within;
+      paid = reads.paid;
       row_is = λ whole tried e feed. subst (λ (f : Feeding).
           (row_of_line f.ctx.held.settings f.ctx.held.has_eols (drop f.place f.kept) (line_of_feed f)
-          ≡ Ok (new.ctx.held.reference, drop new.place new.kept)) × (f.place ≤ new.place)) frame
+          ≡ Ok (new.ctx.held.reference, drop new.place new.kept)) × (f.place ≤ new.place)
+          × (new.ctx.held.has_eols ≡ f.ctx.held.has_eols)) frame
           (reads.row_is whole (tried + more) e (scanned_fed scans begun feed));
       work = record {
         goes_on = λ e some. absurd (settled_not stays reads e (stays.settled refl some));
@@ -243,6 +260,10 @@ scanned_before {old} {mid} {new} answer stays begun reads =
         );
       };
     }
+
+part_paid : (part : Option KeptPart) (read : ℕ) {most : ℕ} → (part ≢ None → paid_by part read ≤ most) → paid_by part read ≤ most
+part_paid None read known = omega arith
+part_paid (Some part) read known = known (λ e. cc)
 
 -- the line was left, since it is short, and is read on
 pub scanned_after : {old mid new : Feeding} → ReadsInFeed old mid (Ok false) → old.part ≡ None → mid.part ≡ None
@@ -284,6 +305,14 @@ scanned_after {old} {mid} {new} reads none unkept keeps_part =
       stored = λ e. cc;
       looked = ap (λ (f : Feeding). f.looked) frame ∙ reads.looked;
       done = λ e. absurd (e refl);
+      behind = λ e. cc;
+      within = omega (
+        arith,
+        reads.within,
+        ap (λ (f : Feeding). f.place) frame,
+        ap (λ (f : Feeding). length f.kept) frame,
+      );
+      paid = part_paid new.part new.line_read keeps_part.paid;
       row_is = λ whole tried e feed. cc;
       work = record {
         goes_on = λ e some. absurd (some none);
@@ -337,6 +366,9 @@ stays_short {old} {new} stays begun =
       stored = λ e. cc;
       looked = ap (λ (f : Feeding). f.looked) frame;
       done = λ e. absurd (e refl);
+      behind = λ e. cc;
+      within = (stays.kept refl).0;
+      paid = (stays.kept refl).1;
       row_is = λ whole tried e feed. cc;
       work = record {
         goes_on = λ e some. omega (arith, stays.work refl, stays.scans.counts);

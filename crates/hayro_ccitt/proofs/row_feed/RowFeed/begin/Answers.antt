@@ -57,6 +57,11 @@ returns-then-front_waits-clause-begins c =
       looked = λ e. omega (arith, c.front_waits.ensures.looked, c.front_waits.ensures.onward);
       keeps = record { order = refl; finished = refl; kept = refl; dropped = refl };
       begun = begun_not at;
+      within = omega (
+        arith,
+        c.self.invariant.within,
+        length-bits_in c.self.inside.order c.self.inside.«data».items,
+      );
       space = c.front_waits.ensures.space;
       waits = λ e. (
         c.front_waits.ensures.held,
@@ -153,6 +158,13 @@ returns-clause-begins c =
       looked = λ e. cc;
       keeps = record { order = refl; finished = refl; kept = refl; dropped = refl };
       begun = refl;
+      within = omega (
+        arith,
+        c.bit_pos-self-inside.ensures.within,
+        c.bit_pos-self-inside.ensures.place,
+        ap length stood.ensures.same_bits,
+        ap (λ (b : BitsAt). length b.bits) (front_is at),
+      );
       space = stood.ensures.space ∙ c.front_waits.ensures.space;
       waits = λ e. cc;
       unfailed = λ e. stood.ensures.unfailed;

@@ -1,8 +1,8 @@
 use Rattle.hayro_ccitt.proofs.Names.{◌≡◌, ◌∙◌, ◌+◌, ◌-◌, ◌*◌, ap, sym, subst, arith, length, length-drop, drop, false≢true}
-use Rattle.hayro_ccitt.proofs.Names.{bits_in, List, ℕ, Some, Context, Held}
+use Rattle.hayro_ccitt.proofs.Names.{bits_in, changes, List, ℕ, Some, Context, Held}
 use Rattle.hayro_ccitt.specs.GapsSeen.{IsSeen, rules_for}
 use Rattle.hayro_ccitt.proofs.BitReading.BitLists.{length-bits_in}
-use Rattle.hayro_ccitt.proofs.Readings.PartsFed.{part_reached, said_short, scan_most, scan_work}
+use Rattle.hayro_ccitt.proofs.Readings.PartsFed.{part_reached, said_short, scan_most, scan_paid, scan_work}
 use Rattle.hayro_ccitt.specs.RowFeeds.{Feeding, LineGoesOn, feeding_of}
 use Rattle.hayro_ccitt.proofs.Names.{◌≤◌}
 use Rattle.hayro_ccitt.proofs.row_feed.RowFeed.go_on_from.Goals.{After-deref, After-continue_line-is_short}
@@ -98,6 +98,17 @@ returns-then-is_short c =
             on.result (starts_at at) within on.ensures was;
         none = λ e. absurd (false≢true (sym e ∙ c.if-is_short.true));
         some = λ e kept. cc;
+        kept = λ e. (
+          omega (arith, within),
+          subst (λ (h : Held). part.passed + 2 * (c.bit_pos.result - inside.place) + 2
+              ≤ length (changes h.reference) + 2 * length (drop inside.place (bits_in inside.order inside.«data».items)) + 2)
+              (sym (ap (λ (x : Context). x.held) on.ensures.frame))
+              (subst (λ (n : ℕ). part.passed + 2 * (n - inside.place) + 2 ≤ length (changes inside.ctx.held.reference)
+              + 2 * length (drop inside.place (bits_in inside.order inside.«data».items)) + 2) (sym c.bit_pos.ensures.place)
+              (scan_paid (feeding_of inside) (scanned at) c.args.part part c.args.read c.placed_at-reader.result on.new.reader
+              on.result (starts_at at) within on.ensures was
+              (omega (arith, c.bit_pos.ensures.place, c.bit_pos.ensures.within)))),
+        );
         work = λ e. subst (λ (n : ℕ). on.new.ctx.ticks + (c.args.part.passed + 2 * c.args.read)
             ≤ inside.ctx.ticks + (part.passed + 2 * (n - inside.place) + 2)) (sym c.bit_pos.ensures.place)
             (scan_work (feeding_of inside) (scanned at) c.args.part part c.args.read c.placed_at-reader.result on.new.reader
@@ -126,6 +137,7 @@ returns-else-is_short c =
             on.result (starts_at at) within on.ensures was;
         none = λ e. ap (λ (f : Feeding). f.part) c.self.view_is ∙ c.requires.none_kept;
         some = λ e. absurd (false≢true (sym c.if-is_short.false ∙ e));
+        kept = λ e. absurd (false≢true (sym c.if-is_short.false ∙ e));
         work = λ e. absurd (false≢true (sym c.if-is_short.false ∙ e));
         most = scan_most (feeding_of inside) (scanned at) c.args.part part c.args.read c.placed_at-reader.result on.new.reader
             on.result (starts_at at) within on.ensures was;
