@@ -6,7 +6,7 @@ ghost use Rattle.std.specs.Prelude.{IfOk, IfErr, OnErr, OnOk, IsOkUnless, Result
 ghost use Rattle.hayro_ccitt.specs.Bits.{AreWholeBytes, Bits, bits_in, here};
 ghost use Rattle.hayro_ccitt.specs.Context.{fresh, redrawn};
 ghost use Rattle.hayro_ccitt.specs.GapsContinued.{first_gap_is_settled, gap_is_settled};
-ghost use Rattle.hayro_ccitt.specs.GapsSeen.{IsSeen, bits_needed, is_settled, nothing_seen, rules_for, stage_behind};
+ghost use Rattle.hayro_ccitt.specs.GapsSeen.{IsSeen, is_settled, nothing_seen, rules_for, stage_behind};
 ghost use Rattle.hayro_ccitt.specs.RowsRead.{at_end_of_rows, ended, is_at_line};
 ghost use Rattle.hayro_ccitt.specs.RowsTried.{IsLeft};
 ghost use Rattle.hayro_ccitt.specs.RowFeeds.{Begins, ComeNext, ComesInFeed, DropsRead, ReadsInFeed, ComesOn, FeedsNext};
@@ -56,7 +56,6 @@ fn look_waits(
     ensures onward { look.old.bits ≤ look.new.bits }
     ensures unlooked { is_last ≡ true → ctx.new.ticks ≡ ctx.old.ticks }
     ensures seen { IsSeen rules.now look.new (here reader.now) }
-    ensures needed { is_last ≡ false → look.new.bits ≡ bits_needed rules.now GapStage.Start 0 (here reader.now) }
     ensures space { ctx.new.space ≡ ctx.old.space }
 {
     if is_last {
@@ -81,8 +80,6 @@ fn gap_waits(
     ensures onward { look.old.bits ≤ look.new.bits }
     ensures unlooked { is_last ≡ true → ctx.new.ticks ≡ ctx.old.ticks }
     ensures seen { IsSeen (rules_for true ctx.old.held) look.new (here reader.now) }
-    ensures needed { is_last ≡ false
-        → look.new.bits ≡ bits_needed (rules_for true ctx.old.held) GapStage.Start 0 (here reader.now) }
     ensures space { ctx.new.space ≡ ctx.old.space }
 {
     let rules = rules_behind_row(ctx);

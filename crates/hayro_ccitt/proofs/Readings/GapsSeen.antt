@@ -661,20 +661,8 @@ looked_within {rules} {look} {here} {rest} looks = (
   omega (arith, looks.bits, looks.zeros, few_zeros 0 looks.looked),
 )
 
--- a gap that is settled, or of which all bits were looked at: no more than those needed were
+-- no more were than those needed
 pub looked_needed : {rules : GapRules} {look : GapLook} {here rest : Bits} → LooksTo rules nothing_seen look here rest
-    → (settled : Bool) → settled ≡ is_settled look.stage → (settled ≡ false → rest ≡ [])
-    → look.bits ≡ bits_needed rules Start 0 here
-looked_needed {rules} {look} {here} {rest} looks settled is all =
-    omega (arith, looks.bits, looks.needed rest, ap (bits_needed rules Start 0) looks.are, none_more settled is all)
-  where
-    none_behind : (s : GapStage) (bits : Bits) → is_settled s ≡ true → bits_needed rules s look.zeros bits ≡ 0
-    none_behind s [] e = refl
-    none_behind s (false ∷ bits) e = ap (λ (b : Bool). cond b 0 (suc (bits_needed rules s (suc look.zeros) bits))) e
-    none_behind s (true ∷ bits) e =
-        ap (λ (b : Bool). cond b 0 (suc (bits_needed rules (stage_after rules s look.zeros) 0 bits))) e
-
-    none_more : (b : Bool) → b ≡ is_settled look.stage → (b ≡ false → rest ≡ [])
-        → bits_needed rules look.stage look.zeros rest ≡ 0
-    none_more true is all = none_behind look.stage rest (sym is)
-    none_more false is all = ap (bits_needed rules look.stage look.zeros) (all refl)
+    → look.bits ≤ bits_needed rules Start 0 here
+looked_needed {rules} {look} {here} {rest} looks =
+    omega (arith, looks.bits, looks.needed rest, ap (bits_needed rules Start 0) looks.are)

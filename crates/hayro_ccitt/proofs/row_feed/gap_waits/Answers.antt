@@ -1,6 +1,6 @@
 use Rattle.hayro_ccitt.proofs.Names.{◌∙◌, ap, not, Bool, ◌&&◌, here}
 use Rattle.hayro_ccitt.proofs.Readings.GapsSeen.{gap_seen}
-use Rattle.hayro_ccitt.specs.GapsSeen.{bits_needed, is_settled, stage_behind}
+use Rattle.hayro_ccitt.specs.GapsSeen.{is_settled, stage_behind}
 use Rattle.hayro_ccitt.specs.declared.gap_look.GapRules.{GapRules}
 use Rattle.hayro_ccitt.specs.declared.gap_look.GapStage.TheVariants.{Start}
 use Rattle.hayro_ccitt.proofs.row_feed.gap_waits.Goals as goal
@@ -12,8 +12,3 @@ returns-clause-waits c =
     ∙ ap (λ (r : GapRules). not c.args.is_last && not (is_settled (stage_behind r Start 0 (here c.args.reader.now))))
     c.rules_behind_row-rules.ensures
     ∙ ap (λ (b : Bool). not c.args.is_last && not b) (gap_seen held.settings held.taken held.has_eols (here c.args.reader.now))
-
-pub returns-clause-needed : goal.returns-clause-needed
-returns-clause-needed c unfinished =
-    c.look_waits.ensures.needed unfinished
-    ∙ ap (λ (r : GapRules). bits_needed r Start 0 (here c.args.reader.now)) c.rules_behind_row-rules.ensures

@@ -1,9 +1,9 @@
 use Rattle.hayro_ccitt.proofs.Names.{◌≡◌, ◌∙◌, ◌+◌, ◌&&◌, ap, sym, arith, length, drop, length-drop, drop-drop, not}
-use Rattle.hayro_ccitt.proofs.Names.{Bool, Bits, ℕ, subst, length-append, [], false}
+use Rattle.hayro_ccitt.proofs.Names.{Bool, Bits, ℕ, subst, length-append}
 use Rattle.hayro_ccitt.proofs.Names.{here}
 use Rattle.hayro_ccitt.specs.GapsSeen.{LooksTo, nothing_seen, is_settled, stage_behind}
 use Rattle.hayro_ccitt.specs.declared.gap_look.GapStage.TheVariants.{Start}
-use Rattle.hayro_ccitt.proofs.Readings.GapsSeen.{found_settled, looked_needed, looked_within, looks_then, no_bits, rest_is}
+use Rattle.hayro_ccitt.proofs.Readings.GapsSeen.{found_settled, looked_within, looks_then, no_bits, rest_is}
 use Rattle.hayro_ccitt.proofs.row_feed.look_waits.Goals.{After-bit_pos, After-look_on}
 use Rattle.hayro_ccitt.proofs.row_feed.look_waits.Goals as goal
 
@@ -42,29 +42,20 @@ now_seen : (c : After-look_on)
 now_seen c = looks_then c.requires.seen.1 (subst (λ (b : Bits). LooksTo c.args.rules.now c.args.look.now c.look_on.new.self b
     c.look_on.ensures.looks.0) (ahead_is c) c.look_on.ensures.looks.1)
 
--- all bits were looked at where more data is needed
-none_left : (c : After-look_on) → c.look_on.result ≡ false → c.look_on.ensures.looks.0 ≡ []
-none_left c waits =
+pub returns-clause-waits : goal.returns-clause-waits
+returns-clause-waits c =
+    let at = (goal.at.returns-clause-waits c).After-look_on in
     let looks = c.look_on.ensures.looks in
+    ap not (sym (found_settled (now_seen at) c.look_on.result c.look_on.ensures.settled (λ waits.
     no_bits looks.0 (omega (
       arith,
       c.look_on.ensures.all waits,
       looks.1.bits,
       ap length looks.1.are,
       length-append looks.1.looked looks.0,
-    ))
-
-pub returns-clause-waits : goal.returns-clause-waits
-returns-clause-waits c =
-    let at = (goal.at.returns-clause-waits c).After-look_on in
-    ap not (sym (found_settled (now_seen at) c.look_on.result c.look_on.ensures.settled (none_left at)))
+    )))))
     ∙ sym (ap (λ (b : Bool). not b && not (is_settled (stage_behind c.args.rules.now Start 0 (here c.args.reader.now))))
     c.if-is_last.false)
-
-pub returns-clause-needed : goal.returns-clause-needed
-returns-clause-needed c unfinished =
-    let at = (goal.at.returns-clause-needed c).After-look_on in
-    looked_needed (now_seen at) c.look_on.result c.look_on.ensures.settled (none_left at)
 
 pub returns-clause-seen : goal.returns-clause-seen
 returns-clause-seen c =

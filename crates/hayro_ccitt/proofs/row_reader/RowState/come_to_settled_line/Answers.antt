@@ -5,7 +5,7 @@ use Rattle.hayro_ccitt.proofs.Names.{gap_behind_row, gap_said, length, ◌≤◌
 use Rattle.hayro_ccitt.specs.GapsSeen.{bits_needed, rules_for}
 use Rattle.hayro_ccitt.specs.RowsTried.{PassesGapHere}
 use Rattle.hayro_ccitt.specs.declared.gap_look.GapStage.TheVariants.{Start}
-use Rattle.hayro_ccitt.proofs.Readings.GapsSeen.{looked_within}
+use Rattle.hayro_ccitt.proofs.Readings.GapsSeen.{looked_needed, looked_within}
 use Rattle.hayro_ccitt.proofs.Readings.RowsFed.{gap_step_stands, gap_step_reaches, stays_at_line, stands_later, waits_for}
 use Rattle.hayro_ccitt.proofs.Readings.RowsFed.{waits_not, passed_some, said_code, said_line}
 use Rattle.hayro_ccitt.specs.declared.gap_look.GapLook.{GapLook}
@@ -197,7 +197,7 @@ returns c =
             arith,
             c.gap_waits.ensures.looked,
             c.gap_waits.ensures.onward,
-            c.gap_waits.ensures.needed unfinished,
+            looked_needed c.gap_waits.ensures.seen.1,
             near_end c.args.ctx.now mid c.pass_gap_here.new.ctx c.args.reader.now c.pass_gap_here.new.reader same closed gap,
             c.bit_pos-start.ensures.place,
             c.bit_pos-start.ensures.within,
