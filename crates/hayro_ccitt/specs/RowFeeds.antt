@@ -513,6 +513,7 @@ pub record HoldsMore (next : Bits) (old new : Feeding) : Type 0 where
   pub line_read : new.line_read ≡ old.line_read
   pub within : old.place ≤ length old.kept
   pub reading : (new.ctx ≡ old.ctx) × (new.rows ≡ old.rows) × (new.finished ≡ old.finished)
+  pub order : new.order ≡ old.order
 
 -- these bits are those of the whole data that come next, and whole bytes follow them
 pub record ComeNext (whole : Bits) (feed : Feeding) (next : Bits) : Type 0 where

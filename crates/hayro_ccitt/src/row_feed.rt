@@ -293,7 +293,8 @@ impl RowFeed {
         ensures settings { IfOk result (λ feed. feed.ctx.held.settings ≡ settings) }
         ensures order { IfOk result (λ feed. feed.order ≡ order) }
         ensures none_fed { IfOk result (λ feed. (feed.kept ≡ []) × (feed.dropped ≡ 0) × (feed.finished ≡ false)) }
-        ensures none_read { IfOk result (λ feed. (feed.ctx.held.taken ≡ 0) × (feed.begun ≡ false)) }
+        ensures none_read { IfOk result (λ feed. (feed.ctx.held.taken ≡ 0) × (feed.begun ≡ false) × (feed.looked ≡ 0)
+            × (feed.part ≡ None)) }
         ensures only_memory { IsOkUnless result DecodeError.OutOfMemory }
     {
         Ok(RowFeed {
@@ -554,9 +555,6 @@ impl RowFeed {
             → ComeNext whole self.old (bits_in self.old.order bytes.now) → IsFeedOf whole tried self.new) }
         ensures refused { OnErr result ((whole : Bits) (tried : ℕ) → IsFeedOf whole tried self.old
             → IsFeedOf whole tried self.new) }
-        ensures same { (self.new.ctx ≡ self.old.ctx) × (self.new.rows ≡ self.old.rows) × (self.new.order ≡ self.old.order)
-            × (self.new.finished ≡ self.old.finished) }
-        ensures looked { self.new.looked ≡ self.old.looked }
         ensures only { IfErr result (λ e. (e ≡ DecodeError.OutOfMemory) ⊎ (e ≡ DecodeError.Overflow)) }
         ensures held { OnOk result (HoldsMore (bits_in self.old.order bytes.now) self.old self.new) }
         ensures kept { OnErr result (HoldsMore [] self.old self.new) }

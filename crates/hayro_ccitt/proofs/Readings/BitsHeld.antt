@@ -30,6 +30,7 @@ holds_more {old} {mid} {new} next bytes drops whole is = subst (HoldsMore next o
   line_read = drops.line_read;
   within = drops.within;
   reading = (drops.ctx, drops.rows, drops.finished);
+  order = drops.order;
 })
   where
     long : length (drop (8 * drops.bytes) old.kept) ≡ length old.kept - 8 * drops.bytes

@@ -1,25 +1,22 @@
 -- A black pixel that a line paints is painted whatever bits follow.
-use Rattle.hayro_ccitt.proofs.Names.{◌≡◌, ◌∙◌, ℕ, Bool, true, false, cond, leb, [], ◌∷◌, ◌++◌, length, Result, Ok, Err, refl}
+use Rattle.hayro_ccitt.proofs.Names.{◌≡◌, ◌∙◌, ℕ, Bool, true, false, cond, leb, [], ◌++◌, length, Result, Ok, Err, refl}
 use Rattle.hayro_ccitt.proofs.Names.{sym, ap}
 use Rattle.hayro_ccitt.proofs.Names.{subst, arith, append-nil, Bits, DecodeError, DecodeSettings, Row, Line, line_here, front_of}
 use Rattle.hayro_ccitt.proofs.Names.{EncodingMode, Group3_1D, Group3_2D, Group4}
 use Rattle.std.proofs.lemmas.List.Elements.{Contains-append_left}
-use Rattle.fax_bits.specs.CodeLists.{mode_codes}
-use Rattle.fax_bits.specs.CodeReading.{read_code}
 use Rattle.fax_bits.specs.Repetition.{Turn}
 use Rattle.fax_bits.proofs.Repetition.Repeated.{after_turn}
-use Rattle.fax_bits.specs.Runs.{codes_of, run_from}
+use Rattle.fax_bits.specs.Runs.{run_from}
 use Rattle.fax_reading.specs.Lines.{Pen, start, drawn, draw_run, go_on, turn_behind, unless_fault}
 use Rattle.fax_reading.specs.LinesGoOn.{LacksWord, LinePart, OpenRun, begin_line, begin_step, draw_step, line_after_turn}
 use Rattle.fax_reading.specs.LinesGoOn.{line_from_part, part_before}
-use Rattle.fax_reading.specs.Rows.{opposite, paint, is_black}
+use Rattle.fax_reading.specs.Rows.{opposite, paint}
 use Rattle.fax_reading.proofs.Continuations.LinesGoOn.{line_from_is, short_line_goes_on}
 use Rattle.fax_reading.proofs.Continuations.ShortLines.{line_stays}
 use Rattle.fax_reading.proofs.DrawingLines.DrawnLines.{Stays, drawn_1d_keeps, drawn_2d_keeps, paint_ok}
 use Rattle.hayro_ccitt.proofs.Readings.RowsTried.{same_front}
 use Rattle.hayro_ccitt.specs.Answers.{HasBlack, Step}
 use Rattle.hayro_ccitt.specs.Continuations.{is_short}
-use Rattle.fax_bits.specs.declared.error.DecodeError.TheVariants.{UnexpectedEof}
 
 black_stays : Stays HasBlack
 black_stays row more black = Contains-append_left row more true black

@@ -125,8 +125,14 @@ module _ (old new : Feeding) (before after : BitsAt) (before_is : before ≡ rec
     stands = λ whole tried passed feed. stays_fed feed on.extra (on.stands tried whole old.dropped passed (lies feed) starts
         (stood feed));
     line = on.line;
-    within = omega (arith, on.within, ends, ap length on.same_bits, ap (λ (b : BitsAt). length b.bits) before_is,
-        ap length keeps.kept);
+    within = omega (
+      arith,
+      on.within,
+      ends,
+      ap length on.same_bits,
+      ap (λ (b : BitsAt). length b.bits) before_is,
+      ap length keeps.kept,
+    );
     counts = on.counts;
     reaches = λ whole tried e feed. record {
       counts = on.counts;
@@ -272,8 +278,7 @@ module _ (old new : Feeding) (before after : BitsAt) (before_is : before ≡ rec
           (line_here mid.held.settings mid.held.reference (drop old.place old.kept)) ≡ Ok (new.ctx.held.reference, b)) behind
           (subst (λ (b : Bits). row_of_line mid.held.settings mid.held.has_eols b
           (line_here mid.held.settings mid.held.reference b) ≡ Ok (new.ctx.held.reference, here after)) here_is is)) in
-          let wide = (at_line_stands old.rows.stand old.ctx.held.settings whole old.ctx.held at line (stood feed).0).wide in
-          (
+          let wide = (at_line_stands old.rows.stand old.ctx.held.settings whole old.ctx.held at line (stood feed).0).wide in (
             yields,
             omega (
               arith,
@@ -355,8 +360,14 @@ module _ (old new : Feeding) (before after : BitsAt) (before_is : before ≡ rec
       looked = same_look;
       done = λ e. none_new;
       behind = tries.behind;
-      within = omega (arith, tries.within, ends, ap length tries.same_bits, ap (λ (b : BitsAt). length b.bits) before_is,
-          ap length keeps.kept);
+      within = omega (
+        arith,
+        tries.within,
+        ends,
+        ap length tries.same_bits,
+        ap (λ (b : BitsAt). length b.bits) before_is,
+        ap length keeps.kept,
+      );
       paid = omega (arith, none_paid new.part new.line_read none_new);
       row_is = λ whole tried e feed. line_row feed e;
       work = record {

@@ -1,9 +1,9 @@
 -- What all calls of a feed count is paid.
 use Rattle.hayro_ccitt.proofs.Names.{◌≡◌, ◌≢◌, ◌∙◌, ◌+◌, ◌-◌, ◌*◌, ◌≤◌, ◌<◌, ◌++◌, ◌∷◌, ◌⊎◌, ◌&&◌, [], ℕ, Bool, true, false}
 use Rattle.hayro_ccitt.proofs.Names.{Result, Ok, Err, None, Some, Option, refl, sym, ap, subst, arith, length, drop, replicate}
-use Rattle.hayro_ccitt.proofs.Names.{inl, inr, cases_lt, false≢true, length-append, length-drop, append_assoc, append-nil, cond}
+use Rattle.hayro_ccitt.proofs.Names.{inl, inr, cases_lt, false≢true, length-append, length-drop, append_assoc, append-nil}
 use Rattle.hayro_ccitt.proofs.Names.{Bits, Context, Held, DecodeError, DecodeSettings, Row, Stand, AtLine, BehindRow, AtEnd, AtFault}
-use Rattle.hayro_ccitt.proofs.Names.{changes, ended, is_at_line, line_here, row_of_line, white_row, BitsAt}
+use Rattle.hayro_ccitt.proofs.Names.{changes, ended, is_at_line, line_here, row_of_line}
 use Rattle.hayro_ccitt.specs.PlainReading.{behind_row}
 use Rattle.hayro_ccitt.specs.Lines.{Line}
 use Rattle.hayro_ccitt.specs.Continuations.{is_short}
@@ -11,9 +11,9 @@ use Rattle.hayro_ccitt.specs.declared.line_parts.KeptPart.{KeptPart}
 use Rattle.hayro_ccitt.specs.declared.row_feed.Fed.{Fed}
 use Rattle.hayro_ccitt.specs.declared.row_reader.RowState.{RowState}
 use Rattle.hayro_ccitt.specs.RowFeeds.{CallGoesOn, Feeding, FeedsNext, HasNone, HoldsMore, IsFeedOf, IsOpenAt, KeepsBits, StandsIn}
-use Rattle.hayro_ccitt.specs.RowFeeds.{IsAtFront, fed_bits, fed_over, most_for_line, paid_by, paid_for_line}
+use Rattle.hayro_ccitt.specs.RowFeeds.{fed_bits, fed_over, most_for_line, paid_by, paid_for_line}
 use Rattle.hayro_ccitt.proofs.Names.{IfErr}
-use Rattle.hayro_ccitt.specs.FeedsPaid.{FeedIsPaid, FeedsArePaid, GapsPaid, IsPassed, LinesPaid, SeeksEol, WasShort, changes_of}
+use Rattle.hayro_ccitt.specs.FeedsPaid.{FeedIsPaid, GapsPaid, IsPassed, LinesPaid, SeeksEol, WasShort, changes_of}
 use Rattle.hayro_ccitt.specs.FeedsPaid.{cost_of_failure, left_for_line, offset}
 use Rattle.hayro_ccitt.proofs.Readings.FeedsOn.{none_paid}
 use Rattle.fax_reading.proofs.KeptRows.LinesAgain.{line_again}
@@ -21,9 +21,8 @@ use Rattle.fax_reading.proofs.Work.TurnsPaid.{behind_shorter, broken_row}
 use Rattle.hayro_ccitt.proofs.Work.ChangesStored.{changes_white}
 use Rattle.hayro_ccitt.proofs.Work.CallsPaid.{within_most}
 use Rattle.hayro_ccitt.proofs.Names.{EncodingMode, Group4, Group3_1D, Group3_2D, most_counted}
-use Rattle.hayro_ccitt.specs.RowsRead.{ReadsNext, RowsRead}
+use Rattle.hayro_ccitt.specs.RowsRead.{ReadsNext}
 use Rattle.fax_bits.specs.declared.error.DecodeError.TheVariants.{OutOfMemory}
-use Rattle.hayro_ccitt.specs.Context.{fresh}
 use Rattle.fax_reading.proofs.Continuations.ShortLines.{eol_ends_line}
 
 -- ---- Where a line ends that was short

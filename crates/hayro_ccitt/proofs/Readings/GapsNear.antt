@@ -1,11 +1,11 @@
 -- A gap is looked at no more than twelve bits beyond its end.
 use Rattle.hayro_ccitt.proofs.Names.{◌≡◌, ◌∙◌, ◌+◌, ◌≤◌, ◌∷◌, ◌&&◌, ◌||◌, [], ℕ, zero, suc, Bool, true, false, not, cond, leb, eqb}
 use Rattle.hayro_ccitt.proofs.Names.{Option, None, Some, Result, Ok, Err, refl, sym, ap, arith, length, and_parts, false≢true, ne_eqb, eols_here}
-use Rattle.std.proofs.lemmas.Bool.{leb-false, leb-true}
+use Rattle.std.proofs.lemmas.Bool.{leb-false}
 use Rattle.hayro_ccitt.proofs.Names.{Bits, DecodeSettings, EncodingMode, Group4, Group3_1D, Group3_2D}
 use Rattle.hayro_ccitt.proofs.Names.{after_eol, all_eols, next_eol, at_end, eols_by, limit_met, Gap, gap_behind_row, InvalidCode}
 use Rattle.hayro_ccitt.proofs.Names.{DecodeError, OnErr, gap_said}
-use Rattle.hayro_ccitt.specs.EndOfLine.{eols, eols_with_tags, one_more, past_tag, pass_last_tag}
+use Rattle.hayro_ccitt.specs.EndOfLine.{eols, eols_with_tags, one_more, past_tag}
 use Rattle.hayro_ccitt.specs.GapsContinued.{holds_one, eols_are_settled, next_eols_are_settled, gap_is_settled}
 use Rattle.hayro_ccitt.specs.GapsSeen.{bits_needed, is_settled, one_eol_more, rules_behind_row, stage_after}
 use Rattle.hayro_ccitt.specs.PlainReading.{behind_eols, from_next_eol, is_over, missing_eol, misses_eol}

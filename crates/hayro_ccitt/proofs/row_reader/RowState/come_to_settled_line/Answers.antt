@@ -11,7 +11,7 @@ use Rattle.hayro_ccitt.proofs.Readings.RowsFed.{waits_not, passed_some, said_cod
 use Rattle.hayro_ccitt.specs.declared.gap_look.GapLook.{GapLook}
 use Rattle.hayro_ccitt.specs.declared.row_reader.RowState.{RowState}
 use Rattle.hayro_ccitt.proofs.Readings.GapsNear.{passed_near, passed_shorter, settled_sought}
-use Rattle.hayro_ccitt.proofs.Names.{Gap, None, Option, Some, Err, false, line_after}
+use Rattle.hayro_ccitt.proofs.Names.{Gap, Some, Err, false, line_after}
 use Rattle.hayro_ccitt.proofs.Work.EolsPassed.{length-within, line_past_eol}
 use Rattle.hayro_ccitt.specs.RowFeeds.{PassesEol, some_line}
 use Rattle.hayro_ccitt.specs.GapsContinued.{gap_is_settled}
@@ -192,7 +192,7 @@ returns c =
       none_looked = λ e. c.new.ensures;
       near = λ passed unfinished.
           let closed : gap_is_settled held.settings held.taken held.has_eols (here c.args.reader.now) ≡ true =
-          elim closed [ | inl last ↦ absurd (false≢true (sym unfinished ∙ last)) | inr is ↦ is ] in
+          elim closed [ inl last ↦ absurd (false≢true (sym unfinished ∙ last)) | inr is ↦ is ] in
           omega (
             arith,
             c.gap_waits.ensures.looked,
@@ -225,7 +225,7 @@ returns c =
       at_line = λ e. absurd (false≢true (sym no_line ∙ e));
       past_eol = λ unfinished was sought e.
           let closed : gap_is_settled held.settings held.taken held.has_eols (here c.args.reader.now) ≡ true =
-          elim closed [ | inl last ↦ absurd (false≢true (sym unfinished ∙ last)) | inr is ↦ is ] in
+          elim closed [ inl last ↦ absurd (false≢true (sym unfinished ∙ last)) | inr is ↦ is ] in
           eol_passed mid c.pass_gap_here.new.ctx c.args.reader.now c.pass_gap_here.new.reader
           (ap (λ (h : Held). gap_is_settled h.settings h.taken h.has_eols (here c.args.reader.now)) same ∙ closed)
           (ap (λ (h : Held). h.has_eols) same ∙ sought) gap
