@@ -267,6 +267,8 @@ pub struct RowFeed {
     part: Option<KeptPart>,
     /// How many bits of that line were read.
     line_read: usize,
+    /// The offset of the last line that was tried and found to be short, a greater one than any before the first.
+    tried: usize,
 }
 
 impl Model for RowFeed {
@@ -309,6 +311,7 @@ impl RowFeed {
             look: GapLook::new(),
             part: None,
             line_read: 0,
+            tried: usize::MAX,
         })
     }
 
@@ -407,7 +410,8 @@ impl RowFeed {
         self.go_on_from(part, read)
     }
 
-    /// Keeps the part from which the line here goes on, which is short.
+    /// Keeps the part from which the line here goes on, which is short, unless it was tried for the first time: mostly it is whole
+    /// at the next.
     fn keep_part(&mut self)
         requires none_kept { self.old.part ≡ None }
         requires begun { self.old.begun ≡ true }
@@ -415,6 +419,11 @@ impl RowFeed {
         requires none_drawn { redrawn self.old.ctx.held [] Color.White ≡ self.old.ctx.held }
         ensures { KeepsPart self.old self.new }
     {
+        let line_start = self.dropped + self.place;
+        if self.tried != line_start {
+            self.tried = line_start;
+            return;
+        }
         let mut reader = placed_at(&self.data, self.order, self.place);
         if let Some(part) = begin_part(&mut self.ctx, &mut reader) {
             let read = reader.bit_pos() - self.place;
