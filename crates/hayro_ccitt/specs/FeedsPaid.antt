@@ -1,6 +1,7 @@
 -- What all calls of a feed count.
 use Rattle.std.specs.Prelude.{◌≡◌, ◌≢◌, ◌≤◌, ◌+◌, ◌*◌, ℕ, true, false, ◌∷◌, ◌++◌, ◌⊎◌, length, drop, replicate}
 use Rattle.std.specs.Prelude.{Option, Some, None, Result, Err}
+use Rattle.std.specs.Prelude.{◌==◌, if◌then◌else◌}
 use Rattle.fax_bits.specs.declared.error.DecodeError.{DecodeError}
 use Rattle.fax_bits.specs.declared.error.DecodeError.TheVariants.{OutOfMemory}
 use Rattle.hayro_ccitt.specs.declared.line_parts.KeptPart.{KeptPart}
@@ -91,9 +92,15 @@ pub record FeedIsPaid (calls lost tried : ℕ) (feed : Feeding) : Type 0 where
 abbrev pub cost_of_failure : Feeding → ℕ
 cost_of_failure feed = 3 * changes_of feed + 12 * length (drop feed.place feed.kept) + 6
 
+-- what a call costs that tries a line for the first time, and finds it short, beyond another call
+abbrev pub cost_of_first_try : Feeding → Feeding → ℕ
+cost_of_first_try old new = if new.tried_at == old.tried_at then 0
+    else changes_of new + 4 * length (drop new.place new.kept) + 2
+
 -- In any history of a feed the count of work is at most 128 ticks a bit that was fed and 256, and 32 ticks for each call that
 -- reads the next row, whatever pieces the data comes in. A call that fails for memory costs more: three ticks for each change of
--- the row before and twelve for each bit from the line on that is kept, and six.
+-- the row before and twelve for each bit from the line on that is kept, and six. So does one that finds a line to be short for
+-- the first time: a tick for each change of the row before and four for each bit from the line on, and two.
 pub record FeedsArePaid : Type 0 where
   pub begins : (whole : Bits) (feed : Feeding) → IsFeedOf whole 0 feed → feed.begun ≡ false → feed.looked ≡ 0
       → feed.part ≡ None → FeedIsPaid 0 0 0 feed
@@ -104,7 +111,7 @@ pub record FeedsArePaid : Type 0 where
   pub reads : (whole : Bits) (calls lost tried : ℕ) (old new : Feeding) (answer : Result Fed DecodeError)
       → ended old.rows.stand ≡ None → KeepsBits old new → FeedIsPaid calls lost tried old
       → (next : FeedsNext whole tried old new answer) → answer ≢ Err OutOfMemory
-      → FeedIsPaid (calls + 1) lost (tried + next.extra) new
+      → FeedIsPaid (calls + 1) (lost + cost_of_first_try old new) (tried + next.extra) new
   pub fails : (whole : Bits) (calls lost tried : ℕ) (old new : Feeding)
       → ended old.rows.stand ≡ None → KeepsBits old new → FeedIsPaid calls lost tried old
       → (next : FeedsNext whole tried old new (Err OutOfMemory))

@@ -46,6 +46,7 @@ pub record Feeding : Type 0 where
   pub looked : ℕ
   pub part : Option KeptPart
   pub line_read : ℕ
+  pub tried_at : ℕ
 
 abbrev pub feeding_of : Inside → Feeding
 feeding_of f = record {
@@ -60,6 +61,7 @@ feeding_of f = record {
   looked = f.look.bits;
   part = f.part;
   line_read = f.line_read;
+  tried_at = f.tried;
 }
 
 -- the line that begins these bits is short, and goes on from this part of it, of which so many bits were read
@@ -174,6 +176,12 @@ paid_for_line feed = paid_by feed.part feed.line_read
 abbrev pub most_for_line : Feeding → ℕ
 most_for_line feed = length (changes feed.ctx.held.reference) + 2 * length (drop feed.place feed.kept)
 
+-- a line is found to be short for the first time, and no part of it is kept
+pub record TriesFirst (old new : Feeding) : Type 0 where
+  pub untried : old.tried_at ≢ new.dropped + new.place
+  pub tried : new.tried_at ≡ new.dropped + new.place
+  pub at_line : is_at_line new.rows.stand ≡ true
+
 -- the most that is counted to find a line to be short, or to draw what memory is left for
 abbrev pub most_to_find : Feeding → ℕ
 most_to_find feed = 4 * length (drop feed.place feed.kept) + length (changes feed.ctx.held.reference)
@@ -189,7 +197,7 @@ pub record LineWork (old new : Feeding) (answer : Result Fed DecodeError) (count
   pub at_once : (HasNone answer → ⊥) → old.part ≡ None → counted ≡ 0
   -- the part that is kept goes on, and where none is kept nothing is counted
   pub some : answer ≡ Ok Fed.NeedsMore → old.part ≢ None → new.part ≢ None
-  pub unread : answer ≡ Ok Fed.NeedsMore → old.part ≡ None → new.part ≡ None → counted ≡ 0
+  pub unread : answer ≡ Ok Fed.NeedsMore → old.part ≡ None → new.part ≡ None → (counted ≡ 0) ⊎ TriesFirst old new
   -- a line that was left before is read on once more, and then from its start
   pub failed : answer ≡ Err OutOfMemory
       → counted + paid_for_line old ≤ most_for_line old + most_to_find new + 6
@@ -213,7 +221,7 @@ pub record CallGoesOn (old new : Feeding) (answer : Result Fed DecodeError) (gap
       → gap + old.looked + (old.dropped + old.place) ≤ new.dropped + new.place + new.looked + 12
   pub stays : HasNone answer → (old.begun && is_at_line old.rows.stand) ≡ true → new.place ≡ old.place
   -- what a line yields that was left before
-  pub row_is : answer ≡ Ok Fed.Row → old.part ≢ None
+  pub row_is : answer ≡ Ok Fed.Row → (old.begun && is_at_line old.rows.stand) ≡ true
       → row_of_line old.ctx.held.settings old.ctx.held.has_eols (drop old.place old.kept) (line_of_feed old)
       ≡ Ok (new.ctx.held.reference, drop new.place new.kept)
   -- an EOL is passed, where EOLs are sought and more data may come (T.4, 4.1.2)
@@ -221,7 +229,9 @@ pub record CallGoesOn (old new : Feeding) (answer : Result Fed DecodeError) (gap
       → ended new.rows.stand ≡ None → (answer ≡ Ok Fed.NeedsMore → is_at_line new.rows.stand ≡ true)
       → PassesEol (drop old.place old.kept) (old.dropped + old.place) (new.dropped + new.place)
   pub behind : answer ≡ Ok Fed.Row → is_at_line new.rows.stand ≡ false
-  pub sought : answer ≡ Ok Fed.Row → old.part ≢ None → new.ctx.held.has_eols ≡ old.ctx.held.has_eols
+  pub tried : HasNone answer → (old.begun && is_at_line old.rows.stand) ≡ true
+      → (new.tried_at ≡ old.tried_at) ⊎ (new.tried_at ≡ new.dropped + new.place)
+  pub sought : answer ≡ Ok Fed.Row → (old.begun && is_at_line old.rows.stand) ≡ true → new.ctx.held.has_eols ≡ old.ctx.held.has_eols
   pub waits : answer ≡ Ok Fed.NeedsMore → is_at_line new.rows.stand ≡ false
       → (new.place ≡ old.place) × (new.ctx.held.has_eols ≡ old.ctx.held.has_eols)
   pub within : new.place ≤ length new.kept
@@ -278,7 +288,7 @@ pub record ComesOn (is_last : Bool) (gap_start : ℕ) (rows kept : RowState) (lo
   pub near : answer ≢ Ok None → is_last ≡ false → extra + look.bits + before.place ≤ after.place + 12
   pub counts : old.ticks + extra ≤ new.ticks
   pub onward : answer ≡ Ok (Some true) → before.place ≤ after.place
-  pub at_line : is_at_line rows.stand ≡ true → after ≡ before
+  pub at_line : is_at_line rows.stand ≡ true → (after ≡ before) × (new.held ≡ old.held)
   pub past_eol : is_last ≡ false → is_at_line rows.stand ≡ false → old.held.has_eols ≡ true → answer ≡ Ok (Some true)
       → PassesEol (here before) before.place after.place
   pub same_bits : after.bits ≡ before.bits
@@ -349,7 +359,9 @@ pub record ReachesLine (old new : Feeding) (extra : ℕ) : Type 0 where
       → extra + old.looked + (old.dropped + old.place) ≤ new.dropped + new.place + 12
   pub past_eol : old.finished ≡ false → old.begun ≡ true → is_at_line old.rows.stand ≡ false → old.ctx.held.has_eols ≡ true
       → PassesEol (drop old.place old.kept) (old.dropped + old.place) (new.dropped + new.place)
-  pub at_line : (old.begun && is_at_line old.rows.stand) ≡ true → new.place ≡ old.place
+  pub at_line : (old.begun && is_at_line old.rows.stand) ≡ true
+      → (new.place ≡ old.place) × (new.ctx.held ≡ old.ctx.held) × (new.kept ≡ old.kept)
+  pub tried : new.tried_at ≡ old.tried_at
   pub space : new.ctx.space ≡ old.ctx.space
   pub settings : new.ctx.held.settings ≡ old.ctx.held.settings
 
@@ -424,6 +436,7 @@ pub record ReadsInFeed (old new : Feeding) (answer : Result Bool DecodeError) : 
   pub stored : answer ≡ Ok true → length (changes new.ctx.held.reference) + (old.ctx.ticks + extra) ≤ new.ctx.ticks + 1
   pub looked : new.looked ≡ old.looked
   pub done : answer ≢ Ok false → new.part ≡ None
+  pub tried : (new.tried_at ≡ old.tried_at) ⊎ (new.tried_at ≡ new.dropped + new.place)
   pub behind : answer ≡ Ok true → is_at_line new.rows.stand ≡ false
   pub within : new.place ≤ length new.kept
   pub paid : paid_for_line new ≤ most_for_line new + 2
@@ -439,12 +452,14 @@ pub record Scans (old new : Feeding) : Type 0 where
     ctx = record old.ctx { ticks = new.ctx.ticks };
     part = new.part;
     line_read = new.line_read;
+    tried_at = new.tried_at;
   }
   pub counts : old.ctx.ticks ≤ new.ctx.ticks
 
 -- from a part with so many changes passed and bits read on
 pub record ScansLine (passed read : ℕ) (old new : Feeding) (short : Bool) : Type 0 where
   pub scans : Scans old new
+  pub tried : new.tried_at ≡ old.tried_at
   pub said : is_short (line_of_feed old) ≡ short
   pub none : short ≡ false → new.part ≡ None
   pub some : short ≡ true → new.part ≢ None
@@ -455,6 +470,7 @@ pub record ScansLine (passed read : ℕ) (old new : Feeding) (short : Bool) : Ty
 -- from the part that is kept, if one is
 pub record StaysShort (old new : Feeding) (short : Bool) : Type 0 where
   pub scans : Scans old new
+  pub tried : new.tried_at ≡ old.tried_at
   pub said : short ≡ true
       → (is_short (line_of_feed old) ≡ true) × (old.finished ≡ false) × (redrawn old.ctx.held [] White ≡ old.ctx.held)
   pub settled : short ≡ false → old.part ≢ None → (old.finished ≡ true) ⊎ (is_short (line_of_feed old) ≡ false)
@@ -470,8 +486,9 @@ pub record KeepsPart (old new : Feeding) : Type 0 where
   pub scans : Scans old new
   pub work : is_short (line_of_feed old) ≡ true → new.ctx.ticks ≤ old.ctx.ticks + paid_for_line new
   pub paid : new.part ≢ None → paid_for_line new ≤ most_for_line new + 2
-  -- where none is, the tag is missing
-  pub no_tag : is_short (line_of_feed old) ≡ true → new.part ≡ None
+  pub tried : new.tried_at ≡ old.dropped + old.place
+  -- where none is, the line is tried for the first time, or the tag is missing
+  pub no_tag : is_short (line_of_feed old) ≡ true → new.part ≡ None → old.tried_at ≡ old.dropped + old.place
       → (old.ctx.held.settings.encoding ≡ Group3_2D) × (drop old.place old.kept ≡ []) × (new.ctx.ticks ≡ old.ctx.ticks)
 
 -- what a call answers where a line was tried
@@ -511,6 +528,7 @@ pub record HoldsMore (next : Bits) (old new : Feeding) : Type 0 where
   pub looked : new.looked ≡ old.looked
   pub part : new.part ≡ old.part
   pub line_read : new.line_read ≡ old.line_read
+  pub tried_at : new.tried_at ≡ old.tried_at
   pub within : old.place ≤ length old.kept
   pub reading : (new.ctx ≡ old.ctx) × (new.rows ≡ old.rows) × (new.finished ≡ old.finished)
   pub order : new.order ≡ old.order
@@ -537,3 +555,4 @@ pub record DropsRead (old new : Feeding) : Type 0 where
   pub finished : new.finished ≡ old.finished
   pub part : new.part ≡ old.part
   pub line_read : new.line_read ≡ old.line_read
+  pub tried_at : new.tried_at ≡ old.tried_at

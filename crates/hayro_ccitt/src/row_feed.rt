@@ -365,6 +365,7 @@ impl RowFeed {
         ensures none_kept { self.new.part ≡ None }
         ensures no_tag { self.old.ctx.held.settings.encoding ≡ EncodingMode.Group3_2D
             → drop self.old.place self.old.kept ≡ [] → result ≡ Ok false → self.new.ctx.ticks ≡ self.old.ctx.ticks }
+        ensures tried { self.new.tried_at ≡ self.old.tried_at }
     {
         let mut reader = placed_at(&self.data, self.order, self.place);
         let line_start = self.dropped + self.place;
@@ -440,7 +441,8 @@ impl RowFeed {
         requires line { is_at_line self.old.rows.stand ≡ true }
         ensures reads { ReadsInFeed self.old self.new result }
         ensures unread { result ≡ Ok false → self.old.part ≡ None → self.new.part ≡ None
-            → self.new.ctx.ticks ≡ self.old.ctx.ticks }
+            → (self.new.ctx.ticks ≡ self.old.ctx.ticks) ⊎ ((self.old.tried_at ≢ self.new.dropped + self.new.place)
+            × (self.new.tried_at ≡ self.new.dropped + self.new.place)) }
     {
         if self.is_still_short() {
             return Ok(false);

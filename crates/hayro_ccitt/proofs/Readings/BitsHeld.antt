@@ -28,6 +28,7 @@ holds_more {old} {mid} {new} next bytes drops whole is = subst (HoldsMore next o
   looked = drops.looked;
   part = drops.part;
   line_read = drops.line_read;
+  tried_at = drops.tried_at;
   within = drops.within;
   reading = (drops.ctx, drops.rows, drops.finished);
   order = drops.order;

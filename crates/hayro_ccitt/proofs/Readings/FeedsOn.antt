@@ -95,11 +95,11 @@ module _ (old new : Feeding) (before after : BitsAt) (before_is : before ≡ rec
   place_is = omega (arith, keeps.dropped, ends)
 
   -- a gap is passed
-  pub feed_comes : (look kept_look : GapLook) → old.looked ≡ look.bits → new.looked ≡ kept_look.bits
+  pub feed_comes : new.tried_at ≡ old.tried_at → (look kept_look : GapLook) → old.looked ≡ look.bits → new.looked ≡ kept_look.bits
       → (answer : Result (Option Bool) DecodeError)
       → ComesOn old.finished at old.rows new.rows look kept_look old.ctx new.ctx before after answer
       → ComesInFeed old new answer
-  feed_comes look kept_look was is answer on = record {
+  feed_comes same_tried look kept_look was is answer on = record {
     extra = on.extra;
     looks = subst (λ (n : ℕ). LooksAhead old.finished (is_at_line old.rows.stand) n (drop old.place old.kept) on.extra) (sym was)
         (subst (λ (b : BitsAt). LooksAhead old.finished (is_at_line old.rows.stand) look.bits (here b) on.extra) before_is
@@ -153,8 +153,10 @@ module _ (old new : Feeding) (before after : BitsAt) (before_is : before ≡ rec
             place = ap here (sym before_is) ∙ eol.place;
             passed = omega (arith, eol.passed, keeps.dropped, ends, ap (λ (b : BitsAt). b.place) before_is);
           };
-      at_line = λ at. ends ∙ ap (λ (b : BitsAt). b.place) (on.at_line (and_parts old.begun (is_at_line old.rows.stand) at).1
-          ∙ before_is);
+      at_line = λ at.
+          let there = on.at_line (and_parts old.begun (is_at_line old.rows.stand) at).1 in
+          (ends ∙ ap (λ (b : BitsAt). b.place) (there.0 ∙ before_is), there.1, keeps.kept);
+      tried = same_tried;
       space = on.space;
       settings = (on.comes tried whole old.dropped (λ none. let never = sym e ∙ none in absurd cc) (lies feed) starts
           (stood feed)).settings;
@@ -174,6 +176,7 @@ module _ (old new : Feeding) (before after : BitsAt) (before_is : before ≡ rec
       (frame : mid ≡ record old.ctx { held = redrawn old.ctx.held [] White; passed = 0; cut = false })
       (width : length old.ctx.held.reference ≡ old.ctx.held.settings.columns) (line : is_at_line old.rows.stand ≡ true)
       (unkept : old.part ≡ None) (same_look : new.looked ≡ old.looked)
+      (same_tried : new.tried_at ≡ old.tried_at)
       (none_new : new.part ≡ None) (inside : old.place ≤ length old.kept)
       (answer : Result Bool DecodeError)
       (tries : TriesLine old.finished at old.rows new.rows mid new.ctx before after answer) where
@@ -359,6 +362,7 @@ module _ (old new : Feeding) (before after : BitsAt) (before_is : before ≡ rec
       stored = λ e. line_stored e;
       looked = same_look;
       done = λ e. none_new;
+      tried = inl same_tried;
       behind = tries.behind;
       within = omega (
         arith,
@@ -651,7 +655,14 @@ feeds_on {whole} {tried} more {old} {mid} {new} {answer} looks unkept none begun
     read = λ other. omega (arith, next.line_work.at_once other none, none_paid old.part old.line_read unkept);
     at_once = λ other kept. next.line_work.at_once other none;
     some = λ e some. absurd (some unkept);
-    unread = λ e kept still. next.line_work.unread e none still;
+    unread = λ e kept still. elim (next.line_work.unread e none still) [
+      | inl nothing ↦ inl nothing
+      | inr first ↦ inr (record {
+        untried = λ same. first.untried (reaches.tried ∙ same);
+        tried = first.tried;
+        at_line = first.at_line;
+      })
+    ];
     failed = λ e. omega (arith, next.line_work.failed_at_once e none, none_paid old.part old.line_read unkept);
     failed_at_once = λ e kept. next.line_work.failed_at_once e none;
   };
@@ -668,8 +679,21 @@ feeds_on {whole} {tried} more {old} {mid} {new} {answer} looks unkept none begun
     near = λ was_begun unfinished unended.
         omega (arith, reaches.near was_begun unfinished, next.goes_on.onward unended);
     stays = λ left at. next.goes_on.stays left (both_true mid.begun (is_at_line mid.rows.stand) begun (reached.line refl))
-        ∙ reaches.at_line at;
-    row_is = λ e some. absurd (some unkept);
+        ∙ (reaches.at_line at).0;
+    row_is = λ e at.
+        let same = reaches.at_line at in
+        let there : drop mid.place mid.kept ≡ drop old.place old.kept =
+        ap (λ (n : ℕ). drop n mid.kept) same.0 ∙ ap (drop old.place) same.2 in
+        subst (λ (b : Bits). row_of_line old.ctx.held.settings old.ctx.held.has_eols b
+        (line_here old.ctx.held.settings old.ctx.held.reference b) ≡ Ok (new.ctx.held.reference, drop new.place new.kept))
+        there (subst (λ (h : Held). row_of_line h.settings h.has_eols (drop mid.place mid.kept)
+        (line_here h.settings h.reference (drop mid.place mid.kept)) ≡ Ok (new.ctx.held.reference, drop new.place new.kept))
+        same.1 (next.goes_on.row_is e (both_true mid.begun (is_at_line mid.rows.stand) begun (reached.line refl))));
+    tried = λ left at.
+        elim (next.goes_on.tried left (both_true mid.begun (is_at_line mid.rows.stand) begun (reached.line refl))) [
+          | inl same ↦ inl (same ∙ reaches.tried)
+          | inr here ↦ inr here
+        ];
     past_eol = λ unfinished was_begun no_line sought unended waits.
         let eol = reaches.past_eol unfinished was_begun no_line sought in
         record {
@@ -679,7 +703,8 @@ feeds_on {whole} {tried} more {old} {mid} {new} {answer} looks unkept none begun
           passed = omega (arith, eol.passed, next.goes_on.onward unended);
         };
     behind = next.goes_on.behind;
-    sought = λ e some. absurd (some unkept);
+    sought = λ e at. next.goes_on.sought e (both_true mid.begun (is_at_line mid.rows.stand) begun (reached.line refl))
+        ∙ ap (λ (h : Held). h.has_eols) (reaches.at_line at).1;
     waits = λ e away.
         let stays = next.none (subst HasNone (sym e) refl) in
         absurd (false≢true (sym away ∙ stays.line (reached.line refl)));
@@ -754,9 +779,10 @@ looks_begun false is looks = absurd (false≢true is)
 
 -- what is counted for the line
 line_paid : {old new : Feeding} (answer : Result Bool DecodeError) → (reads : ReadsInFeed old new answer)
-    → (answer ≡ Ok false → old.part ≡ None → new.part ≡ None → new.ctx.ticks ≡ old.ctx.ticks)
-    → LineWork old new (fed_row answer) reads.extra
-line_paid {old} {new} (Ok true) reads unread = record {
+    → (answer ≡ Ok false → old.part ≡ None → new.part ≡ None → (new.ctx.ticks ≡ old.ctx.ticks)
+    ⊎ ((old.tried_at ≢ new.dropped + new.place) × (new.tried_at ≡ new.dropped + new.place)))
+    → is_at_line old.rows.stand ≡ true → LineWork old new (fed_row answer) reads.extra
+line_paid {old} {new} (Ok true) reads unread line = record {
   goes_on = λ e some. cc;
   begins = λ e none. cc;
   read = λ other. reads.work.read (λ left. cc);
@@ -766,7 +792,7 @@ line_paid {old} {new} (Ok true) reads unread = record {
   failed = λ e. cc;
   failed_at_once = λ e none. cc;
 }
-line_paid {old} {new} (Ok false) reads unread = record {
+line_paid {old} {new} (Ok false) reads unread line = record {
   goes_on = λ e some. reads.work.goes_on refl some;
   begins = λ e none. omega (
     arith,
@@ -777,11 +803,18 @@ line_paid {old} {new} (Ok false) reads unread = record {
   read = λ other. absurd (other refl);
   at_once = λ other none. absurd (other refl);
   some = λ e some. reads.work.some refl some;
-  unread = λ e none still. omega (arith, reads.counted, unread refl none still);
+  unread = λ e none still. elim (unread refl none still) [
+    | inl same ↦ inl (omega (arith, reads.counted, same))
+    | inr first ↦ inr (record {
+      untried = first.0;
+      tried = first.1;
+      at_line = ap (λ (r : RowState). is_at_line r.stand) (reads.left refl).0 ∙ line;
+    })
+  ];
   failed = λ e. cc;
   failed_at_once = λ e none. cc;
 }
-line_paid {old} {new} (Err error) reads unread = record {
+line_paid {old} {new} (Err error) reads unread line = record {
   goes_on = λ e some. cc;
   begins = λ e none. cc;
   read = λ other. reads.work.read (λ left. other left);
@@ -838,10 +871,11 @@ line_goes_on {whole} {tried} {old} {new} answer reads line feed = record {
   near = λ begun unfinished unended.
       omega (arith, line_onward answer reads feed unended, reads.keeps.dropped, reads.looked);
   stays = λ left at. (reads.left (left_as_none answer left)).1;
-  row_is = λ e some. (reads.row_is whole tried (row_read answer e) feed).0;
+  row_is = λ e at. (reads.row_is whole tried (row_read answer e) feed).0;
+  tried = λ left at. reads.tried;
   past_eol = λ unfinished begun no_line sought unended waits. absurd (false≢true (sym no_line ∙ line));
   behind = λ e. reads.behind (row_read answer e);
-  sought = λ e some. (reads.row_is whole tried (row_read answer e) feed).2;
+  sought = λ e at. (reads.row_is whole tried (row_read answer e) feed).2;
   waits = λ e away. absurd (false≢true (sym away ∙ still_at_line answer reads e));
   within = reads.within;
   paid = reads.paid;
@@ -870,7 +904,8 @@ line_goes_on {whole} {tried} {old} {new} answer reads line feed = record {
 
 -- the line is read, or left
 pub line_feeds : {whole : Bits} {tried : ℕ} {old new : Feeding} (answer : Result Bool DecodeError) → ReadsInFeed old new answer
-    → (answer ≡ Ok false → old.part ≡ None → new.part ≡ None → new.ctx.ticks ≡ old.ctx.ticks) → old.begun ≡ true → is_at_line old.rows.stand ≡ true → IsFeedOf whole tried old → FeedsNext whole tried old new
+    → (answer ≡ Ok false → old.part ≡ None → new.part ≡ None → (new.ctx.ticks ≡ old.ctx.ticks)
+    ⊎ ((old.tried_at ≢ new.dropped + new.place) × (new.tried_at ≡ new.dropped + new.place))) → old.begun ≡ true → is_at_line old.rows.stand ≡ true → IsFeedOf whole tried old → FeedsNext whole tried old new
     (fed_row answer)
 line_feeds {whole} {tried} {old} {new} (Ok true) reads unread begun line feed = record {
   row = λ e. reads.reads whole tried (λ left. cc) feed;
@@ -883,7 +918,7 @@ line_feeds {whole} {tried} {old} {new} (Ok true) reads unread begun line feed = 
   extra = reads.extra;
   line_extra = reads.extra;
   extra_is = omega arith;
-  line_work = line_paid (Ok true) reads unread;
+  line_work = line_paid (Ok true) reads unread line;
   goes_on = line_goes_on (Ok true) reads line feed;
   stands = reads.stands whole tried feed;
   gap = 0;
@@ -907,7 +942,7 @@ line_feeds {whole} {tried} {old} {new} (Ok false) reads unread begun line feed =
   extra = reads.extra;
   line_extra = reads.extra;
   extra_is = omega arith;
-  line_work = line_paid (Ok false) reads unread;
+  line_work = line_paid (Ok false) reads unread line;
   goes_on = line_goes_on (Ok false) reads line feed;
   stands = reads.stands whole tried feed;
   gap = 0;
@@ -929,7 +964,7 @@ line_feeds {whole} {tried} {old} {new} (Err error) reads unread begun line feed 
   extra = reads.extra;
   line_extra = reads.extra;
   extra_is = omega arith;
-  line_work = line_paid (Err error) reads unread;
+  line_work = line_paid (Err error) reads unread line;
   goes_on = line_goes_on (Err error) reads line feed;
   stands = reads.stands whole tried feed;
   gap = 0;
@@ -941,7 +976,7 @@ line_feeds {whole} {tried} {old} {new} (Err error) reads unread begun line feed 
 no_line_paid : {old new : Feeding} {answer : Result Fed DecodeError} → old.part ≡ None → LineWork old new answer 0
 no_line_paid {old} {new} {answer} unkept = record {
   some = λ e some. absurd (some unkept);
-  unread = λ e none still. refl;
+  unread = λ e none still. inl refl;
   failed = λ e. omega (arith, none_paid old.part old.line_read unkept);
   failed_at_once = λ e none. omega arith;
   goes_on = λ e some. absurd (some unkept);
@@ -957,6 +992,7 @@ gap_ended : {old new : Feeding} {answer : Result Fed DecodeError} {extra : ℕ} 
     → CallGoesOn old new answer extra extra
 gap_ended {new = new} {answer = answer} counts space unkept over some other none begun within = record {
   behind = λ e. absurd (other e);
+  tried = λ left at. absurd (some left);
   sought = λ e kept. absurd (other e);
   waits = λ e away. absurd (some (subst HasNone (sym e) refl));
   within = within;
@@ -1021,6 +1057,7 @@ gap_feeds {whole} {tried} {old} {new} (Ok None) comes other begun unended unkept
         past_eol = λ unfinished was_begun no_line sought open_end waits.
             absurd (false≢true (sym no_line ∙ sym (ap (λ (r : RowState). is_at_line r.stand) w.2) ∙ waits refl));
         behind = λ e. cc;
+        tried = λ left at. absurd (false≢true (sym w.5 ∙ (and_parts old.begun (is_at_line old.rows.stand) at).1));
         sought = λ e kept. cc;
         waits = λ e away. (w.3, ap (λ (h : Held). h.has_eols) w.0);
         within = comes.within;
@@ -1182,6 +1219,7 @@ front_waits_feeds {whole} {tried} {old} {new} begins unbegun unkept none feed =
         row_is = λ e kept. cc;
         past_eol = λ unfinished begun no_line sought unended waits. absurd (false≢true (sym unbegun ∙ begun));
         behind = λ e. cc;
+        tried = λ left at. absurd (not_begun old.begun (is_at_line old.rows.stand) unbegun at);
         sought = λ e kept. cc;
         waits = λ e away. (w.3, ap (λ (h : Held). h.has_eols) w.0);
         within = begins.within;

@@ -14,7 +14,8 @@ use Rattle.hayro_ccitt.specs.RowFeeds.{CallGoesOn, Feeding, FeedsNext, HasNone, 
 use Rattle.hayro_ccitt.specs.RowFeeds.{fed_bits, fed_over, most_for_line, paid_by, paid_for_line}
 use Rattle.hayro_ccitt.proofs.Names.{IfErr}
 use Rattle.hayro_ccitt.specs.FeedsPaid.{FeedIsPaid, GapsPaid, IsPassed, LinesPaid, SeeksEol, WasShort, changes_of}
-use Rattle.hayro_ccitt.specs.FeedsPaid.{cost_of_failure, left_for_line, offset}
+use Rattle.hayro_ccitt.specs.FeedsPaid.{cost_of_failure, cost_of_first_try, left_for_line, offset}
+use Rattle.hayro_ccitt.proofs.Names.{cond, eqb, ne_eqb}
 use Rattle.hayro_ccitt.proofs.Readings.FeedsOn.{none_paid}
 use Rattle.fax_reading.proofs.KeptRows.LinesAgain.{line_again}
 use Rattle.fax_reading.proofs.Work.TurnsPaid.{behind_shorter, broken_row}
@@ -130,6 +131,26 @@ was_short (Some part) at feed e known = known
 none_or_some : (part : Option KeptPart) → (part ≡ None) ⊎ (part ≢ None)
 none_or_some None = inl refl
 none_or_some (Some part) = inr (λ e. cc)
+
+-- more may be lost
+more_lost : {calls lost tried lines : ℕ} {feed : Feeding} (more : ℕ) → LinesPaid calls lost tried lines feed
+    → LinesPaid calls (lost + more) tried lines feed
+more_lost more paid = record {
+  known = paid.known;
+  read = paid.read;
+  words = paid.words;
+  seen = paid.seen;
+  known_most = paid.known_most;
+  read_most = paid.read_most;
+  read_before = paid.read_before;
+  words_most = paid.words_most;
+  within = paid.within;
+  part_most = paid.part_most;
+  seen_is = paid.seen_is;
+  most = omega (arith, paid.most);
+  here = λ unended. omega (arith, paid.here unended);
+  passed = paid.passed;
+}
 
 -- ---- More data
 
@@ -445,9 +466,10 @@ module _ {whole : Bits} {calls lost tried : ℕ} {old new : Feeding} {answer : R
         → (lines.known ≤ offset new) ⊎ SeeksEol lines.known new
     behind_line e still =
         let short = was in
+        let at_line = at_line_begun old.begun (is_at_line old.rows.stand) short.begun short.at_line in
         let row = subst (λ (b : Bits). row_of_line old.ctx.held.settings old.ctx.held.has_eols b
         (line_here old.ctx.held.settings old.ctx.held.reference b)
-        ≡ Ok (new.ctx.held.reference, drop new.place new.kept)) short.are (goes.row_is e some) in
+        ≡ Ok (new.ctx.held.reference, drop new.place new.kept)) short.are (goes.row_is e at_line) in
         elim (short_row old.ctx.held.settings old.ctx.held.has_eols old.ctx.held.reference short.seen short.more
         (drop new.place new.kept) new.ctx.held.reference short.short row) [
           | inl le ↦ inl (omega (
@@ -464,7 +486,7 @@ module _ {whole : Bits} {calls lost tried : ℕ} {old new : Feeding} {answer : R
           | inr repaired ↦ inr (record {
             begun = new_begun short.begun;
             behind = goes.behind e;
-            sought = goes.sought e some ∙ repaired.0;
+            sought = goes.sought e at_line ∙ repaired.0;
             none = λ more fill behind is. omega (
               arith,
               short.known_is,
@@ -662,9 +684,24 @@ module _ {whole : Bits} {calls lost tried : ℕ} {old new : Feeding} {answer : R
             by_bool true is = refl
             by_bool false is = absurd (false≢true (sym (goes.unbegun is).2 ∙ line))
 
-    waits_lines : old.part ≡ None → new.part ≡ None → LinesNow lost
+    -- it is found to be short the first time
+    first_try : old.part ≡ None → new.part ≡ None → next.line_extra ≤ cost_of_first_try old new
+    first_try none still = elim (next.line_work.unread e none still) [
+      | inl nothing ↦ omega (arith, nothing)
+      | inr first ↦
+          let other : eqb new.tried_at old.tried_at ≡ false =
+          ne_eqb new.tried_at old.tried_at (λ same. first.untried (sym same ∙ first.tried)) in
+          omega (
+            arith,
+            next.line_work.begins e none,
+            none_paid new.part new.line_read still,
+            ap (λ (b : Bool). cond b 0 (changes_of new + 4 * length (drop new.place new.kept) + 2)) other,
+          )
+    ]
+
+    waits_lines : old.part ≡ None → new.part ≡ None → LinesNow (lost + cost_of_first_try old new)
     waits_lines none still =
-        let unread = next.line_work.unread e none still in
+        let unread = first_try none still in
         record {
           known = lines.known;
           read = lines.read;
@@ -788,13 +825,13 @@ module _ {whole : Bits} {calls lost tried : ℕ} {old new : Feeding} {answer : R
           passed = passed_some new.part (offset new + length bits_here) new some (shorts some);
         }
 
-    needs_lines : LinesNow lost
+    needs_lines : LinesNow (lost + cost_of_first_try old new)
     needs_lines = elim (none_or_some old.part) [
       | inl none ↦ elim (none_or_some new.part) [
         | inl still ↦ waits_lines none still
-        | inr some ↦ begins_lines none some
+        | inr some ↦ more_lost (cost_of_first_try old new) (begins_lines none some)
       ]
-      | inr kept ↦ goes_on_lines kept
+      | inr kept ↦ more_lost (cost_of_first_try old new) (goes_on_lines kept)
     ]
 
   -- ---- What a call comes to
@@ -806,19 +843,21 @@ module _ {whole : Bits} {calls lost tried : ℕ} {old new : Feeding} {answer : R
       let failed = subst (ReadsNext (fed_over whole old) (fed_over whole new)) is reads in
       let never = sym failed.error.0 ∙ still in cc
 
-  lines_step : (a : Result Fed DecodeError) → answer ≡ a → answer ≢ Err OutOfMemory → LinesNow lost
-  lines_step (Ok Fed.Row) e other = row_lines e
+  lines_step : (a : Result Fed DecodeError) → answer ≡ a → answer ≢ Err OutOfMemory
+      → LinesNow (lost + cost_of_first_try old new)
+  lines_step (Ok Fed.Row) e other = more_lost (cost_of_first_try old new) (row_lines e)
   lines_step (Ok Fed.NeedsMore) e other = needs_lines e
-  lines_step (Ok Fed.End) e other = end_lines (ends_there (inl refl) (next.end e))
-      (λ left. let never : Fed.End ≡ Fed.NeedsMore = subst HasNone e left in cc)
+  lines_step (Ok Fed.End) e other = more_lost (cost_of_first_try old new) (end_lines (ends_there (inl refl) (next.end e))
+      (λ left. let never : Fed.End ≡ Fed.NeedsMore = subst HasNone e left in cc))
   lines_step (Err error) e other =
       let no_memory : error ≢ OutOfMemory = λ is. other (e ∙ ap (λ (x : DecodeError). Err x) is) in
       let fault = subst (λ (r : Result Fed DecodeError). IfErr r (λ x. x ≢ OutOfMemory
       → ReadsNext (fed_over whole old) (fed_over whole new) (Err x))) e next.fault in
-      end_lines (ends_there (inr (error, refl)) (fault no_memory))
-      (λ left. no_memory (subst HasNone e left))
+      more_lost (cost_of_first_try old new) (end_lines (ends_there (inr (error, refl)) (fault no_memory))
+      (λ left. no_memory (subst HasNone e left)))
 
-  pub reads_paid : answer ≢ Err OutOfMemory → FeedIsPaid (calls + 1) lost (tried + next.extra) new
+  pub reads_paid : answer ≢ Err OutOfMemory
+      → FeedIsPaid (calls + 1) (lost + cost_of_first_try old new) (tried + next.extra) new
   reads_paid other = record {
     gaps = paid.gaps + next.gap;
     lines = counted;

@@ -225,6 +225,10 @@ scanned_before {old} {mid} {new} answer stays begun reads =
       stored = λ e. omega (arith, reads.stored e, scans.counts);
       looked = reads.looked ∙ ap (λ (f : Feeding). f.looked) frame;
       done = reads.done;
+      tried = elim reads.tried [
+        | inl same ↦ inl (same ∙ stays.tried)
+        | inr here ↦ inr here
+      ];
       behind = reads.behind;
       within = reads.within;
       paid = reads.paid;
@@ -305,6 +309,12 @@ scanned_after {old} {mid} {new} reads none unkept keeps_part =
       stored = λ e. cc;
       looked = ap (λ (f : Feeding). f.looked) frame ∙ reads.looked;
       done = λ e. absurd (e refl);
+      tried = inr (omega (
+        arith,
+        keeps_part.tried,
+        ap (λ (f : Feeding). f.dropped) frame,
+        ap (λ (f : Feeding). f.place) frame,
+      ));
       behind = λ e. cc;
       within = omega (
         arith,
@@ -366,6 +376,7 @@ stays_short {old} {new} stays begun =
       stored = λ e. cc;
       looked = ap (λ (f : Feeding). f.looked) frame;
       done = λ e. absurd (e refl);
+      tried = inl stays.tried;
       behind = λ e. cc;
       within = (stays.kept refl).0;
       paid = (stays.kept refl).1;

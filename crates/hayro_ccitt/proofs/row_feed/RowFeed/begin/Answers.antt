@@ -147,6 +147,7 @@ returns-clause-begins c =
       looked = 0;
       part = inside.part;
       line_read = inside.line_read;
+      tried_at = inside.tried;
     } in
     rw (← c.self.view_is) (record {
       extra = more;
@@ -175,6 +176,7 @@ returns-clause-begins c =
         past_eol = λ unfinished begun no_line sought. absurd (false≢true (sym (begun_not at) ∙ begun));
         at_line = λ line. absurd (false≢true (sym (begun_not at) ∙ (and_parts inside.begun (is_at_line inside.rows.stand)
             line).0));
+        tried = refl;
         space = stood.ensures.space ∙ c.front_waits.ensures.space;
         settings = settings_are ∙ ap (λ (h : Held). h.settings) same;
       };

@@ -1,3 +1,4 @@
+use Rattle.hayro_ccitt.proofs.Names.{refl}
 use Rattle.hayro_ccitt.proofs.Names.{◌≡◌, ◌∙◌, ◌+◌, ◌-◌, ◌*◌, ap, sym, subst, arith, length, length-drop, drop, false≢true}
 use Rattle.hayro_ccitt.proofs.Names.{bits_in, changes, List, ℕ, Some, Context, Held}
 use Rattle.hayro_ccitt.specs.GapsSeen.{IsSeen, rules_for}
@@ -94,6 +95,7 @@ returns-then-is_short c =
           }) on.ensures.frame;
           counts = on.ensures.counts;
         };
+        tried = refl;
         said = said_short (feeding_of inside) (scanned at) c.args.part part c.args.read c.placed_at-reader.result on.new.reader
             on.result (starts_at at) within on.ensures was;
         none = λ e. absurd (false≢true (sym e ∙ c.if-is_short.true));
@@ -133,6 +135,7 @@ returns-else-is_short c =
           frame = ap (λ (x : Context). record (feeding_of inside) { ctx = x }) on.ensures.frame;
           counts = on.ensures.counts;
         };
+        tried = refl;
         said = said_short (feeding_of inside) (scanned at) c.args.part part c.args.read c.placed_at-reader.result on.new.reader
             on.result (starts_at at) within on.ensures was;
         none = λ e. ap (λ (f : Feeding). f.part) c.self.view_is ∙ c.requires.none_kept;
