@@ -72,4 +72,5 @@ returns c =
       finished = refl;
       part = refl;
       line_read = refl;
+      tried_at = refl;
     })
