@@ -231,7 +231,8 @@ pub record CallGoesOn (old new : Feeding) (answer : Result Fed DecodeError) (gap
   pub behind : answer ≡ Ok Fed.Row → is_at_line new.rows.stand ≡ false
   pub tried : HasNone answer → (old.begun && is_at_line old.rows.stand) ≡ true
       → (new.tried_at ≡ old.tried_at) ⊎ (new.tried_at ≡ new.dropped + new.place)
-  pub sought : answer ≡ Ok Fed.Row → (old.begun && is_at_line old.rows.stand) ≡ true → new.ctx.held.has_eols ≡ old.ctx.held.has_eols
+  pub sought : answer ≡ Ok Fed.Row → (old.begun && is_at_line old.rows.stand) ≡ true
+      → new.ctx.held.has_eols ≡ old.ctx.held.has_eols
   pub waits : answer ≡ Ok Fed.NeedsMore → is_at_line new.rows.stand ≡ false
       → (new.place ≡ old.place) × (new.ctx.held.has_eols ≡ old.ctx.held.has_eols)
   pub within : new.place ≤ length new.kept

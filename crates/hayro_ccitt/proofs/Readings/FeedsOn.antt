@@ -905,7 +905,8 @@ line_goes_on {whole} {tried} {old} {new} answer reads line feed = record {
 -- the line is read, or left
 pub line_feeds : {whole : Bits} {tried : ℕ} {old new : Feeding} (answer : Result Bool DecodeError) → ReadsInFeed old new answer
     → (answer ≡ Ok false → old.part ≡ None → new.part ≡ None → (new.ctx.ticks ≡ old.ctx.ticks)
-    ⊎ ((old.tried_at ≢ new.dropped + new.place) × (new.tried_at ≡ new.dropped + new.place))) → old.begun ≡ true → is_at_line old.rows.stand ≡ true → IsFeedOf whole tried old → FeedsNext whole tried old new
+    ⊎ ((old.tried_at ≢ new.dropped + new.place) × (new.tried_at ≡ new.dropped + new.place))) → old.begun ≡ true
+    → is_at_line old.rows.stand ≡ true → IsFeedOf whole tried old → FeedsNext whole tried old new
     (fed_row answer)
 line_feeds {whole} {tried} {old} {new} (Ok true) reads unread begun line feed = record {
   row = λ e. reads.reads whole tried (λ left. cc) feed;
@@ -1085,7 +1086,8 @@ gap_feeds {whole} {tried} {old} {new} (Ok (Some false)) comes other begun unende
   extra_is = omega arith;
   line_work = no_line_paid unkept;
   goes_on = gap_ended comes.counts comes.space unkept (λ open_end.
-      let never = sym ((comes.comes whole tried (λ is. cc) feed).end refl).0 ∙ open_end in cc) (λ left. cc) (λ e. cc) none comes.begun comes.within;
+      let never = sym ((comes.comes whole tried (λ is. cc) feed).end refl).0 ∙ open_end in cc) (λ left. cc)
+      (λ e. cc) none comes.begun comes.within;
   stands = comes.stands whole tried (λ is. cc) feed;
   gap = comes.extra;
   looks = looks_begun old.begun begun comes.looks;

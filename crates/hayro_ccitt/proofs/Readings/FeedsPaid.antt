@@ -2,7 +2,8 @@
 use Rattle.hayro_ccitt.proofs.Names.{◌≡◌, ◌≢◌, ◌∙◌, ◌+◌, ◌-◌, ◌*◌, ◌≤◌, ◌<◌, ◌++◌, ◌∷◌, ◌⊎◌, ◌&&◌, [], ℕ, Bool, true, false}
 use Rattle.hayro_ccitt.proofs.Names.{Result, Ok, Err, None, Some, Option, refl, sym, ap, subst, arith, length, drop, replicate}
 use Rattle.hayro_ccitt.proofs.Names.{inl, inr, cases_lt, false≢true, length-append, length-drop, append_assoc, append-nil}
-use Rattle.hayro_ccitt.proofs.Names.{Bits, Context, Held, DecodeError, DecodeSettings, Row, Stand, AtLine, BehindRow, AtEnd, AtFault}
+use Rattle.hayro_ccitt.proofs.Names.{Bits, Context, Held, DecodeError, DecodeSettings, Row, Stand, AtLine, BehindRow, AtEnd}
+use Rattle.hayro_ccitt.proofs.Names.{AtFault}
 use Rattle.hayro_ccitt.proofs.Names.{changes, ended, is_at_line, line_here, row_of_line}
 use Rattle.hayro_ccitt.specs.PlainReading.{behind_row}
 use Rattle.hayro_ccitt.specs.Lines.{Line}
@@ -10,7 +11,8 @@ use Rattle.hayro_ccitt.specs.Continuations.{is_short}
 use Rattle.hayro_ccitt.specs.declared.line_parts.KeptPart.{KeptPart}
 use Rattle.hayro_ccitt.specs.declared.row_feed.Fed.{Fed}
 use Rattle.hayro_ccitt.specs.declared.row_reader.RowState.{RowState}
-use Rattle.hayro_ccitt.specs.RowFeeds.{CallGoesOn, Feeding, FeedsNext, HasNone, HoldsMore, IsFeedOf, IsOpenAt, KeepsBits, StandsIn}
+use Rattle.hayro_ccitt.specs.RowFeeds.{CallGoesOn, Feeding, FeedsNext, HasNone, HoldsMore, IsFeedOf, IsOpenAt, KeepsBits}
+use Rattle.hayro_ccitt.specs.RowFeeds.{StandsIn}
 use Rattle.hayro_ccitt.specs.RowFeeds.{fed_bits, fed_over, most_for_line, paid_by, paid_for_line}
 use Rattle.hayro_ccitt.proofs.Names.{IfErr}
 use Rattle.hayro_ccitt.specs.FeedsPaid.{FeedIsPaid, GapsPaid, IsPassed, LinesPaid, SeeksEol, WasShort, changes_of}
@@ -113,10 +115,10 @@ passed_none : (part : Option KeptPart) (known : ℕ) (feed : Feeding) → part �
 passed_none None at feed e known = known
 passed_none (Some part) at feed e known = absurd cc
 
-passed_some : (part : Option KeptPart) (known : ℕ) (feed : Feeding) → part ≢ None → WasShort known feed
+kept_passed : (part : Option KeptPart) (known : ℕ) (feed : Feeding) → part ≢ None → WasShort known feed
     → IsPassed part known feed
-passed_some None at feed e known = absurd (e refl)
-passed_some (Some part) at feed e known = known
+kept_passed None at feed e known = absurd (e refl)
+kept_passed (Some part) at feed e known = known
 
 was_passed : (part : Option KeptPart) (known : ℕ) (feed : Feeding) → part ≡ None → IsPassed part known feed
     → ended feed.rows.stand ≡ None → feed.finished ≡ false → (known ≤ offset feed) ⊎ SeeksEol known feed
@@ -499,9 +501,6 @@ module _ {whole : Bits} {calls lost tried : ℕ} {old new : Feeding} {answer : R
         ]
 
     -- what is counted where it is read
-    seen_within : lines.known ≤ fed_bits old
-    seen_within = lines.known_most
-
     read_here : paid.lines + next.line_extra + paid_for_line old ≤ paid.lines + most_for_line old + 4
         → paid.lines + next.line_extra
         ≤ 6 * lines.known + 2 * fed_bits old + 2 * lines.words + 8 * calls + lost + 4
@@ -778,7 +777,7 @@ module _ {whole : Bits} {calls lost tried : ℕ} {old new : Feeding} {answer : R
             left_none old.part (changes_of old) lines.seen none,
             left_some new.part (changes_of new) (length bits_here) some,
           );
-          passed = passed_some new.part (offset new + length bits_here) new some (shorts some);
+          passed = kept_passed new.part (offset new + length bits_here) new some (shorts some);
         }
 
     goes_on_lines : old.part ≢ None → LinesNow lost
@@ -822,7 +821,7 @@ module _ {whole : Bits} {calls lost tried : ℕ} {old new : Feeding} {answer : R
             left_some old.part (changes_of old) lines.seen kept,
             left_some new.part (changes_of new) (length bits_here) some,
           );
-          passed = passed_some new.part (offset new + length bits_here) new some (shorts some);
+          passed = kept_passed new.part (offset new + length bits_here) new some (shorts some);
         }
 
     needs_lines : LinesNow (lost + cost_of_first_try old new)

@@ -1,6 +1,8 @@
 -- A gap is looked at no more than twelve bits beyond its end.
-use Rattle.hayro_ccitt.proofs.Names.{◌≡◌, ◌∙◌, ◌+◌, ◌≤◌, ◌∷◌, ◌&&◌, ◌||◌, [], ℕ, zero, suc, Bool, true, false, not, cond, leb, eqb}
-use Rattle.hayro_ccitt.proofs.Names.{Option, None, Some, Result, Ok, Err, refl, sym, ap, arith, length, and_parts, false≢true, ne_eqb, eols_here}
+use Rattle.hayro_ccitt.proofs.Names.{◌≡◌, ◌∙◌, ◌+◌, ◌≤◌, ◌∷◌, ◌&&◌, ◌||◌, [], ℕ, zero, suc, Bool, true, false, not, cond, leb}
+use Rattle.hayro_ccitt.proofs.Names.{eqb}
+use Rattle.hayro_ccitt.proofs.Names.{Option, None, Some, Result, Ok, Err, refl, sym, ap, arith, length, and_parts, false≢true}
+use Rattle.hayro_ccitt.proofs.Names.{ne_eqb, eols_here}
 use Rattle.std.proofs.lemmas.Bool.{leb-false}
 use Rattle.hayro_ccitt.proofs.Names.{Bits, DecodeSettings, EncodingMode, Group4, Group3_1D, Group3_2D}
 use Rattle.hayro_ccitt.proofs.Names.{after_eol, all_eols, next_eol, at_end, eols_by, limit_met, Gap, gap_behind_row, InvalidCode}
@@ -17,7 +19,8 @@ use Rattle.fax_bits.proofs.BitReading.ConsecutiveEols.{counts_tagged, eols-none,
 use Rattle.fax_bits.proofs.BitReading.ConsecutiveEols.{eols_with_tags-some, last_tag_shorter, next_eol_found, past_tag_shorter}
 use Rattle.fax_reading.proofs.GapsContinued.ContinuedTags.{behind_first_tag, behind_one, last_tag_tested}
 use Rattle.hayro_ccitt.proofs.Readings.GapsSeen.{after_found, behind_more, behind_next, behind_one_shorter, eol_counts}
-use Rattle.hayro_ccitt.proofs.Readings.GapsSeen.{next_is_found, none_here, none_past, none_settled, one_here, one_is_left, rules_of, some_past}
+use Rattle.hayro_ccitt.proofs.Readings.GapsSeen.{next_is_found, none_here, none_past, none_settled, one_here, one_is_left}
+use Rattle.hayro_ccitt.proofs.Readings.GapsSeen.{rules_of, some_past}
 use Rattle.hayro_ccitt.proofs.Readings.GapsSeen.{stage_after_eol}
 use Rattle.hayro_ccitt.proofs.Work.EolsPassed.{eols_here_shorter}
 
@@ -259,7 +262,8 @@ eols_near Group4 true seeks here rest e settled = by_after_eol (after_eol 0 rest
           arith,
           ap (λ (found : ℕ × Bits). length found.1) is,
           no_tag_needs (rules_of Group4 true seeks) rest refl,
-          few_needed (rules_of Group4 true seeks) BehindTag 0 rest refl (tag_few (rules_of Group4 true seeks)) none (sym (ap (eols_are_settled Group4 true) is) ∙ settled),
+          few_needed (rules_of Group4 true seeks) BehindTag 0 rest refl (tag_few (rules_of Group4 true seeks)) none
+              (sym (ap (eols_are_settled Group4 true) is) ∙ settled),
         )
     by_after_eol (Some last) some =
         let is : eols 2 here ≡ (2, last) = eols-some 1 here rest e ∙ ap one_more (eols-some 0 rest last some) in

@@ -388,7 +388,8 @@ one_here Group4 false here rest e =
 one_here Group4 true here rest e = ap (λ (found : ℕ × Bits). eqb found.0 0) (eols-some 1 here rest e) ∙ some (eols 1 rest)
 
 -- without EOLs the test is for a one
-pub none_settled : (encoding : EncodingMode) (block : Bool) (here : Bits) → eols_are_settled encoding block (0, here) ≡ holds_one here
+pub none_settled : (encoding : EncodingMode) (block : Bool) (here : Bits)
+    → eols_are_settled encoding block (0, here) ≡ holds_one here
 none_settled Group3_1D block here = refl
 none_settled Group3_2D block [] = refl
 none_settled Group3_2D block (true ∷ here) = refl
@@ -565,7 +566,8 @@ looks_at_zeros n unsettled looks is = by_zeros_looked n unsettled looks (is ∙ 
 pub looks_at_one : {rules : GapRules} {old mid : GapLook} {here rest : Bits} → is_settled mid.stage ≡ false
     → LooksTo rules old mid here (true ∷ rest)
     → LooksTo rules old (record { stage = stage_after rules mid.stage mid.zeros; zeros = 0; bits = mid.bits + 1 }) here rest
-looks_at_one {rules} {old} {mid} unsettled looks = looks_more (true ∷ []) (one_needed rules mid.stage mid.zeros unsettled) looks refl
+looks_at_one {rules} {old} {mid} unsettled looks =
+    looks_more (true ∷ []) (one_needed rules mid.stage mid.zeros unsettled) looks refl
 
 pub looks_at_run : (n : ℕ) {rules : GapRules} {old mid : GapLook} {here from rest : Bits} → is_settled mid.stage ≡ false
     → LooksTo rules old mid here from

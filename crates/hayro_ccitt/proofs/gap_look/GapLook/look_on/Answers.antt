@@ -10,7 +10,8 @@ zeros_left : (c : In-None) → here c.ones.rest ≡ replicate c.zero_run-zeros.r
 zeros_left c = rw c.in-None.is at c.zero_run-zeros.ensures.end
 
 pub returns-in-None-clause-looks : goal.returns-in-None-clause-looks
-returns-in-None-clause-looks c = ([], looks_at_zeros c.zero_run-zeros.result.0 (sym c.is_settled.ensures ∙ c.ones-test.true) c.ones.invariant.looks (zeros_left c))
+returns-in-None-clause-looks c =
+    ([], looks_at_zeros c.zero_run-zeros.result.0 (sym c.is_settled.ensures ∙ c.ones-test.true) c.ones.invariant.looks (zeros_left c))
 
 pub returns-in-None-clause-ticks : goal.returns-in-None-clause-ticks
 returns-in-None-clause-ticks c = omega (
@@ -65,7 +66,8 @@ ones-preserved c =
     let at = (goal.at.ones-preserved c).In-Some in
     let n = c.zero_run-zeros.result.0 in
     record {
-      looks = rw c.stage_after-self.ensures (looks_at_run n (sym c.is_settled.ensures ∙ c.ones-test.true) c.ones.invariant.looks (run_here at));
+      looks = rw c.stage_after-self.ensures (looks_at_run n (sym c.is_settled.ensures ∙ c.ones-test.true)
+          c.ones.invariant.looks (run_here at));
       ticks = omega (
         arith,
         c.ones.invariant.ticks,
