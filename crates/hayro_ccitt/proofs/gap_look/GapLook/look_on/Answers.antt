@@ -11,7 +11,8 @@ zeros_left c = rw c.in-None.is at c.zero_run-zeros.ensures.end
 
 pub returns-in-None-clause-looks : goal.returns-in-None-clause-looks
 returns-in-None-clause-looks c =
-    ([], looks_at_zeros c.zero_run-zeros.result.0 (sym c.is_settled.ensures ∙ c.ones-test.true) c.ones.invariant.looks (zeros_left c))
+    let waits = sym c.is_settled.ensures ∙ c.ones-test.true in
+    ([], looks_at_zeros c.zero_run-zeros.result.0 waits c.ones.invariant.looks (zeros_left c))
 
 pub returns-in-None-clause-ticks : goal.returns-in-None-clause-ticks
 returns-in-None-clause-ticks c = omega (
