@@ -75,10 +75,10 @@ module _ {W : Type 0} {contents : W → Option (List ℕ)} {begun mid now : W ×
       → PutsText more waits last (used contents mid now) result
       → PutsText (text ++ more) waited last (used contents begun now) result
   puts_then {result} first next = record {
-    ok = on_ok_weaker result (passes_both (contents begun.0) (contents mid.0) (contents now.0) waited text waits more last first.ok)
-        next.ok;
-    front = on_err_weaker result (front_behind (contents begun.0) (contents mid.0) (contents now.0) waited text waits more first.ok)
-        next.front;
+    ok = on_ok_weaker result
+        (passes_both (contents begun.0) (contents mid.0) (contents now.0) waited text waits more last first.ok) next.ok;
+    front = on_err_weaker result
+        (front_behind (contents begun.0) (contents mid.0) (contents now.0) waited text waits more first.ok) next.front;
     fails = record {
       flag = on_ok_weaker result (λ same. same ∙ first.fails.flag) next.fails.flag;
       failed = next.fails.failed;

@@ -1,7 +1,9 @@
 pub mod BitsHeld
 pub mod BlackGoesOn
 pub mod FeedsOn
+pub mod FeedsPaid
 pub mod FirstGaps
+pub mod GapsNear
 pub mod GapsPassed
 pub mod GapsSeen
 pub mod LinesRead

@@ -79,6 +79,13 @@ is_settled BehindEol = false
 is_settled BehindTag = false
 is_settled Settled = true
 
+-- how many of some bits are looked at: up to the one with which nothing that follows changes the gap, or all
+abbrev pub bits_needed : GapRules → GapStage → ℕ → Bits → ℕ
+bits_needed rules stage seen [] = 0
+bits_needed rules stage seen (false ∷ here) = if is_settled stage then 0 else suc (bits_needed rules stage (suc seen) here)
+bits_needed rules stage seen (true ∷ here) =
+    if is_settled stage then 0 else suc (bits_needed rules (stage_after rules stage seen) 0 here)
+
 -- ---- How far it was looked at
 
 abbrev pub nothing_seen : GapLook
@@ -91,6 +98,9 @@ pub record LooksTo (rules : GapRules) (old new : GapLook) (here rest : Bits) : T
   pub stage : new.stage ≡ stage_behind rules old.stage old.zeros looked
   pub zeros : new.zeros ≡ zeros_behind old.zeros looked
   pub bits : new.bits ≡ old.bits + length looked
+  -- none was looked at beyond those needed
+  pub needed : (others : Bits) → bits_needed rules old.stage old.zeros (looked ++ others)
+      ≡ length looked + bits_needed rules new.stage new.zeros others
 
 abbrev pub LooksOn : GapRules → GapLook → GapLook → Bits → Type 0
 LooksOn rules old new here = (rest : Bits) × LooksTo rules old new here rest

@@ -1,6 +1,7 @@
 pub mod ContextView
 pub mod Contract
 pub mod DrawnModes
+pub mod FeedsPaid
 pub mod GapsSeen
 pub mod Lending
 pub mod LineParts

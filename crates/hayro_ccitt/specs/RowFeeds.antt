@@ -1,8 +1,9 @@
 -- Rows from data that comes in pieces: what is kept of it, what is seen of a reading, and which data it is a reading of.
 use Rattle.std.specs.Prelude.{◌≡◌, ◌≢◌, ◌≤◌, ◌<◌, ◌+◌, ◌*◌, ◌/◌, ◌^◌, ℕ, Bool, true, false, ◌++◌, [], not, ◌&&◌, ◌⊎◌}
-use Rattle.std.specs.Prelude.{max, drop, length, Option, None, Some, Result, Ok, Err, IfErr}
+use Rattle.std.specs.Prelude.{max, drop, length, replicate, ◌∷◌, Option, None, Some, Result, Ok, Err, IfErr}
 use Rattle.fax_bits.specs.declared.bit_reader.BitOrder.{BitOrder}
 use Rattle.fax_bits.specs.declared.codes.Color.TheVariants.{White}
+use Rattle.fax_bits.specs.declared.settings.EncodingMode.TheVariants.{Group3_2D}
 use Rattle.fax_bits.specs.declared.error.DecodeError.{DecodeError}
 use Rattle.fax_bits.specs.declared.error.DecodeError.TheVariants.{InvalidCode, OutOfMemory}
 use Rattle.hayro_ccitt.specs.declared.line_parts.KeptPart.{KeptPart}
@@ -20,7 +21,7 @@ use Rattle.hayro_ccitt.specs.GapsSeen.{IsSeen, nothing_seen, rules_for}
 use Rattle.hayro_ccitt.specs.declared.gap_look.GapLook.{GapLook}
 use Rattle.hayro_ccitt.specs.LineParts.{IsLawfulPart, IsPartOf}
 use Rattle.hayro_ccitt.specs.Lines.{Line}
-use Rattle.hayro_ccitt.specs.PlainReading.{line_here, lines_of}
+use Rattle.hayro_ccitt.specs.PlainReading.{line_here, lines_of, row_of_line}
 use Rattle.hayro_ccitt.specs.Rows.{changes}
 use Rattle.hayro_ccitt.specs.RowsRead.{IsStanding, IsStandingAtLine, ReachesNextLine, ReadsNext, RowsRead, ended, is_at_line}
 use Rattle.hayro_ccitt.specs.RowsRead.{seen}
@@ -45,6 +46,7 @@ pub record Feeding : Type 0 where
   pub looked : ℕ
   pub part : Option KeptPart
   pub line_read : ℕ
+  pub tried_at : ℕ
 
 abbrev pub feeding_of : Inside → Feeding
 feeding_of f = record {
@@ -59,6 +61,7 @@ feeding_of f = record {
   looked = f.look.bits;
   part = f.part;
   line_read = f.line_read;
+  tried_at = f.tried;
 }
 
 -- the line that begins these bits is short, and goes on from this part of it, of which so many bits were read
@@ -173,6 +176,16 @@ paid_for_line feed = paid_by feed.part feed.line_read
 abbrev pub most_for_line : Feeding → ℕ
 most_for_line feed = length (changes feed.ctx.held.reference) + 2 * length (drop feed.place feed.kept)
 
+-- a line is found to be short for the first time, and no part of it is kept
+pub record TriesFirst (old new : Feeding) : Type 0 where
+  pub untried : old.tried_at ≢ new.dropped + new.place
+  pub tried : new.tried_at ≡ new.dropped + new.place
+  pub at_line : is_at_line new.rows.stand ≡ true
+
+-- the most that is counted to find a line to be short, or to draw what memory is left for
+abbrev pub most_to_find : Feeding → ℕ
+most_to_find feed = 4 * length (drop feed.place feed.kept) + length (changes feed.ctx.held.reference)
+
 -- What a call counts for a line that it leaves, or that was left before. Where a short line goes on, only the bits that are read
 -- newly are counted, and the changes that are passed newly; where it is found to be short first, four ticks a bit more, and the
 -- changes once. Where it is read, what went before counts no more than once for the whole line (T.4, 4.1 and 4.2; T.6, 2.2).
@@ -182,6 +195,52 @@ pub record LineWork (old new : Feeding) (answer : Result Fed DecodeError) (count
       + (4 * length (drop new.place new.kept) + length (changes new.ctx.held.reference) + 2)
   pub read : (HasNone answer → ⊥) → counted + paid_for_line old ≤ most_for_line old + 4
   pub at_once : (HasNone answer → ⊥) → old.part ≡ None → counted ≡ 0
+  -- the part that is kept goes on, and where none is kept nothing is counted
+  pub some : answer ≡ Ok Fed.NeedsMore → old.part ≢ None → new.part ≢ None
+  pub unread : answer ≡ Ok Fed.NeedsMore → old.part ≡ None → new.part ≡ None → (counted ≡ 0) ⊎ TriesFirst old new
+  -- a line that was left before is read on once more, and then from its start
+  pub failed : answer ≡ Err OutOfMemory
+      → counted + paid_for_line old ≤ most_for_line old + most_to_find new + 6
+  pub failed_at_once : answer ≡ Err OutOfMemory → old.part ≡ None → counted ≤ most_to_find new + 2
+
+-- an EOL is among some bits, which begin at this offset, and ends no later than another (T.4, 4.1.2)
+pub record PassesEol (gap : Bits) (from to : ℕ) : Type 0 where
+  pub fill : Bits
+  pub behind : Bits
+  pub place : gap ≡ fill ++ replicate 11 false ++ true ∷ behind
+  pub passed : from + length fill + 12 ≤ to
+
+-- How a call goes on in the data, and what it counts for that: where a gap is passed, no more than twelve bits beyond it were
+-- looked at; the changes of a row are no more than the words of its line, and one; and the lists of changes have no more room
+-- than before, or than a row needs.
+pub record CallGoesOn (old new : Feeding) (answer : Result Fed DecodeError) (gap extra : ℕ) : Type 0 where
+  pub counts : old.ctx.ticks + extra ≤ new.ctx.ticks
+  pub stored : answer ≡ Ok Fed.Row → length (changes new.ctx.held.reference) + (old.ctx.ticks + extra) ≤ new.ctx.ticks + 1
+  pub onward : ended new.rows.stand ≡ None → old.dropped + old.place ≤ new.dropped + new.place
+  pub near : old.begun ≡ true → old.finished ≡ false → ended new.rows.stand ≡ None
+      → gap + old.looked + (old.dropped + old.place) ≤ new.dropped + new.place + new.looked + 12
+  pub stays : HasNone answer → (old.begun && is_at_line old.rows.stand) ≡ true → new.place ≡ old.place
+  -- what a line yields that was left before
+  pub row_is : answer ≡ Ok Fed.Row → (old.begun && is_at_line old.rows.stand) ≡ true
+      → row_of_line old.ctx.held.settings old.ctx.held.has_eols (drop old.place old.kept) (line_of_feed old)
+      ≡ Ok (new.ctx.held.reference, drop new.place new.kept)
+  -- an EOL is passed, where EOLs are sought and more data may come (T.4, 4.1.2)
+  pub past_eol : old.finished ≡ false → old.begun ≡ true → is_at_line old.rows.stand ≡ false → old.ctx.held.has_eols ≡ true
+      → ended new.rows.stand ≡ None → (answer ≡ Ok Fed.NeedsMore → is_at_line new.rows.stand ≡ true)
+      → PassesEol (drop old.place old.kept) (old.dropped + old.place) (new.dropped + new.place)
+  pub behind : answer ≡ Ok Fed.Row → is_at_line new.rows.stand ≡ false
+  pub tried : HasNone answer → (old.begun && is_at_line old.rows.stand) ≡ true
+      → (new.tried_at ≡ old.tried_at) ⊎ (new.tried_at ≡ new.dropped + new.place)
+  pub sought : answer ≡ Ok Fed.Row → (old.begun && is_at_line old.rows.stand) ≡ true
+      → new.ctx.held.has_eols ≡ old.ctx.held.has_eols
+  pub waits : answer ≡ Ok Fed.NeedsMore → is_at_line new.rows.stand ≡ false
+      → (new.place ≡ old.place) × (new.ctx.held.has_eols ≡ old.ctx.held.has_eols)
+  pub within : new.place ≤ length new.kept
+  pub paid : paid_for_line new ≤ most_for_line new + 2
+  pub unkept : (answer ≡ Ok Fed.NeedsMore → is_at_line new.rows.stand ≡ false) → new.part ≡ None
+  pub unbegun : new.begun ≡ false
+      → (old.begun ≡ false) × (answer ≡ Ok Fed.NeedsMore) × (is_at_line new.rows.stand ≡ false)
+  pub space : new.ctx.space ≤ max old.ctx.space (2 * old.ctx.held.settings.columns + 66)
 
 -- What a call that reads the next row leaves, of whatever data those fed are a beginning: the next row of its plain reading,
 -- its end
@@ -208,6 +267,7 @@ pub record FeedsNext (whole : Bits) (tried : ℕ) (old new : Feeding) (answer : 
   pub looks : LooksAhead old.finished (old.begun && is_at_line old.rows.stand) old.looked (drop old.place old.kept) gap
   pub looked : answer ≡ Ok Fed.NeedsMore → is_at_line new.rows.stand ≡ false → gap + old.looked ≡ new.looked
   pub line_work : LineWork old new answer line_extra
+  pub goes_on : CallGoesOn old new answer gap extra
 
 -- ---- The steps of a call: not part of the trusted specification
 
@@ -225,6 +285,13 @@ pub record ComesOn (is_last : Bool) (gap_start : ℕ) (rows kept : RowState) (lo
   pub looked : answer ≡ Ok None → (extra + look.bits ≡ kept_look.bits)
       × IsSeen (rules_for true old.held) kept_look (here before)
   pub none_looked : answer ≢ Ok None → kept_look ≡ nothing_seen
+  -- of a gap that is passed no more than twelve bits beyond its end were looked at
+  pub near : answer ≢ Ok None → is_last ≡ false → extra + look.bits + before.place ≤ after.place + 12
+  pub counts : old.ticks + extra ≤ new.ticks
+  pub onward : answer ≡ Ok (Some true) → before.place ≤ after.place
+  pub at_line : is_at_line rows.stand ≡ true → (after ≡ before) × (new.held ≡ old.held)
+  pub past_eol : is_last ≡ false → is_at_line rows.stand ≡ false → old.held.has_eols ≡ true → answer ≡ Ok (Some true)
+      → PassesEol (here before) before.place after.place
   pub same_bits : after.bits ≡ before.bits
   pub within : after.place ≤ length after.bits
   pub space : new.space ≡ old.space
@@ -248,6 +315,7 @@ pub record TriesLine (is_last : Bool) (line_start : ℕ) (rows kept : RowState) 
   pub same_bits : after.bits ≡ before.bits
   pub within : after.place ≤ length after.bits
   pub left : IsLeft answer → (kept ≡ rows) × (after ≡ before)
+  pub behind : answer ≡ Ok true → is_at_line kept.stand ≡ false
   pub reads : (from : ℕ) (whole : Bits) (dropped : ℕ) → (IsLeft answer → ⊥) → LieIn whole dropped is_last before.bits
       → line_start ≡ dropped + before.place → IsStandingAtLine from rows old (record { bits = whole; place = line_start })
       → ReadsNext (seen rows old (record { bits = whole; place = line_start }))
@@ -284,6 +352,20 @@ line_first BehindRow = Ok true
 line_first AtEnd = Ok false
 line_first (AtFault error) = Err error
 
+-- a line is reached behind a gap
+pub record ReachesLine (old new : Feeding) (extra : ℕ) : Type 0 where
+  pub counts : old.ctx.ticks + extra ≤ new.ctx.ticks
+  pub onward : old.dropped + old.place ≤ new.dropped + new.place
+  pub near : old.begun ≡ true → old.finished ≡ false
+      → extra + old.looked + (old.dropped + old.place) ≤ new.dropped + new.place + 12
+  pub past_eol : old.finished ≡ false → old.begun ≡ true → is_at_line old.rows.stand ≡ false → old.ctx.held.has_eols ≡ true
+      → PassesEol (drop old.place old.kept) (old.dropped + old.place) (new.dropped + new.place)
+  pub at_line : (old.begun && is_at_line old.rows.stand) ≡ true
+      → (new.place ≡ old.place) × (new.ctx.held ≡ old.ctx.held) × (new.kept ≡ old.kept)
+  pub tried : new.tried_at ≡ old.tried_at
+  pub space : new.ctx.space ≡ old.ctx.space
+  pub settings : new.ctx.held.settings ≡ old.ctx.held.settings
+
 -- what is before the first line is passed, if no data that follows can change it
 pub record Begins (old new : Feeding) (answer : Bool) : Type 0 where
   pub extra : ℕ
@@ -291,10 +373,12 @@ pub record Begins (old new : Feeding) (answer : Bool) : Type 0 where
   pub looked : answer ≡ false → extra + old.looked ≡ new.looked
   pub keeps : KeepsBits old new
   pub begun : new.begun ≡ answer
+  pub within : new.place ≤ length new.kept
   pub space : new.ctx.space ≡ old.ctx.space
   pub waits : answer ≡ false → (new.ctx.held ≡ old.ctx.held) × (new.ctx.ticks ≡ old.ctx.ticks + extra) × (new.rows ≡ old.rows)
       × (new.place ≡ old.place) × (old.finished ≡ false)
       × (first_gap_is_settled old.ctx.held.settings.encoding old.ctx.held.settings old.kept ≡ false)
+  pub reaches : (whole : Bits) (tried : ℕ) → answer ≡ true → IsFeedOf whole tried old → ReachesLine old new extra
   pub unfailed : answer ≡ true → (error : DecodeError) → ended new.rows.stand ≢ Some (Err error)
   pub passes : (whole : Bits) (tried : ℕ) → answer ≡ true → IsFeedOf whole tried old
       → ReachesNextLine (fed_over whole old) (fed_over whole new) (line_first new.rows.stand)
@@ -307,6 +391,7 @@ pub record ComesInFeed (old new : Feeding) (answer : Result (Option Bool) Decode
   pub looked : answer ≡ Ok None → extra + old.looked ≡ new.looked
   pub keeps : KeepsBits old new
   pub begun : new.begun ≡ true
+  pub within : new.place ≤ length new.kept
   pub space : new.ctx.space ≡ old.ctx.space
   pub waits : answer ≡ Ok None → (new.ctx.held ≡ old.ctx.held) × (new.ctx.ticks ≡ old.ctx.ticks + extra) × (new.rows ≡ old.rows)
       × (new.place ≡ old.place) × (old.finished ≡ false) × (is_at_line old.rows.stand ≡ false)
@@ -315,6 +400,8 @@ pub record ComesInFeed (old new : Feeding) (answer : Result (Option Bool) Decode
       → ReachesNextLine (fed_over whole old) (fed_over whole new) (came answer)
   pub stands : (whole : Bits) (tried : ℕ) → answer ≢ Ok None → IsFeedOf whole tried old → IsFeedOf whole (tried + extra) new
   pub line : answer ≡ Ok (Some true) → is_at_line new.rows.stand ≡ true
+  pub counts : old.ctx.ticks + extra ≤ new.ctx.ticks
+  pub reaches : (whole : Bits) (tried : ℕ) → answer ≡ Ok (Some true) → IsFeedOf whole tried old → ReachesLine old new extra
   pub only_code : IfErr answer (λ e. e ≡ InvalidCode)
   pub waiting : (whole : Bits) (tried : ℕ) → answer ≡ Ok None → IsFeedOf whole tried old → IsFeedOf whole (tried + extra) new
 
@@ -325,6 +412,9 @@ pub record LineIsPaid (old new : Feeding) (answer : Result Bool DecodeError) (co
       + (4 * length (drop old.place old.kept) + length (changes old.ctx.held.reference) + 2)
   pub read : (IsLeft answer → ⊥) → counted + paid_for_line old ≤ most_for_line old + 4
   pub at_once : (IsLeft answer → ⊥) → old.part ≡ None → counted ≡ 0
+  pub some : answer ≡ Ok false → old.part ≢ None → new.part ≢ None
+  pub failed : answer ≡ Err OutOfMemory → counted + paid_for_line old ≤ most_for_line old + most_to_find old + 6
+  pub failed_at_once : answer ≡ Err OutOfMemory → old.part ≡ None → counted ≤ most_to_find old + 2
 
 -- and the line here is read
 pub record ReadsInFeed (old new : Feeding) (answer : Result Bool DecodeError) : Type 0 where
@@ -343,6 +433,18 @@ pub record ReadsInFeed (old new : Feeding) (answer : Result Bool DecodeError) : 
       → ReadsNext (fed_over whole old) (fed_over whole new) answer
   pub stands : (whole : Bits) (tried : ℕ) → IsFeedOf whole tried old → IsFeedOf whole (tried + extra) new
   pub most : new.ctx.space ≤ max old.ctx.space (2 * old.ctx.held.settings.columns + 66)
+  pub counted : old.ctx.ticks + extra ≤ new.ctx.ticks
+  pub stored : answer ≡ Ok true → length (changes new.ctx.held.reference) + (old.ctx.ticks + extra) ≤ new.ctx.ticks + 1
+  pub looked : new.looked ≡ old.looked
+  pub done : answer ≢ Ok false → new.part ≡ None
+  pub tried : (new.tried_at ≡ old.tried_at) ⊎ (new.tried_at ≡ new.dropped + new.place)
+  pub behind : answer ≡ Ok true → is_at_line new.rows.stand ≡ false
+  pub within : new.place ≤ length new.kept
+  pub paid : paid_for_line new ≤ most_for_line new + 2
+  pub row_is : (whole : Bits) (tried : ℕ) → answer ≡ Ok true → IsFeedOf whole tried old
+      → (row_of_line old.ctx.held.settings old.ctx.held.has_eols (drop old.place old.kept) (line_of_feed old)
+      ≡ Ok (new.ctx.held.reference, drop new.place new.kept)) × (old.place ≤ new.place)
+      × (new.ctx.held.has_eols ≡ old.ctx.held.has_eols)
   pub work : LineIsPaid old new answer extra
 
 -- a short line is read on: nothing changes but the count of work, and what is kept of the line
@@ -351,24 +453,31 @@ pub record Scans (old new : Feeding) : Type 0 where
     ctx = record old.ctx { ticks = new.ctx.ticks };
     part = new.part;
     line_read = new.line_read;
+    tried_at = new.tried_at;
   }
   pub counts : old.ctx.ticks ≤ new.ctx.ticks
 
 -- from a part with so many changes passed and bits read on
 pub record ScansLine (passed read : ℕ) (old new : Feeding) (short : Bool) : Type 0 where
   pub scans : Scans old new
+  pub tried : new.tried_at ≡ old.tried_at
   pub said : is_short (line_of_feed old) ≡ short
   pub none : short ≡ false → new.part ≡ None
+  pub some : short ≡ true → new.part ≢ None
+  pub kept : short ≡ true → (new.place ≤ length new.kept) × (paid_for_line new ≤ most_for_line new + 2)
   pub work : short ≡ true → new.ctx.ticks + (passed + 2 * read) ≤ old.ctx.ticks + paid_for_line new
   pub most : new.ctx.ticks + (passed + 2 * read) ≤ old.ctx.ticks + most_for_line old + 2
 
 -- from the part that is kept, if one is
 pub record StaysShort (old new : Feeding) (short : Bool) : Type 0 where
   pub scans : Scans old new
+  pub tried : new.tried_at ≡ old.tried_at
   pub said : short ≡ true
       → (is_short (line_of_feed old) ≡ true) × (old.finished ≡ false) × (redrawn old.ctx.held [] White ≡ old.ctx.held)
   pub settled : short ≡ false → old.part ≢ None → (old.finished ≡ true) ⊎ (is_short (line_of_feed old) ≡ false)
   pub none : short ≡ false → new.part ≡ None
+  pub some : short ≡ true → new.part ≢ None
+  pub kept : short ≡ true → (new.place ≤ length new.kept) × (paid_for_line new ≤ most_for_line new + 2)
   pub unkept : old.part ≡ None → (short ≡ false) × (new.ctx.ticks ≡ old.ctx.ticks)
   pub work : short ≡ true → new.ctx.ticks + paid_for_line old ≤ old.ctx.ticks + paid_for_line new + 2
   pub most : new.ctx.ticks + paid_for_line old ≤ old.ctx.ticks + most_for_line old + 4
@@ -377,6 +486,11 @@ pub record StaysShort (old new : Feeding) (short : Bool) : Type 0 where
 pub record KeepsPart (old new : Feeding) : Type 0 where
   pub scans : Scans old new
   pub work : is_short (line_of_feed old) ≡ true → new.ctx.ticks ≤ old.ctx.ticks + paid_for_line new
+  pub paid : new.part ≢ None → paid_for_line new ≤ most_for_line new + 2
+  pub tried : new.tried_at ≡ old.dropped + old.place
+  -- where none is, the line is tried for the first time, or the tag is missing
+  pub no_tag : is_short (line_of_feed old) ≡ true → new.part ≡ None → old.tried_at ≡ old.dropped + old.place
+      → (old.ctx.held.settings.encoding ≡ Group3_2D) × (drop old.place old.kept ≡ []) × (new.ctx.ticks ≡ old.ctx.ticks)
 
 -- what a call answers where a line was tried
 abbrev pub fed_row : Result Bool DecodeError → Result Fed DecodeError
@@ -412,6 +526,13 @@ pub record HoldsMore (next : Bits) (old new : Feeding) : Type 0 where
   pub fed : fed_bits new ≡ fed_bits old + length next
   pub place : new.dropped + new.place ≡ old.dropped + old.place
   pub begun : new.begun ≡ old.begun
+  pub looked : new.looked ≡ old.looked
+  pub part : new.part ≡ old.part
+  pub line_read : new.line_read ≡ old.line_read
+  pub tried_at : new.tried_at ≡ old.tried_at
+  pub within : old.place ≤ length old.kept
+  pub reading : (new.ctx ≡ old.ctx) × (new.rows ≡ old.rows) × (new.finished ≡ old.finished)
+  pub order : new.order ≡ old.order
 
 -- these bits are those of the whole data that come next, and whole bytes follow them
 pub record ComeNext (whole : Bits) (feed : Feeding) (next : Bits) : Type 0 where
@@ -435,3 +556,4 @@ pub record DropsRead (old new : Feeding) : Type 0 where
   pub finished : new.finished ≡ old.finished
   pub part : new.part ≡ old.part
   pub line_read : new.line_read ≡ old.line_read
+  pub tried_at : new.tried_at ≡ old.tried_at

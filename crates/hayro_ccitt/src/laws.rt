@@ -1,6 +1,7 @@
 //! Laws of CCITT data, whatever program reads it: each is the contract of a function that does nothing. Those about definitions
 //! alone are `fax_reading`'s.
 
+ghost use Rattle.hayro_ccitt.specs.FeedsPaid.{FeedsArePaid};
 ghost use Rattle.hayro_ccitt.specs.Laws.{StepsOnRows};
 
 use crate::Decoder;
@@ -15,4 +16,10 @@ pub use fax_reading::laws::{
 /// over these rows yields (T.4, 4.2.1.1).
 pub fn steps_on_rows<D: Decoder>()
     ensures { StepsOnRows D.Meaning }
+{}
+
+/// What all calls of a [`RowFeed`](crate::RowFeed) count: at most 128 ticks a bit that was fed and 256, and 32 for each call of
+/// `next_row`, whatever pieces the data comes in. A call that fails for memory costs more.
+pub fn feeds_paid()
+    ensures { FeedsArePaid }
 {}

@@ -293,6 +293,7 @@ pub(crate) fn begin_part(ctx: &mut DecoderContext, reader: &mut BitReader<'_>) -
     ensures begins { IfSome result (λ part. IsPartOf ctx.old.held.settings ctx.old.held.reference (here reader.old) part
         (here reader.new)) }
     ensures lawful { IfSome result (λ part. IsLawfulPart ctx.old.held.settings ctx.old.held.reference part) }
+    ensures no_tag { IfNone result ((ctx.old.held.settings.encoding ≡ EncodingMode.Group3_2D) × (here reader.old ≡ [])) }
     ensures frame { ctx.new ≡ ctx.old }
     ensures same_bits { reader.new.bits ≡ reader.old.bits }
     ensures onward { reader.old.place ≤ reader.new.place }

@@ -22,7 +22,7 @@ use crate::gap_look::{
 use crate::line_parts::{KeptPart, begin_part, continue_line};
 use crate::row_reader::{RowState, Stand, first_stand, has_ended, is_at_line};
 use crate::rows::try_row;
-use crate::{DecodeError, Result};
+use crate::{DecodeError, EncodingMode, Result};
 use fax_bits::DecodeSettings;
 use fax_bits::bit_reader::{BitOrder, BitReader, at_bit, placed_at};
 use fax_bits::codes::Color;
@@ -215,7 +215,9 @@ impl RowState {
         requires rows { ctx.old.held.taken + 1 < 2 ^ 64 }
         requires damaged { ctx.old.held.repairs.rows ≤ ctx.old.held.taken }
         requires begun { ctx.old.held.front ≡ [] }
-        ensures { TriesLine is_last line_start self.old self.new ctx.old ctx.new reader.old reader.new result }
+        ensures tries { TriesLine is_last line_start self.old self.new ctx.old ctx.new reader.old reader.new result }
+        ensures no_tag { ctx.old.held.settings.encoding ≡ EncodingMode.Group3_2D → here reader.old ≡ [] → result ≡ Ok false
+            → ctx.new.ticks ≡ ctx.old.ticks }
     {
         // An offset is known to be within the data once it is read.
         let _start = reader.bit_pos();
@@ -296,7 +298,8 @@ impl RowFeed {
         ensures settings { IfOk result (λ feed. feed.ctx.held.settings ≡ settings) }
         ensures order { IfOk result (λ feed. feed.order ≡ order) }
         ensures none_fed { IfOk result (λ feed. (feed.kept ≡ []) × (feed.dropped ≡ 0) × (feed.finished ≡ false)) }
-        ensures none_read { IfOk result (λ feed. (feed.ctx.held.taken ≡ 0) × (feed.begun ≡ false)) }
+        ensures none_read { IfOk result (λ feed. (feed.ctx.held.taken ≡ 0) × (feed.begun ≡ false) × (feed.looked ≡ 0)
+            × (feed.part ≡ None)) }
         ensures only_memory { IsOkUnless result DecodeError.OutOfMemory }
     {
         Ok(RowFeed {
@@ -363,6 +366,9 @@ impl RowFeed {
         requires none_kept { self.old.part ≡ None }
         ensures reads { ReadsInFeed self.old self.new result }
         ensures none_kept { self.new.part ≡ None }
+        ensures no_tag { self.old.ctx.held.settings.encoding ≡ EncodingMode.Group3_2D
+            → drop self.old.place self.old.kept ≡ [] → result ≡ Ok false → self.new.ctx.ticks ≡ self.old.ctx.ticks }
+        ensures tried { self.new.tried_at ≡ self.old.tried_at }
     {
         let mut reader = placed_at(&self.data, self.order, self.place);
         let line_start = self.dropped + self.place;
@@ -438,7 +444,10 @@ impl RowFeed {
         requires rows { self.old.ctx.held.taken + 1 < 2 ^ 64 }
         requires damaged { self.old.ctx.held.repairs.rows ≤ self.old.ctx.held.taken }
         requires line { is_at_line self.old.rows.stand ≡ true }
-        ensures { ReadsInFeed self.old self.new result }
+        ensures reads { ReadsInFeed self.old self.new result }
+        ensures unread { result ≡ Ok false → self.old.part ≡ None → self.new.part ≡ None
+            → (self.new.ctx.ticks ≡ self.old.ctx.ticks) ⊎ ((self.old.tried_at ≢ self.new.dropped + self.new.place)
+            × (self.new.tried_at ≡ self.new.dropped + self.new.place)) }
     {
         if self.is_still_short() {
             return Ok(false);
@@ -566,9 +575,6 @@ impl RowFeed {
             → ComeNext whole self.old (bits_in self.old.order bytes.now) → IsFeedOf whole tried self.new) }
         ensures refused { OnErr result ((whole : Bits) (tried : ℕ) → IsFeedOf whole tried self.old
             → IsFeedOf whole tried self.new) }
-        ensures same { (self.new.ctx ≡ self.old.ctx) × (self.new.rows ≡ self.old.rows) × (self.new.order ≡ self.old.order)
-            × (self.new.finished ≡ self.old.finished) }
-        ensures looked { self.new.looked ≡ self.old.looked }
         ensures only { IfErr result (λ e. (e ≡ DecodeError.OutOfMemory) ⊎ (e ≡ DecodeError.Overflow)) }
         ensures held { OnOk result (HoldsMore (bits_in self.old.order bytes.now) self.old self.new) }
         ensures kept { OnErr result (HoldsMore [] self.old self.new) }

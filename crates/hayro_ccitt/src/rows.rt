@@ -241,6 +241,8 @@ fn decode_tagged_line(ctx: &mut DecoderContext, reader: &mut BitReader<'_>) -> R
 fn decode_line(ctx: &mut DecoderContext, reader: &mut BitReader<'_>) -> Result<()>
     requires begun { ctx.old.held.front ≡ [] }
     ensures line { ReadsLine ctx.old.held.settings.encoding 2 ctx.old ctx.new result reader.old reader.new }
+    ensures no_tag { ctx.old.held.settings.encoding ≡ EncodingMode.Group3_2D → here reader.old ≡ []
+        → ctx.new.ticks ≡ ctx.old.ticks }
 {
     match ctx.settings().encoding {
         EncodingMode::Group3_1D => decode_1d_line(ctx, reader),
@@ -388,6 +390,8 @@ pub(crate) fn try_row(
     ensures row { TriesRow is_last ctx.old ctx.new result reader.old reader.new }
     ensures put_back { result ≢ Ok true → reader.new ≡ reader.old }
     ensures same_bits { reader.new.bits ≡ reader.old.bits }
+    ensures no_tag { ctx.old.held.settings.encoding ≡ EncodingMode.Group3_2D → here reader.old ≡ [] → result ≡ Ok false
+        → ctx.new.ticks ≡ ctx.old.ticks }
 {
     let line_start = reader.bit_pos();
     let line = decode_line(ctx, reader);

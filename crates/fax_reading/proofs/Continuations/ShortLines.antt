@@ -8,7 +8,7 @@ use Rattle.fax_reading.proofs.Names.{Turn, Row, opposite, right_of, b2, paint, c
 use Rattle.fax_reading.proofs.Names.{Drawing, start, draw_1d, draw_2d, draw_mode, draw_run, go_on, mode_here, run_here}
 use Rattle.fax_reading.proofs.Names.{painted, painted_to, place_by, place_from, unless_fault, unless_full, turn_behind, ◌>>=◌}
 use Rattle.fax_reading.proofs.Names.{line_by, line_here, line_1d, line_2d, LineIsSettled, LinesSettle, StaysAsRead, is_short}
-use Rattle.fax_reading.proofs.Names.{line_before, misses_end}
+use Rattle.fax_reading.proofs.Names.{append_assoc, line_before, misses_end}
 use Rattle.fax_bits.specs.CodeReading.{IsCut}
 use Rattle.fax_bits.proofs.BitReading.ZerosInWords.{scan, scan-append, scan_holds, quiet_is, word_quiet, codes_free}
 use Rattle.fax_bits.proofs.BitReading.ZerosInWords.{modes_free}
@@ -219,6 +219,30 @@ zeros_end_line settings reference here = by_encoding settings.encoding here
         line_2d_known settings.strict settings.columns reference (bits ++ replicate 16 false) (zeros_there bits)
     by_encoding Group4 bits =
         line_2d_known settings.strict settings.columns reference (bits ++ replicate 16 false) (zeros_there bits)
+
+-- No line is short with an EOL among its bits.
+pub eol_ends_line : (settings : DecodeSettings) (reference : Row) (fill behind : Bits)
+    → is_short (line_here settings reference (fill ++ replicate 11 false ++ true ∷ behind)) ≡ false
+eol_ends_line settings reference fill behind = by_encoding settings.encoding fill
+  where
+    eol_there : (fill : Bits) → HasZeros (fill ++ replicate 11 false ++ true ∷ behind)
+    eol_there fill =
+        ap (scan 3) (append_assoc fill (replicate 11 false) (true ∷ behind)) ∙ scan_holds 3 fill (true ∷ behind) (omega arith)
+
+    by_encoding : (encoding : EncodingMode) (fill : Bits) → is_short (line_by encoding settings.strict settings.columns
+        reference (fill ++ replicate 11 false ++ true ∷ behind)) ≡ false
+    by_encoding Group3_1D fill =
+        line_1d_known settings.strict settings.columns (fill ++ replicate 11 false ++ true ∷ behind) (eol_there fill)
+    by_encoding Group3_2D [] =
+        line_2d_known settings.strict settings.columns reference (replicate 10 false ++ true ∷ behind) refl
+    by_encoding Group3_2D (true ∷ fill) =
+        line_1d_known settings.strict settings.columns (fill ++ replicate 11 false ++ true ∷ behind) (eol_there fill)
+    by_encoding Group3_2D (false ∷ fill) =
+        line_2d_known settings.strict settings.columns reference (fill ++ replicate 11 false ++ true ∷ behind)
+        (eol_there fill)
+    by_encoding Group4 fill =
+        line_2d_known settings.strict settings.columns reference (fill ++ replicate 11 false ++ true ∷ behind)
+        (eol_there fill)
 
 same_shortness : (more : Bits) (line : Line) → is_short (line_before more line) ≡ is_short line
 same_shortness more (Line.whole row rest) = refl

@@ -45,11 +45,11 @@ abbrev rest_of_row : Result (Row × Bits) DecodeError → Bits
 rest_of_row (Ok x) = x.1
 rest_of_row (Err fault) = []
 
-behind_shorter : (settings : DecodeSettings) (h : Bool) (rest : Bits) → length (behind_row settings h rest) ≤ length rest
+pub behind_shorter : (settings : DecodeSettings) (h : Bool) (rest : Bits) → length (behind_row settings h rest) ≤ length rest
 behind_shorter settings h rest = either_shorter (settings.rows_are_byte_aligned && not h) rest
 
 -- a broken line is repaired only in lenient data with EOLs, and the reader is then at its start
-broken_row : (settings : DecodeSettings) (h : Bool) (here rest : Bits) (front row : Row) (fault : DecodeError)
+pub broken_row : (settings : DecodeSettings) (h : Bool) (here rest : Bits) (front row : Row) (fault : DecodeError)
     → row_of_line settings h here (Line.broken front fault) ≡ Ok (row, rest) → (h ≡ true) × (rest ≡ here)
 broken_row settings true here rest front row fault is = by_strict settings.strict is
   where

@@ -25,6 +25,13 @@ holds_more {old} {mid} {new} next bytes drops whole is = subst (HoldsMore next o
   fed = omega (arith, length-append mid.kept next, drops.dropped, drops.read, drops.within, ap length drops.kept, long);
   place = omega (arith, drops.dropped, drops.place);
   begun = drops.begun;
+  looked = drops.looked;
+  part = drops.part;
+  line_read = drops.line_read;
+  tried_at = drops.tried_at;
+  within = drops.within;
+  reading = (drops.ctx, drops.rows, drops.finished);
+  order = drops.order;
 })
   where
     long : length (drop (8 * drops.bytes) old.kept) ≡ length old.kept - 8 * drops.bytes

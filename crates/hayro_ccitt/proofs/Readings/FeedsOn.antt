@@ -30,6 +30,10 @@ use Rattle.hayro_ccitt.specs.RowFeeds.{ComeNext, DropsRead, FeedsNext, IsAtFront
 use Rattle.hayro_ccitt.specs.RowFeeds.{LineWork, fed_bits, fed_row, is_left, line_first, paid_by}
 use Rattle.hayro_ccitt.proofs.Names.{changes}
 use Rattle.fax_reading.proofs.Work.WordsPay.{found_within}
+use Rattle.hayro_ccitt.proofs.Work.TurnsPaid.{row_shorter}
+use Rattle.hayro_ccitt.proofs.Names.{append-nil, row_of_line, Row}
+use Rattle.hayro_ccitt.specs.RowFeeds.{Begins, CallGoesOn, ReachesLine, line_of_feed, most_to_find}
+use Rattle.hayro_ccitt.proofs.Names.{and_parts}
 use Rattle.hayro_ccitt.specs.declared.line_parts.KeptPart.{KeptPart}
 use Rattle.fax_bits.specs.declared.error.DecodeError.TheVariants.{InvalidCode, OutOfMemory}
 use Rattle.hayro_ccitt.specs.declared.row_feed.Fed.{Fed}
@@ -91,11 +95,11 @@ module _ (old new : Feeding) (before after : BitsAt) (before_is : before ≡ rec
   place_is = omega (arith, keeps.dropped, ends)
 
   -- a gap is passed
-  pub feed_comes : (look kept_look : GapLook) → old.looked ≡ look.bits → new.looked ≡ kept_look.bits
+  pub feed_comes : new.tried_at ≡ old.tried_at → (look kept_look : GapLook) → old.looked ≡ look.bits → new.looked ≡ kept_look.bits
       → (answer : Result (Option Bool) DecodeError)
       → ComesOn old.finished at old.rows new.rows look kept_look old.ctx new.ctx before after answer
       → ComesInFeed old new answer
-  feed_comes look kept_look was is answer on = record {
+  feed_comes same_tried look kept_look was is answer on = record {
     extra = on.extra;
     looks = subst (λ (n : ℕ). LooksAhead old.finished (is_at_line old.rows.stand) n (drop old.place old.kept) on.extra) (sym was)
         (subst (λ (b : BitsAt). LooksAhead old.finished (is_at_line old.rows.stand) look.bits (here b) on.extra) before_is
@@ -121,6 +125,42 @@ module _ (old new : Feeding) (before after : BitsAt) (before_is : before ≡ rec
     stands = λ whole tried passed feed. stays_fed feed on.extra (on.stands tried whole old.dropped passed (lies feed) starts
         (stood feed));
     line = on.line;
+    within = omega (
+      arith,
+      on.within,
+      ends,
+      ap length on.same_bits,
+      ap (λ (b : BitsAt). length b.bits) before_is,
+      ap length keeps.kept,
+    );
+    counts = on.counts;
+    reaches = λ whole tried e feed. record {
+      counts = on.counts;
+      onward = omega (arith, keeps.dropped, ends, ap (λ (b : BitsAt). b.place) before_is, on.onward e);
+      near = λ was_begun unfinished. omega (
+        arith,
+        on.near (λ none. let never = sym e ∙ none in absurd cc) unfinished,
+        was,
+        keeps.dropped,
+        ends,
+        ap (λ (b : BitsAt). b.place) before_is,
+      );
+      past_eol = λ unfinished was_begun no_line sought.
+          let eol = on.past_eol unfinished no_line sought e in
+          record {
+            fill = eol.fill;
+            behind = eol.behind;
+            place = ap here (sym before_is) ∙ eol.place;
+            passed = omega (arith, eol.passed, keeps.dropped, ends, ap (λ (b : BitsAt). b.place) before_is);
+          };
+      at_line = λ at.
+          let there = on.at_line (and_parts old.begun (is_at_line old.rows.stand) at).1 in
+          (ends ∙ ap (λ (b : BitsAt). b.place) (there.0 ∙ before_is), there.1, keeps.kept);
+      tried = same_tried;
+      space = on.space;
+      settings = (on.comes tried whole old.dropped (λ none. let never = sym e ∙ none in absurd cc) (lies feed) starts
+          (stood feed)).settings;
+    };
     only_code = on.only_code;
     waiting = λ whole tried e feed.
         let w = on.waits e in
@@ -135,7 +175,9 @@ module _ (old new : Feeding) (before after : BitsAt) (before_is : before ≡ rec
   module _ (mid : Context)
       (frame : mid ≡ record old.ctx { held = redrawn old.ctx.held [] White; passed = 0; cut = false })
       (width : length old.ctx.held.reference ≡ old.ctx.held.settings.columns) (line : is_at_line old.rows.stand ≡ true)
-      (unkept : old.part ≡ None)
+      (unkept : old.part ≡ None) (same_look : new.looked ≡ old.looked)
+      (same_tried : new.tried_at ≡ old.tried_at)
+      (none_new : new.part ≡ None) (inside : old.place ≤ length old.kept)
       (answer : Result Bool DecodeError)
       (tries : TriesLine old.finished at old.rows new.rows mid new.ctx before after answer) where
     counted : old.ctx.ticks ≤ new.ctx.ticks
@@ -150,6 +192,10 @@ module _ (old new : Feeding) (before after : BitsAt) (before_is : before ≡ rec
     same_line P left known =
         subst (λ (h : Held). P h.settings h.reference (drop old.place old.kept)) (sym (tries.tried.left left))
         (subst (λ (b : BitsAt). P mid.held.settings mid.held.reference (here b)) before_is known)
+
+    -- no bits follow
+    no_more : CanCome old.finished []
+    no_more = record { bytes = refl; none = λ e. refl }
 
     module _ {whole : Bits} {tried : ℕ} (feed : IsFeedOf whole tried old) where
       same : mid.held ≡ old.ctx.held
@@ -212,6 +258,77 @@ module _ (old new : Feeding) (before after : BitsAt) (before_is : before ≡ rec
           (record { bits = whole; place = old.dropped + after.place })) (sym none)
           (tries.stands tried whole old.dropped (left_not answer read_so) (lies feed) starts begins_there))
 
+      -- what the line yields, of the bits kept
+      line_row : answer ≡ Ok true
+          → (row_of_line old.ctx.held.settings old.ctx.held.has_eols (drop old.place old.kept) (line_of_feed old)
+          ≡ Ok (new.ctx.held.reference, drop new.place new.kept)) × (old.place ≤ new.place)
+          × (new.ctx.held.has_eols ≡ old.ctx.held.has_eols)
+      line_row e =
+          let row = (tries.tried.read e [] no_more).row.taken in
+          let here_is : here before ≡ drop old.place old.kept = ap here before_is in
+          let behind : here after ≡ drop new.place new.kept =
+          ap (drop after.place) (tries.same_bits ∙ ap (λ (b : BitsAt). b.bits) before_is ∙ sym keeps.kept)
+          ∙ ap (λ (n : ℕ). drop n new.kept) (sym ends) in
+          let is : row_of_line mid.held.settings mid.held.has_eols (here before)
+          (line_here mid.held.settings mid.held.reference (here before)) ≡ Ok (new.ctx.held.reference, here after) =
+          subst (λ (b : Bits). row_of_line mid.held.settings mid.held.has_eols b
+          (line_here mid.held.settings mid.held.reference b) ≡ Ok (new.ctx.held.reference, here after))
+          (append-nil (here before)) (row.is ∙ ap (λ (x : Row × Bits). Ok x)
+          (taken_is row.taken (ap (λ (h : Held). h.reference) row.held))) in
+          let yields = subst (λ (h : Held). row_of_line h.settings h.has_eols (drop old.place old.kept)
+          (line_here h.settings h.reference (drop old.place old.kept)) ≡ Ok (new.ctx.held.reference, drop new.place new.kept))
+          same (subst (λ (b : Bits). row_of_line mid.held.settings mid.held.has_eols (drop old.place old.kept)
+          (line_here mid.held.settings mid.held.reference (drop old.place old.kept)) ≡ Ok (new.ctx.held.reference, b)) behind
+          (subst (λ (b : Bits). row_of_line mid.held.settings mid.held.has_eols b
+          (line_here mid.held.settings mid.held.reference b) ≡ Ok (new.ctx.held.reference, here after)) here_is is)) in
+          let wide = (at_line_stands old.rows.stand old.ctx.held.settings whole old.ctx.held at line (stood feed).0).wide in (
+            yields,
+            omega (
+              arith,
+              row_shorter old.ctx.held.settings old.ctx.held.has_eols old.ctx.held.reference (drop old.place old.kept)
+                  (drop new.place new.kept) new.ctx.held.reference wide yields,
+              inside,
+              length-drop old.place old.kept,
+              length-drop new.place new.kept,
+              ap length keeps.kept,
+              tries.within,
+              ap length tries.same_bits,
+              ap (λ (b : BitsAt). length b.bits) before_is,
+              ends,
+            ),
+            ap (λ (h : Held). h.has_eols) row.held ∙ ap (λ (h : Held). h.has_eols) same,
+          )
+        where
+          taken_is : (taken : Row) → new.ctx.held.reference ≡ taken
+              → ◌≡◌ {A = Row × Bits} (taken, here after ++ []) (new.ctx.held.reference, here after)
+          taken_is taken held =
+              ap (λ (r : Row). (r, here after ++ [])) (sym held)
+              ∙ ap (λ (b : Bits). (new.ctx.held.reference, b)) (append-nil (here after))
+
+    line_stored : answer ≡ Ok true → length (changes new.ctx.held.reference)
+        + (old.ctx.ticks + cond (is_left answer) (new.ctx.ticks - old.ctx.ticks) 0) ≤ new.ctx.ticks + 1
+    line_stored e =
+        let reads = tries.tried.read e [] no_more in
+        omega (
+          arith,
+          reads.at_least,
+          reads.stored,
+          ap (λ (x : Context). x.ticks) frame,
+          at_none (is_left answer) (new.ctx.ticks - old.ctx.ticks) (ap is_left e),
+        )
+
+    line_found : cond (is_left answer) (new.ctx.ticks - old.ctx.ticks) 0 ≤ most_to_find old + 2
+    line_found = omega (
+      arith,
+      at_most (is_left answer) (new.ctx.ticks - old.ctx.ticks),
+      tries.tried.at_most,
+      found_within mid.held.settings.encoding mid.held.settings.strict mid.held.settings.columns mid.held.reference
+          (here before),
+      ap (λ (x : Context). x.ticks) frame,
+      ap (λ (x : Context). length (changes x.held.reference)) frame,
+      ap (λ (b : BitsAt). length (here b)) before_is,
+    )
+
     pub feed_reads : ReadsInFeed old new answer
     feed_reads = record {
       extra = cond (is_left answer) (new.ctx.ticks - old.ctx.ticks) 0;
@@ -241,6 +358,22 @@ module _ (old new : Feeding) (before after : BitsAt) (before_is : before ≡ rec
         ap (λ (x : Context). x.held.settings.columns) frame,
       );
       counts = counted;
+      counted = omega (arith, counted, at_most (is_left answer) (new.ctx.ticks - old.ctx.ticks));
+      stored = λ e. line_stored e;
+      looked = same_look;
+      done = λ e. none_new;
+      tried = inl same_tried;
+      behind = tries.behind;
+      within = omega (
+        arith,
+        tries.within,
+        ends,
+        ap length tries.same_bits,
+        ap (λ (b : BitsAt). length b.bits) before_is,
+        ap length keeps.kept,
+      );
+      paid = omega (arith, none_paid new.part new.line_read none_new);
+      row_is = λ whole tried e feed. line_row feed e;
       work = record {
         goes_on = λ e some. absurd (some unkept);
         begins = λ e none. omega (
@@ -259,6 +392,9 @@ module _ (old new : Feeding) (before after : BitsAt) (before_is : before ≡ rec
           none_paid old.part old.line_read unkept,
         );
         at_once = λ other none. at_none (is_left answer) (new.ctx.ticks - old.ctx.ticks) (unleft answer other);
+        some = λ e some. absurd (some unkept);
+        failed = λ e. omega (arith, line_found, none_paid old.part old.line_read unkept);
+        failed_at_once = λ e none. line_found;
       };
     }
 
@@ -482,9 +618,9 @@ both_true false b is also = absurd (false≢true is)
 pub feeds_on : {whole : Bits} {tried : ℕ} (more : ℕ) {old mid new : Feeding} {answer : Result Fed DecodeError}
     → LooksAhead old.finished (old.begun && is_at_line old.rows.stand) old.looked (drop old.place old.kept) more
     → old.part ≡ None → mid.part ≡ None → mid.begun ≡ true
-    → ReachesNextLine (fed_over whole old) (fed_over whole mid) (Ok true) → FeedsNext whole (tried + more) mid new answer
-    → FeedsNext whole tried old new answer
-feeds_on {whole} {tried} more {old} {mid} {new} {answer} looks unkept none begun reached next = record {
+    → ReachesNextLine (fed_over whole old) (fed_over whole mid) (Ok true) → ReachesLine old mid more
+    → FeedsNext whole (tried + more) mid new answer → FeedsNext whole tried old new answer
+feeds_on {whole} {tried} more {old} {mid} {new} {answer} looks unkept none begun reached reaches next = record {
   row = λ e. reads_on (fed_over whole old) (fed_over whole mid) (fed_over whole new) (Ok true) reached (next.row e);
   end = λ e. reads_on (fed_over whole old) (fed_over whole mid) (fed_over whole new) (Ok false) reached (next.end e);
   fault = IfErr-weaker answer _ _ (λ e known fault.
@@ -518,6 +654,17 @@ feeds_on {whole} {tried} more {old} {mid} {new} {answer} looks unkept none begun
     begins = λ e kept. next.line_work.begins e none;
     read = λ other. omega (arith, next.line_work.at_once other none, none_paid old.part old.line_read unkept);
     at_once = λ other kept. next.line_work.at_once other none;
+    some = λ e some. absurd (some unkept);
+    unread = λ e kept still. elim (next.line_work.unread e none still) [
+      | inl nothing ↦ inl nothing
+      | inr first ↦ inr (record {
+        untried = λ same. first.untried (reaches.tried ∙ same);
+        tried = first.tried;
+        at_line = first.at_line;
+      })
+    ];
+    failed = λ e. omega (arith, next.line_work.failed_at_once e none, none_paid old.part old.line_read unkept);
+    failed_at_once = λ e kept. next.line_work.failed_at_once e none;
   };
   stands = let same : (tried + more) + next.extra ≡ tried + (more + next.extra) = omega arith in
       subst (λ (n : ℕ). IsFeedOf whole n new) same next.stands;
@@ -525,6 +672,53 @@ feeds_on {whole} {tried} more {old} {mid} {new} {answer} looks unkept none begun
   looks = looks;
   looked = λ e away.
       let stays = next.none (subst HasNone (sym e) refl) in absurd (false≢true (sym away ∙ stays.line (reached.line refl)));
+  goes_on = record {
+    counts = omega (arith, reaches.counts, next.goes_on.counts);
+    stored = λ e. omega (arith, reaches.counts, next.goes_on.stored e);
+    onward = λ unended. omega (arith, reaches.onward, next.goes_on.onward unended);
+    near = λ was_begun unfinished unended.
+        omega (arith, reaches.near was_begun unfinished, next.goes_on.onward unended);
+    stays = λ left at. next.goes_on.stays left (both_true mid.begun (is_at_line mid.rows.stand) begun (reached.line refl))
+        ∙ (reaches.at_line at).0;
+    row_is = λ e at.
+        let same = reaches.at_line at in
+        let there : drop mid.place mid.kept ≡ drop old.place old.kept =
+        ap (λ (n : ℕ). drop n mid.kept) same.0 ∙ ap (drop old.place) same.2 in
+        subst (λ (b : Bits). row_of_line old.ctx.held.settings old.ctx.held.has_eols b
+        (line_here old.ctx.held.settings old.ctx.held.reference b) ≡ Ok (new.ctx.held.reference, drop new.place new.kept))
+        there (subst (λ (h : Held). row_of_line h.settings h.has_eols (drop mid.place mid.kept)
+        (line_here h.settings h.reference (drop mid.place mid.kept)) ≡ Ok (new.ctx.held.reference, drop new.place new.kept))
+        same.1 (next.goes_on.row_is e (both_true mid.begun (is_at_line mid.rows.stand) begun (reached.line refl))));
+    tried = λ left at.
+        elim (next.goes_on.tried left (both_true mid.begun (is_at_line mid.rows.stand) begun (reached.line refl))) [
+          | inl same ↦ inl (same ∙ reaches.tried)
+          | inr here ↦ inr here
+        ];
+    past_eol = λ unfinished was_begun no_line sought unended waits.
+        let eol = reaches.past_eol unfinished was_begun no_line sought in
+        record {
+          fill = eol.fill;
+          behind = eol.behind;
+          place = eol.place;
+          passed = omega (arith, eol.passed, next.goes_on.onward unended);
+        };
+    behind = next.goes_on.behind;
+    sought = λ e at. next.goes_on.sought e (both_true mid.begun (is_at_line mid.rows.stand) begun (reached.line refl))
+        ∙ ap (λ (h : Held). h.has_eols) (reaches.at_line at).1;
+    waits = λ e away.
+        let stays = next.none (subst HasNone (sym e) refl) in
+        absurd (false≢true (sym away ∙ stays.line (reached.line refl)));
+    within = next.goes_on.within;
+    paid = next.goes_on.paid;
+    unkept = next.goes_on.unkept;
+    unbegun = λ e. absurd (false≢true (sym (next.goes_on.unbegun e).0 ∙ begun));
+    space = omega (
+      arith,
+      next.goes_on.space,
+      reaches.space,
+      ap (λ (s : DecodeSettings). s.columns) reaches.settings,
+    );
+  };
 }
 
 -- at a line, and behind a row, nothing has ended
@@ -585,14 +779,20 @@ looks_begun false is looks = absurd (false≢true is)
 
 -- what is counted for the line
 line_paid : {old new : Feeding} (answer : Result Bool DecodeError) → (reads : ReadsInFeed old new answer)
-    → LineWork old new (fed_row answer) reads.extra
-line_paid {old} {new} (Ok true) reads = record {
+    → (answer ≡ Ok false → old.part ≡ None → new.part ≡ None → (new.ctx.ticks ≡ old.ctx.ticks)
+    ⊎ ((old.tried_at ≢ new.dropped + new.place) × (new.tried_at ≡ new.dropped + new.place)))
+    → is_at_line old.rows.stand ≡ true → LineWork old new (fed_row answer) reads.extra
+line_paid {old} {new} (Ok true) reads unread line = record {
   goes_on = λ e some. cc;
   begins = λ e none. cc;
   read = λ other. reads.work.read (λ left. cc);
   at_once = λ other none. reads.work.at_once (λ left. cc) none;
+  some = λ e some. cc;
+  unread = λ e none still. cc;
+  failed = λ e. cc;
+  failed_at_once = λ e none. cc;
 }
-line_paid {old} {new} (Ok false) reads = record {
+line_paid {old} {new} (Ok false) reads unread line = record {
   goes_on = λ e some. reads.work.goes_on refl some;
   begins = λ e none. omega (
     arith,
@@ -602,19 +802,113 @@ line_paid {old} {new} (Ok false) reads = record {
   );
   read = λ other. absurd (other refl);
   at_once = λ other none. absurd (other refl);
+  some = λ e some. reads.work.some refl some;
+  unread = λ e none still. elim (unread refl none still) [
+    | inl same ↦ inl (omega (arith, reads.counted, same))
+    | inr first ↦ inr (record {
+      untried = first.0;
+      tried = first.1;
+      at_line = ap (λ (r : RowState). is_at_line r.stand) (reads.left refl).0 ∙ line;
+    })
+  ];
+  failed = λ e. cc;
+  failed_at_once = λ e none. cc;
 }
-line_paid {old} {new} (Err error) reads = record {
+line_paid {old} {new} (Err error) reads unread line = record {
   goes_on = λ e some. cc;
   begins = λ e none. cc;
   read = λ other. reads.work.read (λ left. other left);
   at_once = λ other none. reads.work.at_once (λ left. other left) none;
+  some = λ e some. cc;
+  unread = λ e none still. cc;
+  failed = λ e. omega (
+    arith,
+    reads.work.failed (failure e),
+    ap length (next_is reads.keeps (reads.left (failed_so e)).1),
+    ap (λ (h : Held). length (changes h.reference)) (reads.left (failed_so e)).2,
+  );
+  failed_at_once = λ e none. omega (
+    arith,
+    reads.work.failed_at_once (failure e) none,
+    ap length (next_is reads.keeps (reads.left (failed_so e)).1),
+    ap (λ (h : Held). length (changes h.reference)) (reads.left (failed_so e)).2,
+  );
 }
+  where
+    failed_so : ◌≡◌ {A = Result Fed DecodeError} (Err error) (Err OutOfMemory) → error ≡ OutOfMemory
+    failed_so e = cc
+
+    failure : ◌≡◌ {A = Result Fed DecodeError} (Err error) (Err OutOfMemory)
+        → ◌≡◌ {A = Result Bool DecodeError} (Err error) (Err OutOfMemory)
+    failure e = ap (λ (x : DecodeError). Err x) (failed_so e)
+
+left_as_none : (answer : Result Bool DecodeError) → HasNone (fed_row answer) → IsLeft answer
+left_as_none (Ok true) left = cc
+left_as_none (Ok false) left = refl
+left_as_none (Err error) left = left
+
+-- a reading that failed has ended
+fault_ends : {old new : RowsRead} {error : DecodeError} → ReadsNext old new (Err error) → new.end ≡ None → ⊥
+fault_ends reads unended = let never = sym reads.error.0 ∙ unended in cc
+
+line_onward : {whole : Bits} {tried : ℕ} {old new : Feeding} (answer : Result Bool DecodeError) → ReadsInFeed old new answer
+    → IsFeedOf whole tried old → ended new.rows.stand ≡ None → old.place ≤ new.place
+line_onward {whole} {tried} {old} {new} (Ok true) reads feed unended = (reads.row_is whole tried refl feed).1
+line_onward {whole} {tried} {old} {new} (Ok false) reads feed unended = omega (arith, (reads.left refl).1)
+line_onward {whole} {tried} {old} {new} (Err error) reads feed unended = by_left (is_left (Err error)) refl
+  where
+    by_left : (b : Bool) → is_left (Err error) ≡ b → old.place ≤ new.place
+    by_left true e = omega (arith, (reads.left (left_is (Err error) e)).1)
+    by_left false e = absurd (fault_ends (reads.reads whole tried (left_not (Err error) e) feed) unended)
+
+line_goes_on : {whole : Bits} {tried : ℕ} {old new : Feeding} (answer : Result Bool DecodeError)
+    → (reads : ReadsInFeed old new answer) → is_at_line old.rows.stand ≡ true → IsFeedOf whole tried old
+    → CallGoesOn old new (fed_row answer) 0 reads.extra
+line_goes_on {whole} {tried} {old} {new} answer reads line feed = record {
+  counts = reads.counted;
+  stored = λ e. reads.stored (row_read answer e);
+  onward = λ unended. omega (arith, line_onward answer reads feed unended, reads.keeps.dropped);
+  near = λ begun unfinished unended.
+      omega (arith, line_onward answer reads feed unended, reads.keeps.dropped, reads.looked);
+  stays = λ left at. (reads.left (left_as_none answer left)).1;
+  row_is = λ e at. (reads.row_is whole tried (row_read answer e) feed).0;
+  tried = λ left at. reads.tried;
+  past_eol = λ unfinished begun no_line sought unended waits. absurd (false≢true (sym no_line ∙ line));
+  behind = λ e. reads.behind (row_read answer e);
+  sought = λ e at. (reads.row_is whole tried (row_read answer e) feed).2;
+  waits = λ e away. absurd (false≢true (sym away ∙ still_at_line answer reads e));
+  within = reads.within;
+  paid = reads.paid;
+  unkept = λ away. line_unkept answer reads away;
+  unbegun = λ none. absurd (false≢true (sym none ∙ reads.begun));
+  space = reads.most;
+}
+  where
+    still_at_line : (answer : Result Bool DecodeError) → ReadsInFeed old new answer → fed_row answer ≡ Ok Fed.NeedsMore
+        → is_at_line new.rows.stand ≡ true
+    still_at_line (Ok true) reads e = cc
+    still_at_line (Ok false) reads e = ap (λ (r : RowState). is_at_line r.stand) (reads.left refl).0 ∙ line
+    still_at_line (Err error) reads e = cc
+
+    line_unkept : (answer : Result Bool DecodeError) → ReadsInFeed old new answer
+        → (fed_row answer ≡ Ok Fed.NeedsMore → is_at_line new.rows.stand ≡ false) → new.part ≡ None
+    line_unkept (Ok true) reads away = reads.done (λ e. cc)
+    line_unkept (Ok false) reads away =
+        absurd (false≢true (sym (away refl) ∙ ap (λ (r : RowState). is_at_line r.stand) (reads.left refl).0 ∙ line))
+    line_unkept (Err error) reads away = reads.done (λ e. cc)
+
+    row_read : (answer : Result Bool DecodeError) → fed_row answer ≡ Ok Fed.Row → answer ≡ Ok true
+    row_read (Ok true) e = refl
+    row_read (Ok false) e = cc
+    row_read (Err error) e = cc
 
 -- the line is read, or left
 pub line_feeds : {whole : Bits} {tried : ℕ} {old new : Feeding} (answer : Result Bool DecodeError) → ReadsInFeed old new answer
-    → old.begun ≡ true → is_at_line old.rows.stand ≡ true → IsFeedOf whole tried old → FeedsNext whole tried old new
+    → (answer ≡ Ok false → old.part ≡ None → new.part ≡ None → (new.ctx.ticks ≡ old.ctx.ticks)
+    ⊎ ((old.tried_at ≢ new.dropped + new.place) × (new.tried_at ≡ new.dropped + new.place))) → old.begun ≡ true
+    → is_at_line old.rows.stand ≡ true → IsFeedOf whole tried old → FeedsNext whole tried old new
     (fed_row answer)
-line_feeds {whole} {tried} {old} {new} (Ok true) reads begun line feed = record {
+line_feeds {whole} {tried} {old} {new} (Ok true) reads unread begun line feed = record {
   row = λ e. reads.reads whole tried (λ left. cc) feed;
   end = λ e. cc;
   fault = tt;
@@ -625,13 +919,14 @@ line_feeds {whole} {tried} {old} {new} (Ok true) reads begun line feed = record 
   extra = reads.extra;
   line_extra = reads.extra;
   extra_is = omega arith;
-  line_work = line_paid (Ok true) reads;
+  line_work = line_paid (Ok true) reads unread line;
+  goes_on = line_goes_on (Ok true) reads line feed;
   stands = reads.stands whole tried feed;
   gap = 0;
   looks = none_looked old.finished (old.begun && is_at_line old.rows.stand) old.looked (drop old.place old.kept);
   looked = λ e. cc;
 }
-line_feeds {whole} {tried} {old} {new} (Ok false) reads begun line feed = record {
+line_feeds {whole} {tried} {old} {new} (Ok false) reads unread begun line feed = record {
   row = λ e. cc;
   end = λ e. cc;
   fault = tt;
@@ -648,13 +943,14 @@ line_feeds {whole} {tried} {old} {new} (Ok false) reads begun line feed = record
   extra = reads.extra;
   line_extra = reads.extra;
   extra_is = omega arith;
-  line_work = line_paid (Ok false) reads;
+  line_work = line_paid (Ok false) reads unread line;
+  goes_on = line_goes_on (Ok false) reads line feed;
   stands = reads.stands whole tried feed;
   gap = 0;
   looks = none_looked old.finished (old.begun && is_at_line old.rows.stand) old.looked (drop old.place old.kept);
   looked = λ e away. absurd (false≢true (sym away ∙ ap (λ (r : RowState). is_at_line r.stand) (reads.left refl).0 ∙ line));
 }
-line_feeds {whole} {tried} {old} {new} (Err error) reads begun line feed = record {
+line_feeds {whole} {tried} {old} {new} (Err error) reads unread begun line feed = record {
   row = λ e. cc;
   end = λ e. cc;
   fault = λ other. reads.reads whole tried other feed;
@@ -669,7 +965,8 @@ line_feeds {whole} {tried} {old} {new} (Err error) reads begun line feed = recor
   extra = reads.extra;
   line_extra = reads.extra;
   extra_is = omega arith;
-  line_work = line_paid (Err error) reads;
+  line_work = line_paid (Err error) reads unread line;
+  goes_on = line_goes_on (Err error) reads line feed;
   stands = reads.stands whole tried feed;
   gap = 0;
   looks = none_looked old.finished (old.begun && is_at_line old.rows.stand) old.looked (drop old.place old.kept);
@@ -679,18 +976,47 @@ line_feeds {whole} {tried} {old} {new} (Err error) reads begun line feed = recor
 -- without a line nothing is counted for it
 no_line_paid : {old new : Feeding} {answer : Result Fed DecodeError} → old.part ≡ None → LineWork old new answer 0
 no_line_paid {old} {new} {answer} unkept = record {
+  some = λ e some. absurd (some unkept);
+  unread = λ e none still. inl refl;
+  failed = λ e. omega (arith, none_paid old.part old.line_read unkept);
+  failed_at_once = λ e none. omega arith;
   goes_on = λ e some. absurd (some unkept);
   begins = λ e none. omega arith;
   read = λ other. omega (arith, none_paid old.part old.line_read unkept);
   at_once = λ other none. refl;
 }
 
+-- where the reading ends in a gap
+gap_ended : {old new : Feeding} {answer : Result Fed DecodeError} {extra : ℕ} → old.ctx.ticks + extra ≤ new.ctx.ticks
+    → new.ctx.space ≡ old.ctx.space → old.part ≡ None → (ended new.rows.stand ≡ None → ⊥) → (HasNone answer → ⊥)
+    → answer ≢ Ok Fed.Row → new.part ≡ None → new.begun ≡ true → new.place ≤ length new.kept
+    → CallGoesOn old new answer extra extra
+gap_ended {new = new} {answer = answer} counts space unkept over some other none begun within = record {
+  behind = λ e. absurd (other e);
+  tried = λ left at. absurd (some left);
+  sought = λ e kept. absurd (other e);
+  waits = λ e away. absurd (some (subst HasNone (sym e) refl));
+  within = within;
+  paid = omega (arith, none_paid new.part new.line_read none);
+  counts = counts;
+  stored = λ e. absurd (other e);
+  onward = λ unended. absurd (over unended);
+  near = λ begun unfinished unended. absurd (over unended);
+  stays = λ left at. absurd (some left);
+  row_is = λ e kept. absurd (other e);
+  past_eol = λ unfinished begun no_line sought unended waits. absurd (over unended);
+  unkept = λ away. none;
+  unbegun = λ e. absurd (false≢true (sym e ∙ begun));
+  space = omega (arith, space);
+}
+
 -- no line is reached: more data is needed, or it is the end
 pub gap_feeds : {whole : Bits} {tried : ℕ} {old new : Feeding} (answer : Result (Option Bool) DecodeError)
     → ComesInFeed old new answer
-    → answer ≢ Ok (Some true) → old.begun ≡ true → ended old.rows.stand ≡ None → old.part ≡ None → IsFeedOf whole tried old
+    → answer ≢ Ok (Some true) → old.begun ≡ true → ended old.rows.stand ≡ None → old.part ≡ None → new.part ≡ None
+    → IsFeedOf whole tried old
     → FeedsNext whole tried old new (fed_none answer)
-gap_feeds {whole} {tried} {old} {new} (Ok None) comes other begun unended unkept feed =
+gap_feeds {whole} {tried} {old} {new} (Ok None) comes other begun unended unkept none feed =
     let w = comes.waits refl in
     record {
       row = λ e. cc;
@@ -722,13 +1048,32 @@ gap_feeds {whole} {tried} {old} {new} (Ok None) comes other begun unended unkept
       line_extra = 0;
       extra_is = omega arith;
       line_work = no_line_paid unkept;
+      goes_on = record {
+        counts = comes.counts;
+        stored = λ e. cc;
+        onward = λ open_end. omega (arith, w.3, comes.keeps.dropped);
+        near = λ was_begun unfinished open_end. omega (arith, w.3, comes.keeps.dropped, comes.looked refl);
+        stays = λ left at. w.3;
+        row_is = λ e kept. cc;
+        past_eol = λ unfinished was_begun no_line sought open_end waits.
+            absurd (false≢true (sym no_line ∙ sym (ap (λ (r : RowState). is_at_line r.stand) w.2) ∙ waits refl));
+        behind = λ e. cc;
+        tried = λ left at. absurd (false≢true (sym w.5 ∙ (and_parts old.begun (is_at_line old.rows.stand) at).1));
+        sought = λ e kept. cc;
+        waits = λ e away. (w.3, ap (λ (h : Held). h.has_eols) w.0);
+        within = comes.within;
+        paid = omega (arith, none_paid new.part new.line_read none);
+        unkept = λ away. none;
+        unbegun = λ e. absurd (false≢true (sym e ∙ comes.begun));
+        space = omega (arith, comes.space);
+      };
       stands = comes.waiting whole tried refl feed;
       gap = comes.extra;
       looks = looks_begun old.begun begun comes.looks;
       looked = λ e away. comes.looked refl;
     }
-gap_feeds {whole} {tried} {old} {new} (Ok (Some true)) comes other begun unended unkept feed = absurd (other refl)
-gap_feeds {whole} {tried} {old} {new} (Ok (Some false)) comes other begun unended unkept feed = record {
+gap_feeds {whole} {tried} {old} {new} (Ok (Some true)) comes other begun unended unkept none feed = absurd (other refl)
+gap_feeds {whole} {tried} {old} {new} (Ok (Some false)) comes other begun unended unkept none feed = record {
   row = λ e. cc;
   end = λ e. none_behind (Ok false) (λ is. cc) (comes.comes whole tried (λ is. cc) feed);
   fault = tt;
@@ -740,12 +1085,15 @@ gap_feeds {whole} {tried} {old} {new} (Ok (Some false)) comes other begun unende
   line_extra = 0;
   extra_is = omega arith;
   line_work = no_line_paid unkept;
+  goes_on = gap_ended comes.counts comes.space unkept (λ open_end.
+      let never = sym ((comes.comes whole tried (λ is. cc) feed).end refl).0 ∙ open_end in cc) (λ left. cc)
+      (λ e. cc) none comes.begun comes.within;
   stands = comes.stands whole tried (λ is. cc) feed;
   gap = comes.extra;
   looks = looks_begun old.begun begun comes.looks;
   looked = λ e. cc;
 }
-gap_feeds {whole} {tried} {old} {new} (Err error) comes other begun unended unkept feed = record {
+gap_feeds {whole} {tried} {old} {new} (Err error) comes other begun unended unkept none feed = record {
   row = λ e. cc;
   end = λ e. cc;
   fault = λ other. none_behind (Err error) (λ is. cc) (comes.comes whole tried (λ is. cc) feed);
@@ -759,6 +1107,10 @@ gap_feeds {whole} {tried} {old} {new} (Err error) comes other begun unended unke
   line_extra = 0;
   extra_is = omega arith;
   line_work = no_line_paid unkept;
+  goes_on = gap_ended comes.counts comes.space unkept (λ open_end.
+      let never = sym (comes.comes whole tried (λ is. cc) feed).error.0 ∙ open_end in cc)
+      (λ left. let never : InvalidCode ≡ OutOfMemory = sym comes.only_code ∙ left in cc) (λ e. cc) none
+      comes.begun comes.within;
   stands = comes.stands whole tried (λ is. cc) feed;
   gap = comes.extra;
   looks = looks_begun old.begun begun comes.looks;
@@ -800,7 +1152,120 @@ reached_here {whole} {tried} {old} {mid} {new} line comes is unkept none reads b
     (came r))
     is (comes.comes whole tried some feed) in
     feeds_on comes.extra (looks_begun old.begun begun comes.looks) unkept none comes.begun reached
-    (reads (tried + comes.extra) (comes.stands whole tried some feed))
+    (comes.reaches whole tried is feed) (reads (tried + comes.extra) (comes.stands whole tried some feed))
+
+-- nothing has begun
+pub unbegun_looks : (begun line : Bool) {finished : Bool} {looked counted : ℕ} {gap : Bits} → begun ≡ false
+    → LooksAhead finished false looked gap counted → LooksAhead finished (begun && line) looked gap counted
+unbegun_looks false line is looks = looks
+unbegun_looks true line is looks = absurd (false≢true (sym is))
+
+open_front : (begun : Bool) (stand : Stand) (ctx : Context) (next : Bits) → begun ≡ false
+    → first_gap_is_settled ctx.held.settings.encoding ctx.held.settings next ≡ false → IsOpenAt begun stand ctx next
+open_front false stand ctx next unbegun waits = waits
+open_front true stand ctx next unbegun waits = absurd (false≢true (sym unbegun))
+
+not_begun : (begun line : Bool) → begun ≡ false → (begun && line) ≡ true → ⊥
+not_begun false line is e = false≢true e
+not_begun true line is e = false≢true (sym is)
+
+-- what is before the first line waits for more data
+pub front_waits_feeds : {whole : Bits} {tried : ℕ} {old new : Feeding} → Begins old new false → old.begun ≡ false
+    → old.part ≡ None → new.part ≡ None → IsFeedOf whole tried old → FeedsNext whole tried old new (Ok Fed.NeedsMore)
+front_waits_feeds {whole} {tried} {old} {new} begins unbegun unkept none feed =
+    let w = begins.waits refl in
+    let front = at_front old.begun tried old.rows old.ctx
+    (record { bits = whole; place = old.dropped + old.place }) unbegun feed.stands in
+    let none_passed : new.place ≡ 0 = omega (arith, w.3, front.start) in
+    let there : old.kept ≡ drop new.place new.kept =
+    ap (λ (n : ℕ). drop n old.kept) (sym none_passed)
+    ∙ ap (drop new.place) (sym begins.keeps.kept) in
+    record {
+      row = λ e. cc;
+      end = λ e. cc;
+      fault = tt;
+      none = λ left. record {
+        settings = ap (λ (h : Held). h.settings) w.0;
+        bits = refl;
+        counts = omega (arith, w.1);
+        taken = ap (λ (h : Held). h.taken) w.0;
+        row = ap (λ (h : Held). h.reference) w.0;
+        damage = ap (λ (r : RowState). r.damage) w.2;
+        cut = ap (λ (r : RowState). r.cut) w.2;
+        line_start = ap (λ (r : RowState). r.started_at) w.2;
+        unended = ap (λ (r : RowState). ended r.stand) (w.2 ∙ front.state);
+        line = λ e. ap (λ (r : RowState). is_at_line r.stand) w.2 ∙ e;
+      };
+      unsettled = λ e. (
+        begins.keeps.finished ∙ w.4,
+        open_front new.begun new.rows.stand new.ctx (drop new.place new.kept) begins.begun
+            (ap (λ (h : Held). first_gap_is_settled h.settings.encoding h.settings (drop new.place new.kept)) w.0
+            ∙ ap (first_gap_is_settled old.ctx.held.settings.encoding old.ctx.held.settings) (sym there) ∙ w.5),
+      );
+      memory = λ e. cc;
+      paints = λ e. cc;
+      extra = begins.extra;
+      line_extra = 0;
+      extra_is = omega arith;
+      line_work = no_line_paid unkept;
+      stands = begins.stands whole tried feed;
+      gap = begins.extra;
+      looks = unbegun_looks old.begun (is_at_line old.rows.stand) unbegun begins.looks;
+      looked = λ e away. begins.looked refl;
+      goes_on = record {
+        counts = omega (arith, w.1);
+        stored = λ e. cc;
+        onward = λ unended. omega (arith, w.3, begins.keeps.dropped);
+        near = λ begun unfinished unended. absurd (false≢true (sym unbegun ∙ begun));
+        stays = λ left at. absurd (not_begun old.begun (is_at_line old.rows.stand) unbegun at);
+        row_is = λ e kept. cc;
+        past_eol = λ unfinished begun no_line sought unended waits. absurd (false≢true (sym unbegun ∙ begun));
+        behind = λ e. cc;
+        tried = λ left at. absurd (not_begun old.begun (is_at_line old.rows.stand) unbegun at);
+        sought = λ e kept. cc;
+        waits = λ e away. (w.3, ap (λ (h : Held). h.has_eols) w.0);
+        within = begins.within;
+        paid = omega (arith, none_paid new.part new.line_read none);
+        unkept = λ away. none;
+        unbegun = λ e. (unbegun, refl, ap (λ (r : RowState). is_at_line r.stand) (w.2 ∙ front.state));
+        space = omega (arith, begins.space);
+      };
+    }
+
+first_line_ends : (stand : Stand) → is_some (ended stand) ≡ true → ((error : DecodeError) → ended stand ≢ Some (Err error))
+    → line_first stand ≡ Ok false
+first_line_ends AtLine is unfailed = absurd cc
+first_line_ends BehindRow is unfailed = absurd cc
+first_line_ends AtEnd is unfailed = refl
+first_line_ends (AtFault error) is unfailed = absurd (unfailed error refl)
+
+-- the reading ends there
+pub front_ends_feeds : {whole : Bits} {tried : ℕ} {old new : Feeding} → Begins old new true → old.begun ≡ false
+    → old.part ≡ None → new.part ≡ None → is_some (ended new.rows.stand) ≡ true → IsFeedOf whole tried old
+    → FeedsNext whole tried old new (Ok Fed.End)
+front_ends_feeds {whole} {tried} {old} {new} begins unbegun unkept none over feed =
+    let reached = subst (ReachesNextLine (fed_over whole old) (fed_over whole new))
+    (first_line_ends new.rows.stand over (begins.unfailed refl)) (begins.passes whole tried refl feed) in
+    record {
+      row = λ e. cc;
+      end = λ e. none_behind (Ok false) (λ is. cc) reached;
+      fault = tt;
+      none = λ left. cc;
+      unsettled = λ e. cc;
+      memory = λ e. cc;
+      paints = λ e. cc;
+      extra = begins.extra;
+      line_extra = 0;
+      extra_is = omega arith;
+      line_work = no_line_paid unkept;
+      stands = begins.stands whole tried feed;
+      gap = begins.extra;
+      looks = unbegun_looks old.begun (is_at_line old.rows.stand) unbegun begins.looks;
+      looked = λ e. cc;
+      goes_on = gap_ended (begins.reaches whole tried refl feed).counts begins.space unkept (λ open_end.
+          let never = sym (reached.end refl).0 ∙ open_end in cc) (λ left. cc) (λ e. cc) none
+          begins.begun begins.within;
+    }
 
 -- ---- More data
 

@@ -9,7 +9,7 @@ use Rattle.hayro_ccitt.proofs.Names.{after_eol, all_eols, next_eol, at_end, eols
 use Rattle.hayro_ccitt.specs.EndOfLine.{eols, eols_with_tags, one_more, past_tag, pass_last_tag}
 use Rattle.hayro_ccitt.specs.GapsContinued.{behind_line_tag, holds_one, eols_are_settled}
 use Rattle.hayro_ccitt.specs.GapsContinued.{next_eols_are_settled, gap_is_settled, first_gap_is_settled}
-use Rattle.hayro_ccitt.specs.GapsSeen.{IsSeen, LooksTo, ends_at_two, first_rules, has_tags, is_settled, nothing_seen}
+use Rattle.hayro_ccitt.specs.GapsSeen.{IsSeen, LooksTo, bits_needed, ends_at_two, first_rules, has_tags, is_settled, nothing_seen}
 use Rattle.hayro_ccitt.specs.GapsSeen.{one_eol_more, rules_behind_row, stage_after, stage_behind, zeros_behind}
 use Rattle.hayro_ccitt.specs.declared.gap_look.GapLook.{GapLook}
 use Rattle.hayro_ccitt.specs.declared.gap_look.GapRules.{GapRules}
@@ -60,14 +60,14 @@ zeros_stay rules stage seen (false ∷ here) none = zeros_stay rules stage (suc 
 zeros_stay rules stage seen (true ∷ here) none = absurd cc
 
 -- after an EOL
-abbrev stage_after_eol : GapRules → GapStage → GapStage
+abbrev pub stage_after_eol : GapRules → GapStage → GapStage
 stage_after_eol rules Start = BehindEol
 stage_after_eol rules Damage = BehindEol
 stage_after_eol rules BehindEol = one_eol_more rules.ends_at_two
 stage_after_eol rules BehindTag = one_eol_more rules.ends_at_two
 stage_after_eol rules Settled = Settled
 
-eol_counts : (rules : GapRules) (stage : GapStage) (seen : ℕ) → leb 11 seen ≡ true
+pub eol_counts : (rules : GapRules) (stage : GapStage) (seen : ℕ) → leb 11 seen ≡ true
     → stage_after rules stage seen ≡ stage_after_eol rules stage
 eol_counts rules Start seen many = rw many refl
 eol_counts rules Damage seen many = rw many refl
@@ -177,18 +177,18 @@ plain_eols rules none on (suc most) here few = by_after_eol (λ rest. plain_eols
         ∙ sym (ap (λ (found : ℕ × Bits). holds_one found.1) (eols-some most here rest e) ∙ left_by_more (eols most rest))
 
 -- where no EOL is behind the tag, none is before it
-none_past : (here : Bits) → after_eol 0 (behind_one here) ≡ None
+pub none_past : (here : Bits) → after_eol 0 (behind_one here) ≡ None
     → (after_eol 0 (past_tag here) ≡ None) × (behind_one (past_tag here) ≡ behind_one here)
 none_past [] e = (refl, refl)
 none_past (false ∷ here) e = (e, refl)
 none_past (true ∷ here) e = rw (e, past_tag) (refl, refl)
 
-some_past : (here rest : Bits) → after_eol 0 (behind_one here) ≡ Some rest → past_tag here ≡ behind_one here
+pub some_past : (here rest : Bits) → after_eol 0 (behind_one here) ≡ Some rest → past_tag here ≡ behind_one here
 some_past [] rest e = refl
 some_past (false ∷ here) rest e = refl
 some_past (true ∷ here) rest e = rw (e, past_tag) refl
 
-behind_one_shorter : (here : Bits) → length (behind_one here) ≤ length here
+pub behind_one_shorter : (here : Bits) → length (behind_one here) ≤ length here
 behind_one_shorter [] = omega arith
 behind_one_shorter (false ∷ here) = omega arith
 behind_one_shorter (true ∷ here) = omega arith
@@ -224,12 +224,12 @@ eols_and_tags rules tags on (suc most) here few =
 -- ---- The EOLs here
 
 -- the rules of an encoding
-abbrev rules_of : EncodingMode → Bool → Bool → GapRules
+abbrev pub rules_of : EncodingMode → Bool → Bool → GapRules
 rules_of encoding end_of_block seeks =
     record { has_tags = has_tags encoding; ends_at_two = ends_at_two encoding end_of_block; seeks = seeks }
 
 -- the bits behind the tag after one EOL or more
-behind_more : (found : ℕ × Bits) → behind_first_tag (one_more found) ≡ behind_one found.1
+pub behind_more : (found : ℕ × Bits) → behind_first_tag (one_more found) ≡ behind_one found.1
 behind_more (count, rest) = refl
 
 -- two EOLs are EOFB (T.6, 2.4.1.1)
@@ -279,7 +279,7 @@ eols_seen Group4 true seeks here rest e = eofb_seen seeks here rest e
 -- ---- The next EOL
 
 -- what follows the next EOL, before which so many zeros were seen
-abbrev behind_next : ℕ → Bits → Option Bits
+abbrev pub behind_next : ℕ → Bits → Option Bits
 behind_next seen [] = None
 behind_next seen (false ∷ here) = behind_next (suc seen) here
 behind_next seen (true ∷ here) = cond (leb 11 seen) (Some here) (behind_next 0 here)
@@ -324,11 +324,11 @@ zero_fewer seen (true ∷ here) e = by_zeros (leb 11 (suc seen)) refl e
         fewer : leb 11 (suc seen) ≡ false → leb 11 seen ≡ false
         fewer few = lt-leb 11 seen (omega (arith, leb-false 11 (suc seen) few))
 
-abbrev after_found : Option Bits → Option Bits
+abbrev pub after_found : Option Bits → Option Bits
 after_found None = None
 after_found (Some found) = after_eol 0 found
 
-next_is_found : (here : Bits) → behind_next 0 here ≡ after_found (next_eol here)
+pub next_is_found : (here : Bits) → behind_next 0 here ≡ after_found (next_eol here)
 next_is_found [] = refl
 next_is_found (bit ∷ here) = by_after_eol (next_is_found here) bit (after_eol 0 (bit ∷ here)) refl
   where
@@ -361,7 +361,7 @@ next_seen settings seeks here =
 -- ---- The gap
 
 -- where there is no EOL, none is counted
-none_here : (encoding : EncodingMode) (block : Bool) (here : Bits) → after_eol 0 here ≡ None
+pub none_here : (encoding : EncodingMode) (block : Bool) (here : Bits) → after_eol 0 here ≡ None
     → eols_by encoding block here ≡ (0, here)
 none_here Group3_1D block here e = all_eols-none here e
 none_here Group3_2D block here e = ap pass_last_tag (all_tagged-none here e) ∙ no_last_tag here
@@ -377,7 +377,7 @@ some : (found : ℕ × Bits) → eqb (one_more found).0 0 ≡ false
 some (count, rest) = ne_eqb (suc count) 0 (λ none. omega (arith, none))
 
 -- where there is one, at least one is
-one_here : (encoding : EncodingMode) (block : Bool) (here rest : Bits) → after_eol 0 here ≡ Some rest
+pub one_here : (encoding : EncodingMode) (block : Bool) (here rest : Bits) → after_eol 0 here ≡ Some rest
     → eqb (eols_by encoding block here).0 0 ≡ false
 one_here Group3_1D block here rest e = ap (λ (found : ℕ × Bits). eqb found.0 0) (all_eols-some here rest e) ∙ some (all_eols rest)
 one_here Group3_2D block here rest e =
@@ -388,7 +388,8 @@ one_here Group4 false here rest e =
 one_here Group4 true here rest e = ap (λ (found : ℕ × Bits). eqb found.0 0) (eols-some 1 here rest e) ∙ some (eols 1 rest)
 
 -- without EOLs the test is for a one
-none_settled : (encoding : EncodingMode) (block : Bool) (here : Bits) → eols_are_settled encoding block (0, here) ≡ holds_one here
+pub none_settled : (encoding : EncodingMode) (block : Bool) (here : Bits)
+    → eols_are_settled encoding block (0, here) ≡ holds_one here
 none_settled Group3_1D block here = refl
 none_settled Group3_2D block [] = refl
 none_settled Group3_2D block (true ∷ here) = refl
@@ -397,7 +398,7 @@ none_settled Group4 false here = refl
 none_settled Group4 true here = refl
 
 -- a one is left, so it isn't the end
-one_is_left : (here : Bits) → holds_one here ≡ true → at_end here ≡ false
+pub one_is_left : (here : Bits) → holds_one here ≡ true → at_end here ≡ false
 one_is_left [] one = absurd cc
 one_is_left (bit ∷ here) one = refl
 
@@ -488,16 +489,35 @@ first_gap_seen Group3_2D settings here is = plain_seen here
 
 -- nothing yet
 pub nothing_looked : (rules : GapRules) (look : GapLook) (here : Bits) → LooksTo rules look look here here
-nothing_looked rules look here = record { looked = []; are = refl; stage = refl; zeros = refl; bits = omega arith }
+nothing_looked rules look here =
+    record { looked = []; are = refl; stage = refl; zeros = refl; bits = omega arith; needed = λ others. omega arith }
+
+-- all of some bits are needed
+abbrev AllNeeded : GapRules → GapStage → ℕ → Bits → Type 0
+AllNeeded rules stage seen next = (others : Bits) → bits_needed rules stage seen (next ++ others)
+    ≡ length next + bits_needed rules (stage_behind rules stage seen next) (zeros_behind seen next) others
+
+zeros_needed : (rules : GapRules) (stage : GapStage) (seen n : ℕ) → is_settled stage ≡ false
+    → AllNeeded rules stage seen (replicate n false)
+zeros_needed rules stage seen zero unsettled others = omega arith
+zeros_needed rules stage seen (suc n) unsettled others =
+    ap (λ (b : Bool). cond b 0 (suc (bits_needed rules stage (suc seen) (replicate n false ++ others)))) unsettled
+    ∙ omega (arith, zeros_needed rules stage (suc seen) n unsettled others)
+
+one_needed : (rules : GapRules) (stage : GapStage) (seen : ℕ) → is_settled stage ≡ false
+    → AllNeeded rules stage seen (true ∷ [])
+one_needed rules stage seen unsettled others =
+    ap (λ (b : Bool). cond b 0 (suc (bits_needed rules (stage_after rules stage seen) 0 others))) unsettled ∙ omega arith
 
 -- more bits
 pub looks_more : (next : Bits) {rules : GapRules} {old mid : GapLook} {here from rest : Bits}
-    → LooksTo rules old mid here from → from ≡ next ++ rest → LooksTo rules old (record {
+    → AllNeeded rules mid.stage mid.zeros next → LooksTo rules old mid here from → from ≡ next ++ rest
+    → LooksTo rules old (record {
       stage = stage_behind rules mid.stage mid.zeros next;
       zeros = zeros_behind mid.zeros next;
       bits = mid.bits + length next;
     }) here rest
-looks_more next {rules} {old} {mid} {here} {from} {rest} looks is = record {
+looks_more next {rules} {old} {mid} {here} {from} {rest} all looks is = record {
   looked = looks.looked ++ next;
   are = looks.are ∙ ap (λ (b : Bits). looks.looked ++ b) is ∙ sym (append_assoc looks.looked next rest);
   stage = ap (λ (s : GapStage). stage_behind rules s mid.zeros next) looks.stage
@@ -505,6 +525,8 @@ looks_more next {rules} {old} {mid} {here} {from} {rest} looks is = record {
       ∙ sym (stage_behind-append rules old.stage old.zeros looks.looked next);
   zeros = ap (λ (n : ℕ). zeros_behind n next) looks.zeros ∙ sym (zeros_behind-append old.zeros looks.looked next);
   bits = omega (arith, looks.bits, length-append looks.looked next);
+  needed = λ others. ap (bits_needed rules old.stage old.zeros) (append_assoc looks.looked next others)
+      ∙ omega (arith, looks.needed (next ++ others), all others, length-append looks.looked next);
 }
 
 -- zeros alone
@@ -516,51 +538,65 @@ stage_behind-zeros : (by : GapRules) (stage : GapStage) (seen n : ℕ) → stage
 stage_behind-zeros by stage seen zero = refl
 stage_behind-zeros by stage seen (suc n) = stage_behind-zeros by stage (suc seen) n
 
-pub looks_at_zeros : (n : ℕ) {rules : GapRules} {old mid : GapLook} {here from : Bits} → LooksTo rules old mid here from
-    → from ≡ replicate n false
-    → LooksTo rules old (record { stage = mid.stage; zeros = mid.zeros + n; bits = mid.bits + n }) here []
-looks_at_zeros n {rules} {old} {mid} looks is =
-    let on = looks_more (replicate n false) looks (is ∙ sym (append-nil (replicate n false))) in
+by_zeros_looked : (n : ℕ) {rules : GapRules} {old mid : GapLook} {here from rest : Bits} → is_settled mid.stage ≡ false
+    → LooksTo rules old mid here from → from ≡ replicate n false ++ rest
+    → LooksTo rules old (record { stage = mid.stage; zeros = mid.zeros + n; bits = mid.bits + n }) here rest
+by_zeros_looked n {rules} {old} {mid} unsettled looks is =
+    let on = looks_more (replicate n false) (zeros_needed rules mid.stage mid.zeros n unsettled) looks is in
+    let stays = stage_behind-zeros rules mid.stage mid.zeros n in
+    let sum = zeros_behind-zeros mid.zeros n in
     record {
       looked = on.looked;
       are = on.are;
-      stage = sym (stage_behind-zeros rules mid.stage mid.zeros n) ∙ on.stage;
-      zeros = sym (zeros_behind-zeros mid.zeros n) ∙ on.zeros;
+      stage = sym stays ∙ on.stage;
+      zeros = sym sum ∙ on.zeros;
       bits = omega (arith, on.bits, length-replicate n false);
+      needed = λ others. on.needed others
+          ∙ ap (λ (s : GapStage). length on.looked + bits_needed rules s
+          (zeros_behind mid.zeros (replicate n false)) others) stays
+          ∙ ap (λ (m : ℕ). length on.looked + bits_needed rules mid.stage m others) sum;
     }
 
--- a one after them
-pub looks_at_one : {rules : GapRules} {old mid : GapLook} {here rest : Bits} → LooksTo rules old mid here (true ∷ rest)
-    → LooksTo rules old (record { stage = stage_after rules mid.stage mid.zeros; zeros = 0; bits = mid.bits + 1 }) here rest
-looks_at_one looks = looks_more (true ∷ []) looks refl
+pub looks_at_zeros : (n : ℕ) {rules : GapRules} {old mid : GapLook} {here from : Bits} → is_settled mid.stage ≡ false
+    → LooksTo rules old mid here from → from ≡ replicate n false
+    → LooksTo rules old (record { stage = mid.stage; zeros = mid.zeros + n; bits = mid.bits + n }) here []
+looks_at_zeros n unsettled looks is = by_zeros_looked n unsettled looks (is ∙ sym (append-nil (replicate n false)))
 
-pub looks_at_run : (n : ℕ) {rules : GapRules} {old mid : GapLook} {here from rest : Bits} → LooksTo rules old mid here from
+-- a one after them
+pub looks_at_one : {rules : GapRules} {old mid : GapLook} {here rest : Bits} → is_settled mid.stage ≡ false
+    → LooksTo rules old mid here (true ∷ rest)
+    → LooksTo rules old (record { stage = stage_after rules mid.stage mid.zeros; zeros = 0; bits = mid.bits + 1 }) here rest
+looks_at_one {rules} {old} {mid} unsettled looks =
+    looks_more (true ∷ []) (one_needed rules mid.stage mid.zeros unsettled) looks refl
+
+pub looks_at_run : (n : ℕ) {rules : GapRules} {old mid : GapLook} {here from rest : Bits} → is_settled mid.stage ≡ false
+    → LooksTo rules old mid here from
     → from ≡ replicate n false ++ true ∷ rest → LooksTo rules old (record {
       stage = stage_after rules mid.stage (mid.zeros + n);
       zeros = 0;
       bits = mid.bits + n + 1;
     }) here rest
-looks_at_run n {rules} {old} {mid} looks is =
-    let on = looks_more (replicate n false) looks is in
-    looks_at_one (record {
-      looked = on.looked;
-      are = on.are;
-      stage = sym (stage_behind-zeros rules mid.stage mid.zeros n) ∙ on.stage;
-      zeros = sym (zeros_behind-zeros mid.zeros n) ∙ on.zeros;
-      bits = omega (arith, on.bits, length-replicate n false);
-    })
+looks_at_run n unsettled looks is = looks_at_one unsettled (by_zeros_looked n unsettled looks is)
 
 -- the bits looked at later are those behind
 pub looks_then : {rules : GapRules} {old mid new : GapLook} {here from rest : Bits} → LooksTo rules old mid here from
     → LooksTo rules mid new from rest → LooksTo rules old new here rest
 looks_then {rules} {old} {mid} {new} {here} {from} {rest} first next =
-    let both = looks_more next.looked first next.are in
+    let all : AllNeeded rules mid.stage mid.zeros next.looked = λ others. next.needed others
+    ∙ ap (λ (s : GapStage). length next.looked + bits_needed rules s new.zeros others) next.stage
+    ∙ ap (λ (n : ℕ). length next.looked + bits_needed rules
+    (stage_behind rules mid.stage mid.zeros next.looked) n others) next.zeros in
+    let both = looks_more next.looked all first next.are in
     record {
       looked = both.looked;
       are = both.are;
       stage = next.stage ∙ both.stage;
       zeros = next.zeros ∙ both.zeros;
       bits = omega (arith, next.bits, both.bits);
+      needed = λ others. both.needed others
+          ∙ ap (λ (s : GapStage). length both.looked + bits_needed rules s
+          (zeros_behind mid.zeros next.looked) others) (sym next.stage)
+          ∙ ap (λ (n : ℕ). length both.looked + bits_needed rules new.stage n others) (sym next.zeros);
     }
 
 -- more bits come
@@ -574,6 +610,7 @@ seen_longer more (rest, looks) = (
     stage = looks.stage;
     zeros = looks.zeros;
     bits = looks.bits;
+    needed = looks.needed;
   },
 )
 
@@ -625,6 +662,12 @@ looked_within {rules} {look} {here} {rest} looks = (
   omega (arith, looks.bits, ap length looks.are, length-append looks.looked rest),
   omega (arith, looks.bits, looks.zeros, few_zeros 0 looks.looked),
 )
+
+-- no more were than those needed
+pub looked_needed : {rules : GapRules} {look : GapLook} {here rest : Bits} → LooksTo rules nothing_seen look here rest
+    → look.bits ≤ bits_needed rules Start 0 here
+looked_needed {rules} {look} {here} {rest} looks =
+    omega (arith, looks.bits, looks.needed rest, ap (bits_needed rules Start 0) looks.are)
 
 -- ---- A gap that the bits here settle
 

@@ -1,20 +1,20 @@
 -- What is kept of a short line in data that comes in pieces.
 use Rattle.hayro_ccitt.proofs.Names.{◌⊎◌, inl, inr}
-use Rattle.hayro_ccitt.proofs.Names.{◌≡◌, ◌∙◌, ◌+◌, ◌-◌, ◌*◌, ◌≤◌, [], ℕ, Bool, true, false, Result, Ok, None, Some}
+use Rattle.hayro_ccitt.proofs.Names.{◌≡◌, ◌≢◌, ◌∙◌, ◌+◌, ◌-◌, ◌*◌, ◌≤◌, [], ℕ, Bool, true, false, Result, Ok, None, Some}
 use Rattle.hayro_ccitt.proofs.Names.{Option, refl, sym, ap, subst, arith, length, drop, Bits, BitsAt, Held, Context}
 use Rattle.hayro_ccitt.proofs.Names.{DecodeError, White}
 use Rattle.hayro_ccitt.proofs.Names.{redrawn, here, Stand, false≢true, length-drop}
 use Rattle.hayro_ccitt.proofs.Names.{drop-drop, ◌++◌, append_assoc, length-append}
 use Rattle.std.proofs.lemmas.List.{drop-append-le}
 use Rattle.hayro_ccitt.specs.LinesGoOn.{line_from_part}
-use Rattle.hayro_ccitt.proofs.Names.{changes, line_here}
+use Rattle.hayro_ccitt.proofs.Names.{changes, line_here, row_of_line}
 use Rattle.hayro_ccitt.specs.declared.line_parts.KeptPart.{KeptPart}
 use Rattle.hayro_ccitt.specs.Continuations.{is_short}
 use Rattle.hayro_ccitt.specs.LineParts.{ContinuesLine, IsPartOf, part_at}
 use Rattle.hayro_ccitt.specs.RowsTried.{IsLeft}
 use Rattle.hayro_ccitt.proofs.Readings.FeedsOn.{none_paid}
 use Rattle.hayro_ccitt.specs.RowFeeds.{KeepsPart, Feeding, IsFeedOf, LineGoesOn, PartIsKept, ReadsInFeed, Scans, StandsIn}
-use Rattle.hayro_ccitt.specs.RowFeeds.{StaysShort, fed_over, line_of_feed, most_for_line}
+use Rattle.hayro_ccitt.specs.RowFeeds.{StaysShort, fed_over, line_of_feed, most_for_line, most_to_find, paid_by}
 use Rattle.hayro_ccitt.specs.Answers.{HasBlack}
 use Rattle.hayro_ccitt.proofs.Names.{RowsRead, ReadsNext, front_of}
 use Rattle.hayro_ccitt.proofs.Readings.RowsFed.{stands_later}
@@ -114,6 +114,19 @@ module _ (old new : Feeding) (part next : KeptPart) (read : ℕ) (before after :
     place_is,
   )
 
+  -- no more is paid for it than the whole line's most
+  pub scan_paid : after.place ≤ length after.bits → next.passed + 2 * (after.place - old.place) + 2
+      ≤ length (changes old.ctx.held.reference) + 2 * length (drop old.place old.kept) + 2
+  scan_paid inside = omega (
+    arith,
+    on.lawful.passed.within,
+    inside,
+    ap length bits_are,
+    length-drop old.place old.kept,
+    on.onward,
+    place_is,
+  )
+
   pub scan_most : new.ctx.ticks + (part.passed + 2 * read) ≤ old.ctx.ticks + most_for_line old + 2
   scan_most = omega (arith, on.work, left_before, on.lawful.passed.within)
 
@@ -208,6 +221,22 @@ scanned_before {old} {mid} {new} answer stays begun reads =
         ap (λ (f : Feeding). f.ctx.space) frame,
         ap (λ (f : Feeding). f.ctx.held.settings.columns) frame,
       );
+      counted = omega (arith, reads.counted, scans.counts);
+      stored = λ e. omega (arith, reads.stored e, scans.counts);
+      looked = reads.looked ∙ ap (λ (f : Feeding). f.looked) frame;
+      done = reads.done;
+      tried = elim reads.tried [
+        | inl same ↦ inl (same ∙ stays.tried)
+        | inr here ↦ inr here
+      ];
+      behind = reads.behind;
+      within = reads.within;
+      paid = reads.paid;
+      row_is = λ whole tried e feed. subst (λ (f : Feeding).
+          (row_of_line f.ctx.held.settings f.ctx.held.has_eols (drop f.place f.kept) (line_of_feed f)
+          ≡ Ok (new.ctx.held.reference, drop new.place new.kept)) × (f.place ≤ new.place)
+          × (new.ctx.held.has_eols ≡ f.ctx.held.has_eols)) frame
+          (reads.row_is whole (tried + more) e (scanned_fed scans begun feed));
       work = record {
         goes_on = λ e some. absurd (settled_not stays reads e (stays.settled refl some));
         begins = λ e unkept. omega (
@@ -219,8 +248,26 @@ scanned_before {old} {mid} {new} answer stays begun reads =
         );
         read = λ other. omega (arith, reads.work.at_once other none, stays.most, scans.counts);
         at_once = λ other unkept. omega (arith, reads.work.at_once other none, (stays.unkept unkept).1);
+        some = λ e some. absurd (settled_not stays reads e (stays.settled refl some));
+        failed = λ e. omega (
+          arith,
+          reads.work.failed_at_once e none,
+          stays.most,
+          scans.counts,
+          ap (λ (f : Feeding). most_to_find f) frame,
+        );
+        failed_at_once = λ e unkept. omega (
+          arith,
+          reads.work.failed_at_once e none,
+          (stays.unkept unkept).1,
+          ap (λ (f : Feeding). most_to_find f) frame,
+        );
       };
     }
+
+part_paid : (part : Option KeptPart) (read : ℕ) {most : ℕ} → (part ≢ None → paid_by part read ≤ most) → paid_by part read ≤ most
+part_paid None read known = omega arith
+part_paid (Some part) read known = known (λ e. cc)
 
 -- the line was left, since it is short, and is read on
 pub scanned_after : {old mid new : Feeding} → ReadsInFeed old mid (Ok false) → old.part ≡ None → mid.part ≡ None
@@ -258,6 +305,25 @@ scanned_after {old} {mid} {new} reads none unkept keeps_part =
           let same : (tried + reads.extra) + more ≡ tried + (reads.extra + more) = omega arith in
           subst (λ (n : ℕ). IsFeedOf whole n new) same (scanned_fed scans reads.begun (reads.stands whole tried feed));
       most = omega (arith, reads.most, ap (λ (f : Feeding). f.ctx.space) frame);
+      counted = omega (arith, reads.counted, scans.counts);
+      stored = λ e. cc;
+      looked = ap (λ (f : Feeding). f.looked) frame ∙ reads.looked;
+      done = λ e. absurd (e refl);
+      tried = inr (omega (
+        arith,
+        keeps_part.tried,
+        ap (λ (f : Feeding). f.dropped) frame,
+        ap (λ (f : Feeding). f.place) frame,
+      ));
+      behind = λ e. cc;
+      within = omega (
+        arith,
+        reads.within,
+        ap (λ (f : Feeding). f.place) frame,
+        ap (λ (f : Feeding). length f.kept) frame,
+      );
+      paid = part_paid new.part new.line_read keeps_part.paid;
+      row_is = λ whole tried e feed. cc;
       work = record {
         goes_on = λ e some. absurd (some none);
         begins = λ e kept. omega (
@@ -270,6 +336,9 @@ scanned_after {old} {mid} {new} reads none unkept keeps_part =
         );
         read = λ other. absurd (other refl);
         at_once = λ other kept. absurd (other refl);
+        some = λ e some. absurd (some none);
+        failed = λ e. cc;
+        failed_at_once = λ e kept. cc;
       };
     }
 
@@ -303,10 +372,22 @@ stays_short {old} {new} stays begun =
       reads = λ whole tried other feed. absurd (other refl);
       stands = λ whole tried feed. scanned_fed stays.scans begun feed;
       most = omega (arith, ap (λ (f : Feeding). f.ctx.space) frame);
+      counted = omega (arith, stays.scans.counts);
+      stored = λ e. cc;
+      looked = ap (λ (f : Feeding). f.looked) frame;
+      done = λ e. absurd (e refl);
+      tried = inl stays.tried;
+      behind = λ e. cc;
+      within = (stays.kept refl).0;
+      paid = (stays.kept refl).1;
+      row_is = λ whole tried e feed. cc;
       work = record {
         goes_on = λ e some. omega (arith, stays.work refl, stays.scans.counts);
         begins = λ e none. absurd (false≢true (sym (stays.unkept none).0));
         read = λ other. absurd (other refl);
         at_once = λ other none. absurd (other refl);
+        some = λ e some. stays.some refl;
+        failed = λ e. cc;
+        failed_at_once = λ e none. cc;
       };
     }

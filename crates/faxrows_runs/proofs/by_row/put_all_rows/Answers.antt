@@ -37,7 +37,8 @@ returns-in_err-flush-in-None-clause-fails g c =
     let is : c.from_residual-in_err-flush-in-None.result ≡ Err c.in_err-flush-in-None.field-0.0 = search rules in
     if_err _ c.from_residual-in_err-flush-in-None.result c.in_err-flush-in-None.field-0.0 is
     (waits_fail (way_put c.loop-outcome.invariant.way c.in_ok-outcome.ensures.puts) c.loop-outcome.invariant.reader
-    c.in_err-flush-in-None.ensures.front c.in_err-flush-in-None.ensures.by_writer.only c.in_err-flush-in-None.ensures.by_writer.failed)
+    c.in_err-flush-in-None.ensures.front c.in_err-flush-in-None.ensures.by_writer.only
+    c.in_err-flush-in-None.ensures.by_writer.failed)
 
 -- more data is needed, and what waited was written
 module _ (g : Over) (c : After-feed_piece g) where

@@ -1,5 +1,5 @@
 use Rattle.hayro_ccitt.proofs.Names.{◌≡◌, ◌+◌, ◌≤◌, ◌++◌, ◌∷◌, [], ap, arith, length, here, looked, replicate, true, false}
-use Rattle.hayro_ccitt.proofs.Names.{length-append, length-drop, length-replicate}
+use Rattle.hayro_ccitt.proofs.Names.{length-append, length-drop, length-replicate, sym, ◌∙◌}
 use Rattle.fax_bits.proofs.BitReading.SoughtEols.{looked-zeros}
 use Rattle.fax_bits.proofs.BitReading.ZeroRuns.{looked_run}
 use Rattle.hayro_ccitt.proofs.Readings.GapsSeen.{looks_at_run, looks_at_zeros}
@@ -10,7 +10,9 @@ zeros_left : (c : In-None) → here c.ones.rest ≡ replicate c.zero_run-zeros.r
 zeros_left c = rw c.in-None.is at c.zero_run-zeros.ensures.end
 
 pub returns-in-None-clause-looks : goal.returns-in-None-clause-looks
-returns-in-None-clause-looks c = ([], looks_at_zeros c.zero_run-zeros.result.0 c.ones.invariant.looks (zeros_left c))
+returns-in-None-clause-looks c =
+    let waits = sym c.is_settled.ensures ∙ c.ones-test.true in
+    ([], looks_at_zeros c.zero_run-zeros.result.0 waits c.ones.invariant.looks (zeros_left c))
 
 pub returns-in-None-clause-ticks : goal.returns-in-None-clause-ticks
 returns-in-None-clause-ticks c = omega (
@@ -65,7 +67,8 @@ ones-preserved c =
     let at = (goal.at.ones-preserved c).In-Some in
     let n = c.zero_run-zeros.result.0 in
     record {
-      looks = rw c.stage_after-self.ensures (looks_at_run n c.ones.invariant.looks (run_here at));
+      looks = rw c.stage_after-self.ensures (looks_at_run n (sym c.is_settled.ensures ∙ c.ones-test.true)
+          c.ones.invariant.looks (run_here at));
       ticks = omega (
         arith,
         c.ones.invariant.ticks,

@@ -1,5 +1,5 @@
 use Rattle.hayro_ccitt.proofs.Names.{◌≡◌, ◌∙◌, ◌+◌, ◌-◌, ◌⊎◌, ap, sym, subst, refl, arith, length, true, false, Bool, ℕ, BitsAt}
-use Rattle.hayro_ccitt.proofs.Names.{Bits, bits_in, List, None}
+use Rattle.hayro_ccitt.proofs.Names.{Bits, bits_in, List, None, and_parts, is_at_line}
 use Rattle.hayro_ccitt.proofs.Names.{Held, here, drop, false≢true, fresh}
 use Rattle.hayro_ccitt.proofs.BitReading.BitLists.{length-bits_in}
 use Rattle.hayro_ccitt.proofs.Names.{◌≤◌}
@@ -57,6 +57,11 @@ returns-then-front_waits-clause-begins c =
       looked = λ e. omega (arith, c.front_waits.ensures.looked, c.front_waits.ensures.onward);
       keeps = record { order = refl; finished = refl; kept = refl; dropped = refl };
       begun = begun_not at;
+      within = omega (
+        arith,
+        c.self.invariant.within,
+        length-bits_in c.self.inside.order c.self.inside.«data».items,
+      );
       space = c.front_waits.ensures.space;
       waits = λ e. (
         c.front_waits.ensures.held,
@@ -68,6 +73,7 @@ returns-then-front_waits-clause-begins c =
             ∙ ap (λ (b : BitsAt). b.bits) (front_is at))) ∙ waits.1,
       );
       unfailed = λ e. cc;
+      reaches = λ whole tried e. cc;
       passes = λ whole tried e. cc;
       stands = λ whole tried feed.
           let front = at_front c.self.inside.begun tried c.self.inside.rows c.self.inside.ctx
@@ -141,6 +147,7 @@ returns-clause-begins c =
       looked = 0;
       part = inside.part;
       line_read = inside.line_read;
+      tried_at = inside.tried;
     } in
     rw (← c.self.view_is) (record {
       extra = more;
@@ -152,9 +159,27 @@ returns-clause-begins c =
       looked = λ e. cc;
       keeps = record { order = refl; finished = refl; kept = refl; dropped = refl };
       begun = refl;
+      within = omega (
+        arith,
+        c.bit_pos-self-inside.ensures.within,
+        c.bit_pos-self-inside.ensures.place,
+        ap length stood.ensures.same_bits,
+        ap (λ (b : BitsAt). length b.bits) (front_is at),
+      );
       space = stood.ensures.space ∙ c.front_waits.ensures.space;
       waits = λ e. cc;
       unfailed = λ e. stood.ensures.unfailed;
+      reaches = λ whole tried e feed. record {
+        counts = omega (arith, ticks, stood.ensures.first.counts);
+        onward = omega (arith, c.self.invariant.start (begun_not at));
+        near = λ begun unfinished. absurd (false≢true (sym (begun_not at) ∙ begun));
+        past_eol = λ unfinished begun no_line sought. absurd (false≢true (sym (begun_not at) ∙ begun));
+        at_line = λ line. absurd (false≢true (sym (begun_not at) ∙ (and_parts inside.begun (is_at_line inside.rows.stand)
+            line).0));
+        tried = refl;
+        space = stood.ensures.space ∙ c.front_waits.ensures.space;
+        settings = settings_are ∙ ap (λ (h : Held). h.settings) same;
+      };
       passes = λ whole tried e feed. front_reaches (feeding_of inside) now mid c.placed_at-reader.result
           stood.new.reader stood.result more
           (front_is at) (record { order = refl; finished = refl; kept = refl; dropped = refl })

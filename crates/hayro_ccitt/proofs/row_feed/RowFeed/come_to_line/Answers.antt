@@ -55,7 +55,7 @@ returns-clause-comes c =
     let at = (goal.at.returns-clause-comes c).After-come_to_settled_line-line in
     rw (← c.self.view_is) (feed_comes _ _ c.placed_at-reader.result c.come_to_settled_line-line.new.reader (gap_is_at at)
     (record { order = refl; finished = refl; kept = refl; dropped = refl }) c.bit_pos-self-inside.ensures.place
-    (gap_begun at) (gap_begun at) c.self.inside.look c.come_to_settled_line-line.new.look refl refl
+    (gap_begun at) (gap_begun at) refl c.self.inside.look c.come_to_settled_line-line.new.look refl refl
     c.come_to_settled_line-line.result c.come_to_settled_line-line.ensures)
 
 pub come_to_settled_line-line-requires-clause-seen : goal.come_to_settled_line-line-requires-clause-seen

@@ -80,6 +80,7 @@ returns-then-bytes-eq0 c =
       finished = refl;
       part = refl;
       line_read = refl;
+      tried_at = refl;
     })
 
 pub returns : goal.returns
@@ -100,4 +101,5 @@ returns c =
       finished = refl;
       part = refl;
       line_read = refl;
+      tried_at = refl;
     })

@@ -1,8 +1,9 @@
-use Rattle.hayro_ccitt.proofs.Names.{◌≡◌, ◌∙◌, ◌+◌, ◌-◌, ap, sym, subst, arith, length, length-drop, drop, false≢true}
-use Rattle.hayro_ccitt.proofs.Names.{bits_in, List, ℕ, Some, Context, Held, BitsAt}
+use Rattle.hayro_ccitt.proofs.Names.{refl}
+use Rattle.hayro_ccitt.proofs.Names.{◌≡◌, ◌∙◌, ◌+◌, ◌-◌, ◌*◌, ap, sym, subst, arith, length, length-drop, drop, false≢true}
+use Rattle.hayro_ccitt.proofs.Names.{bits_in, changes, List, ℕ, Some, Context, Held, BitsAt}
 use Rattle.hayro_ccitt.specs.GapsSeen.{IsSeen, rules_for}
 use Rattle.hayro_ccitt.proofs.BitReading.BitLists.{length-bits_in}
-use Rattle.hayro_ccitt.proofs.Readings.PartsFed.{part_reached, said_short, scan_most, scan_work}
+use Rattle.hayro_ccitt.proofs.Readings.PartsFed.{part_reached, said_short, scan_most, scan_paid, scan_work}
 use Rattle.hayro_ccitt.specs.RowFeeds.{Feeding, LineGoesOn, feeding_of}
 use Rattle.hayro_ccitt.proofs.Names.{◌≤◌}
 use Rattle.hayro_ccitt.proofs.row_feed.RowFeed.go_on_from.Goals.{After-deref, After-continue_line-is_short}
@@ -94,9 +95,19 @@ returns-then-is_short c =
           }) on.ensures.goes_on.frame;
           counts = on.ensures.goes_on.counts;
         };
+        tried = refl;
         said = said_short (feeding_of inside) (scanned at) c.args.part part c.args.read c.placed_at-reader.result (reached at)
             on.result.0 (starts_at at) within on.ensures.goes_on was;
         none = λ e. absurd (false≢true (sym e ∙ c.if-is_short.true));
+        some = λ e kept. cc;
+        kept = λ e. (
+          omega (arith, within),
+          subst (λ (h : Held). part.passed + 2 * (on.result.1 - inside.place) + 2
+              ≤ length (changes h.reference) + 2 * length (drop inside.place (bits_in inside.order inside.«data».items)) + 2)
+              (sym (ap (λ (x : Context). x.held) on.ensures.goes_on.frame))
+              (scan_paid (feeding_of inside) (scanned at) c.args.part part c.args.read c.placed_at-reader.result (reached at)
+              on.result.0 (starts_at at) within on.ensures.goes_on was on.ensures.within),
+        );
         work = λ e. scan_work (feeding_of inside) (scanned at) c.args.part part c.args.read c.placed_at-reader.result (reached at)
             on.result.0 (starts_at at) within on.ensures.goes_on was on.ensures.within;
         most = scan_most (feeding_of inside) (scanned at) c.args.part part c.args.read c.placed_at-reader.result (reached at)
@@ -119,9 +130,12 @@ returns-else-is_short c =
           frame = ap (λ (x : Context). record (feeding_of inside) { ctx = x }) on.ensures.goes_on.frame;
           counts = on.ensures.goes_on.counts;
         };
+        tried = refl;
         said = said_short (feeding_of inside) (scanned at) c.args.part part c.args.read c.placed_at-reader.result (reached at)
             on.result.0 (starts_at at) within on.ensures.goes_on was;
         none = λ e. ap (λ (f : Feeding). f.part) c.self.view_is ∙ c.requires.none_kept;
+        some = λ e. absurd (false≢true (sym c.if-is_short.false ∙ e));
+        kept = λ e. absurd (false≢true (sym c.if-is_short.false ∙ e));
         work = λ e. absurd (false≢true (sym c.if-is_short.false ∙ e));
         most = scan_most (feeding_of inside) (scanned at) c.args.part part c.args.read c.placed_at-reader.result (reached at)
             on.result.0 (starts_at at) within on.ensures.goes_on was;

@@ -1,13 +1,19 @@
-use Rattle.hayro_ccitt.proofs.Names.{◌≡◌, ◌∙◌, ◌&&◌, sym, ap, is_some, ended, Bool, true, false, ℕ, Bits, false≢true}
-use Rattle.hayro_ccitt.proofs.Readings.FeedsOn.{feeds_on, first_line_is}
-use Rattle.hayro_ccitt.specs.RowFeeds.{Feeding, LooksAhead}
+use Rattle.hayro_ccitt.proofs.Names.{◌∙◌, sym, ap, is_some, ended, subst}
+use Rattle.hayro_ccitt.proofs.Readings.FeedsOn.{feeds_on, first_line_is, front_ends_feeds, front_waits_feeds, unbegun_looks}
+use Rattle.hayro_ccitt.specs.RowFeeds.{Begins, Feeding}
 use Rattle.hayro_ccitt.proofs.row_feed.RowFeed.read_first.Goals as goal
 
--- nothing has begun
-unbegun_looks : (begun line : Bool) {finished : Bool} {looked counted : ℕ} {gap : Bits} → begun ≡ false
-    → LooksAhead finished false looked gap counted → LooksAhead finished (begun && line) looked gap counted
-unbegun_looks false line is looks = looks
-unbegun_looks true line is looks = absurd (false≢true (sym is))
+pub returns-then-not-begin-clause-reads : goal.returns-then-not-begin-clause-reads
+returns-then-not-begin-clause-reads c whole tried feed =
+    let begins = subst (Begins c.args.self.now c.begin.new.self) c.if-not-begin.true c.begin.ensures.begins in
+    front_waits_feeds begins c.requires.unbegun c.begin.ensures.none_kept.0 c.begin.ensures.none_kept.1 feed
+
+pub returns-then-has_ended-clause-reads : goal.returns-then-has_ended-clause-reads
+returns-then-has_ended-clause-reads c whole tried feed =
+    let begins = subst (Begins c.args.self.now c.begin.new.self) c.if-not-begin.false c.begin.ensures.begins in
+    front_ends_feeds begins c.requires.unbegun c.begin.ensures.none_kept.0 c.begin.ensures.none_kept.1
+    (ap (λ (f : Feeding). is_some (ended f.rows.stand)) (sym c.self.view_is) ∙ sym c.has_ended.ensures ∙ c.if-has_ended.true)
+    feed
 
 pub returns-clause-reads : goal.returns-clause-reads
 returns-clause-reads c whole tried feed =
@@ -17,4 +23,5 @@ returns-clause-reads c whole tried feed =
     (first_line_is c.begin.new.self.rows.stand
     (ap (λ (f : Feeding). is_some (ended f.rows.stand)) (sym c.self.view_is) ∙ sym c.has_ended.ensures ∙ c.if-has_ended.false)
     (begins.passes whole tried c.if-not-begin.false feed))
+    (begins.reaches whole tried c.if-not-begin.false feed)
     (c.read_on.ensures.reads whole _ (begins.stands whole tried feed))

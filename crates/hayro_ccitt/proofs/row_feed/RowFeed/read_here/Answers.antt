@@ -9,4 +9,5 @@ returns-then-not-can_take_row-clause-reads c whole tried feed =
 
 pub returns-clause-reads : goal.returns-clause-reads
 returns-clause-reads c whole tried feed =
-    rw c.fed_row.ensures (line_feeds c.read_line-row.result c.read_line-row.ensures c.requires.begun c.requires.line feed)
+    rw c.fed_row.ensures (line_feeds c.read_line-row.result c.read_line-row.ensures.reads c.read_line-row.ensures.unread
+    c.requires.begun c.requires.line feed)

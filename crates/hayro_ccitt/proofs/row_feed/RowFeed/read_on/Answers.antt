@@ -15,7 +15,7 @@ returns-then-not-is_some_line-clause-reads c whole tried feed =
     rw c.fed_none.ensures (gap_feeds c.come_to_line-line.result c.come_to_line-line.ensures.comes
     (c.is_some_line.ensures.none c.if-not-is_some_line.true) c.requires.begun c.requires.unended
     (ap (λ (f : Feeding). f.part) (sym c.self.view_is) ∙ unkept_by c.self.inside.part
-    (sym c.is_some.ensures ∙ c.if-is_some.false)) feed)
+    (sym c.is_some.ensures ∙ c.if-is_some.false)) c.come_to_line-line.ensures.none_kept feed)
 
 pub returns-clause-reads : goal.returns-clause-reads
 returns-clause-reads c whole tried feed =

@@ -32,7 +32,7 @@ invariant_of-self c =
       within = omega (
         arith,
         c.bit_pos-self-inside.ensures.within,
-        ap length c.try_line-row.ensures.same_bits,
+        ap length c.try_line-row.ensures.tries.same_bits,
         ap (λ (b : BitsAt). length b.bits) (line_is_at at),
         length-bits_in c.self.inside.order c.self.inside.«data».items,
       );
@@ -54,5 +54,7 @@ returns-clause-reads c =
     (record { order = refl; finished = refl; kept = refl; dropped = refl }) c.bit_pos-self-inside.ensures.place
     (line_begun at) (line_begun at) c.begin_line.new.self c.begin_line.ensures.frame c.begin_line.ensures.width
     (ap (λ (f : Feeding). is_at_line f.rows.stand) c.self.view_is ∙ c.requires.line)
+    (ap (λ (f : Feeding). f.part) c.self.view_is ∙ c.requires.none_kept) refl refl
     (ap (λ (f : Feeding). f.part) c.self.view_is ∙ c.requires.none_kept)
-    c.try_line-row.result c.try_line-row.ensures)
+    (omega (arith, c.self.invariant.within, length-bits_in c.self.inside.order c.self.inside.«data».items))
+    c.try_line-row.result c.try_line-row.ensures.tries)

@@ -1,10 +1,19 @@
 use Rattle.hayro_ccitt.proofs.Names.{◌≡◌, ◌∙◌, ◌+◌, ◌-◌, ◌⊎◌, ap, sym, subst, refl, true, inl, ℕ}
 use Rattle.hayro_ccitt.proofs.Names.{arith, [], Ok, here, Held, IsStanding, ReachesNextLine, is_at_line, seen}
-use Rattle.hayro_ccitt.proofs.Names.{false≢true}
-use Rattle.hayro_ccitt.proofs.Readings.GapsSeen.{looked_within}
+use Rattle.hayro_ccitt.proofs.Names.{false≢true, inr, length-drop, append-nil, Result, Bool, DecodeError, BitsAt, Context}
+use Rattle.hayro_ccitt.proofs.Names.{gap_behind_row, gap_said, length, ◌≤◌}
+use Rattle.hayro_ccitt.specs.GapsSeen.{bits_needed, rules_for}
+use Rattle.hayro_ccitt.specs.RowsTried.{PassesGapHere}
+use Rattle.hayro_ccitt.specs.declared.gap_look.GapStage.TheVariants.{Start}
+use Rattle.hayro_ccitt.proofs.Readings.GapsSeen.{looked_needed, looked_within}
 use Rattle.hayro_ccitt.proofs.Readings.RowsFed.{gap_step_stands, gap_step_reaches, stays_at_line, stands_later, waits_for}
 use Rattle.hayro_ccitt.proofs.Readings.RowsFed.{waits_not, passed_some, said_code, said_line}
+use Rattle.hayro_ccitt.specs.declared.gap_look.GapLook.{GapLook}
 use Rattle.hayro_ccitt.specs.declared.row_reader.RowState.{RowState}
+use Rattle.hayro_ccitt.proofs.Readings.GapsNear.{passed_near, passed_shorter, settled_sought}
+use Rattle.hayro_ccitt.proofs.Names.{Gap, Some, Err, false, line_after}
+use Rattle.hayro_ccitt.proofs.Work.EolsPassed.{length-within, line_past_eol}
+use Rattle.hayro_ccitt.specs.RowFeeds.{PassesEol, some_line}
 use Rattle.hayro_ccitt.specs.GapsContinued.{gap_is_settled}
 use Rattle.hayro_ccitt.proofs.row_reader.RowState.come_to_settled_line.Goals as goal
 
@@ -16,6 +25,11 @@ returns-then-is_at_line c =
       looks = record { line = λ e. refl; finished = λ e. refl; within = λ some. absurd (omega (arith, some)) };
       looked = λ e. cc;
       none_looked = λ e. c.requires.line line;
+      near = λ passed unfinished. omega (arith, ap (λ (l : GapLook). l.bits) (c.requires.line line));
+      counts = omega arith;
+      onward = λ e. omega arith;
+      at_line = λ e. (refl, refl);
+      past_eol = λ unfinished no_line sought e. absurd (false≢true (sym no_line ∙ line));
       same_bits = refl;
       within = omega (arith, c.bit_pos-start.ensures.place, c.bit_pos-start.ensures.within);
       space = refl;
@@ -51,6 +65,11 @@ returns-then-gap_waits c =
       };
       looked = λ e. (omega (arith, c.gap_waits.ensures.looked, c.gap_waits.ensures.onward), c.gap_waits.ensures.seen);
       none_looked = λ passed. absurd (passed refl);
+      near = λ passed unfinished. absurd (passed refl);
+      counts = omega (arith, c.gap_waits.ensures.looked, c.gap_waits.ensures.onward);
+      onward = λ e. cc;
+      at_line = λ e. absurd (false≢true (sym c.if-is_at_line.false ∙ c.is_at_line.ensures ∙ e));
+      past_eol = λ unfinished no_line sought e. cc;
       same_bits = refl;
       within = omega (arith, c.bit_pos-start.ensures.place, c.bit_pos-start.ensures.within);
       space = c.gap_waits.ensures.space;
@@ -67,6 +86,78 @@ returns-then-gap_waits c =
       stands = λ from whole dropped passed lie starts stands. absurd (passed refl);
       line = λ e. cc;
       only_code = tt;
+    }
+
+-- the gap needs few bits beyond its end
+near_end : {gap_start : ℕ} {rows kept : RowState} (old mid new : Context) (before after : BitsAt)
+    {answer : Result Bool DecodeError}
+    → mid.held ≡ old.held → gap_is_settled old.held.settings old.held.taken old.held.has_eols (here before) ≡ true
+    → PassesGapHere gap_start rows kept mid new before after answer
+    → bits_needed (rules_for true old.held) Start 0 (here before) + length (here after) ≤ length (here before) + 12
+near_end old mid new before after same settled gap =
+    let passes = gap.passes [] (inl refl) in
+    subst (λ (h : Held). bits_needed (rules_for true h) Start 0 (here before) + length (here after)
+    ≤ length (here before) + 12) same
+    (passed_near mid.held.settings mid.held.taken mid.held.has_eols (here before) (here after)
+    (ap (λ (h : Held). gap_is_settled h.settings h.taken h.has_eols (here before)) same ∙ settled) gap.over new.held.has_eols
+    (ap (gap_behind_row mid.held.settings mid.held.taken mid.held.has_eols) (sym (append-nil (here before)))
+    ∙ passes.gap ∙ ap (gap_said gap.over new.held.has_eols) (append-nil (here after))) gap.put_back)
+
+gap_is : {gap_start : ℕ} {rows kept : RowState} (mid new : Context) (before after : BitsAt) {answer : Result Bool DecodeError}
+    → (gap : PassesGapHere gap_start rows kept mid new before after answer)
+    → gap_behind_row mid.held.settings mid.held.taken mid.held.has_eols (here before)
+    ≡ gap_said gap.over new.held.has_eols (here after)
+gap_is mid new before after gap =
+    ap (gap_behind_row mid.held.settings mid.held.taken mid.held.has_eols) (sym (append-nil (here before)))
+    ∙ (gap.passes [] (inl refl)).gap ∙ ap (gap_said gap.over new.held.has_eols) (append-nil (here after))
+
+gap_shorter : {gap_start : ℕ} {rows kept : RowState} (mid new : Context) (before after : BitsAt)
+    {answer : Result Bool DecodeError} → PassesGapHere gap_start rows kept mid new before after answer
+    → length (here after) ≤ length (here before)
+gap_shorter mid new before after gap =
+    passed_shorter mid.held.settings mid.held.taken mid.held.has_eols (here before) (here after) gap.over new.held.has_eols
+    (gap_is mid new before after gap) gap.put_back
+
+over_is : (over : Result Bool DecodeError) → line_after over ≡ Ok true → over ≡ Ok false
+over_is (Ok true) e = absurd cc
+over_is (Ok false) e = refl
+over_is (Err error) e = absurd cc
+
+came_is : (answer : Result Bool DecodeError) → some_line answer ≡ Ok (Some true) → answer ≡ Ok true
+came_is (Ok true) e = refl
+came_is (Ok false) e = absurd cc
+came_is (Err error) e = absurd cc
+
+-- an EOL is passed
+eol_passed : {gap_start : ℕ} {rows kept : RowState} (mid new : Context) (before after : BitsAt)
+    {answer : Result Bool DecodeError}
+    → gap_is_settled mid.held.settings mid.held.taken mid.held.has_eols (here before) ≡ true → mid.held.has_eols ≡ true
+    → (gap : PassesGapHere gap_start rows kept mid new before after answer) → gap.over ≡ Ok false
+    → PassesEol (here before) before.place after.place
+eol_passed mid new before after settled sought gap over =
+    let settings = mid.held.settings in
+    let taken = mid.held.taken in
+    let line : gap_behind_row settings taken true (here before) ≡ Gap.line_at new.held.has_eols (here after) =
+    ap (λ (b : Bool). gap_behind_row settings taken b (here before)) (sym sought) ∙ gap_is mid new before after gap
+    ∙ ap (λ (r : Result Bool DecodeError). gap_said r new.held.has_eols (here after)) over in
+    let still = settled_sought settings taken (here before) (here after) new.held.has_eols
+    (ap (λ (b : Bool). gap_is_settled settings taken b (here before)) (sym sought) ∙ settled) line in
+    let eol = line_past_eol settings taken (here before) (here after)
+    (line ∙ ap (λ (b : Bool). Gap.line_at b (here after)) still) in
+    record {
+      fill = eol.1.fill;
+      behind = eol.0;
+      place = eol.1.place;
+      passed = omega (
+        arith,
+        length-within (here before) eol.0 eol.1,
+        eol.2,
+        gap.begun,
+        gap.within,
+        ap length gap.same_bits,
+        length-drop before.place before.bits,
+        length-drop after.place after.bits,
+      );
     }
 
 pub returns : goal.returns
@@ -99,6 +190,46 @@ returns c =
       };
       looked = λ e. absurd (passed_some answer (sym c.some_line.ensures ∙ e));
       none_looked = λ e. c.new.ensures;
+      near = λ passed unfinished.
+          let closed : gap_is_settled held.settings held.taken held.has_eols (here c.args.reader.now) ≡ true =
+          elim closed [ inl last ↦ absurd (false≢true (sym unfinished ∙ last)) | inr is ↦ is ] in
+          omega (
+            arith,
+            c.gap_waits.ensures.looked,
+            c.gap_waits.ensures.onward,
+            looked_needed c.gap_waits.ensures.seen.1,
+            near_end c.args.ctx.now mid c.pass_gap_here.new.ctx c.args.reader.now c.pass_gap_here.new.reader same closed gap,
+            c.bit_pos-start.ensures.place,
+            c.bit_pos-start.ensures.within,
+            gap.within,
+            ap length gap.same_bits,
+            length-drop c.args.reader.now.place c.args.reader.now.bits,
+            length-drop c.pass_gap_here.new.reader.place c.pass_gap_here.new.reader.bits,
+          );
+      counts = omega (
+        arith,
+        c.gap_waits.ensures.looked,
+        c.gap_waits.ensures.onward,
+        (gap.passes [] (inl refl)).counts,
+      );
+      onward = λ e. omega (
+        arith,
+        gap_shorter mid c.pass_gap_here.new.ctx c.args.reader.now c.pass_gap_here.new.reader gap,
+        c.bit_pos-start.ensures.place,
+        c.bit_pos-start.ensures.within,
+        gap.within,
+        ap length gap.same_bits,
+        length-drop c.args.reader.now.place c.args.reader.now.bits,
+        length-drop c.pass_gap_here.new.reader.place c.pass_gap_here.new.reader.bits,
+      );
+      at_line = λ e. absurd (false≢true (sym no_line ∙ e));
+      past_eol = λ unfinished was sought e.
+          let closed : gap_is_settled held.settings held.taken held.has_eols (here c.args.reader.now) ≡ true =
+          elim closed [ inl last ↦ absurd (false≢true (sym unfinished ∙ last)) | inr is ↦ is ] in
+          eol_passed mid c.pass_gap_here.new.ctx c.args.reader.now c.pass_gap_here.new.reader
+          (ap (λ (h : Held). gap_is_settled h.settings h.taken h.has_eols (here c.args.reader.now)) same ∙ closed)
+          (ap (λ (h : Held). h.has_eols) same ∙ sought) gap
+          (over_is gap.over (sym gap.said ∙ came_is answer (sym c.some_line.ensures ∙ e)));
       same_bits = gap.same_bits;
       within = gap.within;
       space = gap.space ∙ c.gap_waits.ensures.space;

@@ -1,12 +1,15 @@
-use Rattle.hayro_ccitt.proofs.Names.{rules, ◌≡◌, ◌∙◌, sym, refl, arith, length, ◌≤◌}
+use Rattle.hayro_ccitt.proofs.Names.{rules, ◌≡◌, ◌∙◌, ap, sym, refl, arith, length, ◌≤◌, ℕ, Bool, true, false, Result, Ok, Err}
+use Rattle.hayro_ccitt.proofs.Names.{DecodeError, is_at_line}
+use Rattle.hayro_ccitt.specs.Context.{Repairs}
+use Rattle.hayro_ccitt.specs.declared.row_reader.RowState.{RowState}
 use Rattle.hayro_ccitt.proofs.Readings.RowsFed.{left_is, left_not, line_step_stands, line_step_reads, none_read}
 use Rattle.hayro_ccitt.specs.RowsTried.{rows_behind_line}
 use Rattle.hayro_ccitt.specs.RowFeeds.{line_answer}
 use Rattle.hayro_ccitt.proofs.row_reader.RowState.try_line.Goals.{After-note_line}
 use Rattle.hayro_ccitt.proofs.row_reader.RowState.try_line.Goals as goal
 
-pub returns-then-is_left : goal.returns-then-is_left
-returns-then-is_left c =
+pub returns-then-is_left-clause-tries : goal.returns-then-is_left-clause-tries
+returns-then-is_left-clause-tries c =
     let row = c.try_row-row.ensures in
     let left = left_is c.try_row-row.result (sym c.is_left.ensures ∙ c.if-is_left.true) in
     record {
@@ -14,6 +17,7 @@ returns-then-is_left c =
       same_bits = row.same_bits;
       within = omega (arith, c.bit_pos-end.ensures.place, c.bit_pos-end.ensures.within);
       left = λ is. (refl, row.put_back (none_read c.try_row-row.result left));
+      behind = λ e. absurd (none_read c.try_row-row.result left e);
       reads = λ from whole dropped read lie starts at. absurd (read left);
       stands = λ from whole dropped read lie starts at. absurd (read left);
     }
@@ -24,8 +28,14 @@ kept_behind_try : (c : After-note_line) → c.note_line.new.self ≡ rows_behind
     c.args.line_start c.args.ctx.now.held.repairs.rows c.args.ctx.now.held.repairs.cut c.try_row-row.new.ctx.held.repairs
 kept_behind_try c = search rules
 
-pub returns : goal.returns
-returns c =
+read_behind : (rows : RowState) (answer : Result Bool DecodeError) (start rows_before cut_before : ℕ) (repairs : Repairs)
+    → answer ≡ Ok true
+    → is_at_line (rows_behind_line rows (line_answer answer) start rows_before cut_before repairs).stand ≡ false
+read_behind rows (Ok read) start rows_before cut_before repairs e = refl
+read_behind rows (Err error) start rows_before cut_before repairs e = absurd cc
+
+pub returns-clause-tries : goal.returns-clause-tries
+returns-clause-tries c =
     let row = c.try_row-row.ensures in
     let answer = c.try_row-row.result in
     let other = sym c.is_left.ensures ∙ c.if-is_left.false in
@@ -38,6 +48,9 @@ returns c =
       same_bits = row.same_bits;
       within = omega (arith, c.bit_pos-end.ensures.place, c.bit_pos-end.ensures.within);
       left = λ is. absurd (left_not answer other is);
+      behind = λ e. ap (λ (r : RowState). is_at_line r.stand) (kept_behind_try c)
+          ∙ read_behind c.args.self.now answer c.args.line_start c.args.ctx.now.held.repairs.rows
+          c.args.ctx.now.held.repairs.cut c.try_row-row.new.ctx.held.repairs e;
       reads = λ from whole dropped read lie starts at. line_step_reads c.args.is_last c.args.line_start c.args.self.now
           c.note_line.new.self c.args.ctx.now c.try_row-row.new.ctx c.args.reader.now c.try_row-row.new.reader answer row.row
           other

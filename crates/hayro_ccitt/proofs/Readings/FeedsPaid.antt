@@ -1,0 +1,1018 @@
+-- What all calls of a feed count is paid.
+use Rattle.hayro_ccitt.proofs.Names.{◌≡◌, ◌≢◌, ◌∙◌, ◌+◌, ◌-◌, ◌*◌, ◌≤◌, ◌<◌, ◌++◌, ◌∷◌, ◌⊎◌, ◌&&◌, [], ℕ, Bool, true, false}
+use Rattle.hayro_ccitt.proofs.Names.{Result, Ok, Err, None, Some, Option, refl, sym, ap, subst, arith, length, drop, replicate}
+use Rattle.hayro_ccitt.proofs.Names.{inl, inr, cases_lt, false≢true, length-append, length-drop, append_assoc, append-nil}
+use Rattle.hayro_ccitt.proofs.Names.{Bits, Context, Held, DecodeError, DecodeSettings, Row, Stand, AtLine, BehindRow, AtEnd}
+use Rattle.hayro_ccitt.proofs.Names.{AtFault}
+use Rattle.hayro_ccitt.proofs.Names.{changes, ended, is_at_line, line_here, row_of_line}
+use Rattle.hayro_ccitt.specs.PlainReading.{behind_row}
+use Rattle.hayro_ccitt.specs.Lines.{Line}
+use Rattle.hayro_ccitt.specs.Continuations.{is_short}
+use Rattle.hayro_ccitt.specs.declared.line_parts.KeptPart.{KeptPart}
+use Rattle.hayro_ccitt.specs.declared.row_feed.Fed.{Fed}
+use Rattle.hayro_ccitt.specs.declared.row_reader.RowState.{RowState}
+use Rattle.hayro_ccitt.specs.RowFeeds.{CallGoesOn, Feeding, FeedsNext, HasNone, HoldsMore, IsFeedOf, IsOpenAt, KeepsBits}
+use Rattle.hayro_ccitt.specs.RowFeeds.{StandsIn}
+use Rattle.hayro_ccitt.specs.RowFeeds.{fed_bits, fed_over, most_for_line, paid_by, paid_for_line}
+use Rattle.hayro_ccitt.proofs.Names.{IfErr}
+use Rattle.hayro_ccitt.specs.FeedsPaid.{FeedIsPaid, GapsPaid, IsPassed, LinesPaid, SeeksEol, WasShort, changes_of}
+use Rattle.hayro_ccitt.specs.FeedsPaid.{cost_of_failure, cost_of_first_try, left_for_line, offset}
+use Rattle.hayro_ccitt.proofs.Names.{cond, eqb, ne_eqb}
+use Rattle.hayro_ccitt.proofs.Readings.FeedsOn.{none_paid}
+use Rattle.fax_reading.proofs.KeptRows.LinesAgain.{line_again}
+use Rattle.fax_reading.proofs.Work.TurnsPaid.{behind_shorter, broken_row}
+use Rattle.hayro_ccitt.proofs.Work.ChangesStored.{changes_white}
+use Rattle.hayro_ccitt.proofs.Work.CallsPaid.{within_most}
+use Rattle.hayro_ccitt.proofs.Names.{EncodingMode, Group4, Group3_1D, Group3_2D, most_counted}
+use Rattle.hayro_ccitt.specs.RowsRead.{ReadsNext}
+use Rattle.fax_bits.specs.declared.error.DecodeError.TheVariants.{OutOfMemory}
+use Rattle.fax_reading.proofs.Continuations.ShortLines.{eol_ends_line}
+
+-- ---- Where a line ends that was short
+
+-- bits that begin with some, and end with no fewer than others, are those and more
+prefix_more : (front rest seen more : Bits) → front ++ rest ≡ seen ++ more → length front ≤ length seen
+    → (others : Bits) × (seen ≡ front ++ others)
+prefix_more [] rest seen more e le = (seen, refl)
+prefix_more (b ∷ front) rest [] more e le = absurd (omega (arith, le))
+prefix_more (b ∷ front) rest (c ∷ seen) more e le =
+    let same : b ≡ c = cc in
+    let next : front ++ rest ≡ seen ++ more = cc in
+    let (others, is) = prefix_more front rest seen more next (omega (arith, le)) in
+    (others, ap (λ (x : Bits). c ∷ x) is ∙ ap (λ (x : Bool). x ∷ (front ++ others)) (sym same))
+
+-- no EOL ends among the bits of a line that was short
+pub short_before_eol : (settings : DecodeSettings) (reference : Row) (seen more fill behind : Bits)
+    → is_short (line_here settings reference seen) ≡ true → seen ++ more ≡ fill ++ replicate 11 false ++ true ∷ behind
+    → length seen ≤ length fill + 12
+short_before_eol settings reference seen more fill behind short e =
+    elim (cases_lt (length seen) (length fill + 12)) [
+      | inl lt ↦ omega (arith, lt)
+      | inr ge ↦
+          let eol : Bits = fill ++ replicate 11 false ++ true ∷ [] in
+          let whole : eol ++ behind ≡ seen ++ more =
+          append_assoc (fill ++ replicate 11 false) (true ∷ []) behind ∙ sym e in
+          let long : length eol ≤ length seen = omega (
+            arith,
+            ge,
+            length-append (fill ++ replicate 11 false) (true ∷ []),
+            length-append fill (replicate 11 false),
+          ) in
+          let (others, is) = prefix_more eol behind seen more whole long in
+          let there : seen ≡ fill ++ replicate 11 false ++ true ∷ others =
+          is ∙ append_assoc (fill ++ replicate 11 false) (true ∷ []) others in
+          absurd (false≢true (sym (eol_ends_line settings reference fill others)
+          ∙ ap (λ (b : Bits). is_short (line_here settings reference b)) (sym there) ∙ short))
+    ]
+
+-- its row ends no sooner, unless it is repaired
+pub short_row : (settings : DecodeSettings) (has_eols : Bool) (reference : Row) (seen more rest : Bits) (row : Row)
+    → is_short (line_here settings reference seen) ≡ true
+    → row_of_line settings has_eols (seen ++ more) (line_here settings reference (seen ++ more)) ≡ Ok (row, rest)
+    → (length rest ≤ length more) ⊎ ((has_eols ≡ true) × (rest ≡ seen ++ more))
+short_row settings has_eols reference seen more rest row short is =
+    by_line (line_here settings reference (seen ++ more)) refl is
+  where
+    rest_of : Result (Row × Bits) DecodeError → Bits
+    rest_of (Ok x) = x.1
+    rest_of (Err fault) = []
+
+    by_line : (line : Line) → line_here settings reference (seen ++ more) ≡ line
+        → row_of_line settings has_eols (seen ++ more) line ≡ Ok (row, rest)
+        → (length rest ≤ length more) ⊎ ((has_eols ≡ true) × (rest ≡ seen ++ more))
+    by_line (Line.broken front fault) e given = inr (broken_row settings has_eols (seen ++ more) rest front row fault given)
+    by_line (Line.whole whole behind) e given =
+        let again = line_again settings.encoding settings.strict settings.columns reference (seen ++ more) whole behind e in
+        let same : behind_row settings has_eols behind ≡ rest = ap rest_of given in
+        elim (cases_lt (length behind) (length more)) [
+          | inl lt ↦ inl (omega (arith, lt, ap length same, behind_shorter settings has_eols behind))
+          | inr ge ↦
+              let long : length again.0 ≤ length seen = omega (
+                arith,
+                ge,
+                ap length again.1,
+                length-append seen more,
+                length-append again.0 behind,
+              ) in
+              let (others, there) = prefix_more again.0 behind seen more (sym again.1) long in
+              absurd (false≢true (sym (ap is_short (again.2 others))
+              ∙ ap (λ (b : Bits). is_short (line_here settings reference b)) (sym there) ∙ short))
+        ]
+
+-- ---- By the part that is kept
+
+left_none : (part : Option KeptPart) (changes seen : ℕ) → part ≡ None → left_for_line part changes seen ≡ 2 * changes
+left_none None changes seen e = refl
+left_none (Some part) changes seen e = absurd cc
+
+left_some : (part : Option KeptPart) (changes seen : ℕ) → part ≢ None → left_for_line part changes seen ≡ changes + 2 * seen
+left_some None changes seen e = absurd (e refl)
+left_some (Some part) changes seen e = refl
+
+passed_none : (part : Option KeptPart) (known : ℕ) (feed : Feeding) → part ≡ None
+    → (ended feed.rows.stand ≡ None → feed.finished ≡ false → (known ≤ offset feed) ⊎ SeeksEol known feed)
+    → IsPassed part known feed
+passed_none None at feed e known = known
+passed_none (Some part) at feed e known = absurd cc
+
+kept_passed : (part : Option KeptPart) (known : ℕ) (feed : Feeding) → part ≢ None → WasShort known feed
+    → IsPassed part known feed
+kept_passed None at feed e known = absurd (e refl)
+kept_passed (Some part) at feed e known = known
+
+was_passed : (part : Option KeptPart) (known : ℕ) (feed : Feeding) → part ≡ None → IsPassed part known feed
+    → ended feed.rows.stand ≡ None → feed.finished ≡ false → (known ≤ offset feed) ⊎ SeeksEol known feed
+was_passed None at feed e known = known
+was_passed (Some part) at feed e known = absurd cc
+
+was_short : (part : Option KeptPart) (known : ℕ) (feed : Feeding) → part ≢ None → IsPassed part known feed
+    → WasShort known feed
+was_short None at feed e known = absurd (e refl)
+was_short (Some part) at feed e known = known
+
+none_or_some : (part : Option KeptPart) → (part ≡ None) ⊎ (part ≢ None)
+none_or_some None = inl refl
+none_or_some (Some part) = inr (λ e. cc)
+
+-- more may be lost
+more_lost : {calls lost tried lines : ℕ} {feed : Feeding} (more : ℕ) → LinesPaid calls lost tried lines feed
+    → LinesPaid calls (lost + more) tried lines feed
+more_lost more paid = record {
+  known = paid.known;
+  read = paid.read;
+  words = paid.words;
+  seen = paid.seen;
+  known_most = paid.known_most;
+  read_most = paid.read_most;
+  read_before = paid.read_before;
+  words_most = paid.words_most;
+  within = paid.within;
+  part_most = paid.part_most;
+  seen_is = paid.seen_is;
+  most = omega (arith, paid.most);
+  here = λ unended. omega (arith, paid.here unended);
+  passed = paid.passed;
+}
+
+-- ---- More data
+
+module _ {next : Bits} {old new : Feeding} (holds : HoldsMore next old new) where
+  drop_is : drop new.place new.kept ≡ drop old.place old.kept ++ next
+  drop_is = holds.unread
+
+  passed_more : (known : ℕ) (part : Option KeptPart) → IsPassed part known old → IsPassed part known new
+  passed_more known (Some part) was = record {
+    begun = holds.begun ∙ was.begun;
+    at_line = ap (λ (r : RowState). is_at_line r.stand) holds.reading.1 ∙ was.at_line;
+    seen = was.seen;
+    more = was.more ++ next;
+    are = drop_is ∙ ap (λ (b : Bits). b ++ next) was.are ∙ append_assoc was.seen was.more next;
+    short = ap (λ (x : Context). is_short (line_here x.held.settings x.held.reference was.seen)) holds.reading.0 ∙ was.short;
+    known_is = omega (arith, was.known_is, holds.place);
+  }
+  passed_more known None was = λ unended unfinished.
+      elim (was (sym (ap (λ (r : RowState). ended r.stand) holds.reading.1) ∙ unended) (sym holds.reading.2 ∙ unfinished)) [
+        | inl le ↦ inl (omega (arith, le, holds.place))
+        | inr seeks ↦ inr (record {
+          begun = holds.begun ∙ seeks.begun;
+          behind = ap (λ (r : RowState). is_at_line r.stand) holds.reading.1 ∙ seeks.behind;
+          sought = ap (λ (x : Context). x.held.has_eols) holds.reading.0 ∙ seeks.sought;
+          none = λ more fill behind e. omega (
+            arith,
+            holds.place,
+            seeks.none (next ++ more) fill behind (sym (append_assoc (drop old.place old.kept) next more)
+                ∙ ap (λ (b : Bits). b ++ more) (sym drop_is) ∙ e),
+          );
+        })
+      ]
+
+  same_paid : paid_for_line new ≡ paid_for_line old
+  same_paid = ap (λ (p : Option KeptPart). paid_by p new.line_read) holds.part ∙ ap (paid_by old.part) holds.line_read
+
+  same_changes : changes_of new ≡ changes_of old
+  same_changes = ap (λ (x : Context). length (changes x.held.reference)) holds.reading.0
+
+  longer : length (drop new.place new.kept) ≡ length (drop old.place old.kept) + length next
+  longer = ap length drop_is ∙ length-append (drop old.place old.kept) next
+
+  pub more_paid : {calls lost tried : ℕ} → FeedIsPaid calls lost tried old → FeedIsPaid calls lost tried new
+  more_paid {calls} {lost} {tried} paid =
+      let gaps = paid.gaps_paid in
+      let lines = paid.lines_paid in
+      record {
+        gaps = paid.gaps;
+        lines = paid.lines;
+        sum = paid.sum;
+        gaps_paid = record {
+          first = gaps.first;
+          first_most = omega (arith, gaps.first_most, holds.fed);
+          most = omega (arith, gaps.most, holds.fed);
+          here = λ unended unfinished. omega (
+            arith,
+            gaps.here (sym (ap (λ (r : RowState). ended r.stand) holds.reading.1) ∙ unended)
+                (sym holds.reading.2 ∙ unfinished),
+            holds.place,
+            holds.looked,
+          );
+          unbegun = λ e.
+              let was = gaps.unbegun (sym holds.begun ∙ e) in (omega (arith, was.0, holds.looked), was.1);
+        };
+        lines_paid = record {
+          known = lines.known;
+          read = lines.read;
+          words = lines.words;
+          seen = lines.seen;
+          known_most = omega (arith, lines.known_most, holds.fed);
+          read_most = omega (arith, lines.read_most, holds.fed);
+          read_before = λ some. lines.read_before (λ none. some (holds.part ∙ none));
+          words_most = omega (arith, lines.words_most, ap (λ (x : Context). x.ticks) holds.reading.0);
+          within = omega (arith, lines.within, holds.fed, holds.place);
+          part_most = omega (arith, lines.part_most, same_paid, same_changes, longer);
+          seen_is = λ some. omega (arith, lines.seen_is (λ none. some (holds.part ∙ none)), holds.place);
+          most = omega (arith, lines.most, same_paid);
+          here = λ unended. omega (
+            arith,
+            lines.here (sym (ap (λ (r : RowState). ended r.stand) holds.reading.1) ∙ unended),
+            same_paid,
+            ap (λ (p : Option KeptPart). left_for_line p (changes_of new) lines.seen) holds.part,
+            ap (λ (n : ℕ). left_for_line old.part n lines.seen) same_changes,
+          );
+          passed = subst (λ (p : Option KeptPart). IsPassed p lines.known new) (sym holds.part)
+              (passed_more lines.known old.part lines.passed);
+        };
+      }
+
+-- the data is finished
+finished_passed : (known : ℕ) (feed : Feeding) (part : Option KeptPart) → IsPassed part known feed
+    → IsPassed part known (record feed { finished = true })
+finished_passed known feed None was = λ unended unfinished. absurd (false≢true (sym unfinished))
+finished_passed known feed (Some part) was = record {
+  begun = was.begun;
+  at_line = was.at_line;
+  seen = was.seen;
+  more = was.more;
+  are = was.are;
+  short = was.short;
+  known_is = was.known_is;
+}
+
+pub finished_paid : {calls lost tried : ℕ} {old new : Feeding} → new ≡ record old { finished = true }
+    → FeedIsPaid calls lost tried old → FeedIsPaid calls lost tried new
+finished_paid {calls} {lost} {tried} {old} {new} is paid =
+    let gaps = paid.gaps_paid in
+    let lines = paid.lines_paid in
+    subst (FeedIsPaid calls lost tried) (sym is) (record {
+      gaps = paid.gaps;
+      lines = paid.lines;
+      sum = paid.sum;
+      gaps_paid = record {
+        first = gaps.first;
+        first_most = gaps.first_most;
+        most = gaps.most;
+        here = λ unended unfinished. absurd (false≢true (sym unfinished));
+        unbegun = gaps.unbegun;
+      };
+      lines_paid = record {
+        known = lines.known;
+        read = lines.read;
+        words = lines.words;
+        seen = lines.seen;
+        known_most = lines.known_most;
+        read_most = lines.read_most;
+        read_before = lines.read_before;
+        words_most = lines.words_most;
+        within = lines.within;
+        part_most = lines.part_most;
+        seen_is = lines.seen_is;
+        most = lines.most;
+        here = lines.here;
+        passed = finished_passed lines.known old old.part lines.passed;
+      };
+    })
+
+-- ---- Before the first call
+
+pub begun_paid : (whole : Bits) (feed : Feeding) → IsFeedOf whole 0 feed → feed.begun ≡ false → feed.looked ≡ 0
+    → feed.part ≡ None → FeedIsPaid 0 0 0 feed
+begun_paid whole feed is unbegun unlooked unkept =
+    let front = subst (λ (b : Bool). StandsIn b 0 feed.rows feed.ctx (record
+    { bits = whole; place = offset feed })) unbegun is.stands in
+    let white : changes_of feed ≡ 0 = ap (λ (h : Held). length (changes h.reference)) front.fresh
+    ∙ changes_white feed.ctx.held.settings.columns in
+    let none = none_paid feed.part feed.line_read unkept in
+    record {
+      gaps = 0;
+      lines = 0;
+      sum = omega arith;
+      gaps_paid = record {
+        first = 0;
+        first_most = omega arith;
+        most = omega arith;
+        here = λ unended unfinished. omega arith;
+        unbegun = λ e. (omega arith, refl);
+      };
+      lines_paid = record {
+        known = 0;
+        read = 0;
+        words = 0;
+        seen = 0;
+        known_most = omega arith;
+        read_most = omega arith;
+        read_before = λ some. absurd (some unkept);
+        words_most = omega arith;
+        within = omega (arith, front.start);
+        part_most = omega (arith, none);
+        seen_is = λ some. absurd (some unkept);
+        most = omega arith;
+        here = λ unended. omega (arith, white, left_none feed.part (changes_of feed) 0 unkept);
+        passed = passed_none feed.part 0 feed unkept (λ unended unfinished. inl (omega arith));
+      };
+    }
+
+-- ---- A call
+
+at_line_begun : (begun line : Bool) → begun ≡ true → line ≡ true → (begun && line) ≡ true
+at_line_begun true line is also = also
+at_line_begun false line is also = absurd (false≢true is)
+
+bool_not_true : (b : Bool) → (b ≡ true → ⊥) → b ≡ false
+bool_not_true true other = absurd (other refl)
+bool_not_true false other = refl
+
+open_at_line : (begun : Bool) (stand : Stand) (ctx : Context) (next : Bits) → begun ≡ true → is_at_line stand ≡ true
+    → IsOpenAt begun stand ctx next → is_short (line_here ctx.held.settings ctx.held.reference next) ≡ true
+open_at_line false stand ctx next begun line known = absurd (false≢true begun)
+open_at_line true AtLine ctx next begun line known = known
+open_at_line true BehindRow ctx next begun line known = absurd (false≢true line)
+open_at_line true AtEnd ctx next begun line known = absurd (false≢true line)
+open_at_line true (AtFault error) ctx next begun line known = absurd (false≢true line)
+
+module _ {whole : Bits} {calls lost tried : ℕ} {old new : Feeding} {answer : Result Fed DecodeError}
+    (unended : ended old.rows.stand ≡ None) (keeps : KeepsBits old new) (paid : FeedIsPaid calls lost tried old)
+    (next : FeedsNext whole tried old new answer) where
+  abbrev goes : CallGoesOn old new answer next.gap next.extra
+  goes = next.goes_on
+
+  abbrev lines : LinesPaid calls lost tried paid.lines old
+  lines = paid.lines_paid
+
+  abbrev gaps : GapsPaid calls paid.gaps old
+  gaps = paid.gaps_paid
+
+  same_fed : fed_bits new ≡ fed_bits old
+  same_fed = omega (arith, keeps.dropped, ap length keeps.kept)
+
+  still_unfinished : new.finished ≡ false → old.finished ≡ false
+  still_unfinished e = sym keeps.finished ∙ e
+
+  -- ---- Gaps
+
+  gap_unfinished : 0 < next.gap → old.finished ≡ false
+  gap_unfinished some = bool_not_true old.finished (λ e. absurd (omega (arith, some, next.looks.finished e)))
+
+  here_within : length (drop old.place old.kept) + offset old ≡ fed_bits old
+  here_within = omega (arith, length-drop old.place old.kept, lines.within)
+
+  gap_begun : old.begun ≡ true → paid.gaps + next.gap ≤ gaps.first + fed_bits old + 12 * calls
+  gap_begun begun = elim (cases_lt 0 next.gap) [
+    | inl some ↦
+        omega (arith, gaps.here unended (gap_unfinished some), next.looks.within some, here_within)
+    | inr none ↦ omega (arith, none, gaps.most)
+  ]
+
+  gap_unbegun : old.begun ≡ false → paid.gaps + next.gap ≤ fed_bits old + 12 * calls
+  gap_unbegun unbegun = elim (cases_lt 0 next.gap) [
+    | inl some ↦ omega (arith, (gaps.unbegun unbegun).0, next.looks.within some, here_within)
+    | inr none ↦ omega (arith, none, gaps.most, (gaps.unbegun unbegun).1)
+  ]
+
+  pub gaps_step : (b n : Bool) → old.begun ≡ b → new.begun ≡ n → GapsPaid (calls + 1) (paid.gaps + next.gap) new
+  gaps_step true n begun is = record {
+    first = gaps.first;
+    first_most = omega (arith, gaps.first_most, same_fed);
+    most = omega (arith, gap_begun begun, same_fed);
+    here = λ still unfinished. omega (
+      arith,
+      gaps.here unended (still_unfinished unfinished),
+      goes.near begun (still_unfinished unfinished) still,
+    );
+    unbegun = λ e. absurd (false≢true (sym (goes.unbegun e).0 ∙ begun));
+  }
+  gaps_step false true unbegun is = record {
+    first = fed_bits old;
+    first_most = omega (arith, same_fed);
+    most = omega (arith, gap_unbegun unbegun, same_fed);
+    here = λ still unfinished. omega (arith, gap_unbegun unbegun);
+    unbegun = λ e. absurd (false≢true (sym e ∙ is));
+  }
+  gaps_step false false unbegun is =
+      let waits = goes.unbegun is in
+      let looked = next.looked waits.1 waits.2 in
+      record {
+        first = 0;
+        first_most = omega arith;
+        most = omega (arith, gap_unbegun unbegun, same_fed);
+        here = λ still unfinished. omega (arith, (gaps.unbegun unbegun).0, looked);
+        unbegun = λ e. (omega (arith, (gaps.unbegun unbegun).0, looked), refl);
+      }
+
+  -- ---- Where the next line begins
+
+  line_passed : old.part ≡ None → ended new.rows.stand ≡ None → old.finished ≡ false
+      → (answer ≡ Ok Fed.NeedsMore → is_at_line new.rows.stand ≡ true) → lines.known ≤ offset new
+  line_passed none still unfinished waits =
+      elim (was_passed old.part lines.known old none lines.passed unended unfinished) [
+        | inl le ↦ omega (arith, le, goes.onward still)
+        | inr seeks ↦
+            let eol = goes.past_eol unfinished seeks.begun seeks.behind seeks.sought still waits in
+            omega (
+              arith,
+              seeks.none [] eol.fill eol.behind (append-nil (drop old.place old.kept) ∙ eol.place),
+              eol.passed,
+            )
+      ]
+
+  new_begun : old.begun ≡ true → new.begun ≡ true
+  new_begun begun = by_bool new.begun refl
+    where
+      by_bool : (b : Bool) → new.begun ≡ b → b ≡ true
+      by_bool true e = refl
+      by_bool false e = absurd (false≢true (sym (goes.unbegun e).0 ∙ begun))
+
+  gap_waits_on : old.part ≡ None → answer ≡ Ok Fed.NeedsMore → is_at_line new.rows.stand ≡ false
+      → ended new.rows.stand ≡ None → old.finished ≡ false → (lines.known ≤ offset new) ⊎ SeeksEol lines.known new
+  gap_waits_on none e away still unfinished =
+      let waits = goes.waits e away in
+      let there : drop new.place new.kept ≡ drop old.place old.kept =
+      ap (λ (n : ℕ). drop n new.kept) waits.0 ∙ ap (drop old.place) keeps.kept in
+      elim (was_passed old.part lines.known old none lines.passed unended unfinished) [
+        | inl le ↦ inl (omega (arith, le, goes.onward still))
+        | inr seeks ↦ inr (record {
+          begun = new_begun seeks.begun;
+          behind = away;
+          sought = waits.1 ∙ seeks.sought;
+          none = λ more fill behind is. omega (
+            arith,
+            goes.onward still,
+            seeks.none more fill behind (ap (λ (b : Bits). b ++ more) (sym there) ∙ is),
+          );
+        })
+      ]
+
+  -- behind the row of a line that was short
+  module _ (some : old.part ≢ None) where
+    was : WasShort lines.known old
+    was = was_short old.part lines.known old some lines.passed
+
+    behind_line : answer ≡ Ok Fed.Row → ended new.rows.stand ≡ None
+        → (lines.known ≤ offset new) ⊎ SeeksEol lines.known new
+    behind_line e still =
+        let short = was in
+        let at_line = at_line_begun old.begun (is_at_line old.rows.stand) short.begun short.at_line in
+        let row = subst (λ (b : Bits). row_of_line old.ctx.held.settings old.ctx.held.has_eols b
+        (line_here old.ctx.held.settings old.ctx.held.reference b)
+        ≡ Ok (new.ctx.held.reference, drop new.place new.kept)) short.are (goes.row_is e at_line) in
+        elim (short_row old.ctx.held.settings old.ctx.held.has_eols old.ctx.held.reference short.seen short.more
+        (drop new.place new.kept) new.ctx.held.reference short.short row) [
+          | inl le ↦ inl (omega (
+            arith,
+            le,
+            short.known_is,
+            ap length short.are,
+            length-append short.seen short.more,
+            here_within,
+            length-drop new.place new.kept,
+            goes.within,
+            same_fed,
+          ))
+          | inr repaired ↦ inr (record {
+            begun = new_begun short.begun;
+            behind = goes.behind e;
+            sought = goes.sought e at_line ∙ repaired.0;
+            none = λ more fill behind is. omega (
+              arith,
+              short.known_is,
+              goes.onward still,
+              short_before_eol old.ctx.held.settings old.ctx.held.reference short.seen (short.more ++ more) fill behind
+                  short.short (sym (append_assoc short.seen short.more more)
+                  ∙ ap (λ (b : Bits). b ++ more) (sym repaired.1) ∙ is),
+            );
+          })
+        ]
+
+    -- what is counted where it is read
+    read_here : paid.lines + next.line_extra + paid_for_line old ≤ paid.lines + most_for_line old + 4
+        → paid.lines + next.line_extra
+        ≤ 6 * lines.known + 2 * fed_bits old + 2 * lines.words + 8 * calls + lost + 4
+    read_here read = omega (
+      arith,
+      read,
+      lines.here unended,
+      left_some old.part (changes_of old) lines.seen some,
+      lines.seen_is some,
+      lines.read_before some,
+      lines.known_most,
+      here_within,
+    )
+
+  -- ---- Lines
+
+  abbrev counted : ℕ
+  counted = paid.lines + next.line_extra
+
+  abbrev LinesNow : ℕ → Type 0
+  LinesNow lost_now = LinesPaid (calls + 1) lost_now (tried + next.extra) counted new
+
+  row_not_left : answer ≡ Ok Fed.Row → HasNone answer → ⊥
+  row_not_left e left = let never : Fed.Row ≡ Fed.NeedsMore = subst HasNone e left in cc
+
+  row_unkept : answer ≡ Ok Fed.Row → new.part ≡ None
+  row_unkept e = goes.unkept (λ needs. let never = sym e ∙ needs in absurd cc)
+
+  -- a row is read
+  row_lines : answer ≡ Ok Fed.Row → LinesNow lost
+  row_lines e = elim (none_or_some old.part) [
+    | inl none ↦
+        let at_once = next.line_work.at_once (row_not_left e) none in
+        record {
+          known = lines.known;
+          read = lines.read;
+          words = (lines.words + changes_of new) - 1;
+          seen = 0;
+          known_most = omega (arith, lines.known_most, same_fed);
+          read_most = omega (arith, lines.read_most, same_fed);
+          read_before = λ some. absurd (some (row_unkept e));
+          words_most = omega (arith, goes.stored e, goes.counts, lines.words_most);
+          within = goes.within;
+          part_most = goes.paid;
+          seen_is = λ some. absurd (some (row_unkept e));
+          most = omega (
+            arith,
+            lines.most,
+            at_once,
+            none_paid old.part old.line_read none,
+            none_paid new.part new.line_read (row_unkept e),
+          );
+          here = λ still. omega (
+            arith,
+            lines.most,
+            at_once,
+            none_paid old.part old.line_read none,
+            none_paid new.part new.line_read (row_unkept e),
+            left_none new.part (changes_of new) 0 (row_unkept e),
+          );
+          passed = passed_none new.part lines.known new (row_unkept e) (λ still unfinished.
+              inl (line_passed none still (still_unfinished unfinished) (λ needs. let never = sym e ∙ needs in absurd cc)));
+        }
+    | inr some ↦
+        let read = read_here some (omega (arith, next.line_work.read (row_not_left e))) in
+        record {
+          known = lines.known;
+          read = fed_bits old;
+          words = (lines.words + changes_of new) - 1;
+          seen = 0;
+          known_most = omega (arith, lines.known_most, same_fed);
+          read_most = omega (arith, same_fed);
+          read_before = λ kept. absurd (kept (row_unkept e));
+          words_most = omega (arith, goes.stored e, goes.counts, lines.words_most);
+          within = goes.within;
+          part_most = goes.paid;
+          seen_is = λ kept. absurd (kept (row_unkept e));
+          most = omega (arith, read, none_paid new.part new.line_read (row_unkept e));
+          here = λ still. omega (
+            arith,
+            read,
+            none_paid new.part new.line_read (row_unkept e),
+            left_none new.part (changes_of new) 0 (row_unkept e),
+          );
+          passed = passed_none new.part lines.known new (row_unkept e)
+              (λ still unfinished. behind_line some e still);
+        }
+  ]
+
+  -- the reading ends
+  end_lines : (ended new.rows.stand ≡ None → ⊥) → (HasNone answer → ⊥) → LinesNow lost
+  end_lines over other = elim (none_or_some old.part) [
+    | inl none ↦
+        let at_once = next.line_work.at_once other none in
+        record {
+          known = lines.known;
+          read = lines.read;
+          words = lines.words;
+          seen = 0;
+          known_most = omega (arith, lines.known_most, same_fed);
+          read_most = omega (arith, lines.read_most, same_fed);
+          read_before = λ some. absurd (some gone);
+          words_most = omega (arith, goes.counts, lines.words_most);
+          within = goes.within;
+          part_most = goes.paid;
+          seen_is = λ some. absurd (some gone);
+          most = omega (
+            arith,
+            lines.most,
+            at_once,
+            none_paid old.part old.line_read none,
+            none_paid new.part new.line_read gone,
+          );
+          here = λ still. absurd (over still);
+          passed = passed_none new.part lines.known new gone (λ still. absurd (over still));
+        }
+    | inr some ↦
+        let read = read_here some (omega (arith, next.line_work.read other)) in
+        record {
+          known = lines.known;
+          read = fed_bits old;
+          words = lines.words;
+          seen = 0;
+          known_most = omega (arith, lines.known_most, same_fed);
+          read_most = omega (arith, same_fed);
+          read_before = λ kept. absurd (kept gone);
+          words_most = omega (arith, goes.counts, lines.words_most);
+          within = goes.within;
+          part_most = goes.paid;
+          seen_is = λ kept. absurd (kept gone);
+          most = omega (arith, read, none_paid new.part new.line_read gone);
+          here = λ still. absurd (over still);
+          passed = passed_none new.part lines.known new gone (λ still. absurd (over still));
+        }
+  ]
+    where
+      gone : new.part ≡ None
+      gone = goes.unkept (λ needs. absurd (other (subst HasNone (sym needs) refl)))
+
+  -- more data is needed
+  module _ (e : answer ≡ Ok Fed.NeedsMore) where
+    left : HasNone answer
+    left = subst HasNone (sym e) refl
+
+    same_changes_there : changes_of new ≡ changes_of old
+    same_changes_there = ap (λ (r : Row). length (changes r)) (next.none left).row
+
+    abbrev bits_here : Bits
+    bits_here = drop new.place new.kept
+
+    new_within : offset new + length bits_here ≡ fed_bits new
+    new_within = omega (arith, length-drop new.place new.kept, goes.within)
+
+    kept_at_line : new.part ≢ None → is_at_line new.rows.stand ≡ true
+    kept_at_line some = by_bool (is_at_line new.rows.stand) refl
+      where
+        by_bool : (b : Bool) → is_at_line new.rows.stand ≡ b → b ≡ true
+        by_bool true is = refl
+        by_bool false is = absurd (some (goes.unkept (λ needs. is)))
+
+    -- the line here is short
+    shorts : new.part ≢ None → WasShort (offset new + length bits_here) new
+    shorts some =
+        let line = kept_at_line some in
+        let begun = begun_there line in
+        record {
+          begun = begun;
+          at_line = line;
+          seen = bits_here;
+          more = [];
+          are = sym (append-nil bits_here);
+          short = open_at_line new.begun new.rows.stand new.ctx bits_here begun line (next.unsettled e).1;
+          known_is = refl;
+        }
+      where
+        begun_there : is_at_line new.rows.stand ≡ true → new.begun ≡ true
+        begun_there line = by_bool new.begun refl
+          where
+            by_bool : (b : Bool) → new.begun ≡ b → b ≡ true
+            by_bool true is = refl
+            by_bool false is = absurd (false≢true (sym (goes.unbegun is).2 ∙ line))
+
+    -- it is found to be short the first time
+    first_try : old.part ≡ None → new.part ≡ None → next.line_extra ≤ cost_of_first_try old new
+    first_try none still = elim (next.line_work.unread e none still) [
+      | inl nothing ↦ omega (arith, nothing)
+      | inr first ↦
+          let other : eqb new.tried_at old.tried_at ≡ false =
+          ne_eqb new.tried_at old.tried_at (λ same. first.untried (sym same ∙ first.tried)) in
+          omega (
+            arith,
+            next.line_work.begins e none,
+            none_paid new.part new.line_read still,
+            ap (λ (b : Bool). cond b 0 (changes_of new + 4 * length (drop new.place new.kept) + 2)) other,
+          )
+    ]
+
+    waits_lines : old.part ≡ None → new.part ≡ None → LinesNow (lost + cost_of_first_try old new)
+    waits_lines none still =
+        let unread = first_try none still in
+        record {
+          known = lines.known;
+          read = lines.read;
+          words = lines.words;
+          seen = 0;
+          known_most = omega (arith, lines.known_most, same_fed);
+          read_most = omega (arith, lines.read_most, same_fed);
+          read_before = λ some. absurd (some still);
+          words_most = omega (arith, goes.counts, lines.words_most);
+          within = goes.within;
+          part_most = goes.paid;
+          seen_is = λ some. absurd (some still);
+          most = omega (
+            arith,
+            lines.most,
+            unread,
+            none_paid old.part old.line_read none,
+            none_paid new.part new.line_read still,
+          );
+          here = λ open_end. omega (
+            arith,
+            lines.here unended,
+            unread,
+            same_changes_there,
+            none_paid old.part old.line_read none,
+            none_paid new.part new.line_read still,
+            left_none old.part (changes_of old) lines.seen none,
+            left_none new.part (changes_of new) 0 still,
+          );
+          passed = passed_none new.part lines.known new still (λ open_end unfinished.
+              by_line none open_end unfinished (is_at_line new.rows.stand) refl);
+        }
+      where
+        by_line : old.part ≡ None → ended new.rows.stand ≡ None → new.finished ≡ false → (b : Bool)
+            → is_at_line new.rows.stand ≡ b → (lines.known ≤ offset new) ⊎ SeeksEol lines.known new
+        by_line none open_end unfinished true line =
+            inl (line_passed none open_end (still_unfinished unfinished) (λ needs. line))
+        by_line none open_end unfinished false away =
+            gap_waits_on none e away open_end (still_unfinished unfinished)
+
+    begins_lines : old.part ≡ None → new.part ≢ None → LinesNow lost
+    begins_lines none some =
+        let begins = next.line_work.begins e none in
+        let known = line_passed none (next.none left).unended (still_unfinished (next.unsettled e).0)
+        (λ needs. kept_at_line some) in
+        record {
+          known = offset new + length bits_here;
+          read = lines.read;
+          words = lines.words;
+          seen = length bits_here;
+          known_most = omega (arith, new_within);
+          read_most = omega (arith, lines.read_most, same_fed);
+          read_before = λ kept. omega (arith, lines.read_most, same_fed, new_within);
+          words_most = omega (arith, goes.counts, lines.words_most);
+          within = goes.within;
+          part_most = goes.paid;
+          seen_is = λ kept. refl;
+          most = omega (
+            arith,
+            lines.here unended,
+            begins,
+            known,
+            same_changes_there,
+            none_paid old.part old.line_read none,
+            left_none old.part (changes_of old) lines.seen none,
+          );
+          here = λ open_end. omega (
+            arith,
+            lines.here unended,
+            begins,
+            known,
+            same_changes_there,
+            none_paid old.part old.line_read none,
+            left_none old.part (changes_of old) lines.seen none,
+            left_some new.part (changes_of new) (length bits_here) some,
+          );
+          passed = kept_passed new.part (offset new + length bits_here) new some (shorts some);
+        }
+
+    goes_on_lines : old.part ≢ None → LinesNow lost
+    goes_on_lines kept =
+        let some = next.line_work.some e kept in
+        let goes_on = next.line_work.goes_on e kept in
+        let short = was kept in
+        let place = goes.stays left (at_line_begun old.begun (is_at_line old.rows.stand) short.begun short.at_line) in
+        record {
+          known = offset new + length bits_here;
+          read = lines.read;
+          words = lines.words;
+          seen = length bits_here;
+          known_most = omega (arith, new_within);
+          read_most = omega (arith, lines.read_most, same_fed);
+          read_before = λ still. omega (arith, lines.read_most, same_fed, new_within);
+          words_most = omega (arith, goes.counts, lines.words_most);
+          within = goes.within;
+          part_most = goes.paid;
+          seen_is = λ still. refl;
+          most = omega (
+            arith,
+            lines.here unended,
+            goes_on,
+            new_within,
+            same_fed,
+            lines.known_most,
+            left_some old.part (changes_of old) lines.seen kept,
+          );
+          here = λ open_end. omega (
+            arith,
+            lines.here unended,
+            goes_on,
+            new_within,
+            same_fed,
+            same_changes_there,
+            place,
+            keeps.dropped,
+            lines.known_most,
+            lines.seen_is kept,
+            left_some old.part (changes_of old) lines.seen kept,
+            left_some new.part (changes_of new) (length bits_here) some,
+          );
+          passed = kept_passed new.part (offset new + length bits_here) new some (shorts some);
+        }
+
+    needs_lines : LinesNow (lost + cost_of_first_try old new)
+    needs_lines = elim (none_or_some old.part) [
+      | inl none ↦ elim (none_or_some new.part) [
+        | inl still ↦ waits_lines none still
+        | inr some ↦ more_lost (cost_of_first_try old new) (begins_lines none some)
+      ]
+      | inr kept ↦ more_lost (cost_of_first_try old new) (goes_on_lines kept)
+    ]
+
+  -- ---- What a call comes to
+
+  ends_there : {read : Result Bool DecodeError} → (read ≡ Ok false) ⊎ ((error : DecodeError) × (read ≡ Err error))
+      → ReadsNext (fed_over whole old) (fed_over whole new) read → ended new.rows.stand ≡ None → ⊥
+  ends_there (inl is) reads still = let never = sym (reads.end is).0 ∙ still in cc
+  ends_there {read} (inr (error, is)) reads still =
+      let failed = subst (ReadsNext (fed_over whole old) (fed_over whole new)) is reads in
+      let never = sym failed.error.0 ∙ still in cc
+
+  lines_step : (a : Result Fed DecodeError) → answer ≡ a → answer ≢ Err OutOfMemory
+      → LinesNow (lost + cost_of_first_try old new)
+  lines_step (Ok Fed.Row) e other = more_lost (cost_of_first_try old new) (row_lines e)
+  lines_step (Ok Fed.NeedsMore) e other = needs_lines e
+  lines_step (Ok Fed.End) e other = more_lost (cost_of_first_try old new) (end_lines (ends_there (inl refl) (next.end e))
+      (λ left. let never : Fed.End ≡ Fed.NeedsMore = subst HasNone e left in cc))
+  lines_step (Err error) e other =
+      let no_memory : error ≢ OutOfMemory = λ is. other (e ∙ ap (λ (x : DecodeError). Err x) is) in
+      let fault = subst (λ (r : Result Fed DecodeError). IfErr r (λ x. x ≢ OutOfMemory
+      → ReadsNext (fed_over whole old) (fed_over whole new) (Err x))) e next.fault in
+      more_lost (cost_of_first_try old new) (end_lines (ends_there (inr (error, refl)) (fault no_memory))
+      (λ left. no_memory (subst HasNone e left)))
+
+  pub reads_paid : answer ≢ Err OutOfMemory
+      → FeedIsPaid (calls + 1) (lost + cost_of_first_try old new) (tried + next.extra) new
+  reads_paid other = record {
+    gaps = paid.gaps + next.gap;
+    lines = counted;
+    sum = omega (arith, paid.sum, next.extra_is);
+    gaps_paid = gaps_step old.begun new.begun refl refl;
+    lines_paid = lines_step answer refl other;
+  }
+
+  -- ---- A call that fails for memory
+
+  module _ (e : answer ≡ Err OutOfMemory) where
+    failed_left : HasNone answer
+    failed_left = subst HasNone (sym e) refl
+
+    failed_unkept : new.part ≡ None
+    failed_unkept = goes.unkept (λ needs. let never = sym e ∙ needs in absurd cc)
+
+    failed_changes : changes_of new ≡ changes_of old
+    failed_changes = ap (λ (r : Row). length (changes r)) (next.none failed_left).row
+
+    failed_within : offset new + length (drop new.place new.kept) ≡ fed_bits old
+    failed_within = omega (arith, length-drop new.place new.kept, goes.within, same_fed)
+
+    -- what was known of the line no longer is
+    abbrev known_now : ℕ
+    known_now = lines.known - (lines.known - offset new)
+
+    -- counted for it, with what is left for the line
+    failed_most : counted + 2 * changes_of new
+        ≤ 6 * known_now + 2 * lines.read + 2 * lines.words + 8 * calls + lost + cost_of_failure new
+    failed_most = elim (none_or_some old.part) [
+      | inl none ↦ omega (
+        arith,
+        lines.here unended,
+        next.line_work.failed_at_once e none,
+        none_paid old.part old.line_read none,
+        left_none old.part (changes_of old) lines.seen none,
+        failed_changes,
+        failed_within,
+        lines.known_most,
+      )
+      | inr some ↦
+          let short = was some in
+          let place = goes.stays failed_left
+          (at_line_begun old.begun (is_at_line old.rows.stand) short.begun short.at_line) in
+          omega (
+            arith,
+            lines.here unended,
+            next.line_work.failed e,
+            left_some old.part (changes_of old) lines.seen some,
+            lines.seen_is some,
+            failed_changes,
+            failed_within,
+            here_within,
+            place,
+            keeps.dropped,
+            lines.known_most,
+          )
+    ]
+
+    pub fails_paid : FeedIsPaid (calls + 1) (lost + cost_of_failure new) (tried + next.extra) new
+    fails_paid = record {
+      gaps = paid.gaps + next.gap;
+      lines = counted;
+      sum = omega (arith, paid.sum, next.extra_is);
+      gaps_paid = gaps_step old.begun new.begun refl refl;
+      lines_paid = record {
+        known = known_now;
+        read = lines.read;
+        words = lines.words;
+        seen = 0;
+        known_most = omega (arith, lines.known_most, same_fed);
+        read_most = omega (arith, lines.read_most, same_fed);
+        read_before = λ some. absurd (some failed_unkept);
+        words_most = omega (arith, goes.counts, lines.words_most);
+        within = goes.within;
+        part_most = goes.paid;
+        seen_is = λ some. absurd (some failed_unkept);
+        most = omega (arith, failed_most, none_paid new.part new.line_read failed_unkept);
+        here = λ still. omega (
+          arith,
+          failed_most,
+          none_paid new.part new.line_read failed_unkept,
+          left_none new.part (changes_of new) 0 failed_unkept,
+        );
+        passed = passed_none new.part known_now new failed_unkept (λ still unfinished. inl (omega arith));
+      };
+    }
+
+-- ---- All calls
+
+-- at a line nothing has ended
+line_unended : (stand : Stand) → is_at_line stand ≡ true → ended stand ≡ None
+line_unended AtLine is = refl
+line_unended BehindRow is = refl
+line_unended AtEnd is = absurd (false≢true is)
+line_unended (AtFault error) is = absurd (false≢true is)
+
+-- what the plain reading counts
+plain_most : {whole : Bits} {tried : ℕ} {feed : Feeding} → IsFeedOf whole tried feed
+    → feed.ctx.ticks ≤ tried + 36 * length whole + 14
+plain_most {whole} {tried} {feed} is = by_begun feed.begun is.stands
+  where
+    most_plain : (encoding : EncodingMode) (bits : ℕ) → most_counted encoding bits ≤ 36 * bits + 14
+    most_plain Group4 bits = omega arith
+    most_plain Group3_1D bits = omega arith
+    most_plain Group3_2D bits = omega arith
+
+    by_begun : (b : Bool) → StandsIn b tried feed.rows feed.ctx (record { bits = whole; place = offset feed })
+        → feed.ctx.ticks ≤ tried + 36 * length whole + 14
+    by_begun true stands = omega (
+      arith,
+      within_most tried feed.rows.stand feed.ctx.held.settings whole feed.ctx.held (offset feed) feed.ctx.ticks stands.0
+          stands.2.paid,
+      most_plain feed.ctx.held.settings.encoding (length whole),
+    )
+    by_begun false front = omega (arith, front.ticks)
+
+-- no more bits were fed than the whole data has
+fed_within : {whole : Bits} {tried : ℕ} {feed : Feeding} → IsFeedOf whole tried feed → fed_bits feed ≤ length whole
+fed_within {whole} {tried} {feed} is = omega (
+  arith,
+  is.lie.within,
+  ap length is.lie.bits,
+  length-append feed.kept is.lie.more,
+  length-drop feed.dropped whole,
+)
+
+lines_in_all : {calls lost tried lines : ℕ} {feed : Feeding} → (paid : LinesPaid calls lost tried lines feed)
+    → lines ≤ 8 * fed_bits feed + 2 * paid.words + 8 * calls + lost + 2
+lines_in_all {calls} {lost} {tried} {lines} {feed} paid = elim (none_or_some feed.part) [
+  | inl none ↦ omega (arith, paid.most, none_paid feed.part feed.line_read none, paid.known_most, paid.read_most)
+  | inr some ↦
+      let short = was_short feed.part paid.known feed some paid.passed in
+      omega (
+        arith,
+        paid.here (line_unended feed.rows.stand short.at_line),
+        left_some feed.part (changes_of feed) paid.seen some,
+        paid.part_most,
+        paid.seen_is some,
+        paid.known_most,
+        paid.read_most,
+        length-drop feed.place feed.kept,
+        paid.within,
+      )
+]
+
+pub all_paid : (whole : Bits) (calls lost tried : ℕ) (feed : Feeding) → IsFeedOf whole tried feed
+    → FeedIsPaid calls lost tried feed → feed.ctx.ticks ≤ 128 * length whole + 256 + 32 * calls + lost
+all_paid whole calls lost tried feed is paid = omega (
+  arith,
+  plain_most is,
+  fed_within is,
+  paid.sum,
+  paid.gaps_paid.most,
+  paid.gaps_paid.first_most,
+  lines_in_all paid.lines_paid,
+  paid.lines_paid.words_most,
+)
