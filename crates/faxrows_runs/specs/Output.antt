@@ -33,7 +33,8 @@ pub record FailsByWriter {W T : Type 0} (writer : Used W) (result : Result T Run
   pub only : IfErr result (λ fault. fault ≡ Write)
 
 -- A text was put after what waited, and what is left waits now; or the writer failed, and has a front of both.
-pub record PutsText {W : Type 0} (text waited waits : List ℕ) (writer : Used W) (result : Result (Unit {0}) RunFault) : Type 0 where
+pub record PutsText {W : Type 0} (text waited waits : List ℕ) (writer : Used W) (result : Result (Unit {0}) RunFault)
+    : Type 0 where
   pub ok : OnOk result (PassesOn (bytes_before writer) (bytes_after writer) waited text waits)
   pub front : OnErr result (AppendsFront (bytes_before writer) (bytes_after writer) (waited ++ text))
   pub fails : FailsByWriter writer result

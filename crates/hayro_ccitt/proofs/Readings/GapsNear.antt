@@ -321,7 +321,7 @@ last_of true b c e first second = absurd (false≢true (sym first))
 last_of false true c e first second = absurd (false≢true (sym second))
 last_of false false c e first second = e
 
-not_true : (b : Bool) → not b ≡ true → b ≡ false
+pub not_true : (b : Bool) → not b ≡ true → b ≡ false
 not_true true e = absurd (false≢true e)
 not_true false e = refl
 

@@ -56,8 +56,8 @@ returns-in_err-feed c =
     rw is (record {
       within = tt;
       kept = omega (arith, c.in_err-feed.ensures.kept.fed);
-      ctx = c.in_err-feed.ensures.same.0;
-      rows = c.in_err-feed.ensures.same.1;
+      ctx = c.in_err-feed.ensures.kept.reading.0;
+      rows = c.in_err-feed.ensures.kept.reading.1;
       given = λ bytes rest given page split. tt;
       failed = λ bytes rest given page split. (
         elim c.in_err-feed.ensures.only [
@@ -72,9 +72,10 @@ returns-in_err-feed c =
           ))
         ],
         kept_page page (λ whole tried feed. (tried, c.in_err-feed.ensures.refused whole tried feed))
-            (ap (λ (x : Context). x.held.settings) c.in_err-feed.ensures.same.0) c.in_err-feed.ensures.same.2
-            c.in_err-feed.ensures.same.3 (omega (arith, c.in_err-feed.ensures.kept.fed))
-            (subst (λ (r : RowState). ended r.stand ≢ Some (Err OutOfMemory)) (sym c.in_err-feed.ensures.same.1) page.has_memory),
+            (ap (λ (x : Context). x.held.settings) c.in_err-feed.ensures.kept.reading.0) c.in_err-feed.ensures.kept.order
+            c.in_err-feed.ensures.kept.reading.2 (omega (arith, c.in_err-feed.ensures.kept.fed))
+            (subst (λ (r : RowState). ended r.stand ≢ Some (Err OutOfMemory)) (sym c.in_err-feed.ensures.kept.reading.1)
+            page.has_memory),
       );
     })
 
@@ -90,23 +91,23 @@ returns-then-is_some c =
     record {
       within = (within at, ap fed_bits frame ∙ count, inr (ap (λ (f : Feeding). f.finished) frame), room);
       kept = tt;
-      ctx = ap (λ (f : Feeding). f.ctx) frame ∙ feed.same.0;
-      rows = ap (λ (f : Feeding). f.rows) frame ∙ feed.same.1;
+      ctx = ap (λ (f : Feeding). f.ctx) frame ∙ feed.held.reading.0;
+      rows = ap (λ (f : Feeding). f.rows) frame ∙ feed.held.reading.1;
       given = λ bytes rest given page split.
           let ends = (some_is _ c.find_page_end-end.result (n at) (size at) (n_is at) found c.find_page_end-end.ensures.found).1
           (take given bytes) rest (subst (λ (s : DecodeSettings). GoesOnBehind s.encoding c.args.order (take given bytes)
           c.args.seen.now) (sym c.settings.ensures) (page.sought c.requires.unfinished)) in
           page_finished page.fit (longer_within bytes c.args.piece.now rest given page.within split (n at) (within at))
-          (feed.same.2 ∙ page.order_is) (omega (arith, count, page.counted))
+          (feed.held.order ∙ page.order_is) (omega (arith, count, page.counted))
           (reads_on bytes c.args.piece.now rest given page split c.requires.unfinished (n at)
-          (within at) feed.fed count feed.same.0
-          feed.same.1 feed.same.2)
+          (within at) feed.fed count feed.held.reading.0
+          feed.held.reading.1 feed.held.order)
           (sym (ap (λ (b : List ℕ). page_size c.settings.result.encoding c.args.order b)
           (bytes_are bytes c.args.piece.now rest given page.within split)
           ∙ ends ∙ ap (λ (k : ℕ). k + n at) (front_length bytes c.args.piece.now rest given page.within split))
           ∙ ap (λ (s : DecodeSettings). page_size s.encoding c.args.order bytes) c.settings.ensures
-          ∙ ap (λ (x : Context). page_size x.held.settings.encoding c.args.order bytes) (sym feed.same.0)) (subst (λ
-          (r : RowState). ended r.stand ≢ Some (Err OutOfMemory)) (sym feed.same.1) page.has_memory)
+          ∙ ap (λ (x : Context). page_size x.held.settings.encoding c.args.order bytes) (sym feed.held.reading.0)) (subst (λ
+          (r : RowState). ended r.stand ≢ Some (Err OutOfMemory)) (sym feed.held.reading.1) page.has_memory)
           c.finish.ensures.finished frame;
       failed = λ bytes rest given page split. tt;
     }
@@ -122,11 +123,12 @@ returns-else-is_some c =
     record {
       within = (within at, count, inl (omega (arith, all, c.requires.some)), omega (arith, count, fits, piece_length at));
       kept = tt;
-      ctx = feed.same.0;
-      rows = feed.same.1;
+      ctx = feed.held.reading.0;
+      rows = feed.held.reading.1;
       given = λ bytes rest given page split.
           page_goes_on bytes c.args.piece.now rest given page split c.requires.unfinished (n at) (within at) feed.fed count
-          feed.same.0 feed.same.1 feed.same.2 c.find_page_end-end.new.seen (feed.same.3 ∙ c.requires.unfinished)
+          feed.held.reading.0 feed.held.reading.1 feed.held.order c.find_page_end-end.new.seen
+          (feed.held.reading.2 ∙ c.requires.unfinished)
           (behind at bytes rest given page split all (none_is _ c.find_page_end-end.result none
           c.find_page_end-end.ensures.none));
       failed = λ bytes rest given page split. tt;

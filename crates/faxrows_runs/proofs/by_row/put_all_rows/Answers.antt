@@ -52,7 +52,8 @@ module _ (g : Over) (c : After-feed_piece g) where
       c.in_ok-flush-in-None.ensures.ok
 
   same_flag : c.flush.new.writer.1 ≡ c.args.writer.now.1
-  same_flag = c.in_ok-flush-in-None.ensures.by_writer.flag ∙ c.in_ok-outcome.ensures.by_writer.flag ∙ c.loop-outcome.invariant.writer
+  same_flag = c.in_ok-flush-in-None.ensures.by_writer.flag ∙ c.in_ok-outcome.ensures.by_writer.flag
+      ∙ c.loop-outcome.invariant.writer
 
 pub loop-outcome-smaller : goal.loop-outcome-smaller
 loop-outcome-smaller g c =

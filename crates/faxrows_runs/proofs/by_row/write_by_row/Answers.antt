@@ -24,7 +24,8 @@ returns-in_err-flush g c =
       writes = as_fault c.from_residual-in_err-flush.result c.in_err-flush.field-0.0 is
           (flush_fails (used g.W.Write.contents c.args.writer.now c.flush.new.writer) c.in_ok-outcome.ensures.reads
           c.in_ok-outcome.ensures.reader (g.W.Write.contents c.put_last_line.new.writer.0) c.put_last_line.new.waiting.items
-          c.in_ok-put_last_line.ensures.ok c.in_err-flush.field-0.0 c.in_err-flush.ensures.by_writer.only c.in_err-flush.ensures.front
+          c.in_ok-put_last_line.ensures.ok c.in_err-flush.field-0.0 c.in_err-flush.ensures.by_writer.only
+          c.in_err-flush.ensures.front
           c.in_err-flush.ensures.by_writer.failed);
     }
 

@@ -2,12 +2,9 @@ use Rattle.hayro_ccitt.proofs.Names.{◌≡◌, ◌∙◌, true, false, Bool, no
 use Rattle.hayro_ccitt.specs.EndOfLine.{after_eol}
 use Rattle.hayro_ccitt.specs.GapsContinued.{holds_one}
 use Rattle.hayro_ccitt.proofs.Readings.GapsSeen.{settled_at_one, settled_behind_eol, settled_behind_tagged}
+use Rattle.hayro_ccitt.proofs.Readings.GapsNear.{not_true}
 use Rattle.hayro_ccitt.proofs.gap_look.is_settled_at_once.Goals.{then-rules, else-rules}
 use Rattle.hayro_ccitt.proofs.gap_look.is_settled_at_once.Goals as goal
-
-not_true : (b : Bool) → not b ≡ true → b ≡ false
-not_true true e = absurd cc
-not_true false e = refl
 
 pub returns-then-holds_near_one : goal.returns-then-holds_near_one
 returns-then-holds_near_one c = λ unsought.
