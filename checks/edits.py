@@ -686,6 +686,9 @@ def answer(output, room, functions):
 DECLARED = re.compile(r"^(?=(?:(?:pub|abbrev|unfoldable) )*[^\s:()]+ :(?:\s|$)|--|use |pub use |module |record |pub record )", re.MULTILINE)
 
 
+INDENTED = re.compile(r"^  (?:(?:pub|abbrev|unfoldable) )*([^\s:()]+) :(?:\s|$)", re.MULTILINE)
+
+
 class Blocks:
     """The declarations of a file of answers: the text of each, in their order, and which of the others each cites."""
 
@@ -698,11 +701,15 @@ class Blocks:
             declared = re.match(r"(?:(?:pub|abbrev|unfoldable) )*([^\s:()]+) :(?:\s|$)", block)
             if declared:
                 self.named[declared[1]] = block
+            if block.startswith("module"):  # what such a module declares may be cited too
+                starts = list(INDENTED.finditer(block))
+                ends = [*(found.start() for found in starts[1:]), len(block)]
+                self.named |= {found[1]: block[found.start() : end] for found, end in zip(starts, ends)}
         # What a line between the declarations says may be about any of them.
         self.is_plain = not re.search(r"^(?:infix|ruleset|syntax|mutual|data|open|(?:pub )?(?:module|record))", "".join(self.blocks), re.MULTILINE)
 
     def is_answer(self, name):
-        return self.named[name].startswith(f"pub {name} : goal.{name}\n")
+        return re.match(rf"pub {re.escape(name)} :\s+goal\.{re.escape(name)}\n", self.named[name]) is not None
 
     def cited(self, name):
         """The declarations that this one cites, by way of others too."""
@@ -723,11 +730,12 @@ def cited_by(path, clause):
 
 def thin(path, counts):
     """Puts a hole in the place of each answer that doesn't count and that no answer cites that does, and leaves out what is then not
-    cited, so that no time is spent on it. Returns the names of the holes."""
+    cited, so that no time is spent on it. What is public and no answer stays. Returns the names of the holes."""
     blocks, holes = Blocks(path), set()
     if not blocks.named or not blocks.is_plain:
         return holes
-    kept = set().union(*[{name, *blocks.cited(name)} for name in blocks.named if blocks.is_answer(name) and counts(name)])
+    counting = [name for name, block in blocks.named.items() if (counts(name) if blocks.is_answer(name) else block.startswith("pub "))]
+    kept = set().union(*[{name, *blocks.cited(name)} for name in counting])
     texts = {block: name for name, block in blocks.named.items()}
     left = []
     for block in blocks.blocks:
