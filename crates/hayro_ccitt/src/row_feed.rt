@@ -175,6 +175,17 @@ fn fed_row(row: Result<bool>) -> Result<Fed>
     }
 }
 
+/// Returns whether one more row can be counted.
+#[inline(always)]
+fn can_take_row(ctx: &DecoderContext) -> bool
+    ensures rows { result ≡ true → ctx.now.held.taken + 1 < 2 ^ 64 }
+    ensures damaged { result ≡ true → ctx.now.held.repairs.rows ≤ ctx.now.held.taken }
+    ensures room { ctx.now.held.taken + 1 < 2 ^ 64 → ctx.now.held.repairs.rows ≤ ctx.now.held.taken → result ≡ true }
+{
+    let rows = ctx.decoded_rows();
+    rows < u64::MAX && ctx.damaged_rows() <= rows
+}
+
 impl RowState {
     /// Passes the gap before the next line, which begins at this offset of the data, if no data that follows can change it.
     /// Returns whether there is a line after it, or `None` if more data is needed.
@@ -335,28 +346,6 @@ impl RowFeed {
         true
     }
 
-    /// Passes the gap before the next line, if no data that follows can change it. Returns whether there is a line after it,
-    /// or `None` if more data is needed.
-    fn come_to_line(&mut self) -> Result<Option<bool>>
-        requires begun { self.old.begun ≡ true }
-        requires unended { ended self.old.rows.stand ≡ None }
-        requires none_kept { self.old.part ≡ None }
-        ensures comes { ComesInFeed self.old self.new result }
-        ensures none_kept { self.new.part ≡ None }
-    {
-        let mut reader = placed_at(&self.data, self.order, self.place);
-        let gap_start = self.dropped + self.place;
-        let line = self.rows.come_to_settled_line(
-            &mut self.ctx,
-            &mut self.look,
-            &mut reader,
-            self.is_last,
-            gap_start,
-        );
-        self.place = reader.bit_pos();
-        line
-    }
-
     /// Reads the line here from its start, if no data that follows can change it, and returns whether it was read.
     fn read_whole_line(&mut self) -> Result<bool>
         requires begun { self.old.begun ≡ true }
@@ -459,17 +448,6 @@ impl RowFeed {
         row
     }
 
-    /// Returns whether one more row can be counted.
-    fn can_take_row(&self) -> bool
-        ensures rows { result ≡ true → self.now.ctx.held.taken + 1 < 2 ^ 64 }
-        ensures damaged { result ≡ true → self.now.ctx.held.repairs.rows ≤ self.now.ctx.held.taken }
-        ensures room { self.now.ctx.held.taken + 1 < 2 ^ 64 → self.now.ctx.held.repairs.rows ≤ self.now.ctx.held.taken
-            → result ≡ true }
-    {
-        let rows = self.ctx.decoded_rows();
-        rows < u64::MAX && self.ctx.damaged_rows() <= rows
-    }
-
     /// Reads the row of the line here.
     #[inline(always)]
     fn read_here(&mut self) -> Result<Fed>
@@ -479,10 +457,49 @@ impl RowFeed {
             → FeedsNext whole tried self.old self.new result }
         ensures keeps { KeepsBits self.old self.new }
     {
-        if !self.can_take_row() {
+        if !can_take_row(&self.ctx) {
             return Err(DecodeError::UnexpectedEof);
         }
         let row = self.read_line();
+        fed_row(row)
+    }
+
+    /// Passes the gap before the next line, if there is one here, and reads the line, both from where no data that follows can change
+    /// them.
+    #[inline(always)]
+    fn read_from_gap(&mut self) -> Result<Fed>
+        requires begun { self.old.begun ≡ true }
+        requires unended { ended self.old.rows.stand ≡ None }
+        requires none_kept { self.old.part ≡ None }
+        ensures reads { (whole : Bits) (tried : ℕ) → IsFeedOf whole tried self.old
+            → FeedsNext whole tried self.old self.new result }
+        ensures keeps { KeepsBits self.old self.new }
+    {
+        let mut reader = placed_at(&self.data, self.order, self.place);
+        let gap_start = self.dropped + self.place;
+        let line = self.rows.come_to_settled_line(
+            &mut self.ctx,
+            &mut self.look,
+            &mut reader,
+            self.is_last,
+            gap_start,
+        );
+        self.place = reader.bit_pos();
+        if !is_some_line(&line) {
+            return fed_none(line);
+        }
+        if !can_take_row(&self.ctx) {
+            return Err(DecodeError::UnexpectedEof);
+        }
+        let line_start = self.dropped + self.place;
+        self.ctx.begin_line();
+        let row = self
+            .rows
+            .try_line(&mut self.ctx, &mut reader, self.is_last, line_start);
+        self.place = reader.bit_pos();
+        if is_unsettled(&row) {
+            self.keep_part();
+        }
         fed_row(row)
     }
 
@@ -497,11 +514,7 @@ impl RowFeed {
         if self.part.is_some() {
             return self.read_here();
         }
-        let line = self.come_to_line();
-        if !is_some_line(&line) {
-            return fed_none(line);
-        }
-        self.read_here()
+        self.read_from_gap()
     }
 
     /// Reads the first row, behind what is before it.
