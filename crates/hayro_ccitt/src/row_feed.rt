@@ -216,6 +216,7 @@ impl RowState {
 
     /// Reads the line here, which begins at this offset of the data, and returns true, if no data that follows can change it;
     /// otherwise it is left, and false is returned. After an allocation failure it is left too.
+    #[inline(always)]
     pub(crate) fn try_line(
         &mut self,
         ctx: &mut DecoderContext,
