@@ -1,5 +1,5 @@
-use Rattle.hayro_ccitt.proofs.Names.{◌≡◌, ◌∙◌, ap, sym, subst, refl, arith, length, false≢true, false, true, BitsAt, bits_in, List}
-use Rattle.hayro_ccitt.proofs.Names.{ℕ, None}
+use Rattle.hayro_ccitt.proofs.Names.{◌≡◌, ◌∙◌, ap, sym, subst, refl, arith, length, false≢true, false, true, BitsAt, bits_in}
+use Rattle.hayro_ccitt.proofs.Names.{List, ℕ, None}
 use Rattle.hayro_ccitt.proofs.Names.{◌⊎◌, ◌≢◌, Context, Bits, Ok, Some, is_at_line, here, drop, ended, ◌≤◌, ◌+◌}
 use Rattle.hayro_ccitt.proofs.BitReading.BitLists.{length-bits_in}
 use Rattle.hayro_ccitt.proofs.Readings.FeedsOn.{feed_comes, feed_reads, gap_feeds, line_feeds, reached_here, row_fits}
