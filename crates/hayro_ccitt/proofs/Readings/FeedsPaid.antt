@@ -353,6 +353,10 @@ bool_not_true : (b : Bool) → (b ≡ true → ⊥) → b ≡ false
 bool_not_true true other = absurd (other refl)
 bool_not_true false other = refl
 
+bool_not_false : (b : Bool) → (b ≡ false → ⊥) → b ≡ true
+bool_not_false true other = refl
+bool_not_false false other = absurd (other refl)
+
 open_at_line : (begun : Bool) (stand : Stand) (ctx : Context) (next : Bits) → begun ≡ true → is_at_line stand ≡ true
     → IsOpenAt begun stand ctx next → is_short (line_here ctx.held.settings ctx.held.reference next) ≡ true
 open_at_line false stand ctx next begun line known = absurd (false≢true begun)
@@ -453,11 +457,7 @@ module _ {whole : Bits} {calls lost tried : ℕ} {old new : Feeding} {answer : R
       ]
 
   new_begun : old.begun ≡ true → new.begun ≡ true
-  new_begun begun = by_bool new.begun refl
-    where
-      by_bool : (b : Bool) → new.begun ≡ b → b ≡ true
-      by_bool true e = refl
-      by_bool false e = absurd (false≢true (sym (goes.unbegun e).0 ∙ begun))
+  new_begun begun = bool_not_false new.begun (λ e. false≢true (sym (goes.unbegun e).0 ∙ begun))
 
   -- the changes of a row that is read begin no sooner than those before it end
   start_passed : (known : ℕ) → IsBehind known old → old.finished ≡ false → (row : DrawsRow old new) → known ≤ row.start
@@ -584,11 +584,7 @@ module _ {whole : Bits} {calls lost tried : ℕ} {old new : Feeding} {answer : R
   -- ---- The changes of the rows
 
   row_begun : answer ≡ Ok Fed.Row → new.begun ≡ true
-  row_begun e = by_bool new.begun refl
-    where
-      by_bool : (b : Bool) → new.begun ≡ b → b ≡ true
-      by_bool true is = refl
-      by_bool false is = let never = sym e ∙ (goes.unbegun is).1 in cc
+  row_begun e = bool_not_false new.begun (λ is. let never = sym e ∙ (goes.unbegun is).1 in cc)
 
   -- a row is read
   row_adds : answer ≡ Ok Fed.Row → (drawn : ℕ) × RowAdds paid.drawn drawn new
@@ -652,58 +648,44 @@ module _ {whole : Bits} {calls lost tried : ℕ} {old new : Feeding} {answer : R
   row_unkept : answer ≡ Ok Fed.Row → new.part ≡ None
   row_unkept e = goes.unkept (λ needs. let never = sym e ∙ needs in absurd cc)
 
+  -- no part of a line is kept
+  unkept_lines : {count drawn lost_now : ℕ} (known read : ℕ) → new.part ≡ None → known ≤ fed_bits old → read ≤ fed_bits old
+      → count ≤ 6 * known + 2 * read + 2 * drawn + 8 * (calls + 1) + lost_now
+      → (ended new.rows.stand ≡ None → new.finished ≡ false
+      → count + 2 * changes_of new ≤ 6 * known + 2 * read + 2 * drawn + 8 * (calls + 1) + lost_now)
+      → IsBehind known new → LinesPaid (calls + 1) lost_now drawn count new
+  unkept_lines known read gone known_most read_most most left behind = record {
+    known = known;
+    read = read;
+    seen = 0;
+    known_most = omega (arith, known_most, same_fed);
+    read_most = omega (arith, read_most, same_fed);
+    read_before = λ some. absurd (some gone);
+    within = goes.within;
+    part_most = goes.paid;
+    seen_is = λ some. absurd (some gone);
+    most = omega (arith, most);
+    next = λ none. left;
+    here = λ some. absurd (some gone);
+    passed = passed_none new.part known new gone behind;
+  }
+
   -- a row is read
   row_lines : (drawn : ℕ) → RowAdds paid.drawn drawn new → answer ≡ Ok Fed.Row → LinesNow drawn counted
   row_lines drawn adds e = elim (none_or_some old.part) [
     | inl none ↦
         let at_once = next.line_work.at_once (row_not_left e) none in
-        record {
-          known = lines.known;
-          read = lines.read;
-          seen = 0;
-          known_most = omega (arith, lines.known_most, same_fed);
-          read_most = omega (arith, lines.read_most, same_fed);
-          read_before = λ some. absurd (some (row_unkept e));
-          within = goes.within;
-          part_most = goes.paid;
-          seen_is = λ some. absurd (some (row_unkept e));
-          most = omega (
-            arith,
-            lines.most,
-            at_once,
-            none_paid old.part old.line_read none,
-            adds.no_fewer,
-          );
-          next = λ gone still unfinished. omega (
-            arith,
-            lines.most,
-            at_once,
-            none_paid old.part old.line_read none,
-            adds.adds unfinished,
-          );
-          here = λ some. absurd (some (row_unkept e));
-          passed = passed_none new.part lines.known new (row_unkept e) (λ still unfinished.
-              inl (line_passed lines.known (lines_behind none) still (still_unfinished unfinished)
-              (λ needs. let never = sym e ∙ needs in absurd cc)));
-        }
+        let unpaid = none_paid old.part old.line_read none in
+        unkept_lines lines.known lines.read (row_unkept e) lines.known_most lines.read_most
+        (omega (arith, lines.most, at_once, unpaid, adds.no_fewer))
+        (λ still unfinished. omega (arith, lines.most, at_once, unpaid, adds.adds unfinished))
+        (λ still unfinished. inl (line_passed lines.known (lines_behind none) still (still_unfinished unfinished)
+        (λ needs. let never = sym e ∙ needs in absurd cc)))
     | inr some ↦
         let read = read_here some (omega (arith, next.line_work.read (row_not_left e))) in
-        record {
-          known = lines.known;
-          read = fed_bits old;
-          seen = 0;
-          known_most = omega (arith, lines.known_most, same_fed);
-          read_most = omega (arith, same_fed);
-          read_before = λ kept. absurd (kept (row_unkept e));
-          within = goes.within;
-          part_most = goes.paid;
-          seen_is = λ kept. absurd (kept (row_unkept e));
-          most = omega (arith, read, adds.no_fewer);
-          next = λ gone still unfinished. omega (arith, read, adds.adds unfinished);
-          here = λ kept. absurd (kept (row_unkept e));
-          passed = passed_none new.part lines.known new (row_unkept e)
-              (λ still unfinished. behind_line (was some) e still);
-        }
+        unkept_lines lines.known (fed_bits old) (row_unkept e) lines.known_most (omega arith)
+        (omega (arith, read, adds.no_fewer)) (λ still unfinished. omega (arith, read, adds.adds unfinished))
+        (λ still unfinished. behind_line (was some) e still)
   ]
 
   -- the reading ends
@@ -711,43 +693,13 @@ module _ {whole : Bits} {calls lost tried : ℕ} {old new : Feeding} {answer : R
   end_lines over other = elim (none_or_some old.part) [
     | inl none ↦
         let at_once = next.line_work.at_once other none in
-        record {
-          known = lines.known;
-          read = lines.read;
-          seen = 0;
-          known_most = omega (arith, lines.known_most, same_fed);
-          read_most = omega (arith, lines.read_most, same_fed);
-          read_before = λ some. absurd (some gone);
-          within = goes.within;
-          part_most = goes.paid;
-          seen_is = λ some. absurd (some gone);
-          most = omega (
-            arith,
-            lines.most,
-            at_once,
-            none_paid old.part old.line_read none,
-          );
-          next = λ none_kept still. absurd (over still);
-          here = λ some_kept. absurd (some_kept gone);
-          passed = passed_none new.part lines.known new gone (λ still. absurd (over still));
-        }
+        unkept_lines lines.known lines.read gone lines.known_most lines.read_most
+        (omega (arith, lines.most, at_once, none_paid old.part old.line_read none)) (λ still. absurd (over still))
+        (λ still. absurd (over still))
     | inr some ↦
         let read = read_here some (omega (arith, next.line_work.read other)) in
-        record {
-          known = lines.known;
-          read = fed_bits old;
-          seen = 0;
-          known_most = omega (arith, lines.known_most, same_fed);
-          read_most = omega (arith, same_fed);
-          read_before = λ kept. absurd (kept gone);
-          within = goes.within;
-          part_most = goes.paid;
-          seen_is = λ kept. absurd (kept gone);
-          most = omega (arith, read);
-          next = λ none_kept still. absurd (over still);
-          here = λ some_kept. absurd (some_kept gone);
-          passed = passed_none new.part lines.known new gone (λ still. absurd (over still));
-        }
+        unkept_lines lines.known (fed_bits old) gone lines.known_most (omega arith) (omega (arith, read))
+        (λ still. absurd (over still)) (λ still. absurd (over still))
   ]
     where
       gone : new.part ≡ None
@@ -768,16 +720,12 @@ module _ {whole : Bits} {calls lost tried : ℕ} {old new : Feeding} {answer : R
     new_within = omega (arith, length-drop new.place new.kept, goes.within)
 
     kept_at_line : new.part ≢ None → is_at_line new.rows.stand ≡ true
-    kept_at_line some = by_bool (is_at_line new.rows.stand) refl
-      where
-        by_bool : (b : Bool) → is_at_line new.rows.stand ≡ b → b ≡ true
-        by_bool true is = refl
-        by_bool false is = absurd (some (goes.unkept (λ needs. is)))
+    kept_at_line some = bool_not_false (is_at_line new.rows.stand) (λ away. some (goes.unkept (λ needs. away)))
 
     -- the line here is short
     short_there : is_at_line new.rows.stand ≡ true → WasShort (offset new + length bits_here) new
     short_there line =
-        let begun = begun_there in
+        let begun = bool_not_false new.begun (λ is. false≢true (sym (goes.unbegun is).2 ∙ line)) in
         record {
           begun = begun;
           at_line = line;
@@ -787,86 +735,62 @@ module _ {whole : Bits} {calls lost tried : ℕ} {old new : Feeding} {answer : R
           short = open_at_line new.begun new.rows.stand new.ctx bits_here begun line (next.unsettled e).1;
           known_is = refl;
         }
-      where
-        begun_there : new.begun ≡ true
-        begun_there = by_bool new.begun refl
-          where
-            by_bool : (b : Bool) → new.begun ≡ b → b ≡ true
-            by_bool true is = refl
-            by_bool false is = absurd (false≢true (sym (goes.unbegun is).2 ∙ line))
 
     -- what is counted for it is counted for a first try, if anything is
     waits_lines : old.part ≡ None → new.part ≡ None → LinesNow paid.drawn paid.lines
-    waits_lines none still = record {
-      known = lines.known;
+    waits_lines none still =
+        unkept_lines lines.known lines.read still lines.known_most lines.read_most
+        (omega (arith, lines.most, none_paid old.part old.line_read none))
+        (λ open_end unfinished. omega (arith, lines.next none unended (still_unfinished unfinished), same_changes_there))
+        (stays_behind lines.known (lines_behind none) left)
+
+    -- a part of the line is kept
+    kept_lines : new.part ≢ None → counted + changes_of new
+        ≤ paid_for_line new + 6 * offset new + 4 * length bits_here + 2 * lines.read + 2 * paid.drawn + 8 * (calls + 1) + lost
+        → LinesNow paid.drawn counted
+    kept_lines some here = record {
+      known = offset new + length bits_here;
       read = lines.read;
-      seen = 0;
-      known_most = omega (arith, lines.known_most, same_fed);
+      seen = length bits_here;
+      known_most = omega (arith, new_within);
       read_most = omega (arith, lines.read_most, same_fed);
-      read_before = λ some. absurd (some still);
+      read_before = λ kept. omega (arith, lines.read_most, same_fed, new_within);
       within = goes.within;
       part_most = goes.paid;
-      seen_is = λ some. absurd (some still);
-      most = omega (arith, lines.most, none_paid old.part old.line_read none);
-      next = λ kept open_end unfinished.
-          omega (arith, lines.next none unended (still_unfinished unfinished), same_changes_there);
-      here = λ some. absurd (some still);
-      passed = passed_none new.part lines.known new still (stays_behind lines.known (lines_behind none) left);
+      seen_is = λ kept. refl;
+      most = omega (arith, here);
+      next = λ gone. absurd (some gone);
+      here = λ kept. omega (arith, here);
+      passed = kept_passed new.part (offset new + length bits_here) new some (short_there (kept_at_line some));
     }
 
     begins_lines : old.part ≡ None → new.part ≢ None → LinesNow paid.drawn counted
     begins_lines none some =
-        let begins = next.line_work.begins e none in
         let unfinished = still_unfinished (next.unsettled e).0 in
         let known = line_passed lines.known (lines_behind none) (next.none left).unended unfinished
         (λ needs. kept_at_line some) in
-        record {
-          known = offset new + length bits_here;
-          read = lines.read;
-          seen = length bits_here;
-          known_most = omega (arith, new_within);
-          read_most = omega (arith, lines.read_most, same_fed);
-          read_before = λ kept. omega (arith, lines.read_most, same_fed, new_within);
-          within = goes.within;
-          part_most = goes.paid;
-          seen_is = λ kept. refl;
-          most = omega (arith, lines.next none unended unfinished, begins, known, same_changes_there);
-          next = λ gone. absurd (some gone);
-          here = λ kept. omega (arith, lines.next none unended unfinished, begins, known, same_changes_there);
-          passed = kept_passed new.part (offset new + length bits_here) new some (short_there (kept_at_line some));
-        }
+        kept_lines some (omega (
+          arith,
+          lines.next none unended unfinished,
+          next.line_work.begins e none,
+          known,
+          same_changes_there,
+        ))
 
     goes_on_lines : old.part ≢ None → LinesNow paid.drawn counted
     goes_on_lines kept =
-        let some = next.line_work.some e kept in
-        let goes_on = next.line_work.goes_on e kept in
-        let place = goes.stays left (stays_at_line (was kept)) in
-        record {
-          known = offset new + length bits_here;
-          read = lines.read;
-          seen = length bits_here;
-          known_most = omega (arith, new_within);
-          read_most = omega (arith, lines.read_most, same_fed);
-          read_before = λ still. omega (arith, lines.read_most, same_fed, new_within);
-          within = goes.within;
-          part_most = goes.paid;
-          seen_is = λ still. refl;
-          most = omega (arith, lines.here kept, goes_on, new_within, same_fed, lines.known_most);
-          next = λ gone. absurd (some gone);
-          here = λ still. omega (
-            arith,
-            lines.here kept,
-            goes_on,
-            new_within,
-            same_fed,
-            same_changes_there,
-            place,
-            keeps.dropped,
-            lines.known_most,
-            lines.seen_is kept,
-          );
-          passed = kept_passed new.part (offset new + length bits_here) new some (short_there (kept_at_line some));
-        }
+        kept_lines (next.line_work.some e kept) (omega (
+          arith,
+          lines.here kept,
+          next.line_work.goes_on e kept,
+          new_within,
+          same_fed,
+          same_changes_there,
+          goes.stays left (stays_at_line (was kept)),
+          keeps.dropped,
+          lines.known_most,
+          lines.seen_is kept,
+        ))
 
   -- ---- First tries
 
@@ -1103,21 +1027,9 @@ module _ {whole : Bits} {calls lost tried : ℕ} {old new : Feeding} {answer : R
       rows_paid = left_rows failed_left;
       gaps_paid = gaps_step old.begun new.begun refl refl;
       firsts_paid = left_firsts failed_left;
-      lines_paid = record {
-        known = known_now;
-        read = lines.read;
-        seen = 0;
-        known_most = omega (arith, lines.known_most, same_fed);
-        read_most = omega (arith, lines.read_most, same_fed);
-        read_before = λ some. absurd (some failed_unkept);
-        within = goes.within;
-        part_most = goes.paid;
-        seen_is = λ some. absurd (some failed_unkept);
-        most = omega (arith, failed_most);
-        next = λ gone still unfinished. omega (arith, failed_next still unfinished);
-        here = λ some. absurd (some failed_unkept);
-        passed = passed_none new.part known_now new failed_unkept (λ still unfinished. inl (omega arith));
-      };
+      lines_paid = unkept_lines known_now lines.read failed_unkept (omega (arith, lines.known_most)) lines.read_most
+          (omega (arith, failed_most)) (λ still unfinished. omega (arith, failed_next still unfinished))
+          (λ still unfinished. inl (omega arith));
     }
 
 -- ---- All calls
