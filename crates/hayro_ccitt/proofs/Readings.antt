@@ -11,6 +11,7 @@ pub mod LooksKept
 pub mod PartsFed
 pub mod RowByRow
 pub mod RowsAgain
+pub mod RowsDrawn
 pub mod RowsFed
 pub mod RowsPushed
 pub mod RowsTried

@@ -12,13 +12,13 @@ use Rattle.hayro_ccitt.specs.declared.line_parts.KeptPart.{KeptPart}
 use Rattle.hayro_ccitt.specs.declared.row_feed.Fed.{Fed}
 use Rattle.hayro_ccitt.specs.declared.row_reader.RowState.{RowState}
 use Rattle.hayro_ccitt.specs.RowFeeds.{CallGoesOn, Feeding, FeedsNext, HasNone, HoldsMore, IsFeedOf, IsOpenAt, KeepsBits}
-use Rattle.hayro_ccitt.specs.RowFeeds.{StandsIn}
+use Rattle.hayro_ccitt.specs.RowFeeds.{DrawsRow, StandsIn, TriesFirst}
 use Rattle.hayro_ccitt.specs.RowFeeds.{fed_bits, fed_over, most_for_line, paid_by, paid_for_line}
 use Rattle.hayro_ccitt.proofs.Names.{IfErr}
-use Rattle.hayro_ccitt.specs.FeedsPaid.{FeedIsPaid, GapsPaid, IsPassed, LinesPaid, SeeksEol, WasShort, changes_of}
-use Rattle.hayro_ccitt.specs.FeedsPaid.{cost_of_failure, cost_of_first_try, left_for_line, offset}
-use Rattle.hayro_ccitt.proofs.Names.{cond, eqb, ne_eqb}
+use Rattle.hayro_ccitt.specs.FeedsPaid.{FeedIsPaid, FirstsPaid, GapsPaid, IsBehind, IsPassed, LinesPaid, RowsPaid, SeeksEol}
+use Rattle.hayro_ccitt.specs.FeedsPaid.{WasShort, WasTried, changes_of, cost_of_failure, offset}
 use Rattle.hayro_ccitt.proofs.Readings.FeedsOn.{none_paid}
+use Rattle.hayro_ccitt.proofs.Readings.RowsDrawn.{eol_among, prefix_more}
 use Rattle.fax_reading.proofs.KeptRows.LinesAgain.{line_again}
 use Rattle.fax_reading.proofs.Work.TurnsPaid.{behind_shorter, broken_row}
 use Rattle.hayro_ccitt.proofs.Work.ChangesStored.{changes_white}
@@ -30,17 +30,6 @@ use Rattle.fax_reading.proofs.Continuations.ShortLines.{eol_ends_line}
 
 -- ---- Where a line ends that was short
 
--- bits that begin with some, and end with no fewer than others, are those and more
-prefix_more : (front rest seen more : Bits) → front ++ rest ≡ seen ++ more → length front ≤ length seen
-    → (others : Bits) × (seen ≡ front ++ others)
-prefix_more [] rest seen more e le = (seen, refl)
-prefix_more (b ∷ front) rest [] more e le = absurd (omega (arith, le))
-prefix_more (b ∷ front) rest (c ∷ seen) more e le =
-    let same : b ≡ c = cc in
-    let next : front ++ rest ≡ seen ++ more = cc in
-    let (others, is) = prefix_more front rest seen more next (omega (arith, le)) in
-    (others, ap (λ (x : Bits). c ∷ x) is ∙ ap (λ (x : Bool). x ∷ (front ++ others)) (sym same))
-
 -- no EOL ends among the bits of a line that was short
 pub short_before_eol : (settings : DecodeSettings) (reference : Row) (seen more fill behind : Bits)
     → is_short (line_here settings reference seen) ≡ true → seen ++ more ≡ fill ++ replicate 11 false ++ true ∷ behind
@@ -49,18 +38,7 @@ short_before_eol settings reference seen more fill behind short e =
     elim (cases_lt (length seen) (length fill + 12)) [
       | inl lt ↦ omega (arith, lt)
       | inr ge ↦
-          let eol : Bits = fill ++ replicate 11 false ++ true ∷ [] in
-          let whole : eol ++ behind ≡ seen ++ more =
-          append_assoc (fill ++ replicate 11 false) (true ∷ []) behind ∙ sym e in
-          let long : length eol ≤ length seen = omega (
-            arith,
-            ge,
-            length-append (fill ++ replicate 11 false) (true ∷ []),
-            length-append fill (replicate 11 false),
-          ) in
-          let (others, is) = prefix_more eol behind seen more whole long in
-          let there : seen ≡ fill ++ replicate 11 false ++ true ∷ others =
-          is ∙ append_assoc (fill ++ replicate 11 false) (true ∷ []) others in
+          let (others, there) = eol_among seen more fill behind e (omega (arith, ge)) in
           absurd (false≢true (sym (eol_ends_line settings reference fill others)
           ∙ ap (λ (b : Bits). is_short (line_here settings reference b)) (sym there) ∙ short))
     ]
@@ -101,16 +79,7 @@ short_row settings has_eols reference seen more rest row short is =
 
 -- ---- By the part that is kept
 
-left_none : (part : Option KeptPart) (changes seen : ℕ) → part ≡ None → left_for_line part changes seen ≡ 2 * changes
-left_none None changes seen e = refl
-left_none (Some part) changes seen e = absurd cc
-
-left_some : (part : Option KeptPart) (changes seen : ℕ) → part ≢ None → left_for_line part changes seen ≡ changes + 2 * seen
-left_some None changes seen e = absurd (e refl)
-left_some (Some part) changes seen e = refl
-
-passed_none : (part : Option KeptPart) (known : ℕ) (feed : Feeding) → part ≡ None
-    → (ended feed.rows.stand ≡ None → feed.finished ≡ false → (known ≤ offset feed) ⊎ SeeksEol known feed)
+passed_none : (part : Option KeptPart) (known : ℕ) (feed : Feeding) → part ≡ None → IsBehind known feed
     → IsPassed part known feed
 passed_none None at feed e known = known
 passed_none (Some part) at feed e known = absurd cc
@@ -121,7 +90,7 @@ kept_passed None at feed e known = absurd (e refl)
 kept_passed (Some part) at feed e known = known
 
 was_passed : (part : Option KeptPart) (known : ℕ) (feed : Feeding) → part ≡ None → IsPassed part known feed
-    → ended feed.rows.stand ≡ None → feed.finished ≡ false → (known ≤ offset feed) ⊎ SeeksEol known feed
+    → IsBehind known feed
 was_passed None at feed e known = known
 was_passed (Some part) at feed e known = absurd cc
 
@@ -134,34 +103,14 @@ none_or_some : (part : Option KeptPart) → (part ≡ None) ⊎ (part ≢ None)
 none_or_some None = inl refl
 none_or_some (Some part) = inr (λ e. cc)
 
--- more may be lost
-more_lost : {calls lost tried lines : ℕ} {feed : Feeding} (more : ℕ) → LinesPaid calls lost tried lines feed
-    → LinesPaid calls (lost + more) tried lines feed
-more_lost more paid = record {
-  known = paid.known;
-  read = paid.read;
-  words = paid.words;
-  seen = paid.seen;
-  known_most = paid.known_most;
-  read_most = paid.read_most;
-  read_before = paid.read_before;
-  words_most = paid.words_most;
-  within = paid.within;
-  part_most = paid.part_most;
-  seen_is = paid.seen_is;
-  most = omega (arith, paid.most);
-  here = λ unended. omega (arith, paid.here unended);
-  passed = paid.passed;
-}
-
 -- ---- More data
 
 module _ {next : Bits} {old new : Feeding} (holds : HoldsMore next old new) where
   drop_is : drop new.place new.kept ≡ drop old.place old.kept ++ next
   drop_is = holds.unread
 
-  passed_more : (known : ℕ) (part : Option KeptPart) → IsPassed part known old → IsPassed part known new
-  passed_more known (Some part) was = record {
+  short_more : (known : ℕ) → WasShort known old → WasShort known new
+  short_more known was = record {
     begun = holds.begun ∙ was.begun;
     at_line = ap (λ (r : RowState). is_at_line r.stand) holds.reading.1 ∙ was.at_line;
     seen = was.seen;
@@ -170,7 +119,9 @@ module _ {next : Bits} {old new : Feeding} (holds : HoldsMore next old new) wher
     short = ap (λ (x : Context). is_short (line_here x.held.settings x.held.reference was.seen)) holds.reading.0 ∙ was.short;
     known_is = omega (arith, was.known_is, holds.place);
   }
-  passed_more known None was = λ unended unfinished.
+
+  behind_more : (known : ℕ) → IsBehind known old → IsBehind known new
+  behind_more known was = λ unended unfinished.
       elim (was (sym (ap (λ (r : RowState). ended r.stand) holds.reading.1) ∙ unended) (sym holds.reading.2 ∙ unfinished)) [
         | inl le ↦ inl (omega (arith, le, holds.place))
         | inr seeks ↦ inr (record {
@@ -186,6 +137,10 @@ module _ {next : Bits} {old new : Feeding} (holds : HoldsMore next old new) wher
         })
       ]
 
+  passed_more : (known : ℕ) (part : Option KeptPart) → IsPassed part known old → IsPassed part known new
+  passed_more known (Some part) was = short_more known was
+  passed_more known None was = behind_more known was
+
   same_paid : paid_for_line new ≡ paid_for_line old
   same_paid = ap (λ (p : Option KeptPart). paid_by p new.line_read) holds.part ∙ ap (paid_by old.part) holds.line_read
 
@@ -195,6 +150,28 @@ module _ {next : Bits} {old new : Feeding} (holds : HoldsMore next old new) wher
   longer : length (drop new.place new.kept) ≡ length (drop old.place old.kept) + length next
   longer = ap length drop_is ∙ length-append (drop old.place old.kept) next
 
+  firsts_more : {calls drawn firsts : ℕ} → FirstsPaid calls drawn firsts old → FirstsPaid calls drawn firsts new
+  firsts_more paid = record {
+    known = paid.known;
+    known_most = omega (arith, paid.known_most, holds.fed);
+    most = paid.most;
+    here = elim paid.here [
+      | inl was ↦ inl (record {
+        tried = holds.tried_at ∙ was.tried ∙ sym holds.place;
+        short = short_more paid.known was.short;
+      })
+      | inr untried ↦ inr (record {
+        behind = behind_more paid.known untried.behind;
+        left = λ unended unfinished. omega (
+          arith,
+          untried.left (sym (ap (λ (r : RowState). ended r.stand) holds.reading.1) ∙ unended)
+              (sym holds.reading.2 ∙ unfinished),
+          same_changes,
+        );
+      })
+    ];
+  }
+
   pub more_paid : {calls lost tried : ℕ} → FeedIsPaid calls lost tried old → FeedIsPaid calls lost tried new
   more_paid {calls} {lost} {tried} paid =
       let gaps = paid.gaps_paid in
@@ -202,7 +179,14 @@ module _ {next : Bits} {old new : Feeding} (holds : HoldsMore next old new) wher
       record {
         gaps = paid.gaps;
         lines = paid.lines;
+        firsts = paid.firsts;
+        drawn = paid.drawn;
         sum = paid.sum;
+        rows_paid = record {
+          most = omega (arith, paid.rows_paid.most, holds.fed);
+          behind = behind_more paid.drawn paid.rows_paid.behind;
+        };
+        firsts_paid = firsts_more paid.firsts_paid;
         gaps_paid = record {
           first = gaps.first;
           first_most = omega (arith, gaps.first_most, holds.fed);
@@ -220,33 +204,29 @@ module _ {next : Bits} {old new : Feeding} (holds : HoldsMore next old new) wher
         lines_paid = record {
           known = lines.known;
           read = lines.read;
-          words = lines.words;
           seen = lines.seen;
           known_most = omega (arith, lines.known_most, holds.fed);
           read_most = omega (arith, lines.read_most, holds.fed);
           read_before = λ some. lines.read_before (λ none. some (holds.part ∙ none));
-          words_most = omega (arith, lines.words_most, ap (λ (x : Context). x.ticks) holds.reading.0);
           within = omega (arith, lines.within, holds.fed, holds.place);
           part_most = omega (arith, lines.part_most, same_paid, same_changes, longer);
           seen_is = λ some. omega (arith, lines.seen_is (λ none. some (holds.part ∙ none)), holds.place);
           most = omega (arith, lines.most, same_paid);
-          here = λ unended. omega (
+          next = λ none unended unfinished. omega (
             arith,
-            lines.here (sym (ap (λ (r : RowState). ended r.stand) holds.reading.1) ∙ unended),
-            same_paid,
-            ap (λ (p : Option KeptPart). left_for_line p (changes_of new) lines.seen) holds.part,
-            ap (λ (n : ℕ). left_for_line old.part n lines.seen) same_changes,
+            lines.next (sym holds.part ∙ none) (sym (ap (λ (r : RowState). ended r.stand) holds.reading.1) ∙ unended)
+                (sym holds.reading.2 ∙ unfinished),
+            same_changes,
           );
+          here = λ some. omega (arith, lines.here (λ none. some (holds.part ∙ none)), same_paid, same_changes);
           passed = subst (λ (p : Option KeptPart). IsPassed p lines.known new) (sym holds.part)
               (passed_more lines.known old.part lines.passed);
         };
       }
 
 -- the data is finished
-finished_passed : (known : ℕ) (feed : Feeding) (part : Option KeptPart) → IsPassed part known feed
-    → IsPassed part known (record feed { finished = true })
-finished_passed known feed None was = λ unended unfinished. absurd (false≢true (sym unfinished))
-finished_passed known feed (Some part) was = record {
+finished_short : (known : ℕ) (feed : Feeding) → WasShort known feed → WasShort known (record feed { finished = true })
+finished_short known feed was = record {
   begun = was.begun;
   at_line = was.at_line;
   seen = was.seen;
@@ -256,15 +236,39 @@ finished_passed known feed (Some part) was = record {
   known_is = was.known_is;
 }
 
+finished_passed : (known : ℕ) (feed : Feeding) (part : Option KeptPart) → IsPassed part known feed
+    → IsPassed part known (record feed { finished = true })
+finished_passed known feed None was = λ unended unfinished. absurd (false≢true (sym unfinished))
+finished_passed known feed (Some part) was = finished_short known feed was
+
 pub finished_paid : {calls lost tried : ℕ} {old new : Feeding} → new ≡ record old { finished = true }
     → FeedIsPaid calls lost tried old → FeedIsPaid calls lost tried new
 finished_paid {calls} {lost} {tried} {old} {new} is paid =
     let gaps = paid.gaps_paid in
     let lines = paid.lines_paid in
+    let firsts = paid.firsts_paid in
     subst (FeedIsPaid calls lost tried) (sym is) (record {
       gaps = paid.gaps;
       lines = paid.lines;
+      firsts = paid.firsts;
+      drawn = paid.drawn;
       sum = paid.sum;
+      rows_paid = record {
+        most = paid.rows_paid.most;
+        behind = λ unended unfinished. absurd (false≢true (sym unfinished));
+      };
+      firsts_paid = record {
+        known = firsts.known;
+        known_most = firsts.known_most;
+        most = firsts.most;
+        here = elim firsts.here [
+          | inl was ↦ inl (record { tried = was.tried; short = finished_short firsts.known old was.short })
+          | inr untried ↦ inr (record {
+            behind = λ unended unfinished. absurd (false≢true (sym unfinished));
+            left = λ unended unfinished. absurd (false≢true (sym unfinished));
+          })
+        ];
+      };
       gaps_paid = record {
         first = gaps.first;
         first_most = gaps.first_most;
@@ -275,16 +279,15 @@ finished_paid {calls} {lost} {tried} {old} {new} is paid =
       lines_paid = record {
         known = lines.known;
         read = lines.read;
-        words = lines.words;
         seen = lines.seen;
         known_most = lines.known_most;
         read_most = lines.read_most;
         read_before = lines.read_before;
-        words_most = lines.words_most;
         within = lines.within;
         part_most = lines.part_most;
         seen_is = lines.seen_is;
         most = lines.most;
+        next = λ none unended unfinished. absurd (false≢true (sym unfinished));
         here = lines.here;
         passed = finished_passed lines.known old old.part lines.passed;
       };
@@ -303,7 +306,19 @@ begun_paid whole feed is unbegun unlooked unkept =
     record {
       gaps = 0;
       lines = 0;
+      firsts = 0;
+      drawn = 0;
       sum = omega arith;
+      rows_paid = record { most = omega arith; behind = λ unended unfinished. inl (omega arith) };
+      firsts_paid = record {
+        known = 0;
+        known_most = omega arith;
+        most = omega arith;
+        here = inr (record {
+          behind = λ unended unfinished. inl (omega arith);
+          left = λ unended unfinished. omega (arith, white);
+        });
+      };
       gaps_paid = record {
         first = 0;
         first_most = omega arith;
@@ -314,17 +329,16 @@ begun_paid whole feed is unbegun unlooked unkept =
       lines_paid = record {
         known = 0;
         read = 0;
-        words = 0;
         seen = 0;
         known_most = omega arith;
         read_most = omega arith;
         read_before = λ some. absurd (some unkept);
-        words_most = omega arith;
         within = omega (arith, front.start);
         part_most = omega (arith, none);
         seen_is = λ some. absurd (some unkept);
         most = omega arith;
-        here = λ unended. omega (arith, white, left_none feed.part (changes_of feed) 0 unkept);
+        next = λ kept unended unfinished. omega (arith, white);
+        here = λ some. absurd (some unkept);
         passed = passed_none feed.part 0 feed unkept (λ unended unfinished. inl (omega arith));
       };
     }
@@ -339,6 +353,10 @@ bool_not_true : (b : Bool) → (b ≡ true → ⊥) → b ≡ false
 bool_not_true true other = absurd (other refl)
 bool_not_true false other = refl
 
+bool_not_false : (b : Bool) → (b ≡ false → ⊥) → b ≡ true
+bool_not_false true other = refl
+bool_not_false false other = absurd (other refl)
+
 open_at_line : (begun : Bool) (stand : Stand) (ctx : Context) (next : Bits) → begun ≡ true → is_at_line stand ≡ true
     → IsOpenAt begun stand ctx next → is_short (line_here ctx.held.settings ctx.held.reference next) ≡ true
 open_at_line false stand ctx next begun line known = absurd (false≢true begun)
@@ -347,13 +365,19 @@ open_at_line true BehindRow ctx next begun line known = absurd (false≢true lin
 open_at_line true AtEnd ctx next begun line known = absurd (false≢true line)
 open_at_line true (AtFault error) ctx next begun line known = absurd (false≢true line)
 
+-- what a row adds to the changes of those before it: its own, but one, unless the data is finished
+record RowAdds (before drawn : ℕ) (new : Feeding) : Type 0 where
+  paid : RowsPaid drawn new
+  no_fewer : before ≤ drawn + 1
+  adds : new.finished ≡ false → before + changes_of new ≤ drawn + 1
+
 module _ {whole : Bits} {calls lost tried : ℕ} {old new : Feeding} {answer : Result Fed DecodeError}
     (unended : ended old.rows.stand ≡ None) (keeps : KeepsBits old new) (paid : FeedIsPaid calls lost tried old)
     (next : FeedsNext whole tried old new answer) where
   abbrev goes : CallGoesOn old new answer next.gap next.extra
   goes = next.goes_on
 
-  abbrev lines : LinesPaid calls lost tried paid.lines old
+  abbrev lines : LinesPaid calls lost paid.drawn paid.lines old
   lines = paid.lines_paid
 
   abbrev gaps : GapsPaid calls paid.gaps old
@@ -418,10 +442,10 @@ module _ {whole : Bits} {calls lost tried : ℕ} {old new : Feeding} {answer : R
 
   -- ---- Where the next line begins
 
-  line_passed : old.part ≡ None → ended new.rows.stand ≡ None → old.finished ≡ false
-      → (answer ≡ Ok Fed.NeedsMore → is_at_line new.rows.stand ≡ true) → lines.known ≤ offset new
-  line_passed none still unfinished waits =
-      elim (was_passed old.part lines.known old none lines.passed unended unfinished) [
+  line_passed : (known : ℕ) → IsBehind known old → ended new.rows.stand ≡ None → old.finished ≡ false
+      → (answer ≡ Ok Fed.NeedsMore → is_at_line new.rows.stand ≡ true) → known ≤ offset new
+  line_passed known was still unfinished waits =
+      elim (was unended unfinished) [
         | inl le ↦ omega (arith, le, goes.onward still)
         | inr seeks ↦
             let eol = goes.past_eol unfinished seeks.begun seeks.behind seeks.sought still waits in
@@ -433,19 +457,30 @@ module _ {whole : Bits} {calls lost tried : ℕ} {old new : Feeding} {answer : R
       ]
 
   new_begun : old.begun ≡ true → new.begun ≡ true
-  new_begun begun = by_bool new.begun refl
-    where
-      by_bool : (b : Bool) → new.begun ≡ b → b ≡ true
-      by_bool true e = refl
-      by_bool false e = absurd (false≢true (sym (goes.unbegun e).0 ∙ begun))
+  new_begun begun = bool_not_false new.begun (λ e. false≢true (sym (goes.unbegun e).0 ∙ begun))
 
-  gap_waits_on : old.part ≡ None → answer ≡ Ok Fed.NeedsMore → is_at_line new.rows.stand ≡ false
-      → ended new.rows.stand ≡ None → old.finished ≡ false → (lines.known ≤ offset new) ⊎ SeeksEol lines.known new
-  gap_waits_on none e away still unfinished =
+  -- the changes of a row that is read begin no sooner than those before it end
+  start_passed : (known : ℕ) → IsBehind known old → old.finished ≡ false → (row : DrawsRow old new) → known ≤ row.start
+  start_passed known was unfinished row = elim (was unended unfinished) [
+    | inl le ↦ omega (arith, le, row.onward)
+    | inr seeks ↦
+        let eol = row.past_eol unfinished seeks.begun seeks.behind seeks.sought in
+        omega (
+          arith,
+          seeks.none [] eol.fill eol.behind (append-nil (drop old.place old.kept) ∙ eol.place),
+          eol.passed,
+        )
+  ]
+
+  same_bits : new.place ≡ old.place → drop new.place new.kept ≡ drop old.place old.kept
+  same_bits place = ap (λ (n : ℕ). drop n new.kept) place ∙ ap (drop old.place) keeps.kept
+
+  -- the gap waits for more data
+  gap_waits_on : (known : ℕ) → IsBehind known old → answer ≡ Ok Fed.NeedsMore → is_at_line new.rows.stand ≡ false
+      → ended new.rows.stand ≡ None → old.finished ≡ false → (known ≤ offset new) ⊎ SeeksEol known new
+  gap_waits_on known was e away still unfinished =
       let waits = goes.waits e away in
-      let there : drop new.place new.kept ≡ drop old.place old.kept =
-      ap (λ (n : ℕ). drop n new.kept) waits.0 ∙ ap (drop old.place) keeps.kept in
-      elim (was_passed old.part lines.known old none lines.passed unended unfinished) [
+      elim (was unended unfinished) [
         | inl le ↦ inl (omega (arith, le, goes.onward still))
         | inr seeks ↦ inr (record {
           begun = new_begun seeks.begun;
@@ -454,24 +489,35 @@ module _ {whole : Bits} {calls lost tried : ℕ} {old new : Feeding} {answer : R
           none = λ more fill behind is. omega (
             arith,
             goes.onward still,
-            seeks.none more fill behind (ap (λ (b : Bits). b ++ more) (sym there) ∙ is),
+            seeks.none more fill behind (ap (λ (b : Bits). b ++ more) (sym (same_bits waits.0)) ∙ is),
           );
         })
       ]
 
-  -- behind the row of a line that was short
-  module _ (some : old.part ≢ None) where
-    was : WasShort lines.known old
-    was = was_short old.part lines.known old some lines.passed
+  -- where lines that were short are behind, no row is read and the reading hasn't ended
+  stays_behind : (known : ℕ) → IsBehind known old → HasNone answer → IsBehind known new
+  stays_behind known was left still unfinished = by_line (is_at_line new.rows.stand) refl answer refl
+    where
+      by_line : (b : Bool) → is_at_line new.rows.stand ≡ b → (a : Result Fed DecodeError) → answer ≡ a
+          → (known ≤ offset new) ⊎ SeeksEol known new
+      by_line true line a is = inl (line_passed known was still (still_unfinished unfinished) (λ needs. line))
+      by_line false away (Ok fed) is =
+          let needs : answer ≡ Ok Fed.NeedsMore = is ∙ ap (λ (x : Fed). Ok x) (subst HasNone is left) in
+          gap_waits_on known was needs away still (still_unfinished unfinished)
+      by_line false away (Err error) is =
+          inl (line_passed known was still (still_unfinished unfinished) (λ needs. let never = sym is ∙ needs in absurd cc))
 
-    behind_line : answer ≡ Ok Fed.Row → ended new.rows.stand ≡ None
-        → (lines.known ≤ offset new) ⊎ SeeksEol lines.known new
+  -- at a line that was short
+  module _ {known : ℕ} (short : WasShort known old) where
+    stays_at_line : (old.begun && is_at_line old.rows.stand) ≡ true
+    stays_at_line = at_line_begun old.begun (is_at_line old.rows.stand) short.begun short.at_line
+
+    -- its row is read
+    behind_line : answer ≡ Ok Fed.Row → ended new.rows.stand ≡ None → (known ≤ offset new) ⊎ SeeksEol known new
     behind_line e still =
-        let short = was in
-        let at_line = at_line_begun old.begun (is_at_line old.rows.stand) short.begun short.at_line in
         let row = subst (λ (b : Bits). row_of_line old.ctx.held.settings old.ctx.held.has_eols b
         (line_here old.ctx.held.settings old.ctx.held.reference b)
-        ≡ Ok (new.ctx.held.reference, drop new.place new.kept)) short.are (goes.row_is e at_line) in
+        ≡ Ok (new.ctx.held.reference, drop new.place new.kept)) short.are (goes.row_is e stays_at_line) in
         elim (short_row old.ctx.held.settings old.ctx.held.has_eols old.ctx.held.reference short.seen short.more
         (drop new.place new.kept) new.ctx.held.reference short.short row) [
           | inl le ↦ inl (omega (
@@ -488,7 +534,7 @@ module _ {whole : Bits} {calls lost tried : ℕ} {old new : Feeding} {answer : R
           | inr repaired ↦ inr (record {
             begun = new_begun short.begun;
             behind = goes.behind e;
-            sought = goes.sought e at_line ∙ repaired.0;
+            sought = goes.sought e stays_at_line ∙ repaired.0;
             none = λ more fill behind is. omega (
               arith,
               short.known_is,
@@ -500,28 +546,101 @@ module _ {whole : Bits} {calls lost tried : ℕ} {old new : Feeding} {answer : R
           })
         ]
 
+    -- it is left
+    stays_short : HasNone answer → WasShort known new
+    stays_short left =
+        let place = goes.stays left stays_at_line in
+        let stays = next.none left in
+        record {
+          begun = new_begun short.begun;
+          at_line = stays.line short.at_line;
+          seen = short.seen;
+          more = short.more;
+          are = same_bits place ∙ short.are;
+          short = ap (λ (s : DecodeSettings). is_short (line_here s new.ctx.held.reference short.seen)) stays.settings
+              ∙ ap (λ (r : Row). is_short (line_here old.ctx.held.settings r short.seen)) stays.row ∙ short.short;
+          known_is = omega (arith, short.known_is, place, keeps.dropped);
+        }
+
+  -- behind the row of a line of which a part was kept
+  module _ (some : old.part ≢ None) where
+    was : WasShort lines.known old
+    was = was_short old.part lines.known old some lines.passed
+
     -- what is counted where it is read
     read_here : paid.lines + next.line_extra + paid_for_line old ≤ paid.lines + most_for_line old + 4
         → paid.lines + next.line_extra
-        ≤ 6 * lines.known + 2 * fed_bits old + 2 * lines.words + 8 * calls + lost + 4
+        ≤ 6 * lines.known + 2 * fed_bits old + 2 * paid.drawn + 8 * calls + lost + 4
     read_here read = omega (
       arith,
       read,
-      lines.here unended,
-      left_some old.part (changes_of old) lines.seen some,
+      lines.here some,
       lines.seen_is some,
       lines.read_before some,
       lines.known_most,
       here_within,
     )
 
+  -- ---- The changes of the rows
+
+  row_begun : answer ≡ Ok Fed.Row → new.begun ≡ true
+  row_begun e = bool_not_false new.begun (λ is. let never = sym e ∙ (goes.unbegun is).1 in cc)
+
+  -- a row is read
+  row_adds : answer ≡ Ok Fed.Row → (drawn : ℕ) × RowAdds paid.drawn drawn new
+  row_adds e = by_bool old.finished refl
+    where
+      row : DrawsRow old new
+      row = goes.draws e
+
+      by_bool : (b : Bool) → old.finished ≡ b → (drawn : ℕ) × RowAdds paid.drawn drawn new
+      by_bool true over = (
+        paid.drawn,
+        record {
+          paid = record {
+            most = omega (arith, paid.rows_paid.most, same_fed);
+            behind = λ still unfinished. absurd (false≢true (sym (still_unfinished unfinished) ∙ over));
+          };
+          no_fewer = omega arith;
+          adds = λ unfinished. absurd (false≢true (sym (still_unfinished unfinished) ∙ over));
+        },
+      )
+      by_bool false unfinished =
+          let passed = start_passed paid.drawn paid.rows_paid.behind unfinished row in (
+            (paid.drawn + changes_of new) - 1,
+            record {
+              paid = record {
+                most = omega (arith, passed, row.most);
+                behind = λ still going. elim row.drawn [
+                  | inl le ↦ inl (omega (arith, passed, le))
+                  | inr repaired ↦ inr (record {
+                    begun = row_begun e;
+                    behind = goes.behind e;
+                    sought = repaired.0;
+                    none = λ more fill behind is. omega (arith, passed, repaired.1 more fill behind is);
+                  })
+                ];
+              };
+              no_fewer = omega arith;
+              adds = λ going. omega arith;
+            },
+          )
+
+  -- no row is read
+  none_added : IsBehind paid.drawn new → RowsPaid paid.drawn new
+  none_added behind = record { most = omega (arith, paid.rows_paid.most, same_fed); behind = behind }
+
   -- ---- Lines
 
   abbrev counted : ℕ
   counted = paid.lines + next.line_extra
 
-  abbrev LinesNow : ℕ → Type 0
-  LinesNow lost_now = LinesPaid (calls + 1) lost_now (tried + next.extra) counted new
+  abbrev LinesNow : ℕ → ℕ → Type 0
+  LinesNow drawn count = LinesPaid (calls + 1) lost drawn count new
+
+  -- the lines that were short, where no part of one was kept
+  lines_behind : old.part ≡ None → IsBehind lines.known old
+  lines_behind none = was_passed old.part lines.known old none lines.passed
 
   row_not_left : answer ≡ Ok Fed.Row → HasNone answer → ⊥
   row_not_left e left = let never : Fed.Row ≡ Fed.NeedsMore = subst HasNone e left in cc
@@ -529,112 +648,58 @@ module _ {whole : Bits} {calls lost tried : ℕ} {old new : Feeding} {answer : R
   row_unkept : answer ≡ Ok Fed.Row → new.part ≡ None
   row_unkept e = goes.unkept (λ needs. let never = sym e ∙ needs in absurd cc)
 
+  -- no part of a line is kept
+  unkept_lines : {count drawn lost_now : ℕ} (known read : ℕ) → new.part ≡ None → known ≤ fed_bits old → read ≤ fed_bits old
+      → count ≤ 6 * known + 2 * read + 2 * drawn + 8 * (calls + 1) + lost_now
+      → (ended new.rows.stand ≡ None → new.finished ≡ false
+      → count + 2 * changes_of new ≤ 6 * known + 2 * read + 2 * drawn + 8 * (calls + 1) + lost_now)
+      → IsBehind known new → LinesPaid (calls + 1) lost_now drawn count new
+  unkept_lines known read gone known_most read_most most left behind = record {
+    known = known;
+    read = read;
+    seen = 0;
+    known_most = omega (arith, known_most, same_fed);
+    read_most = omega (arith, read_most, same_fed);
+    read_before = λ some. absurd (some gone);
+    within = goes.within;
+    part_most = goes.paid;
+    seen_is = λ some. absurd (some gone);
+    most = omega (arith, most);
+    next = λ none. left;
+    here = λ some. absurd (some gone);
+    passed = passed_none new.part known new gone behind;
+  }
+
   -- a row is read
-  row_lines : answer ≡ Ok Fed.Row → LinesNow lost
-  row_lines e = elim (none_or_some old.part) [
+  row_lines : (drawn : ℕ) → RowAdds paid.drawn drawn new → answer ≡ Ok Fed.Row → LinesNow drawn counted
+  row_lines drawn adds e = elim (none_or_some old.part) [
     | inl none ↦
         let at_once = next.line_work.at_once (row_not_left e) none in
-        record {
-          known = lines.known;
-          read = lines.read;
-          words = (lines.words + changes_of new) - 1;
-          seen = 0;
-          known_most = omega (arith, lines.known_most, same_fed);
-          read_most = omega (arith, lines.read_most, same_fed);
-          read_before = λ some. absurd (some (row_unkept e));
-          words_most = omega (arith, goes.stored e, goes.counts, lines.words_most);
-          within = goes.within;
-          part_most = goes.paid;
-          seen_is = λ some. absurd (some (row_unkept e));
-          most = omega (
-            arith,
-            lines.most,
-            at_once,
-            none_paid old.part old.line_read none,
-            none_paid new.part new.line_read (row_unkept e),
-          );
-          here = λ still. omega (
-            arith,
-            lines.most,
-            at_once,
-            none_paid old.part old.line_read none,
-            none_paid new.part new.line_read (row_unkept e),
-            left_none new.part (changes_of new) 0 (row_unkept e),
-          );
-          passed = passed_none new.part lines.known new (row_unkept e) (λ still unfinished.
-              inl (line_passed none still (still_unfinished unfinished) (λ needs. let never = sym e ∙ needs in absurd cc)));
-        }
+        let unpaid = none_paid old.part old.line_read none in
+        unkept_lines lines.known lines.read (row_unkept e) lines.known_most lines.read_most
+        (omega (arith, lines.most, at_once, unpaid, adds.no_fewer))
+        (λ still unfinished. omega (arith, lines.most, at_once, unpaid, adds.adds unfinished))
+        (λ still unfinished. inl (line_passed lines.known (lines_behind none) still (still_unfinished unfinished)
+        (λ needs. let never = sym e ∙ needs in absurd cc)))
     | inr some ↦
         let read = read_here some (omega (arith, next.line_work.read (row_not_left e))) in
-        record {
-          known = lines.known;
-          read = fed_bits old;
-          words = (lines.words + changes_of new) - 1;
-          seen = 0;
-          known_most = omega (arith, lines.known_most, same_fed);
-          read_most = omega (arith, same_fed);
-          read_before = λ kept. absurd (kept (row_unkept e));
-          words_most = omega (arith, goes.stored e, goes.counts, lines.words_most);
-          within = goes.within;
-          part_most = goes.paid;
-          seen_is = λ kept. absurd (kept (row_unkept e));
-          most = omega (arith, read, none_paid new.part new.line_read (row_unkept e));
-          here = λ still. omega (
-            arith,
-            read,
-            none_paid new.part new.line_read (row_unkept e),
-            left_none new.part (changes_of new) 0 (row_unkept e),
-          );
-          passed = passed_none new.part lines.known new (row_unkept e)
-              (λ still unfinished. behind_line some e still);
-        }
+        unkept_lines lines.known (fed_bits old) (row_unkept e) lines.known_most (omega arith)
+        (omega (arith, read, adds.no_fewer)) (λ still unfinished. omega (arith, read, adds.adds unfinished))
+        (λ still unfinished. behind_line (was some) e still)
   ]
 
   -- the reading ends
-  end_lines : (ended new.rows.stand ≡ None → ⊥) → (HasNone answer → ⊥) → LinesNow lost
+  end_lines : (ended new.rows.stand ≡ None → ⊥) → (HasNone answer → ⊥) → LinesNow paid.drawn counted
   end_lines over other = elim (none_or_some old.part) [
     | inl none ↦
         let at_once = next.line_work.at_once other none in
-        record {
-          known = lines.known;
-          read = lines.read;
-          words = lines.words;
-          seen = 0;
-          known_most = omega (arith, lines.known_most, same_fed);
-          read_most = omega (arith, lines.read_most, same_fed);
-          read_before = λ some. absurd (some gone);
-          words_most = omega (arith, goes.counts, lines.words_most);
-          within = goes.within;
-          part_most = goes.paid;
-          seen_is = λ some. absurd (some gone);
-          most = omega (
-            arith,
-            lines.most,
-            at_once,
-            none_paid old.part old.line_read none,
-            none_paid new.part new.line_read gone,
-          );
-          here = λ still. absurd (over still);
-          passed = passed_none new.part lines.known new gone (λ still. absurd (over still));
-        }
+        unkept_lines lines.known lines.read gone lines.known_most lines.read_most
+        (omega (arith, lines.most, at_once, none_paid old.part old.line_read none)) (λ still. absurd (over still))
+        (λ still. absurd (over still))
     | inr some ↦
         let read = read_here some (omega (arith, next.line_work.read other)) in
-        record {
-          known = lines.known;
-          read = fed_bits old;
-          words = lines.words;
-          seen = 0;
-          known_most = omega (arith, lines.known_most, same_fed);
-          read_most = omega (arith, same_fed);
-          read_before = λ kept. absurd (kept gone);
-          words_most = omega (arith, goes.counts, lines.words_most);
-          within = goes.within;
-          part_most = goes.paid;
-          seen_is = λ kept. absurd (kept gone);
-          most = omega (arith, read, none_paid new.part new.line_read gone);
-          here = λ still. absurd (over still);
-          passed = passed_none new.part lines.known new gone (λ still. absurd (over still));
-        }
+        unkept_lines lines.known (fed_bits old) gone lines.known_most (omega arith) (omega (arith, read))
+        (λ still. absurd (over still)) (λ still. absurd (over still))
   ]
     where
       gone : new.part ≡ None
@@ -655,17 +720,12 @@ module _ {whole : Bits} {calls lost tried : ℕ} {old new : Feeding} {answer : R
     new_within = omega (arith, length-drop new.place new.kept, goes.within)
 
     kept_at_line : new.part ≢ None → is_at_line new.rows.stand ≡ true
-    kept_at_line some = by_bool (is_at_line new.rows.stand) refl
-      where
-        by_bool : (b : Bool) → is_at_line new.rows.stand ≡ b → b ≡ true
-        by_bool true is = refl
-        by_bool false is = absurd (some (goes.unkept (λ needs. is)))
+    kept_at_line some = bool_not_false (is_at_line new.rows.stand) (λ away. some (goes.unkept (λ needs. away)))
 
     -- the line here is short
-    shorts : new.part ≢ None → WasShort (offset new + length bits_here) new
-    shorts some =
-        let line = kept_at_line some in
-        let begun = begun_there line in
+    short_there : is_at_line new.rows.stand ≡ true → WasShort (offset new + length bits_here) new
+    short_there line =
+        let begun = bool_not_false new.begun (λ is. false≢true (sym (goes.unbegun is).2 ∙ line)) in
         record {
           begun = begun;
           at_line = line;
@@ -675,163 +735,146 @@ module _ {whole : Bits} {calls lost tried : ℕ} {old new : Feeding} {answer : R
           short = open_at_line new.begun new.rows.stand new.ctx bits_here begun line (next.unsettled e).1;
           known_is = refl;
         }
-      where
-        begun_there : is_at_line new.rows.stand ≡ true → new.begun ≡ true
-        begun_there line = by_bool new.begun refl
-          where
-            by_bool : (b : Bool) → new.begun ≡ b → b ≡ true
-            by_bool true is = refl
-            by_bool false is = absurd (false≢true (sym (goes.unbegun is).2 ∙ line))
 
-    -- it is found to be short the first time
-    first_try : old.part ≡ None → new.part ≡ None → next.line_extra ≤ cost_of_first_try old new
-    first_try none still = elim (next.line_work.unread e none still) [
-      | inl nothing ↦ omega (arith, nothing)
-      | inr first ↦
-          let other : eqb new.tried_at old.tried_at ≡ false =
-          ne_eqb new.tried_at old.tried_at (λ same. first.untried (sym same ∙ first.tried)) in
-          omega (
+    -- what is counted for it is counted for a first try, if anything is
+    waits_lines : old.part ≡ None → new.part ≡ None → LinesNow paid.drawn paid.lines
+    waits_lines none still =
+        unkept_lines lines.known lines.read still lines.known_most lines.read_most
+        (omega (arith, lines.most, none_paid old.part old.line_read none))
+        (λ open_end unfinished. omega (arith, lines.next none unended (still_unfinished unfinished), same_changes_there))
+        (stays_behind lines.known (lines_behind none) left)
+
+    -- a part of the line is kept
+    kept_lines : new.part ≢ None → counted + changes_of new
+        ≤ paid_for_line new + 6 * offset new + 4 * length bits_here + 2 * lines.read + 2 * paid.drawn + 8 * (calls + 1) + lost
+        → LinesNow paid.drawn counted
+    kept_lines some here = record {
+      known = offset new + length bits_here;
+      read = lines.read;
+      seen = length bits_here;
+      known_most = omega (arith, new_within);
+      read_most = omega (arith, lines.read_most, same_fed);
+      read_before = λ kept. omega (arith, lines.read_most, same_fed, new_within);
+      within = goes.within;
+      part_most = goes.paid;
+      seen_is = λ kept. refl;
+      most = omega (arith, here);
+      next = λ gone. absurd (some gone);
+      here = λ kept. omega (arith, here);
+      passed = kept_passed new.part (offset new + length bits_here) new some (short_there (kept_at_line some));
+    }
+
+    begins_lines : old.part ≡ None → new.part ≢ None → LinesNow paid.drawn counted
+    begins_lines none some =
+        let unfinished = still_unfinished (next.unsettled e).0 in
+        let known = line_passed lines.known (lines_behind none) (next.none left).unended unfinished
+        (λ needs. kept_at_line some) in
+        kept_lines some (omega (
+          arith,
+          lines.next none unended unfinished,
+          next.line_work.begins e none,
+          known,
+          same_changes_there,
+        ))
+
+    goes_on_lines : old.part ≢ None → LinesNow paid.drawn counted
+    goes_on_lines kept =
+        kept_lines (next.line_work.some e kept) (omega (
+          arith,
+          lines.here kept,
+          next.line_work.goes_on e kept,
+          new_within,
+          same_fed,
+          same_changes_there,
+          goes.stays left (stays_at_line (was kept)),
+          keeps.dropped,
+          lines.known_most,
+          lines.seen_is kept,
+        ))
+
+  -- ---- First tries
+
+  abbrev firsts : FirstsPaid calls paid.drawn paid.firsts old
+  firsts = paid.firsts_paid
+
+  abbrev FirstsNow : ℕ → ℕ → Type 0
+  FirstsNow drawn count = FirstsPaid (calls + 1) drawn count new
+
+  -- a row is read
+  row_firsts : (drawn : ℕ) → RowAdds paid.drawn drawn new → answer ≡ Ok Fed.Row → FirstsNow drawn paid.firsts
+  row_firsts drawn adds e = record {
+    known = firsts.known;
+    known_most = omega (arith, firsts.known_most, same_fed);
+    most = omega (arith, firsts.most, adds.no_fewer);
+    here = inr (record {
+      behind = λ still unfinished. elim firsts.here [
+        | inl was ↦ behind_line was.short e still
+        | inr untried ↦ inl (line_passed firsts.known untried.behind still (still_unfinished unfinished)
+            (λ needs. let never = sym e ∙ needs in absurd cc))
+      ];
+      left = λ still unfinished. omega (arith, firsts.most, adds.adds unfinished);
+    });
+  }
+
+  -- the reading ends
+  end_firsts : (ended new.rows.stand ≡ None → ⊥) → FirstsNow paid.drawn paid.firsts
+  end_firsts over = record {
+    known = firsts.known;
+    known_most = omega (arith, firsts.known_most, same_fed);
+    most = omega (arith, firsts.most);
+    here = inr (record { behind = λ still unfinished. absurd (over still); left = λ still. absurd (over still) });
+  }
+
+  -- no row is read, and no line is tried first
+  left_firsts : HasNone answer → FirstsNow paid.drawn paid.firsts
+  left_firsts left = record {
+    known = firsts.known;
+    known_most = omega (arith, firsts.known_most, same_fed);
+    most = omega (arith, firsts.most);
+    here = elim firsts.here [
+      | inl was ↦ inl (record { tried = tried_there was; short = stays_short was.short left })
+      | inr untried ↦ inr (record {
+        behind = stays_behind firsts.known untried.behind left;
+        left = λ still unfinished. omega (
+          arith,
+          untried.left unended (still_unfinished unfinished),
+          ap (λ (r : Row). length (changes r)) (next.none left).row,
+        );
+      })
+    ];
+  }
+    where
+      tried_there : WasTried firsts.known old → new.tried_at ≡ offset new
+      tried_there was = elim (goes.tried left (stays_at_line was.short)) [
+        | inl same ↦ omega (arith, same, was.tried, goes.stays left (stays_at_line was.short), keeps.dropped)
+        | inr now ↦ now
+      ]
+
+  -- a line is tried first, and is short
+  first_firsts : (e : answer ≡ Ok Fed.NeedsMore) → old.part ≡ None → new.part ≡ None → TriesFirst old new
+      → FirstsNow paid.drawn (paid.firsts + next.line_extra)
+  first_firsts e none still first = elim firsts.here [
+    | inl was ↦
+        let stays = goes.stays (left e) (stays_at_line was.short) in
+        absurd (first.untried (omega (arith, was.tried, stays, keeps.dropped)))
+    | inr untried ↦
+        let unfinished = still_unfinished (next.unsettled e).0 in
+        let known = line_passed firsts.known untried.behind (next.none (left e)).unended unfinished
+        (λ needs. first.at_line) in
+        record {
+          known = offset new + length (bits_here e);
+          known_most = omega (arith, new_within e);
+          most = omega (
             arith,
+            untried.left unended unfinished,
+            known,
             next.line_work.begins e none,
             none_paid new.part new.line_read still,
-            ap (λ (b : Bool). cond b 0 (changes_of new + 4 * length (drop new.place new.kept) + 2)) other,
-          )
-    ]
-
-    waits_lines : old.part ≡ None → new.part ≡ None → LinesNow (lost + cost_of_first_try old new)
-    waits_lines none still =
-        let unread = first_try none still in
-        record {
-          known = lines.known;
-          read = lines.read;
-          words = lines.words;
-          seen = 0;
-          known_most = omega (arith, lines.known_most, same_fed);
-          read_most = omega (arith, lines.read_most, same_fed);
-          read_before = λ some. absurd (some still);
-          words_most = omega (arith, goes.counts, lines.words_most);
-          within = goes.within;
-          part_most = goes.paid;
-          seen_is = λ some. absurd (some still);
-          most = omega (
-            arith,
-            lines.most,
-            unread,
-            none_paid old.part old.line_read none,
-            none_paid new.part new.line_read still,
+            same_changes_there e,
           );
-          here = λ open_end. omega (
-            arith,
-            lines.here unended,
-            unread,
-            same_changes_there,
-            none_paid old.part old.line_read none,
-            none_paid new.part new.line_read still,
-            left_none old.part (changes_of old) lines.seen none,
-            left_none new.part (changes_of new) 0 still,
-          );
-          passed = passed_none new.part lines.known new still (λ open_end unfinished.
-              by_line none open_end unfinished (is_at_line new.rows.stand) refl);
+          here = inl (record { tried = first.tried; short = short_there e first.at_line });
         }
-      where
-        by_line : old.part ≡ None → ended new.rows.stand ≡ None → new.finished ≡ false → (b : Bool)
-            → is_at_line new.rows.stand ≡ b → (lines.known ≤ offset new) ⊎ SeeksEol lines.known new
-        by_line none open_end unfinished true line =
-            inl (line_passed none open_end (still_unfinished unfinished) (λ needs. line))
-        by_line none open_end unfinished false away =
-            gap_waits_on none e away open_end (still_unfinished unfinished)
-
-    begins_lines : old.part ≡ None → new.part ≢ None → LinesNow lost
-    begins_lines none some =
-        let begins = next.line_work.begins e none in
-        let known = line_passed none (next.none left).unended (still_unfinished (next.unsettled e).0)
-        (λ needs. kept_at_line some) in
-        record {
-          known = offset new + length bits_here;
-          read = lines.read;
-          words = lines.words;
-          seen = length bits_here;
-          known_most = omega (arith, new_within);
-          read_most = omega (arith, lines.read_most, same_fed);
-          read_before = λ kept. omega (arith, lines.read_most, same_fed, new_within);
-          words_most = omega (arith, goes.counts, lines.words_most);
-          within = goes.within;
-          part_most = goes.paid;
-          seen_is = λ kept. refl;
-          most = omega (
-            arith,
-            lines.here unended,
-            begins,
-            known,
-            same_changes_there,
-            none_paid old.part old.line_read none,
-            left_none old.part (changes_of old) lines.seen none,
-          );
-          here = λ open_end. omega (
-            arith,
-            lines.here unended,
-            begins,
-            known,
-            same_changes_there,
-            none_paid old.part old.line_read none,
-            left_none old.part (changes_of old) lines.seen none,
-            left_some new.part (changes_of new) (length bits_here) some,
-          );
-          passed = kept_passed new.part (offset new + length bits_here) new some (shorts some);
-        }
-
-    goes_on_lines : old.part ≢ None → LinesNow lost
-    goes_on_lines kept =
-        let some = next.line_work.some e kept in
-        let goes_on = next.line_work.goes_on e kept in
-        let short = was kept in
-        let place = goes.stays left (at_line_begun old.begun (is_at_line old.rows.stand) short.begun short.at_line) in
-        record {
-          known = offset new + length bits_here;
-          read = lines.read;
-          words = lines.words;
-          seen = length bits_here;
-          known_most = omega (arith, new_within);
-          read_most = omega (arith, lines.read_most, same_fed);
-          read_before = λ still. omega (arith, lines.read_most, same_fed, new_within);
-          words_most = omega (arith, goes.counts, lines.words_most);
-          within = goes.within;
-          part_most = goes.paid;
-          seen_is = λ still. refl;
-          most = omega (
-            arith,
-            lines.here unended,
-            goes_on,
-            new_within,
-            same_fed,
-            lines.known_most,
-            left_some old.part (changes_of old) lines.seen kept,
-          );
-          here = λ open_end. omega (
-            arith,
-            lines.here unended,
-            goes_on,
-            new_within,
-            same_fed,
-            same_changes_there,
-            place,
-            keeps.dropped,
-            lines.known_most,
-            lines.seen_is kept,
-            left_some old.part (changes_of old) lines.seen kept,
-            left_some new.part (changes_of new) (length bits_here) some,
-          );
-          passed = kept_passed new.part (offset new + length bits_here) new some (shorts some);
-        }
-
-    needs_lines : LinesNow (lost + cost_of_first_try old new)
-    needs_lines = elim (none_or_some old.part) [
-      | inl none ↦ elim (none_or_some new.part) [
-        | inl still ↦ waits_lines none still
-        | inr some ↦ more_lost (cost_of_first_try old new) (begins_lines none some)
-      ]
-      | inr kept ↦ more_lost (cost_of_first_try old new) (goes_on_lines kept)
-    ]
+  ]
 
   -- ---- What a call comes to
 
@@ -842,28 +885,72 @@ module _ {whole : Bits} {calls lost tried : ℕ} {old new : Feeding} {answer : R
       let failed = subst (ReadsNext (fed_over whole old) (fed_over whole new)) is reads in
       let never = sym failed.error.0 ∙ still in cc
 
-  lines_step : (a : Result Fed DecodeError) → answer ≡ a → answer ≢ Err OutOfMemory
-      → LinesNow (lost + cost_of_first_try old new)
-  lines_step (Ok Fed.Row) e other = more_lost (cost_of_first_try old new) (row_lines e)
-  lines_step (Ok Fed.NeedsMore) e other = needs_lines e
-  lines_step (Ok Fed.End) e other = more_lost (cost_of_first_try old new) (end_lines (ends_there (inl refl) (next.end e))
-      (λ left. let never : Fed.End ≡ Fed.NeedsMore = subst HasNone e left in cc))
-  lines_step (Err error) e other =
+  paid_now : (drawn lines_now firsts_now : ℕ) → lines_now + firsts_now ≡ paid.lines + paid.firsts + next.line_extra
+      → RowsPaid drawn new → LinesNow drawn lines_now → FirstsNow drawn firsts_now
+      → FeedIsPaid (calls + 1) lost (tried + next.extra) new
+  paid_now drawn lines_now firsts_now is rows_are lines_are firsts_are = record {
+    gaps = paid.gaps + next.gap;
+    lines = lines_now;
+    firsts = firsts_now;
+    drawn = drawn;
+    sum = omega (arith, paid.sum, next.extra_is, is);
+    rows_paid = rows_are;
+    gaps_paid = gaps_step old.begun new.begun refl refl;
+    lines_paid = lines_are;
+    firsts_paid = firsts_are;
+  }
+
+  -- what is counted for a line is counted for it alone
+  line_paid : (drawn : ℕ) → RowsPaid drawn new → LinesNow drawn counted → FirstsNow drawn paid.firsts
+      → FeedIsPaid (calls + 1) lost (tried + next.extra) new
+  line_paid drawn = paid_now drawn counted paid.firsts (omega arith)
+
+  -- a row is read
+  row_paid : answer ≡ Ok Fed.Row → FeedIsPaid (calls + 1) lost (tried + next.extra) new
+  row_paid e =
+      let (drawn, adds) = row_adds e in line_paid drawn adds.paid (row_lines drawn adds e) (row_firsts drawn adds e)
+
+  -- no row is read, and the reading goes on
+  left_rows : HasNone answer → RowsPaid paid.drawn new
+  left_rows left = none_added (stays_behind paid.drawn paid.rows_paid.behind left)
+
+  -- more data is needed
+  needs_paid : answer ≡ Ok Fed.NeedsMore → FeedIsPaid (calls + 1) lost (tried + next.extra) new
+  needs_paid e = elim (none_or_some old.part) [
+    | inl none ↦ elim (none_or_some new.part) [
+      | inl still ↦ elim (next.line_work.unread e none still) [
+        | inl nothing ↦ paid_now paid.drawn paid.lines paid.firsts (omega (arith, nothing)) rows
+            (waits_lines e none still) (left_firsts (left e))
+        | inr first ↦ paid_now paid.drawn paid.lines (paid.firsts + next.line_extra) (omega arith) rows
+            (waits_lines e none still) (first_firsts e none still first)
+      ]
+      | inr some ↦ line_paid paid.drawn rows (begins_lines e none some) (left_firsts (left e))
+    ]
+    | inr kept ↦ line_paid paid.drawn rows (goes_on_lines e kept) (left_firsts (left e))
+  ]
+    where
+      rows : RowsPaid paid.drawn new
+      rows = left_rows (left e)
+
+  -- the reading ends
+  end_paid : (ended new.rows.stand ≡ None → ⊥) → (HasNone answer → ⊥)
+      → FeedIsPaid (calls + 1) lost (tried + next.extra) new
+  end_paid over other = line_paid paid.drawn (none_added (λ still. absurd (over still))) (end_lines over other) (end_firsts over)
+
+  answer_paid : (a : Result Fed DecodeError) → answer ≡ a → answer ≢ Err OutOfMemory
+      → FeedIsPaid (calls + 1) lost (tried + next.extra) new
+  answer_paid (Ok Fed.Row) e other = row_paid e
+  answer_paid (Ok Fed.NeedsMore) e other = needs_paid e
+  answer_paid (Ok Fed.End) e other = end_paid (ends_there (inl refl) (next.end e))
+      (λ left. let never : Fed.End ≡ Fed.NeedsMore = subst HasNone e left in cc)
+  answer_paid (Err error) e other =
       let no_memory : error ≢ OutOfMemory = λ is. other (e ∙ ap (λ (x : DecodeError). Err x) is) in
       let fault = subst (λ (r : Result Fed DecodeError). IfErr r (λ x. x ≢ OutOfMemory
       → ReadsNext (fed_over whole old) (fed_over whole new) (Err x))) e next.fault in
-      more_lost (cost_of_first_try old new) (end_lines (ends_there (inr (error, refl)) (fault no_memory))
-      (λ left. no_memory (subst HasNone e left)))
+      end_paid (ends_there (inr (error, refl)) (fault no_memory)) (λ left. no_memory (subst HasNone e left))
 
-  pub reads_paid : answer ≢ Err OutOfMemory
-      → FeedIsPaid (calls + 1) (lost + cost_of_first_try old new) (tried + next.extra) new
-  reads_paid other = record {
-    gaps = paid.gaps + next.gap;
-    lines = counted;
-    sum = omega (arith, paid.sum, next.extra_is);
-    gaps_paid = gaps_step old.begun new.begun refl refl;
-    lines_paid = lines_step answer refl other;
-  }
+  pub reads_paid : answer ≢ Err OutOfMemory → FeedIsPaid (calls + 1) lost (tried + next.extra) new
+  reads_paid = answer_paid answer refl
 
   -- ---- A call that fails for memory
 
@@ -884,76 +971,68 @@ module _ {whole : Bits} {calls lost tried : ℕ} {old new : Feeding} {answer : R
     abbrev known_now : ℕ
     known_now = lines.known - (lines.known - offset new)
 
-    -- counted for it, with what is left for the line
-    failed_most : counted + 2 * changes_of new
-        ≤ 6 * known_now + 2 * lines.read + 2 * lines.words + 8 * calls + lost + cost_of_failure new
+    failed_some : old.part ≢ None → counted + 2 * changes_of new
+        ≤ 6 * known_now + 2 * lines.read + 2 * paid.drawn + 8 * calls + lost + cost_of_failure new
+    failed_some some =
+        let place = goes.stays failed_left (stays_at_line (was some)) in
+        omega (
+          arith,
+          lines.here some,
+          next.line_work.failed e,
+          lines.seen_is some,
+          failed_changes,
+          failed_within,
+          here_within,
+          place,
+          keeps.dropped,
+          lines.known_most,
+        )
+
+    -- counted for it
+    failed_most : counted ≤ 6 * known_now + 2 * lines.read + 2 * paid.drawn + 8 * calls + lost + cost_of_failure new
     failed_most = elim (none_or_some old.part) [
       | inl none ↦ omega (
         arith,
-        lines.here unended,
+        lines.most,
         next.line_work.failed_at_once e none,
         none_paid old.part old.line_read none,
-        left_none old.part (changes_of old) lines.seen none,
+        failed_within,
+        lines.known_most,
+      )
+      | inr some ↦ omega (arith, failed_some some)
+    ]
+
+    -- counted for it, with what is left for the line
+    failed_next : ended new.rows.stand ≡ None → new.finished ≡ false → counted + 2 * changes_of new
+        ≤ 6 * known_now + 2 * lines.read + 2 * paid.drawn + 8 * calls + lost + cost_of_failure new
+    failed_next still unfinished = elim (none_or_some old.part) [
+      | inl none ↦ omega (
+        arith,
+        lines.next none unended (still_unfinished unfinished),
+        next.line_work.failed_at_once e none,
         failed_changes,
         failed_within,
         lines.known_most,
       )
-      | inr some ↦
-          let short = was some in
-          let place = goes.stays failed_left
-          (at_line_begun old.begun (is_at_line old.rows.stand) short.begun short.at_line) in
-          omega (
-            arith,
-            lines.here unended,
-            next.line_work.failed e,
-            left_some old.part (changes_of old) lines.seen some,
-            lines.seen_is some,
-            failed_changes,
-            failed_within,
-            here_within,
-            place,
-            keeps.dropped,
-            lines.known_most,
-          )
+      | inr some ↦ failed_some some
     ]
 
     pub fails_paid : FeedIsPaid (calls + 1) (lost + cost_of_failure new) (tried + next.extra) new
     fails_paid = record {
       gaps = paid.gaps + next.gap;
       lines = counted;
+      firsts = paid.firsts;
+      drawn = paid.drawn;
       sum = omega (arith, paid.sum, next.extra_is);
+      rows_paid = left_rows failed_left;
       gaps_paid = gaps_step old.begun new.begun refl refl;
-      lines_paid = record {
-        known = known_now;
-        read = lines.read;
-        words = lines.words;
-        seen = 0;
-        known_most = omega (arith, lines.known_most, same_fed);
-        read_most = omega (arith, lines.read_most, same_fed);
-        read_before = λ some. absurd (some failed_unkept);
-        words_most = omega (arith, goes.counts, lines.words_most);
-        within = goes.within;
-        part_most = goes.paid;
-        seen_is = λ some. absurd (some failed_unkept);
-        most = omega (arith, failed_most, none_paid new.part new.line_read failed_unkept);
-        here = λ still. omega (
-          arith,
-          failed_most,
-          none_paid new.part new.line_read failed_unkept,
-          left_none new.part (changes_of new) 0 failed_unkept,
-        );
-        passed = passed_none new.part known_now new failed_unkept (λ still unfinished. inl (omega arith));
-      };
+      firsts_paid = left_firsts failed_left;
+      lines_paid = unkept_lines known_now lines.read failed_unkept (omega (arith, lines.known_most)) lines.read_most
+          (omega (arith, failed_most)) (λ still unfinished. omega (arith, failed_next still unfinished))
+          (λ still unfinished. inl (omega arith));
     }
 
 -- ---- All calls
-
--- at a line nothing has ended
-line_unended : (stand : Stand) → is_at_line stand ≡ true → ended stand ≡ None
-line_unended AtLine is = refl
-line_unended BehindRow is = refl
-line_unended AtEnd is = absurd (false≢true is)
-line_unended (AtFault error) is = absurd (false≢true is)
 
 -- what the plain reading counts
 plain_most : {whole : Bits} {tried : ℕ} {feed : Feeding} → IsFeedOf whole tried feed
@@ -985,27 +1064,24 @@ fed_within {whole} {tried} {feed} is = omega (
   length-drop feed.dropped whole,
 )
 
-lines_in_all : {calls lost tried lines : ℕ} {feed : Feeding} → (paid : LinesPaid calls lost tried lines feed)
-    → lines ≤ 8 * fed_bits feed + 2 * paid.words + 8 * calls + lost + 2
-lines_in_all {calls} {lost} {tried} {lines} {feed} paid = elim (none_or_some feed.part) [
+lines_in_all : {calls lost drawn lines : ℕ} {feed : Feeding} → (paid : LinesPaid calls lost drawn lines feed)
+    → lines ≤ 8 * fed_bits feed + 2 * drawn + 8 * calls + lost + 2
+lines_in_all {calls} {lost} {drawn} {lines} {feed} paid = elim (none_or_some feed.part) [
   | inl none ↦ omega (arith, paid.most, none_paid feed.part feed.line_read none, paid.known_most, paid.read_most)
-  | inr some ↦
-      let short = was_short feed.part paid.known feed some paid.passed in
-      omega (
-        arith,
-        paid.here (line_unended feed.rows.stand short.at_line),
-        left_some feed.part (changes_of feed) paid.seen some,
-        paid.part_most,
-        paid.seen_is some,
-        paid.known_most,
-        paid.read_most,
-        length-drop feed.place feed.kept,
-        paid.within,
-      )
+  | inr some ↦ omega (
+    arith,
+    paid.here some,
+    paid.part_most,
+    paid.seen_is some,
+    paid.known_most,
+    paid.read_most,
+    length-drop feed.place feed.kept,
+    paid.within,
+  )
 ]
 
 pub all_paid : (whole : Bits) (calls lost tried : ℕ) (feed : Feeding) → IsFeedOf whole tried feed
-    → FeedIsPaid calls lost tried feed → feed.ctx.ticks ≤ 128 * length whole + 256 + 32 * calls + lost
+    → FeedIsPaid calls lost tried feed → feed.ctx.ticks ≤ 64 * length whole + 256 + 32 * calls + lost
 all_paid whole calls lost tried feed is paid = omega (
   arith,
   plain_most is,
@@ -1014,5 +1090,7 @@ all_paid whole calls lost tried feed is paid = omega (
   paid.gaps_paid.most,
   paid.gaps_paid.first_most,
   lines_in_all paid.lines_paid,
-  paid.lines_paid.words_most,
+  paid.firsts_paid.most,
+  paid.firsts_paid.known_most,
+  paid.rows_paid.most,
 )
