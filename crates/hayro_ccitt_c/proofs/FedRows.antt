@@ -50,7 +50,8 @@ counted_front row lists part room is whole e =
     let here : take (length (listed_row row)) after ≡ listed_row row = ap (λ (n : ℕ). take n after) (sym count) ∙ more.0 in
     let behind : drop (length (listed_row row)) after ≡ drop (length (listed_row row)) lists =
     ap (λ (n : ℕ). drop n after) (sym count) ∙ more.1 in
-    let all : length (listed_row row) ≤ length after = omega (arith, ap length here, length-take (length (listed_row row)) after) in
+    let all : length (listed_row row) ≤ length after =
+    omega (arith, ap length here, length-take (length (listed_row row)) after) in
     record {
       room = subst (λ (r : List ℕ). length (listed_row r) ≤ length after) e all;
       row_is = subst (λ (r : List ℕ). take (length (listed_row r)) after ≡ listed_row r) e here;
@@ -91,17 +92,13 @@ module _ (IsWritten : Feeding → List ℕ → List ℕ → Type 0) (step need :
     pub count_is : count ≡ length given
     pub place_is : place ≡ place_after IsWritten step need 0 given
 
-  pub none_yet : (old : Feeding) (before : List ℕ) → HasGiven old old before before 0 0
-  none_yet old before =
-      record { given = []; each = tt; now_is = refl; after_is = refl; count_is = refl; place_is = refl }
-
   pub one_more : (old now : Feeding) (before memory : List ℕ) (count place : ℕ) (next : Given)
       → HasGiven old now before memory count place → GivesOne IsWritten step need place now memory next
       → HasGiven old next.feeding before next.memory (count + 1) (place + step next.feeding)
   one_more old now before memory count place next so_far one = record {
     given = so_far.given ++ next ∷ [];
-    each = each_more 0 old before so_far.given next so_far.each
-        (subst (λ (p : ℕ). GivesOne IsWritten step need p (feeding_after old so_far.given) (memory_after before so_far.given) next)
+    each = each_more 0 old before so_far.given next so_far.each (subst (λ (p : ℕ).
+        GivesOne IsWritten step need p (feeding_after old so_far.given) (memory_after before so_far.given) next)
         so_far.place_is (subst (λ (m : List ℕ). GivesOne IsWritten step need place (feeding_after old so_far.given) m next)
         so_far.after_is (subst (λ (f : Feeding). GivesOne IsWritten step need place f memory next) so_far.now_is one)));
     now_is = sym (feeding_more old so_far.given next);

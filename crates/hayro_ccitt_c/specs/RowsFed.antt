@@ -151,9 +151,9 @@ module _ (IsWritten : Feeding → List ℕ → List ℕ → Type 0) (step need :
     pub gives : GivesFed old new REFUSED
     pub room : size < place + need new
 
-  -- What a call leaves that gives rows, as many as there is room for. It is `OK` if the next row would begin behind the end of
-  -- memory, where it isn't read, or needs more room than there is, where it is kept. Else the status, and what the call leaves, is
-  -- what a call of one row leaves after these rows: it is refused only before the first.
+  -- What a call leaves that gives rows, as many as there is room for. The status is `OK` if the next row would begin at the end
+  -- of memory or behind it, and isn't read, or if it needs more room than there is, and is kept. Else it is that of a call of one
+  -- row after these: such a call is refused only before the first.
   pub record GivesRows (old new : Feeding) (before after : List ℕ) (count status : ℕ) : Type 0 where
     pub given : List Given
     pub each : GivesEach 0 old before given

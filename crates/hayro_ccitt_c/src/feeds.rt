@@ -155,6 +155,17 @@ pub extern "C" fn hayro_ccitt_feed_next_packed(
     status
 }
 
+/// Tells that no reading is open, and so no row is given.
+fn nothing_given(count: &mut usize, outcome: &mut RowOutcome) -> u32
+    ensures status { result ≡ NOT_TAKEN }
+    ensures none { count.new ≡ 0 }
+    ensures told { outcome.new ≡ told_nothing }
+{
+    *count = 0;
+    *outcome = nothing_told();
+    status::NOT_TAKEN
+}
+
 /// Reads the next rows, as many as there is room for, and packs them into `bitmap`, each as [`hayro_ccitt_feed_next_packed`] does,
 /// and each a stride behind the one before. `count` is how many. The bytes between them, and after the last one, keep their values.
 ///
@@ -178,9 +189,7 @@ pub extern "C" fn hayro_ccitt_feed_rows_packed(
         × (count.new ≡ 0) × (outcome.new ≡ told_nothing) }
 {
     if !feed.is_open {
-        *count = 0;
-        *outcome = nothing_told();
-        return status::NOT_TAKEN;
+        return nothing_given(count, outcome);
     }
     let mut feeding = feed.take(alloc);
     let status = feeding.pack_all_fed(bitmap, count, outcome);
@@ -211,9 +220,7 @@ pub extern "C" fn hayro_ccitt_feed_rows_changes(
         × (count.new ≡ 0) × (outcome.new ≡ told_nothing) }
 {
     if !feed.is_open {
-        *count = 0;
-        *outcome = nothing_told();
-        return status::NOT_TAKEN;
+        return nothing_given(count, outcome);
     }
     let mut feeding = feed.take(alloc);
     let status = feeding.list_all_fed(lists, count, outcome);
