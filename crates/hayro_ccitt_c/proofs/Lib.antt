@@ -1,4 +1,5 @@
 pub mod Encoded
+pub mod FedRows
 pub mod InvertedBits
 pub mod ListedMemory
 pub mod PackedMemory
