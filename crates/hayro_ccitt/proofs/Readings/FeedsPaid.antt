@@ -15,8 +15,9 @@ use Rattle.hayro_ccitt.specs.RowFeeds.{CallGoesOn, Feeding, FeedsNext, HasNone, 
 use Rattle.hayro_ccitt.specs.RowFeeds.{DrawsRow, StandsIn, TriesFirst}
 use Rattle.hayro_ccitt.specs.RowFeeds.{fed_bits, fed_over, most_for_line, paid_by, paid_for_line}
 use Rattle.hayro_ccitt.proofs.Names.{IfErr}
-use Rattle.hayro_ccitt.specs.FeedsPaid.{FeedIsPaid, FirstsPaid, GapsPaid, IsBehind, IsPassed, LinesPaid, RowsPaid, SeeksEol}
-use Rattle.hayro_ccitt.specs.FeedsPaid.{WasShort, WasTried, changes_of, cost_of_failure, offset}
+use Rattle.hayro_ccitt.proofs.Readings.FeedAccount.{FeedIsPaid, FirstsPaid, GapsPaid, IsBehind, IsPassed, LinesPaid, RowsPaid}
+use Rattle.hayro_ccitt.proofs.Readings.FeedAccount.{SeeksEol, WasShort, WasTried, offset}
+use Rattle.hayro_ccitt.specs.FeedsPaid.{FeedsArePaid, IsHistory, changes_of, cost_of_failure}
 use Rattle.hayro_ccitt.proofs.Readings.FeedsOn.{none_paid}
 use Rattle.hayro_ccitt.proofs.Readings.RowsDrawn.{eol_among, prefix_more}
 use Rattle.fax_reading.proofs.KeptRows.LinesAgain.{line_again}
@@ -1080,17 +1081,27 @@ lines_in_all {calls} {lost} {drawn} {lines} {feed} paid = elim (none_or_some fee
   )
 ]
 
-pub all_paid : (whole : Bits) (calls lost tried : ℕ) (feed : Feeding) → IsFeedOf whole tried feed
-    → FeedIsPaid calls lost tried feed → feed.ctx.ticks ≤ 64 * length whole + 256 + 32 * calls + lost
-all_paid whole calls lost tried feed is paid = omega (
-  arith,
-  plain_most is,
-  fed_within is,
-  paid.sum,
-  paid.gaps_paid.most,
-  paid.gaps_paid.first_most,
-  lines_in_all paid.lines_paid,
-  paid.firsts_paid.most,
-  paid.firsts_paid.known_most,
-  paid.rows_paid.most,
-)
+-- what was called is paid
+history_paid : {calls lost tried : ℕ} {feed : Feeding} → IsHistory calls lost tried feed → FeedIsPaid calls lost tried feed
+history_paid (IsHistory.opens {feed} whole is unbegun unlooked unkept) = begun_paid whole feed is unbegun unlooked unkept
+history_paid (IsHistory.feeds next before holds) = more_paid holds (history_paid before)
+history_paid (IsHistory.finishes before is) = finished_paid is (history_paid before)
+history_paid (IsHistory.reads whole before unended keeps next other) =
+    reads_paid unended keeps (history_paid before) next other
+history_paid (IsHistory.fails whole before unended keeps next) = fails_paid unended keeps (history_paid before) next refl
+
+pub feeds_are_paid : FeedsArePaid
+feeds_are_paid calls lost tried whole feed history is =
+    let paid = history_paid history in
+    omega (
+      arith,
+      plain_most is,
+      fed_within is,
+      paid.sum,
+      paid.gaps_paid.most,
+      paid.gaps_paid.first_most,
+      lines_in_all paid.lines_paid,
+      paid.firsts_paid.most,
+      paid.firsts_paid.known_most,
+      paid.rows_paid.most,
+    )
