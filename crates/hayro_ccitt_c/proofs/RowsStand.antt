@@ -64,7 +64,8 @@ stand_from layout columns place old before (next ∷ more) each wide same reache
     let after : List ℕ = memory_after next.memory more in
     let begin : ℕ = place + layout.stride in
     let layout_is : next.feeding.layout ≡ layout = one.gives.layout ∙ same in
-    let columns_is : columns_of next.feeding ≡ columns = All-head (λ (g : Given). columns_of g.feeding ≡ columns) next more wide in
+    let columns_is : columns_of next.feeding ≡ columns =
+    All-head (λ (g : Given). columns_of g.feeding ≡ columns) next more wide in
     let step : stride_of next.feeding ≡ layout.stride =
     let most : max layout.stride 1 ≡ layout.stride = omega (arith, some) in
     ap (λ (l : Layout). max l.stride 1) layout_is ∙ most in
