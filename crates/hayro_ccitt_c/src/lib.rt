@@ -30,6 +30,7 @@ mod feed_handle;
 mod feeding;
 mod feeds;
 mod handle;
+mod laws;
 mod listed_rows;
 mod owned;
 mod owned_feeding;
