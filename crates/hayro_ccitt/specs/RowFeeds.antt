@@ -519,12 +519,13 @@ fed_bits feed = feed.dropped + length feed.kept
 abbrev pub unused : Feeding → Bits
 unused feed = drop (8 * ((feed.place + 7) / 8)) feed.kept
 
--- These bits are held behind those that were, and the reading is at the same offset.
+-- These bits are held behind those that were, and the reading is at the same offset. Before it fewer than eight bits are held.
 pub record HoldsMore (next : Bits) (old new : Feeding) : Type 0 where
   pub unread : drop new.place new.kept ≡ drop old.place old.kept ++ next
   pub left : unused new ≡ unused old ++ next
   pub fed : fed_bits new ≡ fed_bits old + length next
   pub place : new.dropped + new.place ≡ old.dropped + old.place
+  pub few_read : new.place < 8
   pub begun : new.begun ≡ old.begun
   pub looked : new.looked ≡ old.looked
   pub part : new.part ≡ old.part
@@ -540,13 +541,14 @@ pub record ComeNext (whole : Bits) (feed : Feeding) (next : Bits) : Type 0 where
   pub bits : drop (feed.dropped + length feed.kept) whole ≡ next ++ rest
   pub bytes : AreWholeBytes rest
 
--- whole bytes before the next bit are dropped
+-- the whole bytes before the next bit are dropped
 pub record DropsRead (old new : Feeding) : Type 0 where
   pub bytes : ℕ
   pub read : 8 * bytes ≤ old.place
   pub kept : new.kept ≡ drop (8 * bytes) old.kept
   pub dropped : new.dropped ≡ old.dropped + 8 * bytes
   pub place : new.place + 8 * bytes ≡ old.place
+  pub few_read : new.place < 8
   pub looked : new.looked ≡ old.looked
   pub within : old.place ≤ length old.kept
   pub ctx : new.ctx ≡ old.ctx

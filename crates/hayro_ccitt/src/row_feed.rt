@@ -248,6 +248,10 @@ impl RowState {
 
 /// Reads the rows of an image from data that comes in pieces, each as soon as no data that follows can change its line.
 ///
+/// It keeps the bits that weren't read, and after [`feed`](RowFeed::feed) fewer than eight before them. After
+/// [`Fed::NeedsMore`] they are those of the line that is next, as far as it came, or of the gap before it. So where each piece is
+/// fed after `NeedsMore`, no more is kept than the longest line or gap, and a piece.
+///
 /// # Example
 ///
 /// ```text
@@ -577,7 +581,7 @@ impl RowFeed {
         self.place -= bytes * 8;
     }
 
-    /// Feeds the bytes that come next in the data. Those that were read are dropped first.
+    /// Feeds the bytes that come next in the data. Those that were read are dropped first, also if this fails.
     ///
     /// # Errors
     ///
