@@ -14,6 +14,7 @@ pub mod RowByRow
 pub mod RowsAgain
 pub mod RowsDrawn
 pub mod RowsFed
+pub mod RowsPassed
 pub mod RowsPushed
 pub mod RowsTried
 pub use Rattle.fax_bits.proofs.Repetition.Gathered

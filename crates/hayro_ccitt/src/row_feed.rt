@@ -12,7 +12,7 @@ ghost use Rattle.hayro_ccitt.specs.RowsTried.{IsLeft};
 ghost use Rattle.hayro_ccitt.specs.RowFeeds.{Begins, ComeNext, ComesInFeed, DropsRead, ReadsInFeed, ComesOn, FeedsNext};
 ghost use Rattle.hayro_ccitt.specs.RowFeeds.{IsFeedOf, KeepsBits, TriesLine, fed_bits, fed_end, fed_none, fed_row, is_left};
 ghost use Rattle.hayro_ccitt.specs.RowFeeds.{HoldsMore, KeepsPart, LineGoesOn, ScansLine, StaysShort, line_answer, some_line};
-ghost use Rattle.hayro_ccitt.specs.RowFeeds.{unused};
+ghost use Rattle.hayro_ccitt.specs.RowFeeds.{CountsRow, PushesRows, unused};
 ghost use Rattle.hayro_ccitt.specs.Rows.{AreChanges, changes};
 
 use crate::context::DecoderContext;
@@ -22,7 +22,7 @@ use crate::gap_look::{
 use crate::line_parts::{KeptPart, begin_part, continue_line};
 use crate::row_reader::{RowState, Stand, first_stand, has_ended, is_at_line};
 use crate::rows::try_row;
-use crate::{DecodeError, EncodingMode, Result};
+use crate::{DecodeError, Decoder, EncodingMode, Result};
 use fax_bits::DecodeSettings;
 use fax_bits::bit_reader::{BitOrder, BitReader, at_bit, placed_at};
 use fax_bits::codes::Color;
@@ -173,6 +173,14 @@ fn fed_row(row: Result<bool>) -> Result<Fed>
         Ok(false) => Ok(Fed::NeedsMore),
         Err(error) => Err(error),
     }
+}
+
+/// Returns whether a row was read.
+fn is_row(fed: &Result<Fed>) -> bool
+    ensures row { result ≡ true → fed.now ≡ Ok Fed.Row }
+    ensures other { result ≡ false → fed.now ≢ Ok Fed.Row }
+{
+    matches!(fed, Ok(Fed::Row))
 }
 
 /// Returns whether one more row can be counted.
@@ -461,6 +469,7 @@ impl RowFeed {
         ensures reads { (whole : Bits) (tried : ℕ) → IsFeedOf whole tried self.old
             → FeedsNext whole tried self.old self.new result }
         ensures keeps { KeepsBits self.old self.new }
+        ensures counts { CountsRow self.old self.new result }
     {
         if !can_take_row(&self.ctx) {
             return Err(DecodeError::UnexpectedEof);
@@ -479,6 +488,7 @@ impl RowFeed {
         ensures reads { (whole : Bits) (tried : ℕ) → IsFeedOf whole tried self.old
             → FeedsNext whole tried self.old self.new result }
         ensures keeps { KeepsBits self.old self.new }
+        ensures counts { CountsRow self.old self.new result }
     {
         let mut reader = placed_at(&self.data, self.order, self.place);
         let gap_start = self.dropped + self.place;
@@ -515,6 +525,7 @@ impl RowFeed {
         ensures reads { (whole : Bits) (tried : ℕ) → IsFeedOf whole tried self.old
             → FeedsNext whole tried self.old self.new result }
         ensures keeps { KeepsBits self.old self.new }
+        ensures counts { CountsRow self.old self.new result }
     {
         if self.part.is_some() {
             return self.read_here();
@@ -528,6 +539,7 @@ impl RowFeed {
         ensures reads { (whole : Bits) (tried : ℕ) → IsFeedOf whole tried self.old
             → FeedsNext whole tried self.old self.new result }
         ensures keeps { KeepsBits self.old self.new }
+        ensures counts { CountsRow self.old self.new result }
     {
         if !self.begin() {
             return Ok(Fed::NeedsMore);
@@ -550,6 +562,7 @@ impl RowFeed {
         ensures reads { (whole : Bits) (tried : ℕ) → ended self.old.rows.stand ≡ None → IsFeedOf whole tried self.old
             → FeedsNext whole tried self.old self.new result }
         ensures keeps { KeepsBits self.old self.new }
+        ensures counts { CountsRow self.old self.new result }
         ensures ended { (end : Result (Unit {0}) DecodeError) → ended self.old.rows.stand ≡ Some end
             → (self.new ≡ self.old) × (result ≡ fed_end end) }
     {
@@ -562,6 +575,46 @@ impl RowFeed {
                 } else {
                     self.read_first()
                 }
+            }
+        }
+    }
+
+    /// Reads each row that no data that follows can change, and passes it to the sink, until more data is needed or the image
+    /// ends: then it returns [`Fed::NeedsMore`] or [`Fed::End`]. So one call for each piece reads all rows, as calls of
+    /// [`next_row`](RowFeed::next_row) do.
+    ///
+    /// # Errors
+    ///
+    /// Those of [`next_row`](RowFeed::next_row), and `Refused` if the sink refuses a row. That row was read, and
+    /// [`row`](RowFeed::row) returns it; the next call goes on behind it.
+    ///
+    /// # Example
+    ///
+    /// ```text
+    /// let mut rows = RowFeed::new(alloc, BitOrder::HighestFirst, settings)?;
+    /// let mut sink = BitmapSink::new(alloc, settings.columns);
+    /// for piece in pieces {
+    ///     rows.feed(piece)?;
+    ///     rows.push_rows(&mut sink)?;
+    /// }
+    /// rows.finish();
+    /// rows.push_rows(&mut sink)?;
+    /// ```
+    pub fn push_rows<D: Decoder>(&mut self, decoder: &mut D) -> Result<Fed>
+        requires width { self.old.ctx.held.settings.columns ≤ D.width decoder.old }
+        ensures width { D.width decoder.new ≡ D.width decoder.old }
+        ensures pushes { PushesRows (D.step (D.width decoder.old))
+            (record { meaning = D.meaning decoder.old; refused = D.has_refused decoder.old; refuses = D.refuses decoder.old })
+            (record { meaning = D.meaning decoder.new; refused = D.has_refused decoder.new; refuses = D.refuses decoder.new })
+            self.old self.new result }
+    {
+        'rows: loop {
+            let fed = self.next_row();
+            if !is_row(&fed) {
+                return fed;
+            }
+            if let Err(refusal) = decoder.push_row(self.row()) {
+                return Err(refusal);
             }
         }
     }

@@ -264,6 +264,8 @@ scanned_before {old} {mid} {new} answer stays begun reads =
           ap (λ (f : Feeding). most_to_find f) frame,
         );
       };
+      settings = reads.settings ∙ ap (λ (f : Feeding). f.ctx.held.settings) frame;
+      taken = λ e. omega (arith, reads.taken e, ap (λ (f : Feeding). f.ctx.held.taken) frame);
     }
 
 part_paid : (part : Option KeptPart) (read : ℕ) {most : ℕ} → (part ≢ None → paid_by part read ≤ most) → paid_by part read ≤ most
@@ -341,6 +343,8 @@ scanned_after {old} {mid} {new} reads none unkept keeps_part =
         failed = λ e. cc;
         failed_at_once = λ e kept. cc;
       };
+      settings = ap (λ (f : Feeding). f.ctx.held.settings) frame ∙ reads.settings;
+      taken = λ e. cc;
     }
 
 -- a line that was short, and of which no part is kept, was tried for the first time, or nothing was counted for it
@@ -415,4 +419,6 @@ stays_short {old} {new} stays begun =
         failed = λ e. cc;
         failed_at_once = λ e none. cc;
       };
+      settings = ap (λ (f : Feeding). f.ctx.held.settings) frame;
+      taken = λ e. cc;
     }

@@ -1,12 +1,13 @@
 use Rattle.hayro_ccitt.proofs.Names.{◌≡◌, ◌∙◌, ap, sym, subst, refl, arith, length, false≢true, false, true, BitsAt, bits_in}
 use Rattle.hayro_ccitt.proofs.Names.{List, ℕ, None}
-use Rattle.hayro_ccitt.proofs.Names.{◌⊎◌, ◌≢◌, Context, Bits, Ok, Some, is_at_line, here, drop, ended, ◌≤◌, ◌+◌}
+use Rattle.hayro_ccitt.proofs.Names.{◌⊎◌, ◌≢◌, Context, Held, Bits, Ok, Some, is_at_line, here, drop, ended, ◌≤◌, ◌+◌}
 use Rattle.hayro_ccitt.proofs.BitReading.BitLists.{length-bits_in}
 use Rattle.hayro_ccitt.proofs.Readings.FeedsOn.{feed_comes, feed_reads, gap_feeds, line_feeds, reached_here, row_fits}
 use Rattle.hayro_ccitt.proofs.Readings.LooksKept.{kept_line, kept_seen, seen_begun, seen_there, fresh_look}
 use Rattle.hayro_ccitt.proofs.Readings.PartsFed.{none_kept, scanned_after, unread_line}
+use Rattle.hayro_ccitt.proofs.Readings.RowsPassed.{counts_row}
 use Rattle.hayro_ccitt.specs.GapsSeen.{nothing_seen}
-use Rattle.hayro_ccitt.specs.RowFeeds.{ComesInFeed, Feeding, FeedsNext, IsFeedOf, IsKept, ReadsInFeed, fed_row, feeding_of}
+use Rattle.hayro_ccitt.specs.RowFeeds.{ComesInFeed, CountsRow, Feeding, FeedsNext, IsFeedOf, IsKept, ReadsInFeed, fed_row, feeding_of}
 use Rattle.hayro_ccitt.specs.declared.row_feed.RowFeed.TheInside.{Inside}
 use Rattle.hayro_ccitt.proofs.row_feed.RowFeed.read_from_gap.Goals.{After-is_some_line}
 use Rattle.hayro_ccitt.proofs.row_feed.RowFeed.read_from_gap.Goals.{After-is_unsettled, then-is_unsettled, else-is_unsettled}
@@ -219,3 +220,25 @@ returns-clause-reads c =
           rw w.self-is (feeds here (line_reads here)
           (λ e none. absurd (c.is_unsettled.ensures.other w.if-is_unsettled.false e)) feed)
     ]))
+
+-- a row is counted
+counts : (c : After-is_unsettled) {new : Feeding} → ReadsInFeed (feeding_of (behind_gap (here_gap c))) new c.try_line-row.result
+    → CountsRow (feeding_of c.self.inside) new (fed_row c.try_line-row.result)
+counts c reads =
+    let frame = c.come_to_settled_line-line.ensures.frame in
+    counts_row c.try_line-row.result (ap (λ (h : Held). h.settings) frame) (ap (λ (h : Held). h.taken) frame)
+    (c.can_take_row.ensures.rows c.if-not-can_take_row.false) reads
+
+pub returns-clause-counts : goal.returns-clause-counts
+returns-clause-counts c =
+    let here = (goal.at.returns-clause-counts c).After-is_unsettled in
+    rw (← c.self.view_is, c.fed_row.ensures) (elim c.if-is_unsettled.branch [
+      | then-is_unsettled w ↦
+          let is = c.is_unsettled.ensures.short w.if-is_unsettled.true in
+          let short = subst (ReadsInFeed (feeding_of (behind_gap (here_gap here))) (feeding_of (behind_line here))) is
+          (line_reads here) in
+          let none = gap_unkept (here_gap here) in
+          rw w.self-is (counts here (subst (ReadsInFeed (feeding_of (behind_gap (here_gap here))) w.keep_part.new.self) (sym is)
+          (scanned_after short none none w.keep_part.ensures)))
+      | else-is_unsettled w ↦ rw w.self-is (counts here (line_reads here))
+    ])

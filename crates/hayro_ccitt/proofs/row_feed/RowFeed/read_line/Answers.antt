@@ -1,10 +1,8 @@
 use Rattle.hayro_ccitt.proofs.Names.{refl}
-use Rattle.hayro_ccitt.proofs.Names.{◌≡◌, ◌∙◌, ap, sym, subst, Ok, false, false≢true, drop, line_here, Bits, Held, ℕ}
-use Rattle.hayro_ccitt.specs.Continuations.{is_short}
+use Rattle.hayro_ccitt.proofs.Names.{◌∙◌, sym, subst, Ok, false, false≢true}
 use Rattle.hayro_ccitt.proofs.Readings.PartsFed.{scanned_after, scanned_before, stays_short, unread_line}
-use Rattle.hayro_ccitt.specs.RowFeeds.{Feeding, ReadsInFeed, StaysShort}
-use Rattle.std.proofs.lemmas.Bool.{cases_eq}
-use Rattle.hayro_ccitt.proofs.Names.{◌+◌, arith, inl, inr}
+use Rattle.hayro_ccitt.specs.RowFeeds.{ReadsInFeed, StaysShort}
+use Rattle.hayro_ccitt.proofs.Names.{inl, inr}
 use Rattle.hayro_ccitt.proofs.row_feed.RowFeed.read_line.Goals as goal
 
 pub returns-then-is_still_short-clause-reads : goal.returns-then-is_still_short-clause-reads
