@@ -1,5 +1,6 @@
 pub mod BitLists
 pub mod BitPlaces
+pub mod BitsInWindow
 pub mod ConsecutiveEols
 pub mod EolCounts
 pub mod FilledWindows

@@ -458,6 +458,28 @@ pub fn pass_one(reader: &mut BitReader<'_>) -> bool
 #[inline(always)]
 pub fn pass_bits(reader: &mut BitReader<'_>, bits: u64, count: usize) -> bool
     requires some { 0 < count }
+    requires few { count ≤ 32 }
+    ensures there { result ≡ true → here reader.old ≡ low_bits count bits ++ here (moved count reader.old) }
+    ensures within { result ≡ true → reader.old.place + count ≤ length reader.old.bits }
+    ensures moved { result ≡ true → reader.new ≡ moved count reader.old }
+    ensures unchanged { result ≡ false → reader.new ≡ reader.old }
+{
+    if reader.window >> (64 - count) != bits {
+        return false;
+    }
+    let place = reader.bit_pos();
+    if reader.consume(count).is_err() {
+        // The window has zeros past the end.
+        *reader = at_bit(reader, place);
+        return false;
+    }
+    true
+}
+
+/// The same for up to 33 bits, which are more than one.
+#[inline(always)]
+pub fn pass_more_bits(reader: &mut BitReader<'_>, bits: u64, count: usize) -> bool
+    requires some { 1 < count }
     requires few { count ≤ 33 }
     ensures there { result ≡ true → here reader.old ≡ low_bits count bits ++ here (moved count reader.old) }
     ensures within { result ≡ true → reader.old.place + count ≤ length reader.old.bits }
@@ -467,15 +489,11 @@ pub fn pass_bits(reader: &mut BitReader<'_>, bits: u64, count: usize) -> bool
     if reader.window >> (64 - count) != bits {
         return false;
     }
-    // The window has zeros past the end.
-    if reader.place + count > reader.data.len() * 8 {
+    let place = reader.bit_pos();
+    let _ = reader.consume(1);
+    if reader.consume(count - 1).is_err() {
+        *reader = at_bit(reader, place);
         return false;
-    }
-    if count > 32 {
-        let _ = reader.consume(1);
-        let _ = reader.consume(32);
-    } else {
-        let _ = reader.consume(count);
     }
     true
 }

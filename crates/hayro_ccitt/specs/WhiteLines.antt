@@ -50,30 +50,36 @@ eol_before true = eol 0
 eol_before false = []
 
 -- a word, if it has bits, is a white line
-pub record IsLine (encoding : EncodingMode) (columns : ℕ) (word : CodeWord) : Type 0 where
-  pub is_whole : IsWhole word 21
+pub record IsLine (encoding : EncodingMode) (columns most : ℕ) (word : CodeWord) : Type 0 where
+  pub is_whole : IsWhole word most
   pub line : 0 < word.count → AreWhiteLine encoding columns (bits_of_word word)
 
--- A word, if it has bits, is the EOL before a line, in data that have EOLs, and a white line.
-pub record IsWhiteLine (encoding : EncodingMode) (columns : ℕ) (has_eols : Bool) (word : CodeWord) : Type 0 where
-  pub few : word.count ≤ 33
+-- A word of at most this many bits, if it has any, is the EOL before a line, in data that have EOLs, and a white line.
+pub record IsWhiteLine (encoding : EncodingMode) (columns : ℕ) (has_eols : Bool) (most : ℕ) (word : CodeWord) : Type 0 where
+  pub few : word.count ≤ most
   pub line : 0 < word.count → (line : Bits) × AreWhiteLine encoding columns line
       × (bits_of_word word ≡ eol_before has_eols ++ line)
 
--- White lines of these settings, with the EOL before each: the row before is white, and the next line may begin at any bit.
-pub record FollowWhite (settings : DecodeSettings) (has_eols : Bool) (reference : Row) (lines : WhiteLines) : Type 0 where
-  pub gap : lines.gap ≡ length (eol_before has_eols)
-  pub first : IsWhiteLine settings.encoding settings.columns has_eols lines.first
-  pub second : IsWhiteLine settings.encoding settings.columns has_eols lines.second
-  pub white : 0 < lines.first.count → reference ≡ pixels settings.columns []
-  pub anywhere : 0 < lines.first.count → (settings.rows_are_byte_aligned && not has_eols) ≡ false
+-- These are white lines of these settings, with the EOL before each, if they are known; and the row limit (T.4, 4.1.2).
+pub record AreKnown (settings : DecodeSettings) (lines : WhiteLines) : Type 0 where
+  pub gap : 0 < lines.first.count → lines.gap ≡ length (eol_before lines.has_eols)
+  pub limit : 0 < lines.first.count → (settings.rows ≡ 0) ⊎ (lines.limit ≡ settings.rows)
+  pub first : IsWhiteLine settings.encoding settings.columns lines.has_eols 32 lines.first
+  pub second : IsWhiteLine settings.encoding settings.columns lines.has_eols 33 lines.second
+
+-- One of them may be next: the row before is white, and lines begin anywhere.
+pub record MayFollow (settings : DecodeSettings) (has_eols : Bool) (reference : Row) (lines : WhiteLines) : Type 0 where
+  pub known : AreKnown settings lines
+  pub some : 0 < lines.first.count
+  pub same : lines.has_eols ≡ has_eols
+  pub white : reference ≡ pixels settings.columns []
+  pub anywhere : (settings.rows_are_byte_aligned && not has_eols) ≡ false
 
 -- one of these lines is passed
 pub record PassesLine (lines : WhiteLines) (before after : BitsAt) : Type 0 where
   pub word : CodeWord
   pub one : (word ≡ lines.first) ⊎ (word ≡ lines.second)
   pub some : 0 < word.count
-  pub any : 0 < lines.first.count
   pub there : here before ≡ bits_of_word word ++ here (moved word.count before)
   pub within : before.place + word.count ≤ length before.bits
   pub moved_on : after ≡ moved word.count before

@@ -13,7 +13,7 @@ ghost use Rattle.hayro_ccitt.specs.CodeReading.{read_code};
 ghost use Rattle.hayro_ccitt.specs.Context.{ArePassed, exceeds, right_of_painted, with_cut};
 ghost use Rattle.hayro_ccitt.specs.UsualModes.{GoesOn2d};
 ghost use Rattle.hayro_ccitt.specs.UsualRuns.{GoesOn};
-ghost use Rattle.hayro_ccitt.specs.WhiteLines.{FollowWhite};
+ghost use Rattle.hayro_ccitt.specs.WhiteLines.{AreKnown, MayFollow};
 ghost use Rattle.hayro_ccitt.specs.Answers.{DrawsLine, DrawsStep, OnAnswer, words_of_run, words_of_mode, words_from_1d};
 ghost use Rattle.hayro_ccitt.specs.Answers.{words_from_2d, StoresChange, RepairStoresChange, pen_of, step_of_run, step_of_mode};
 ghost use Rattle.hayro_ccitt.specs.Answers.{line_from_1d, line_from_2d, front_of, is_broken, strict_step_of_run};
@@ -26,7 +26,7 @@ use crate::modes::{
     CodingLine, draw_modes, has_mode, has_no_room, is_white_row, lay_down_row, put_ends, take_ends,
 };
 use crate::usual::{draw_runs, draw_two_runs, lay_down, pass_white_row, take_up};
-use crate::white_lines::{WhiteLines, no_lines, white_lines};
+use crate::white_lines::{WhiteLines, none_known, white_lines};
 use crate::{DecodeError, Decoder, Result};
 use fax_bits::bit_reader::{
     BitOrder, BitReader, BitsAtHand, at_hand, go_to, none_at_hand, window_at_hand,
@@ -559,23 +559,37 @@ impl DecoderContext {
         self.decoded_rows += 1;
     }
 
-    /// Returns the white lines that may be next: none if the row before isn't white, nor where lines begin at whole bytes.
+    /// Returns that no white line is known yet.
     #[inline(always)]
-    pub(crate) fn white_lines(&self) -> WhiteLines
-        ensures { FollowWhite self.now.held.settings self.now.held.has_eols self.now.held.reference result }
+    pub(crate) fn no_white_lines(&self) -> WhiteLines
+        ensures { AreKnown self.now.held.settings result }
     {
-        let has_eols = self.has_eols;
+        none_known(&self.settings)
+    }
+
+    /// Returns whether one of these white lines may be next: below a white row, where lines begin anywhere. They are those of
+    /// the settings then.
+    #[inline(always)]
+    pub(crate) fn repeats_white(&self, lines: &mut WhiteLines) -> bool
+        requires { AreKnown self.now.held.settings lines.old }
+        ensures known { AreKnown self.now.held.settings lines.new }
+        ensures follow { result ≡ true
+            → MayFollow self.now.held.settings self.now.held.has_eols self.now.held.reference lines.new }
+    {
         if !is_white_row(&self.ref_changes) {
-            return no_lines(has_eols);
+            return false;
         }
         let columns = self.settings.columns;
         if columns == 0 {
-            return no_lines(has_eols);
+            return false;
         }
-        if self.settings.rows_are_byte_aligned && !has_eols {
-            return no_lines(has_eols);
+        if self.settings.rows_are_byte_aligned && !self.has_eols {
+            return false;
         }
-        white_lines(self.settings.encoding, columns, has_eols)
+        if lines.first.count == 0 || lines.has_eols != self.has_eols {
+            *lines = white_lines(self.settings, self.has_eols);
+        }
+        lines.first.count != 0
     }
 
     /// Counts one more row that is the reference row again, with two ticks: for its mode and for b1, or for the words of its run.

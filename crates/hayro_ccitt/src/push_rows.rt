@@ -34,6 +34,7 @@ pub(crate) fn push_rows<D: Decoder>(
     ensures same_bits { reader.new.bits ≡ reader.old.bits }
     ensures space { ctx.new.space ≤ max ctx.old.space (most_room ctx.old.held.settings reader.old.bits) }
 {
+    let mut lines = ctx.no_white_lines();
     let mut rows = RowState::new(first_stand(ctx, reader));
     if has_ended(rows.stand) {
         return Ok(());
@@ -47,8 +48,8 @@ pub(crate) fn push_rows<D: Decoder>(
             *reader = at_bit(reader, rows.started_at);
             return Err(refusal);
         }
-        let lines = ctx.white_lines();
-        'white: while rows.read_white_row(lines, ctx, reader) {
+        let repeats = ctx.repeats_white(&mut lines);
+        'white: while rows.read_white_row(repeats, lines, ctx, reader) {
             if let Err(refusal) = decoder.push_row(ctx.reference_row()) {
                 let damage = ctx.damaged_rows();
                 let cuts = ctx.cut_rows();

@@ -1,22 +1,23 @@
 //! White lines below a white row, by their bits.
 
-ghost use Rattle.std.specs.Prelude.{◌≡◌, ◌+◌, ◌<◌, ◌≤◌, ◌++◌, true, false, length, ℕ};
-ghost use Rattle.hayro_ccitt.specs.WhiteLines.{IsLine, IsWhole, IsWhiteLine, IsWhiteRun};
-ghost use Rattle.hayro_ccitt.specs.WhiteLines.{PassesLine, bits_of_word, eol_before};
+ghost use Rattle.std.specs.Prelude.{◌≡◌, ◌+◌, ◌<◌, ◌≤◌, ◌++◌, ◌⊎◌, true, false, ℕ};
+ghost use Rattle.hayro_ccitt.specs.WhiteLines.{AreKnown, IsLine, IsWhole, IsWhiteLine, IsWhiteRun, PassesLine, bits_of_word};
 
-use crate::EncodingMode;
-use fax_bits::bit_reader::{BitReader, pass_bits};
+use crate::{DecodeSettings, EncodingMode};
+use fax_bits::bit_reader::{BitReader, pass_bits, pass_more_bits};
 use fax_bits::tables::{CodeWord, white_makeup_word, white_terminating_word};
 
-/// The bits of the white lines that may be next below a white row, each with the EOL before it.
+/// The bits of the white lines that may be next below a white row, each with the EOL before it. No bits mean no line.
 #[derive(Copy, Clone)]
 pub(crate) struct WhiteLines {
-    /// The number of bits of the EOL, or 0.
+    /// Whether there is an EOL before each.
+    pub(crate) has_eols: bool,
+    /// The number of its bits, or 0.
     pub(crate) gap: usize,
-    /// A line without bits if there is none, and no other one then.
     pub(crate) first: CodeWord,
-    /// A line without bits if there is no other one.
     pub(crate) second: CodeWord,
+    /// The number of rows after which no line is read, or a number that isn't reached.
+    pub(crate) limit: u64,
 }
 
 /// Returns two words as one.
@@ -50,9 +51,10 @@ fn white_run(columns: u32) -> CodeWord
 }
 
 /// Returns V0 with a tag of 0 in two-dimensional data of Group 3, and the run in one-dimensional data.
+#[inline(always)]
 fn first_line(encoding: EncodingMode, columns: u32) -> CodeWord
     requires { 0 < columns }
-    ensures { IsLine encoding columns result }
+    ensures { IsLine encoding columns 20 result }
 {
     match encoding {
         EncodingMode::Group4 => CodeWord { count: 1, bits: 1 },
@@ -62,9 +64,10 @@ fn first_line(encoding: EncodingMode, columns: u32) -> CodeWord
 }
 
 /// Returns the run with a tag of 1 in two-dimensional data of Group 3.
+#[inline(always)]
 fn second_line(encoding: EncodingMode, columns: u32) -> CodeWord
     requires { 0 < columns }
-    ensures { IsLine encoding columns result }
+    ensures { IsLine encoding columns 21 result }
 {
     match encoding {
         EncodingMode::Group4 | EncodingMode::Group3_1D => {
@@ -83,8 +86,8 @@ fn second_line(encoding: EncodingMode, columns: u32) -> CodeWord
 #[inline(always)]
 fn behind_eol(has_eols: bool, line: CodeWord) -> CodeWord
     requires { IsWhole line 21 }
-    ensures { (encoding : EncodingMode) (columns : ℕ) → IsLine encoding columns line
-        → IsWhiteLine encoding columns has_eols result }
+    ensures { (encoding : EncodingMode) (columns most : ℕ) → IsLine encoding columns most line
+        → IsWhiteLine encoding columns has_eols (12 + most) result }
 {
     if !has_eols {
         return line;
@@ -95,54 +98,62 @@ fn behind_eol(has_eols: bool, line: CodeWord) -> CodeWord
     joined(CodeWord { count: 12, bits: 1 }, line)
 }
 
-/// Returns the white lines of these settings.
-#[cold]
-#[inline(never)]
-pub(crate) fn white_lines(encoding: EncodingMode, columns: u32, has_eols: bool) -> WhiteLines
-    requires { 0 < columns }
-    ensures gap { result.gap ≡ length (eol_before has_eols) }
-    ensures first { IsWhiteLine encoding columns has_eols result.first }
-    ensures second { IsWhiteLine encoding columns has_eols result.second }
+/// Returns the row limit, or a number that isn't reached if there is none.
+#[inline(always)]
+fn row_limit(rows: u32) -> u64
+    ensures { (rows ≡ 0) ⊎ (result ≡ rows) }
 {
+    if rows == 0 { u64::MAX } else { u64::from(rows) }
+}
+
+/// Returns the white lines of these settings.
+#[inline(never)]
+pub(crate) fn white_lines(settings: DecodeSettings, has_eols: bool) -> WhiteLines
+    requires { 0 < settings.columns }
+    ensures known { AreKnown settings result }
+    ensures same { result.has_eols ≡ has_eols }
+{
+    let first = first_line(settings.encoding, settings.columns);
+    let second = second_line(settings.encoding, settings.columns);
     WhiteLines {
+        has_eols,
         gap: if has_eols { 12 } else { 0 },
-        first: behind_eol(has_eols, first_line(encoding, columns)),
-        second: behind_eol(has_eols, second_line(encoding, columns)),
+        first: behind_eol(has_eols, first),
+        second: behind_eol(has_eols, second),
+        limit: row_limit(settings.rows),
     }
 }
 
-/// Returns that no line is known.
+/// Returns that no line is known of these settings.
 #[inline(always)]
-pub(crate) fn no_lines(has_eols: bool) -> WhiteLines
-    ensures gap { result.gap ≡ length (eol_before has_eols) }
-    ensures first { result.first.count ≡ 0 }
-    ensures second { result.second.count ≡ 0 }
+pub(crate) fn none_known(_settings: &DecodeSettings) -> WhiteLines
+    ensures { AreKnown _settings.now result }
 {
     WhiteLines {
-        gap: if has_eols { 12 } else { 0 },
+        has_eols: false,
+        gap: 0,
         first: CodeWord { count: 0, bits: 0 },
         second: CodeWord { count: 0, bits: 0 },
+        limit: 0,
     }
 }
 
 /// Passes one of these lines if it is next, and returns whether one is; otherwise nothing changes.
 #[inline(always)]
 pub(crate) fn pass_line(lines: WhiteLines, reader: &mut BitReader<'_>) -> bool
-    requires first { lines.first.count ≤ 33 }
+    requires some { 0 < lines.first.count }
+    requires first { lines.first.count ≤ 32 }
     requires second { lines.second.count ≤ 33 }
     ensures passed { result ≡ true → PassesLine lines reader.old reader.new }
     ensures unchanged { result ≡ false → reader.new ≡ reader.old }
 {
     let first = lines.first;
-    if first.count == 0 {
-        return false;
-    }
     if pass_bits(reader, first.bits, first.count) {
         return true;
     }
     let second = lines.second;
-    if second.count == 0 {
+    if second.count < 2 {
         return false;
     }
-    pass_bits(reader, second.bits, second.count)
+    pass_more_bits(reader, second.bits, second.count)
 }

@@ -15,10 +15,10 @@ use Rattle.hayro_ccitt.proofs.Names.{Misses, MissIsTold, WorkIsPaid, PaidAtLine,
 use Rattle.hayro_ccitt.proofs.Names.{cut_since, damage_since, failed_at, tag_tests, looked_ahead, pen_at, GoesOn2d, slice_get}
 use Rattle.hayro_ccitt.proofs.Names.{looked}
 use Rattle.hayro_ccitt.specs.declared.row_reader.RowState.{RowState}
-use Rattle.hayro_ccitt.proofs.Names.{Group3_1D, Group3_2D, at_end, ◌<◌}
+use Rattle.hayro_ccitt.proofs.Names.{Group3_1D, Group3_2D, at_end, ne_eqb, ◌<◌, ◌≢◌}
 use Rattle.hayro_ccitt.proofs.Names.{after_eol, append_assoc, drop-drop, eol, inl, inr, length-append, tagged_eols, ◌⊎◌}
 use Rattle.hayro_ccitt.specs.EndOfLine.{one_more, pass_last_tag}
-use Rattle.hayro_ccitt.specs.WhiteLines.{AreWhiteLine, FollowWhite, IsWhiteLine, PassesLine, eol_before}
+use Rattle.hayro_ccitt.specs.WhiteLines.{AreWhiteLine, IsWhiteLine, MayFollow, PassesLine, eol_before}
 use Rattle.fax_bits.specs.declared.tables.CodeWord.{CodeWord}
 use Rattle.hayro_ccitt.specs.declared.white_lines.WhiteLines.{WhiteLines}
 use Rattle.hayro_ccitt.proofs.BitReading.BitLists.{length-low_bits}
@@ -242,18 +242,32 @@ open_end (b ∷ line) rest some = refl
 
 -- the word that is passed is one of the lines
 line_passed : (settings : DecodeSettings) (has_eols : Bool) (reference : Row) (lines : WhiteLines) (at next : BitsAt)
-    → FollowWhite settings has_eols reference lines → (passes : PassesLine lines at next)
-    → IsWhiteLine settings.encoding settings.columns has_eols passes.word
+    → MayFollow settings has_eols reference lines → (passes : PassesLine lines at next)
+    → (most : ℕ) × IsWhiteLine settings.encoding settings.columns has_eols most passes.word
 line_passed settings has_eols reference lines at next follow passes = elim passes.one [
-  | inl e ↦ subst (IsWhiteLine settings.encoding settings.columns has_eols) (sym e) follow.first
-  | inr e ↦ subst (IsWhiteLine settings.encoding settings.columns has_eols) (sym e) follow.second
+  | inl e ↦ (
+      32,
+      subst (λ (h : Bool). IsWhiteLine settings.encoding settings.columns h 32 passes.word) follow.same
+          (subst (IsWhiteLine settings.encoding settings.columns lines.has_eols 32) (sym e) follow.known.first),
+    )
+  | inr e ↦ (
+      33,
+      subst (λ (h : Bool). IsWhiteLine settings.encoding settings.columns h 33 passes.word) follow.same
+          (subst (IsWhiteLine settings.encoding settings.columns lines.has_eols 33) (sym e) follow.known.second),
+    )
 ]
 
+-- the EOL before it
+gap_width : (settings : DecodeSettings) (has_eols : Bool) (reference : Row) (lines : WhiteLines)
+    → MayFollow settings has_eols reference lines → lines.gap ≡ length (eol_before has_eols)
+gap_width settings has_eols reference lines follow =
+    follow.known.gap follow.some ∙ ap (λ (h : Bool). length (eol_before h)) follow.same
+
 -- its EOL and its line are all of it
-line_width : (encoding : EncodingMode) (columns : ℕ) (has_eols : Bool) (word : CodeWord) (gap : ℕ)
-    → (is : IsWhiteLine encoding columns has_eols word) → (some : 0 < word.count) → gap ≡ length (eol_before has_eols)
+line_width : (encoding : EncodingMode) (columns : ℕ) (has_eols : Bool) (most : ℕ) (word : CodeWord) (gap : ℕ)
+    → (is : IsWhiteLine encoding columns has_eols most word) → (some : 0 < word.count) → gap ≡ length (eol_before has_eols)
     → gap + length (is.line some).0 ≡ word.count
-line_width encoding columns has_eols word gap is some gap_is = omega (
+line_width encoding columns has_eols most word gap is some gap_is = omega (
   arith,
   gap_is,
   length-low_bits word.count word.bits,
@@ -263,14 +277,30 @@ line_width encoding columns has_eols word gap is some gap_is = omega (
 
 -- a line begins within the data
 pub line_within : (settings : DecodeSettings) (has_eols : Bool) (reference : Row) (lines : WhiteLines) (at next : BitsAt)
-    → FollowWhite settings has_eols reference lines → PassesLine lines at next → at.place + lines.gap ≤ length at.bits
+    → MayFollow settings has_eols reference lines → PassesLine lines at next → at.place + lines.gap ≤ length at.bits
 line_within settings has_eols reference lines at next follow passes =
     let is = line_passed settings has_eols reference lines at next follow passes in
-    let width = line_width settings.encoding settings.columns has_eols passes.word lines.gap is passes.some follow.gap in
+    let width = line_width settings.encoding settings.columns has_eols is.0 passes.word lines.gap is.1 passes.some
+    (gap_width settings has_eols reference lines follow) in
     omega (arith, width, passes.within)
 
+-- where the limit that is known isn't reached, the row limit isn't met
+pub not_at_limit : (settings : DecodeSettings) (has_eols : Bool) (reference : Row) (lines : WhiteLines) (taken : ℕ)
+    → MayFollow settings has_eols reference lines → taken ≢ lines.limit → limit_met settings taken ≡ false
+not_at_limit settings has_eols reference lines taken follow other = elim (follow.known.limit follow.some) [
+  | inl none ↦ ap (λ (n : ℕ). not (eqb n 0) && eqb n taken) none
+  | inr same ↦
+      let differ : settings.rows ≢ taken = λ e. other (sym e ∙ sym same) in
+      ap (λ (b : Bool). not (eqb settings.rows 0) && b) (ne_eqb settings.rows taken differ)
+      ∙ no_more (not (eqb settings.rows 0))
+]
+  where
+    no_more : (b : Bool) → (b && false) ≡ false
+    no_more true = refl
+    no_more false = refl
+
 module _ (from : ℕ) (rows : RowState) (ctx : Context) (at : BitsAt) (stands : IsStanding from rows ctx at)
-    (behind_row : rows.stand ≡ BehindRow) (lines : WhiteLines) (follow : FollowWhite ctx.held.settings ctx.held.has_eols
+    (behind_row : rows.stand ≡ BehindRow) (lines : WhiteLines) (follow : MayFollow ctx.held.settings ctx.held.has_eols
     ctx.held.reference lines) (limit : limit_met ctx.held.settings ctx.held.taken ≡ false) (next : BitsAt)
     (passes : PassesLine lines at next) where
   abbrev settings_now : DecodeSettings
@@ -282,8 +312,11 @@ module _ (from : ℕ) (rows : RowState) (ctx : Context) (at : BitsAt) (stands : 
   abbrev white : Row
   white = pixels settings_now.columns []
 
-  word_is : IsWhiteLine settings_now.encoding settings_now.columns sought passes.word
-  word_is = line_passed settings_now sought ctx.held.reference lines at next follow passes
+  abbrev most : ℕ
+  most = (line_passed settings_now sought ctx.held.reference lines at next follow passes).0
+
+  word_is : IsWhiteLine settings_now.encoding settings_now.columns sought most passes.word
+  word_is = (line_passed settings_now sought ctx.held.reference lines at next follow passes).1
 
   abbrev line_bits : Bits
   line_bits = (word_is.line passes.some).0
@@ -305,7 +338,8 @@ module _ (from : ℕ) (rows : RowState) (ctx : Context) (at : BitsAt) (stands : 
   line_there : drop place at.bits ≡ line_bits ++ rest
   line_there =
       sym (drop-drop lines.gap at.place at.bits) ∙ ap (drop lines.gap) starts
-      ∙ ap (λ (n : ℕ). drop n (eol_before sought ++ (line_bits ++ rest))) follow.gap
+      ∙ ap (λ (n : ℕ). drop n (eol_before sought ++ (line_bits ++ rest)))
+      (gap_width settings_now sought ctx.held.reference lines follow)
       ∙ drop-append_seam (eol_before sought) (line_bits ++ rest)
 
   within_place : place ≤ length at.bits
@@ -347,12 +381,12 @@ module _ (from : ℕ) (rows : RowState) (ctx : Context) (at : BitsAt) (stands : 
   line_read strict =
       ap (line_here (record settings_now { strict = strict }) ctx.held.reference) line_there
       ∙ ap (λ (r : Row). line_by settings_now.encoding strict settings_now.columns r (line_bits ++ rest))
-      (follow.white passes.any) ∙ white_is.row strict rest
+      (follow.white) ∙ white_is.row strict rest
 
   few_words : length (found_here settings_now ctx.held.reference (drop place at.bits)) ≤ 2
   few_words =
       let here_too = ap (λ (b : Bits). length (found_here settings_now ctx.held.reference b)) line_there
-      ∙ ap (λ (r : Row). length (found_here settings_now r (line_bits ++ rest))) (follow.white passes.any) in
+      ∙ ap (λ (r : Row). length (found_here settings_now r (line_bits ++ rest))) (follow.white) in
       omega (arith, here_too, white_is.words settings_now.strict rest)
 
   row_read : row_of_line settings_now sought (drop place at.bits) (line_here settings_now ctx.held.reference (drop place at.bits))
@@ -360,7 +394,7 @@ module _ (from : ℕ) (rows : RowState) (ctx : Context) (at : BitsAt) (stands : 
   row_read =
       ap (row_of_line settings_now sought (drop place at.bits)) (line_read settings_now.strict)
       ∙ ap {B = Result (Row × Bits) DecodeError} (λ (b : Bool). Ok (white, cond b (aligned rest) rest))
-      (follow.anywhere passes.any)
+      (follow.anywhere)
 
   abbrev one_row_more : Held
   one_row_more = record ctx.held { taken = ctx.held.taken + 1 }
@@ -373,7 +407,7 @@ module _ (from : ℕ) (rows : RowState) (ctx : Context) (at : BitsAt) (stands : 
   held_is =
       let behind : StandsBehindRow settings_now at.bits ctx.held (here at) =
       subst (λ (s : Stand). ReaderStands s settings_now at.bits ctx.held at.place) behind_row stands.0 in
-      ap (λ (r : Row). record one_row_more { reference = r }) (follow.white passes.any)
+      ap (λ (r : Row). record one_row_more { reference = r }) (follow.white)
       ∙ ap (λ (f : Row). record one_row_more { reference = white; front = f }) (ap (λ (h : Held). h.front) behind.held_is)
       ∙ ap (λ (k : Color). record one_row_more { reference = white; front = []; color = k })
       (ap (λ (h : Held). h.color) behind.held_is)
@@ -404,7 +438,7 @@ module _ (from : ℕ) (rows : RowState) (ctx : Context) (at : BitsAt) (stands : 
   found_least = omega (arith, few_words)
 
   no_changes : length (changes ctx.held.reference) ≡ 0
-  no_changes = ap (λ (r : Row). length (changes r)) (follow.white passes.any)
+  no_changes = ap (λ (r : Row). length (changes r)) (follow.white)
       ∙ ap length (changes-pixels settings_now.columns [] tt)
 
   found_stored : length (changes ctx.held.reference)
