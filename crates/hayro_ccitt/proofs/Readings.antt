@@ -1,5 +1,6 @@
 pub mod BitsHeld
 pub mod BlackGoesOn
+pub mod FeedTurns
 pub mod FeedsOn
 pub mod FeedsPaid
 pub mod FirstGaps
