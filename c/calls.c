@@ -22,6 +22,8 @@ uint32_t proved_hayro_ccitt_feed(hayro_ccitt_row_feed *, const uint8_t *, size_t
 uint32_t proved_hayro_ccitt_feed_finish(hayro_ccitt_row_feed *);
 uint32_t proved_hayro_ccitt_feed_next_changes(hayro_ccitt_row_feed *, uint32_t *, size_t, hayro_ccitt_row *);
 uint32_t proved_hayro_ccitt_feed_next_packed(hayro_ccitt_row_feed *, uint8_t *, size_t, hayro_ccitt_row *);
+uint32_t proved_hayro_ccitt_feed_rows_changes(hayro_ccitt_row_feed *, uint32_t *, size_t, size_t *, hayro_ccitt_row *);
+uint32_t proved_hayro_ccitt_feed_rows_packed(hayro_ccitt_row_feed *, uint8_t *, size_t, size_t *, hayro_ccitt_row *);
 uint32_t proved_hayro_ccitt_feed_unused(hayro_ccitt_row_feed *, uint8_t *, size_t, size_t *);
 uint32_t proved_hayro_ccitt_feed_close(hayro_ccitt_row_feed *);
 uint32_t proved_fax_encode_bitmap(const uint8_t *, size_t, const fax_encode_settings *, uint8_t *, size_t, fax_encode_outcome *);
@@ -112,6 +114,18 @@ uint32_t hayro_ccitt_feed_next_changes(hayro_ccitt_row_feed *feed, uint32_t *cha
 uint32_t hayro_ccitt_feed_next_packed(hayro_ccitt_row_feed *feed, uint8_t *packed, size_t packed_length, hayro_ccitt_row *row)
 {
     return proved_hayro_ccitt_feed_next_packed(feed, OR_NONE(packed, packed_length, no_bytes), packed_length, row);
+}
+
+uint32_t hayro_ccitt_feed_rows_changes(hayro_ccitt_row_feed *feed, uint32_t *lists, size_t lists_length, size_t *count,
+                                       hayro_ccitt_row *row)
+{
+    return proved_hayro_ccitt_feed_rows_changes(feed, OR_NONE(lists, lists_length, no_numbers), lists_length, count, row);
+}
+
+uint32_t hayro_ccitt_feed_rows_packed(hayro_ccitt_row_feed *feed, uint8_t *bitmap, size_t bitmap_length, size_t *count,
+                                      hayro_ccitt_row *row)
+{
+    return proved_hayro_ccitt_feed_rows_packed(feed, OR_NONE(bitmap, bitmap_length, no_bytes), bitmap_length, count, row);
 }
 
 uint32_t hayro_ccitt_feed_unused(hayro_ccitt_row_feed *feed, uint8_t *bytes, size_t length, size_t *count)

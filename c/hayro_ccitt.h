@@ -49,7 +49,7 @@ enum {
 };
 
 /* Flags, to be added up. Settings with any other flag, or with another encoding, are invalid. HAYRO_CCITT_BLACK_IS_0 has no effect
- * on calls that don't pack rows, and `stride` none on calls but hayro_ccitt_decode_packed; they must be valid all the same. */
+ * on calls that don't pack rows, and `stride` none on those that pack one; they must be valid all the same. */
 enum {
     HAYRO_CCITT_END_OF_BLOCK = 1, /* EOFB or RTC may end the data */
     HAYRO_CCITT_END_OF_LINE = 2,  /* an EOL precedes each line of Group 3 */
@@ -91,8 +91,8 @@ enum {
     HAYRO_CCITT_REFUSED = 5,        /* there is no room for the next row, of which nothing is written */
     HAYRO_CCITT_NOT_TAKEN = 6,      /* the settings are invalid, or the data has 2 ^ 61 - 8 bytes or more; the outcome is zeros,
                                      * and nothing else is written */
-    HAYRO_CCITT_NO_ROW = 7,         /* no row is left: only from the calls that read one row */
-    HAYRO_CCITT_NEEDS_MORE = 8      /* more data is needed, or its end: only from the calls that read one row of data in pieces */
+    HAYRO_CCITT_NO_ROW = 7,         /* no row is left: only from the calls of a reader or feed */
+    HAYRO_CCITT_NEEDS_MORE = 8      /* more data is needed, or its end: only from those of a feed */
 };
 
 /* Counts rows and their changes. It never returns HAYRO_CCITT_REFUSED. */
@@ -197,6 +197,18 @@ uint32_t hayro_ccitt_feed_next_changes(hayro_ccitt_row_feed *feed, uint32_t *cha
 
 /* The same, but packs the row as hayro_ccitt_next_packed does. */
 uint32_t hayro_ccitt_feed_next_packed(hayro_ccitt_row_feed *feed, uint8_t *packed, size_t packed_length, hayro_ccitt_row *row);
+
+/* The rows one after another, as calls of hayro_ccitt_feed_next_changes give them, but listed as hayro_ccitt_decode_changes does, until
+ * there is no room for one more; `count` is how many. HAYRO_CCITT_OK means that there may be more. After HAYRO_CCITT_NEEDS_MORE and
+ * the other statuses too `count` rows were listed; it is 0 after HAYRO_CCITT_REFUSED, where there is no room for the first. The last
+ * row that was read, which `row` describes, may be one that doesn't fit behind them: the next call gives it first. Where room for
+ * many rows is passed, a row costs less than by calls of its own. */
+uint32_t hayro_ccitt_feed_rows_changes(hayro_ccitt_row_feed *feed, uint32_t *lists, size_t lists_length, size_t *count,
+                                       hayro_ccitt_row *row);
+
+/* The same, but packs the rows as hayro_ccitt_decode_packed does, `stride` bytes apart. */
+uint32_t hayro_ccitt_feed_rows_packed(hayro_ccitt_row_feed *feed, uint8_t *bitmap, size_t bitmap_length, size_t *count,
+                                      hayro_ccitt_row *row);
 
 /* Copies the bytes that were fed and aren't consumed, and stores in `count` how many they are: after HAYRO_CCITT_NO_ROW, those behind
  * the image. A byte of which a bit was read is consumed. After HAYRO_CCITT_REFUSED there was no room, and none is copied. The bytes

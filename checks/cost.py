@@ -350,7 +350,7 @@ def runs_of_the_program():
 # measures, in its order, and those of the programs.
 PAGE, COLUMNS, ROWS = "corpus/pictures/page", 1240, 1754
 PAGES = {"text": ROWS, "scan": ROWS, "halftone": ROWS, "dither": ROWS, "blank": ROWS, "borders": 200, "inverted": 100}
-WAYS = ["encode", "measure", "packed", "changes", "next_packed", "next_changes", "row_packed", "row_changes", "feed_pieces"]
+WAYS = ["encode", "measure", "packed", "changes", "next_packed", "next_changes", "row_packed", "row_changes", "feed_pieces", "feed_packed"]
 PROGRAM_WAYS = {"faxrows": [""], "faxrows -o": ["-o"], "faxrows -i": ["-i"], "faxrows -d": ["-d"]}
 PICTURES = [("g4", "b"), ("1d", "lb"), ("2d", "lb")]
 TABLE = "checks/cost.tsv"

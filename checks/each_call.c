@@ -100,6 +100,9 @@ static void is_closed(pieces *it) {
     must(hayro_ccitt_feed_finish(&it->feed) == HAYRO_CCITT_NOT_TAKEN, "finished while it is closed");
     must(hayro_ccitt_feed_next_changes(&it->feed, &none, 1, &row) == HAYRO_CCITT_NOT_TAKEN && row.rows == 0, "listed while it is closed");
     must(hayro_ccitt_feed_next_packed(&it->feed, NULL, 0, &row) == HAYRO_CCITT_NOT_TAKEN && row.rows == 0, "packed while it is closed");
+    must(hayro_ccitt_feed_rows_changes(&it->feed, &none, 1, &count, &row) == HAYRO_CCITT_NOT_TAKEN && count == 0 && row.rows == 0, "lists while it is closed");
+    count = 7;
+    must(hayro_ccitt_feed_rows_packed(&it->feed, NULL, 0, &count, &row) == HAYRO_CCITT_NOT_TAKEN && count == 0 && row.rows == 0, "a bitmap while it is closed");
     must(hayro_ccitt_feed_unused(&it->feed, NULL, 0, &count) == HAYRO_CCITT_NOT_TAKEN && count == 0 && none == 5, "unused while it is closed");
     must(is_freed(), "a closed feed holds nothing");
 }

@@ -1,18 +1,20 @@
 /* Reads each case in pieces, a line each on standard input: encoding, columns, rows, flags, as hayro_ccitt.h numbers them, how much is
    tried (0, 1 or 2), and the data in hexadecimal, `-` for none. Whatever the pieces are, the rows, all that is told of each, and the
    end must be those of hayro_ccitt_open and hayro_ccitt_next_changes over the whole data, and the bytes that aren't used those behind
-   `bytes_read`. Of pieces and results each few are in blocks that are exactly as long as they have to be. Of 0, random pieces, single bytes and
+   `bytes_read`. Rows are read one a call, and by calls that give as many as there is room for, packed ones at a stride that is the
+   row's or greater. Of pieces and results each few are in blocks that are exactly as long as they have to be. Of 0, random pieces, single bytes and
    pieces of 4,096 bytes are tried; of 1 also two pieces, cut at each byte, and every allocation refused in turn; of 2 also each
    beginning of the data as data, and whether each row comes as soon as no data that follows can change it. The last line counts. */
 #include "lent.h"
 
 #include <hayro_ccitt.h>
 
-enum { MOST_ROWS = 1 << 18, MOST_NUMBERS = 1 << 22, MOST_BYTES = 1 << 21, MOST_COLUMNS = 1 << 16, PIECE = 4096, CUTS = 128, TRIES = 20000, MORE = 16 };
+enum { MOST_ROWS = 1 << 18, MOST_NUMBERS = 1 << 22, MOST_BYTES = 1 << 21, MOST_COLUMNS = 1 << 16, PIECE = 4096, CUTS = 128, TRIES = 20000, MORE = 16,
+       AT_ONCE = 5 };
 /* each how many rows and pieces one is in a block of its own */
 enum { FEW = 8 };
 
-static unsigned long cases, walks, rows_fed, rows_refused, refusals, told_late, settled, unsettled;
+static unsigned long cases, walks, rows_fed, rows_at_once, rows_kept, rows_refused, refusals, told_late, settled, unsettled;
 
 static uint32_t random_number(void) {
     static uint32_t state = 1;
@@ -54,8 +56,9 @@ static int is_known(const uint8_t *data, size_t length, const hayro_ccitt_settin
 struct going {
     const uint8_t *data;
     size_t length, fed, taken;
-    const hayro_ccitt_settings *settings;
-    size_t first, each; /* the length of the first piece and of the others; 0: random ones, and some without bytes */
+    hayro_ccitt_settings settings;
+    size_t width, stride; /* the bytes of a row, and from one to the next */
+    size_t first, each;   /* the length of the first piece and of the others; 0: random ones, and some without bytes */
     unsigned idle;      /* after so many pieces rows are asked for: 1 is each */
     unsigned pieces;
     int is_finished, has_ended, can_refuse;
@@ -71,11 +74,13 @@ static int is_refused(const struct going *it, uint32_t status) {
 }
 
 static struct going begun(const uint8_t *data, size_t length, const hayro_ccitt_settings *settings, size_t first, size_t each) {
-    struct going it = {data, length, 0, 0, settings, first, each, 1, 0, 0, 0, refused_at > 0, {0, 0, 0}};
-    uint32_t status = hayro_ccitt_feed_open(settings, &it.feed);
+    size_t width = (settings->columns + 7ULL) / 8, more = walks % 3;
+    struct going it = {data, length, 0, 0, *settings, width, width + more, first, each, 1, 0, 0, 0, refused_at > 0, {0, 0, 0}};
+    it.settings.stride = more ? (uint32_t)it.stride : 0;
+    uint32_t status = hayro_ccitt_feed_open(&it.settings, &it.feed);
     if (is_refused(&it, status)) {
         must(!it.feed.is_open, "a feed without memory isn't open");
-        status = hayro_ccitt_feed_open(settings, &it.feed);
+        status = hayro_ccitt_feed_open(&it.settings, &it.feed);
     }
     must(status == HAYRO_CCITT_OK && it.feed.is_open, "open");
     return it;
@@ -133,11 +138,21 @@ static uint32_t list_next(struct going *it, const struct known *known, hayro_cci
     return status;
 }
 
+/* The pixels of a packed row, and white ones up to a whole byte. */
+static void is_packed(const struct going *it, const struct known *known, const uint8_t *packed) {
+    uint8_t other = it->settings.flags & HAYRO_CCITT_BLACK_IS_0 ? 0xFF : 0;
+    for (uint64_t place = 0, black = 0, k = 0; place < 8 * it->width; place++) {
+        if (place == it->settings.columns) black = 0, k = known->row.changes;
+        while (k < known->row.changes && known->changes[k] == place) black ^= 1, k++;
+        must(((packed[place / 8] ^ other) >> (7 - place % 8) & 1) == black, "pixel");
+    }
+}
+
 static uint32_t pack_next(struct going *it, const struct known *known, hayro_ccitt_row *row) {
-    size_t width = (it->settings->columns + 7ULL) / 8;
+    size_t width = it->width;
     static uint8_t spare[MOST_COLUMNS / 8];
     int is_lent = it->taken % FEW == 1, was_refused = 0;
-    uint8_t *packed = is_lent ? lend(width) : spare, other = it->settings->flags & HAYRO_CCITT_BLACK_IS_0 ? 0xFF : 0;
+    uint8_t *packed = is_lent ? lend(width) : spare;
     uint32_t status;
     if (width > 0 && is_lent) {
         status = next_packed(it, packed, width - 1, row);
@@ -148,14 +163,82 @@ static uint32_t pack_next(struct going *it, const struct known *known, hayro_cci
     }
     status = next_packed(it, packed, width, row);
     must(!was_refused || status == HAYRO_CCITT_OK, "a refused row comes again, packed");
-    if (status == HAYRO_CCITT_OK)
-        for (uint64_t place = 0, black = 0, k = 0; place < 8 * width; place++) {
-            if (place == it->settings->columns) black = 0, k = known->row.changes;
-            while (k < known->row.changes && known->changes[k] == place) black ^= 1, k++;
-            must(((packed[place / 8] ^ other) >> (7 - place % 8) & 1) == black, "pixel");
-        }
+    if (status == HAYRO_CCITT_OK) is_packed(it, known, packed);
     if (is_lent) take_back(packed);
     return status;
+}
+
+/* ---- As many rows as there is room for. */
+
+/* How many rows there is room for, and with how many bytes or numbers behind them; the room of the first of these rows. */
+struct room {
+    size_t rows, behind;
+};
+
+static struct room some_room(size_t most_behind) {
+    struct room room = {random_number() % (AT_ONCE + 1), 0};
+    if (most_behind > 0 && random_number() % 2) room.behind = random_number() % (most_behind + 1);
+    return room;
+}
+
+/* What such a call says of rows that it gave: that there is no room for one more, of which the last may be kept; or what a call of one
+   row says after them. `fits` is whether a place for the next row is left. */
+static uint32_t are_given(struct going *it, size_t count, uint32_t status, int fits, const hayro_ccitt_row *row) {
+    must(count <= count_known - it->taken, "no rows more, at once");
+    it->taken += count;
+    rows_at_once += count;
+    rows_fed += count;
+    if (status == HAYRO_CCITT_OK) {
+        must(count > 0, "there is room for a row");
+        must(!fits || it->taken < count_known, "a row that is kept is there");
+        is_row(&rows_known[it->taken - !fits], row);
+        rows_kept += (unsigned long)fits;
+    } else if (status == HAYRO_CCITT_REFUSED) {
+        must(count == 0, "the first row is refused");
+        is_refused_row(it, &rows_known[it->taken], row);
+    }
+    return is_refused(it, status) ? HAYRO_CCITT_OK : status;
+}
+
+static uint32_t pack_rows(struct going *it, hayro_ccitt_row *row) {
+    size_t step = it->stride > 0 ? it->stride : 1, count = 7, from = it->taken, left = count_known - from;
+    struct room room = some_room(it->width ? it->width - 1 : 0);
+    /* behind the last stride fewer bytes than a row needs, or only its own bytes */
+    size_t size = room.rows == 0 ? room.behind : room.behind ? room.rows * step + room.behind : (room.rows - 1) * step + it->width;
+    uint8_t *bitmap = lend(size);
+    uint32_t status = hayro_ccitt_feed_rows_packed(&it->feed, bitmap, size, &count, row);
+    must(count <= left && (it->width == 0 || count <= room.rows), "as many rows as there is room for");
+    for (size_t index = 0; index < count; index++) {
+        size_t end = index * step + it->width, next = index + 1 < count ? (index + 1) * step : size;
+        is_packed(it, &rows_known[from + index], bitmap + index * step);
+        must(next <= end || is_untouched_behind(bitmap, end, next), "the bytes behind a row");
+    }
+    must(count > 0 || is_untouched_behind(bitmap, 0, size), "nothing is packed without a row");
+    must(status != HAYRO_CCITT_OK || count == room.rows, "all room is used");
+    must(status != HAYRO_CCITT_REFUSED || room.rows == 0, "there is no room");
+    take_back(bitmap);
+    return are_given(it, count, status, count * step < size, row);
+}
+
+static uint32_t list_rows(struct going *it, hayro_ccitt_row *row) {
+    size_t count = 7, place = 0, size = 0, from = it->taken, left = count_known - from;
+    struct room room = some_room(AT_ONCE);
+    for (size_t index = 0; index < room.rows && index < left; index++) size += 1 + rows_known[from + index].row.changes;
+    size += room.behind;
+    uint32_t *lists = lend(4 * size);
+    uint32_t status = hayro_ccitt_feed_rows_changes(&it->feed, lists, size, &count, row);
+    must(count <= left, "as many rows as there are");
+    for (size_t index = 0; index < count; index++) {
+        const struct known *known = &rows_known[from + index];
+        must(place < size && lists[place] == known->row.changes && place + 1 + lists[place] <= size, "how many changes a row has");
+        must(are_same(lists + place + 1, known->changes, 4 * known->row.changes), "the changes of a listed row");
+        place += 1 + lists[place];
+    }
+    must(is_untouched_behind(lists, 4 * place, 4 * size), "the numbers behind the last row");
+    if (status == HAYRO_CCITT_OK || status == HAYRO_CCITT_REFUSED)
+        must(place == size || (from + count < count_known && size - place < 1 + rows_known[from + count].row.changes), "all room is used");
+    take_back(lists);
+    return are_given(it, count, status, place < size, row);
 }
 
 /* After the end each call says the same, and no more is asked for. */
@@ -165,6 +248,12 @@ static void is_end(struct going *it, uint32_t status, const hayro_ccitt_row *row
     must(status == end_status && it->taken == count_known, "the end");
     must(are_same(row, &end_known, sizeof *row), "what is told at the end");
     for (int more = 0; more < 2; more++) {
+        size_t count = 7;
+        must(hayro_ccitt_feed_rows_changes(&it->feed, &none, 1, &count, &again) == status && count == 0 && none == 0, "the end again, of lists");
+        must(are_same(&again, row, sizeof again), "what is told of it");
+        count = 7;
+        must(hayro_ccitt_feed_rows_packed(&it->feed, NULL, 0, &count, &again) == status && count == 0, "the end again, of a bitmap");
+        must(are_same(&again, row, sizeof again), "what is told of it");
         must(next_changes(it, &none, 0, &again) == status && are_same(&again, row, sizeof again), "the end again");
         must(next_packed(it, NULL, 0, &again) == status && are_same(&again, row, sizeof again), "the end again, packed");
     }
@@ -177,7 +266,14 @@ static void drain(struct going *it) {
     hayro_ccitt_row row;
     while (status == HAYRO_CCITT_OK) {
         const struct known *known = &rows_known[it->taken];
-        if (it->taken == count_known) status = next_changes(it, &none, 0, &row);
+        unsigned way = random_number() % 4;
+        if (way < 2) {
+            status = way ? pack_rows(it, &row) : list_rows(it, &row);
+            if (status == HAYRO_CCITT_OK || status == HAYRO_CCITT_REFUSED) {
+                status = HAYRO_CCITT_OK;
+                continue;
+            }
+        } else if (it->taken == count_known) status = next_changes(it, &none, 0, &row);
         else status = it->taken % 2 ? pack_next(it, known, &row) : list_next(it, known, &row);
         if (status == HAYRO_CCITT_OK) {
             must(it->taken < count_known, "no row more");
@@ -266,6 +362,14 @@ static void closed_and_early(const uint8_t *data, size_t length, const hayro_cci
         must(hayro_ccitt_feed_next_changes(&feed, &none, 1, &row) == HAYRO_CCITT_NOT_TAKEN && are_same(&row, &zeros, sizeof row), "a row of what isn't open");
         memset(&row, 7, sizeof row);
         must(hayro_ccitt_feed_next_packed(&feed, NULL, 0, &row) == HAYRO_CCITT_NOT_TAKEN && are_same(&row, &zeros, sizeof row), "a packed row of what isn't open");
+        memset(&row, 7, sizeof row);
+        count = 7;
+        must(hayro_ccitt_feed_rows_changes(&feed, &none, 1, &count, &row) == HAYRO_CCITT_NOT_TAKEN && count == 0 && none == 0, "rows of what isn't open");
+        must(are_same(&row, &zeros, sizeof row), "nothing is told of them");
+        memset(&row, 7, sizeof row);
+        count = 7;
+        must(hayro_ccitt_feed_rows_packed(&feed, NULL, 0, &count, &row) == HAYRO_CCITT_NOT_TAKEN && count == 0, "packed rows of what isn't open");
+        must(are_same(&row, &zeros, sizeof row), "nothing is told of them");
         must(hayro_ccitt_feed_open(settings, &feed) == HAYRO_CCITT_OK && hayro_ccitt_feed_open(settings, &feed) == HAYRO_CCITT_NOT_TAKEN, "open twice");
         must(hayro_ccitt_feed(&feed, data, length / (size_t)(2 - turn)) == HAYRO_CCITT_OK, "feed");
         must(hayro_ccitt_feed_close(&feed) == HAYRO_CCITT_OK && is_freed(), "an early close");
@@ -382,8 +486,8 @@ int main(void) {
         each_case(data, length, &settings, depth);
         take_back(data);
     }
-    printf("%lu cases, %lu times in pieces, %lu rows, %lu refused rows; %lu refused allocations, of which %lu were told; "
+    printf("%lu cases, %lu times in pieces, %lu rows, %lu of them at once, %lu kept and %lu refused; %lu refused allocations, of which %lu were told; "
            "%lu times a row stays, %lu times what is next doesn't\n",
-           cases, walks, rows_fed, rows_refused, refusals, told_late, settled, unsettled);
+           cases, walks, rows_fed, rows_at_once, rows_kept, rows_refused, refusals, told_late, settled, unsettled);
     return 0;
 }

@@ -89,11 +89,14 @@ def rows_in_pieces():
     compared("feed", itertools.chain(cases(), strips(), hostile(), flips(), settings_that_are_not_taken()))
 
 
-# By what factor feeding pieces of 4,096 bytes may cost more than one call for the whole data, and than a reader of it, on the pages of
-# cost.tsv, and on those whose rows have few runs, where a call costs as much as its row; and single bytes more than a reader, on rows of
-# three pages, which have some 3, 20 and 330 bytes a line, and go on a word at a time.
-PIECES = {"changes": 1.32, "next_changes": 1.16}
-FEW_RUNS = {"blank": {"changes": 7.4, "next_changes": 1.6}, "borders": {"changes": 2.1, "next_changes": 1.4}}
+# By what factor feeding pieces of 4,096 bytes and reading many rows a call may cost more than one call for the whole data, and than a
+# reader of it, on the pages of cost.tsv, and on those whose rows have few runs; and single bytes more than a reader, on rows of three
+# pages, which have some 3, 20 and 330 bytes a line, and go on a word at a time.
+PIECES = {"changes": 1.25, "packed": 1.18, "next_changes": 1.09, "next_packed": 1.07}
+FEW_RUNS = {
+    "blank": {"changes": 5.7, "packed": 4.6, "next_changes": 1.28, "next_packed": 1.28},
+    "borders": {"changes": 1.72, "packed": 1.57, "next_changes": 1.18, "next_packed": 1.15},
+}
 BYTES = {("blank", 256): 8.4, ("text", 300): 14.6, ("dither", 10): 19.3}
 # the place of a reader, and of single bytes, among the ways of measured_pages.c
 READER, SINGLE = cost.WAYS.index("next_changes"), len(cost.WAYS)
@@ -103,7 +106,8 @@ def costs_of_pieces():
     """What feeding pieces costs, beside one call for the whole data and a reader of it, as cost.tsv says it."""
     known = {tuple(line[:3]): float(line[3]) for line in cost.lines_of_the_table()}
     for way in PIECES:
-        factors = {(page, mode): known[page, mode, "feed_pieces"] / known[page, mode, way] for page in cost.PAGES for mode, _ in cost.PICTURES}
+        pieces = "feed_packed" if way.endswith("packed") else "feed_pieces"
+        factors = {(page, mode): known[page, mode, pieces] / known[page, mode, way] for page in cost.PAGES for mode, _ in cost.PICTURES}
         usual = [factor for (page, _), factor in factors.items() if page not in FEW_RUNS]
         print(f"  pieces beside {way}: {min(usual):.2f} to {max(usual):.2f} times, of few runs {max(factors.values()):.2f}")
         for (page, mode), factor in factors.items():

@@ -51,11 +51,14 @@ static uint32_t by_feed(const uint8_t *data, size_t length, const hayro_ccitt_se
     uint32_t fed = hayro_ccitt_feed(&feed, data, length) + hayro_ccitt_feed_finish(&feed);
     uint32_t listed = hayro_ccitt_feed_next_changes(&feed, numbers, 0, &row);
     uint32_t packed = hayro_ccitt_feed_next_packed(&feed, bytes, 0, &row);
+    uint32_t lists = hayro_ccitt_feed_rows_changes(&feed, numbers, 0, &count, &row);
+    uint32_t bitmap = hayro_ccitt_feed_rows_packed(&feed, bytes, 0, &count, &row);
     uint32_t unused = hayro_ccitt_feed_unused(&feed, bytes, 0, &count);
     outcome->rows = row.rows;
     outcome->changes = row.changes;
     outcome->bytes_read = row.bytes_read + 8 * count;
-    return opened + 10 * listed + 100 * packed + 1000 * fed + 100000 * unused + 1000000 * hayro_ccitt_feed_close(&feed);
+    return opened + 10 * (listed + 10 * (packed + 10 * (lists + 10 * (bitmap + 10 * (unused + 10 * hayro_ccitt_feed_close(&feed))))))
+           + 10000000 * fed;
 }
 
 static uint32_t strip_by_rows(const fax_encode_settings *settings, const uint8_t *row, const uint32_t *changes, uint8_t *data,

@@ -157,6 +157,35 @@ static void read_fed_rows(const known *it, const uint8_t *bitmap) {
     ended(hayro_ccitt_feed_close(&feed), HAYRO_CCITT_OK, "closed");
 }
 
+/* The same at once, into a bitmap with room for one more row, and as lists. */
+static void read_rows_at_once(const known *it, const uint8_t *bitmap) {
+    size_t width = (it->columns + 7ULL) / 8, stride = it->settings.stride ? it->settings.stride : width, count = 7, numbers = it->rows + it->changes;
+    for (int is_packed = 0; is_packed < 2; is_packed++) {
+        hayro_ccitt_row_feed feed = {0, 0, 0};
+        hayro_ccitt_row row;
+        uint32_t status;
+        must(hayro_ccitt_feed_open(&it->settings, &feed) == HAYRO_CCITT_OK, "a feed of rows at once");
+        must(hayro_ccitt_feed(&feed, it->data, it->length) == HAYRO_CCITT_OK && hayro_ccitt_feed_finish(&feed) == HAYRO_CCITT_OK, "fed at once");
+        if (is_packed) {
+            uint8_t *memory = lend(it->rows * stride + width);
+            status = hayro_ccitt_feed_rows_packed(&feed, memory, it->rows * stride + width, &count, &row);
+            for (size_t index = 0; index < it->rows; index++) {
+                must(are_same(memory + index * stride, bitmap + index * stride, width), "the bytes of a row at once");
+                must(is_untouched_behind(memory, index * stride + width, (index + 1) * stride), "the bytes behind a row at once");
+            }
+            must(is_untouched_behind(memory, it->rows * stride, it->rows * stride + width), "the bytes behind the rows at once");
+            take_back(memory);
+        } else {
+            uint32_t *memory = lend(4 * (numbers + 1));
+            status = hayro_ccitt_feed_rows_changes(&feed, memory, numbers + 1, &count, &row);
+            must(are_same(memory, it->lists, 4 * numbers) && is_untouched_behind(memory, 4 * numbers, 4 * (numbers + 1)), "the lists at once");
+            take_back(memory);
+        }
+        must(status == (it->status ? it->status : HAYRO_CCITT_NO_ROW) && count == it->rows && row.rows == it->rows, "the end of rows at once");
+        ended(hayro_ccitt_feed_close(&feed), HAYRO_CCITT_OK, "closed");
+    }
+}
+
 /* Settings that aren't taken: each call says so. */
 static void refuse_settings(const known *it) {
     hayro_ccitt_outcome outcome;
@@ -188,6 +217,7 @@ static void spread(const known *it, const uint8_t *bitmap, size_t size) {
     if (size > 2) spread_rows(it, bitmap, 0);
     read_rows(it, bitmap);
     read_fed_rows(it, bitmap);
+    read_rows_at_once(it, bitmap);
 }
 
 static void encode(const uint8_t *bitmap, size_t length, const fax_encode_settings *settings, uint32_t status, uint64_t rows, const uint8_t *strip,

@@ -56,6 +56,7 @@ CALLS = {
     "hayro_ccitt_feed": [POINTER(Reader), *DATA],
     "hayro_ccitt_feed_finish": [POINTER(Reader)],
     "hayro_ccitt_feed_next_packed": [POINTER(Reader), c_void_p, c_size_t, POINTER(Row)],
+    "hayro_ccitt_feed_rows_packed": [POINTER(Reader), c_void_p, c_size_t, POINTER(c_size_t), POINTER(Row)],
     "hayro_ccitt_feed_unused": [POINTER(Reader), c_void_p, c_size_t, POINTER(c_size_t)],
     "hayro_ccitt_feed_close": [POINTER(Reader)],
     "fax_encode_bitmap": [*DATA, POINTER(EncodeSettings), c_void_p, c_size_t, POINTER(EncodeOutcome)],

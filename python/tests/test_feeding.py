@@ -205,6 +205,38 @@ def test_a_fault_stays():
     assert not feed.ended
 
 
+def test_rows_at_once_are_those_one_at_a_time():
+    for at, (words, data) in enumerate(cases()):
+        keys = keys_of(words)
+        rows, fault, end = by_rows(data, keys)
+        feed, found, most = RowFeed(**keys), b"", at % 5 + 1
+        for piece in [data[start : start + 99] for start in range(0, len(data), 99)] + [None]:
+            feed.finish() if piece is None else feed.feed(piece)
+            try:
+                while packed := feed.read_rows(most):
+                    assert len(packed) <= most * ((keys["columns"] + 7) // 8)
+                    found += packed
+            except DecodeError as raised:
+                assert (type(raised), raised.fault_start) == fault
+                break
+        assert found == b"".join(row for row, _ in rows) and told(feed) == end, (words, data.hex())
+        assert feed.ended == (fault is None)
+
+
+def test_no_rows_are_read_at_once():
+    feed = RowFeed(8, k=-1)
+    feed.feed(b"\x31\xc0\x04\x00\x40")
+    for most in (0, -1):
+        with pytest.raises(ValueError):
+            feed.read_rows(most)
+    with pytest.raises(MemoryError):
+        feed.read_rows(1 << 62)
+    assert feed.read_rows(7) == b"\xe7" and feed.ended
+    assert feed.read_rows(7) == b""
+    feed.close()
+    assert feed.read_rows(7) == b""
+
+
 def test_a_feed_is_finished_and_closed():
     feed = RowFeed(8, 1, k=-1)
     feed.feed(b"\x31\xf8")

@@ -251,6 +251,13 @@ unsafe extern "C" {
         packed_length: usize,
         row: *mut Row,
     ) -> u32;
+    fn hayro_ccitt_feed_rows_packed(
+        feed: *mut Reader,
+        bitmap: *mut u8,
+        bitmap_length: usize,
+        count: *mut usize,
+        row: *mut Row,
+    ) -> u32;
     fn hayro_ccitt_feed_unused(
         feed: *mut Reader,
         bytes: *mut u8,
@@ -424,6 +431,22 @@ impl Feed {
                 &mut self.row,
             )
         }
+    }
+
+    /// Packs the next rows, as many as there is room for, and returns the status and how many.
+    pub(crate) fn rows_packed(&mut self, bitmap: &mut [u8]) -> (u32, usize) {
+        let mut count = 0;
+        // SAFETY: as above.
+        let status = unsafe {
+            hayro_ccitt_feed_rows_packed(
+                &mut self.reader,
+                bitmap.as_mut_ptr(),
+                bitmap.len(),
+                &mut count,
+                &mut self.row,
+            )
+        };
+        (status, count)
     }
 
     /// Copies the bytes that were fed and aren't consumed if there is room for all of them, and returns how many there are.

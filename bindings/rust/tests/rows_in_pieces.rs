@@ -139,6 +139,61 @@ fn pieces_have_the_rows_of_the_whole() {
     println!("{runs} runs, {faults} cases with faults");
 }
 
+/// Rows that are packed into a bitmap, as many as there is room for, are those that come one at a time.
+#[test]
+fn rows_at_once_are_those_one_at_a_time() {
+    let mut rows = 0;
+    for case in strips().iter().chain(&stored_cases()) {
+        let (packed, width) = (case.packed(), case.settings().columns.div_ceil(8) as usize);
+        for (piece, many) in [(1, 1), (64, 3), (4096, 200)] {
+            let (mut feed, mut fed, mut seen) = (feed_of(case), 0, 0);
+            let end = loop {
+                // In every other bitmap a byte too little is left for one more row.
+                let room = many * width + seen % 2 * width.saturating_sub(1);
+                let mut bitmap = vec![0x5A; room];
+                match feed.next_rows_packed(&mut bitmap) {
+                    Ok(Fed::Row(count)) => {
+                        assert!(0 < count && count <= many, "{}", case.line());
+                        for (at, (row, _)) in packed.rows[seen..seen + count].iter().enumerate() {
+                            assert_eq!(bitmap[at * width..(at + 1) * width], row[..]);
+                        }
+                        assert!(bitmap[count * width..].iter().all(|&it| it == 0x5A));
+                        seen += count;
+                    }
+                    Ok(Fed::NeedsMore) => {
+                        let length = piece.min(case.data.len() - fed);
+                        feed.feed(&case.data[fed..fed + length]).unwrap();
+                        fed += length;
+                        if fed == case.data.len() {
+                            feed.finish();
+                        }
+                    }
+                    Ok(Fed::End) => break Ok(()),
+                    Err(FeedError::Data(error)) => break Err(error),
+                    Err(error) => panic!("{error}: {}", case.line()),
+                }
+            };
+            assert_eq!((end, told!(feed)), packed.end, "{}", case.line());
+            assert_eq!(seen, packed.rows.len(), "{}", case.line());
+            rows += seen;
+        }
+    }
+    assert!(rows > 100_000);
+    println!("{rows} rows at once");
+}
+
+#[test]
+fn no_row_is_packed_without_room() {
+    let mut feed = RowFeed::new(settings(0));
+    assert_eq!(feed.next_rows_packed(&mut []), Ok(Fed::NeedsMore));
+    feed.feed(&CLOSED).unwrap();
+    assert_eq!(feed.next_rows_packed(&mut []), Ok(Fed::Row(0)));
+    let mut bitmap = [7; 3];
+    assert_eq!(feed.next_rows_packed(&mut bitmap), Ok(Fed::Row(1)));
+    assert_eq!(bitmap, [0b00011000, 7, 7]);
+    assert_eq!(feed.next_rows_packed(&mut bitmap), Ok(Fed::End));
+}
+
 /// A row comes once its last byte was fed, unless its line was damaged or cut, or bits behind it say what it is.
 #[test]
 fn rows_come_as_soon_as_they_are_known() {

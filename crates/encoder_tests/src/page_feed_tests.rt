@@ -137,6 +137,31 @@ fn pages_of_one_row(rt: HostRuntime) {
     }
 }
 
+/// Of each row of a page it is told whether its line was damaged, and whether a run of it was cut: after a whole line one with a
+/// wrong code, and a run of ten white pixels in eight columns.
+#[test]
+fn damage_of_pages(rt: HostRuntime) {
+    let data = [
+        0x00, 0x18, 0xE0, 0x00, 0x40, 0x3C, 0x00, 0x4E, 0x00, 0x20, 0x02, 0x00, 0x20, 0x02, 0x00,
+        0x20, 0x02,
+    ];
+    let mut settings = pages_by(8, "1d eol rtc");
+    settings.strict = false;
+    let mut pages = PageFeed::new(rt.alloc(), HighestFirst, settings).expect(&rt, "memory");
+    same(&rt, pages.feed(&data), Ok(()));
+    for (number, damage, is_cut) in [
+        (1, None, false),
+        (2, Some(InvalidCode), false),
+        (3, None, true),
+    ] {
+        same(&rt, pages.next_row(), Ok(PageFed::Row));
+        same(&rt, pages.rows_read(), number);
+        same(&rt, pages.damage(), damage);
+        same(&rt, pages.is_cut(), is_cut);
+    }
+    same(&rt, pages.next_row(), Ok(PageFed::PageEnd));
+}
+
 /// Reads data that is fed at once, and returns the notes and the last result, twice.
 fn ends_with(
     rt: &(impl Abort + AllocGlobal),

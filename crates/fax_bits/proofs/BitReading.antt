@@ -11,6 +11,7 @@ pub mod SoughtEols
 pub mod TablesAgree
 pub mod TaggedEols
 pub mod TurnedBytes
+pub mod WhiteWordsListed
 pub mod WindowWords
 pub mod WordRanges
 pub mod WrittenEntries

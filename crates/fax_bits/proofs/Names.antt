@@ -14,6 +14,7 @@ pub use Rattle.fax_bits.specs.Ones.{holds_one}
 pub use Rattle.fax_bits.specs.Repetition.{Reaches, Turn, gathered, repeated}
 pub use Rattle.fax_bits.specs.Runs.{codes_of, run_from, run_of_word, run_turn}
 pub use Rattle.fax_bits.specs.Ticks.{looked, looked_at_tag, missed, run_found, run_gives, word_found}
+pub use Rattle.fax_bits.specs.WhiteWords.{IsWhiteWord}
 pub use Rattle.fax_bits.specs.Window.{AtHand, IsFilled, moved, place_in_word}
 pub use Rattle.fax_bits.specs.Words.{AreWords, HoldsZeros, IsWord, each_word, joined}
 pub use Rattle.fax_bits.specs.WordsHere.{IsRunHere, IsWordHere, RunGoesOn}

@@ -9,6 +9,7 @@ pub mod Repetition
 pub mod Runs
 pub mod Texts
 pub mod Ticks
+pub mod WhiteWords
 pub mod Window
 pub mod Words
 pub mod WordsHere

@@ -1,9 +1,9 @@
 //! The bits of a slice of bytes, read from the start.
 
 ghost use Rattle.std.specs.Prelude.{◌≡◌, ◌+◌, ◌-◌, ◌*◌, ◌/◌, ◌%◌, ◌^◌, ◌<◌, ◌≤◌, ◌==◌, ◌↔◌, ◌∷◌, ℕ, length, min, false};
-ghost use Rattle.std.specs.Prelude.{slice_get, slice_index, get_or, Some, IfSome, true, IfOk, OnOk, OnErr, IsErr, IsOkUnless};
+ghost use Rattle.std.specs.Prelude.{◌++◌, slice_get, slice_index, get_or, Some, IfSome, true, IfOk, OnOk, OnErr, IsErr, IsOkUnless};
 ghost use Rattle.fax_bits.specs.Bits.{AreWholeBytes, BitsAt, BitsFit, bits_of, low_first_bits_of, bits_in, bit_of, here};
-ghost use Rattle.fax_bits.specs.Bits.{at_end, aligned};
+ghost use Rattle.fax_bits.specs.Bits.{at_end, aligned, low_bits};
 ghost use Rattle.fax_bits.specs.Window.{place_in_word, AtHand, moved};
 ghost use Rattle.fax_bits.specs.LookUps.{padded, seven_bits, thirteen_bits, twelve_bits};
 
@@ -450,6 +450,33 @@ pub fn pass_one(reader: &mut BitReader<'_>) -> bool
     }
     // The bit is there to be consumed.
     let _ = reader.consume(1);
+    true
+}
+
+/// Consumes the lowest `count` bits of a number if they are next, the highest of them first, and returns whether they are;
+/// otherwise nothing changes.
+#[inline(always)]
+pub fn pass_bits(reader: &mut BitReader<'_>, bits: u64, count: usize) -> bool
+    requires some { 0 < count }
+    requires few { count ≤ 33 }
+    ensures there { result ≡ true → here reader.old ≡ low_bits count bits ++ here (moved count reader.old) }
+    ensures within { result ≡ true → reader.old.place + count ≤ length reader.old.bits }
+    ensures moved { result ≡ true → reader.new ≡ moved count reader.old }
+    ensures unchanged { result ≡ false → reader.new ≡ reader.old }
+{
+    if reader.window >> (64 - count) != bits {
+        return false;
+    }
+    // The window has zeros past the end.
+    if reader.place + count > reader.data.len() * 8 {
+        return false;
+    }
+    if count > 32 {
+        let _ = reader.consume(1);
+        let _ = reader.consume(32);
+    } else {
+        let _ = reader.consume(count);
+    }
     true
 }
 

@@ -310,4 +310,27 @@ impl PageFeed {
     {
         self.page.row()
     }
+
+    /// Returns the number of rows of the page that were read.
+    pub fn rows_read(&self) -> u64
+        ensures { result ≡ self.now.page.ctx.held.taken }
+    {
+        self.page.rows_read()
+    }
+
+    /// Returns the fault of the last row of the page that was read if its line was damaged and repaired, as [`RowFeed::damage`]
+    /// does (T.4, 4.1.2).
+    pub fn damage(&self) -> Option<DecodeError>
+        ensures { result ≡ self.now.page.rows.damage }
+    {
+        self.page.damage()
+    }
+
+    /// Returns whether a run of that row, or a vertical mode, goes beyond the row's end and was cut there, as
+    /// [`RowFeed::is_cut`] does (T.4, 4.1.1).
+    pub fn is_cut(&self) -> bool
+        ensures { result ≡ self.now.page.rows.cut }
+    {
+        self.page.is_cut()
+    }
 }

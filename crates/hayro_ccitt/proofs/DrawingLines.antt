@@ -2,6 +2,7 @@ pub mod PartsOfLines
 pub mod TwoOnes
 pub mod UsualModes
 pub mod UsualStrokes
+pub mod WhiteLines
 pub mod WhiteRows
 pub use Rattle.fax_reading.proofs.DrawingLines.CountedLines
 pub use Rattle.fax_reading.proofs.DrawingLines.CutRuns

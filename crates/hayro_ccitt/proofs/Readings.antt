@@ -1,5 +1,6 @@
 pub mod BitsHeld
 pub mod BlackGoesOn
+pub mod FeedAccount
 pub mod FeedTurns
 pub mod FeedsOn
 pub mod FeedsPaid
@@ -12,6 +13,7 @@ pub mod LooksKept
 pub mod PartsFed
 pub mod RowByRow
 pub mod RowsAgain
+pub mod RowsDrawn
 pub mod RowsFed
 pub mod RowsPassed
 pub mod RowsPushed

@@ -10,6 +10,7 @@ pub mod RowFeeds
 pub mod RowsRead
 pub mod RowsTried
 pub mod TwoRunsHere
+pub mod WhiteLines
 pub use Rattle.fax_bits.specs.Bits
 pub use Rattle.fax_bits.specs.CodeLists
 pub use Rattle.fax_bits.specs.CodeReading

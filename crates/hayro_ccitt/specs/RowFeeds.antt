@@ -211,12 +211,26 @@ pub record PassesEol (gap : Bits) (from to : ℕ) : Type 0 where
   pub place : gap ≡ fill ++ replicate 11 false ++ true ∷ behind
   pub passed : from + length fill + 12 ≤ to
 
+-- A row is read from a line that begins at this offset. It has no more changes than the line has bits, and but one more than
+-- there are bits up to the end of an EOL, where it is repaired (T.4, 4.1.2).
+pub record DrawsRow (old new : Feeding) : Type 0 where
+  pub start : ℕ
+  pub onward : old.dropped + old.place ≤ start
+  pub past_eol : old.finished ≡ false → old.begun ≡ true → is_at_line old.rows.stand ≡ false → old.ctx.held.has_eols ≡ true
+      → PassesEol (drop old.place old.kept) (old.dropped + old.place) start
+  pub most : start + length (changes new.ctx.held.reference) ≤ new.dropped + length new.kept + 1
+  pub drawn : (start + length (changes new.ctx.held.reference) ≤ new.dropped + new.place)
+      ⊎ ((new.ctx.held.has_eols ≡ true) × ((more fill behind : Bits)
+      → drop new.place new.kept ++ more ≡ fill ++ replicate 11 false ++ true ∷ behind
+      → start + length (changes new.ctx.held.reference) ≤ new.dropped + new.place + length fill + 13))
+
 -- How a call goes on in the data, and what it counts for that: where a gap is passed, no more than twelve bits beyond it were
 -- looked at; the changes of a row are no more than the words of its line, and one; and the lists of changes have no more room
 -- than before, or than a row needs.
 pub record CallGoesOn (old new : Feeding) (answer : Result Fed DecodeError) (gap extra : ℕ) : Type 0 where
   pub counts : old.ctx.ticks + extra ≤ new.ctx.ticks
   pub stored : answer ≡ Ok Fed.Row → length (changes new.ctx.held.reference) + (old.ctx.ticks + extra) ≤ new.ctx.ticks + 1
+  pub draws : answer ≡ Ok Fed.Row → DrawsRow old new
   pub onward : ended new.rows.stand ≡ None → old.dropped + old.place ≤ new.dropped + new.place
   pub near : old.begun ≡ true → old.finished ≡ false → ended new.rows.stand ≡ None
       → gap + old.looked + (old.dropped + old.place) ≤ new.dropped + new.place + new.looked + 12

@@ -18,8 +18,7 @@ use Rattle.hayro_ccitt.specs.Lines.{Line}
 use Rattle.hayro_ccitt.specs.PlainReading.{Progress, with_row, first_gap, move_on, row_of_line, line_here}
 use Rattle.hayro_ccitt.specs.PlainReading.{end_of, line_of_turn, plain, lines_of, line_starts, row_ends, failed_at}
 use Rattle.hayro_ccitt.specs.Repetition.{Turn, Reaches}
-use Rattle.fax_bits.specs.declared.settings.EncodingMode.TheVariants.{Group4}
-use Rattle.hayro_ccitt.specs.Rows.{Row, changes, pixels}
+use Rattle.hayro_ccitt.specs.Rows.{Row, changes}
 use Rattle.hayro_ccitt.specs.Space.{most_room}
 use Rattle.hayro_ccitt.specs.Work.{IsPaidUpTo, found_here, most_counted, words_of}
 
@@ -295,14 +294,6 @@ pub record WorkIsPaid (from : ℕ) (stand : Stand) (settings : DecodeSettings) (
     (place ticks : ℕ) : Type 0 where
   pub words : from + sum_by length (take held.taken (words_of settings bits)) ≤ ticks
   pub paid : IsPaid from stand settings bits held place ticks
-
--- each one that is next is a white line, V0 alone: in Group 4, below a white row, where lines begin anywhere
-pub record RepeatsWhite (held : Held) : Type 0 where
-  pub group4 : held.settings.encoding ≡ Group4
-  pub anywhere : held.settings.rows_are_byte_aligned ≡ false
-  pub white : held.reference ≡ pixels held.settings.columns []
-  pub wide : 0 < held.settings.columns
-  pub fits : held.settings.columns ≤ 4294967295
 
 -- it is there by the plain reading of these bits, and its work is counted from here on
 abbrev pub IsStanding : ℕ → RowState → Context → BitsAt → Type 0

@@ -13,7 +13,7 @@ ghost use Rattle.hayro_ccitt.specs.CodeReading.{read_code};
 ghost use Rattle.hayro_ccitt.specs.Context.{ArePassed, exceeds, right_of_painted, with_cut};
 ghost use Rattle.hayro_ccitt.specs.UsualModes.{GoesOn2d};
 ghost use Rattle.hayro_ccitt.specs.UsualRuns.{GoesOn};
-ghost use Rattle.hayro_ccitt.specs.RowsRead.{RepeatsWhite};
+ghost use Rattle.hayro_ccitt.specs.WhiteLines.{FollowWhite};
 ghost use Rattle.hayro_ccitt.specs.Answers.{DrawsLine, DrawsStep, OnAnswer, words_of_run, words_of_mode, words_from_1d};
 ghost use Rattle.hayro_ccitt.specs.Answers.{words_from_2d, StoresChange, RepairStoresChange, pen_of, step_of_run, step_of_mode};
 ghost use Rattle.hayro_ccitt.specs.Answers.{line_from_1d, line_from_2d, front_of, is_broken, strict_step_of_run};
@@ -26,6 +26,7 @@ use crate::modes::{
     CodingLine, draw_modes, has_mode, has_no_room, is_white_row, lay_down_row, put_ends, take_ends,
 };
 use crate::usual::{draw_runs, draw_two_runs, lay_down, pass_white_row, take_up};
+use crate::white_lines::{WhiteLines, no_lines, white_lines};
 use crate::{DecodeError, Decoder, Result};
 use fax_bits::bit_reader::{
     BitOrder, BitReader, BitsAtHand, at_hand, go_to, none_at_hand, window_at_hand,
@@ -558,38 +559,36 @@ impl DecoderContext {
         self.decoded_rows += 1;
     }
 
-    /// Returns whether each one that is next is a white line: V0 below a white row of Group 4, whose lines may begin anywhere.
+    /// Returns the white lines that may be next: none if the row before isn't white, nor where lines begin at whole bytes.
     #[inline(always)]
-    pub(crate) fn repeats_white(&self) -> bool
-        ensures { result ≡ true → RepeatsWhite self.now.held }
+    pub(crate) fn white_lines(&self) -> WhiteLines
+        ensures { FollowWhite self.now.held.settings self.now.held.has_eols self.now.held.reference result }
     {
-        match self.settings.encoding {
-            EncodingMode::Group4 => {}
-            EncodingMode::Group3_1D | EncodingMode::Group3_2D => return false,
-        }
+        let has_eols = self.has_eols;
         if !is_white_row(&self.ref_changes) {
-            return false;
+            return no_lines(has_eols);
         }
         let columns = self.settings.columns;
         if columns == 0 {
-            return false;
+            return no_lines(has_eols);
         }
-        !self.settings.rows_are_byte_aligned
+        if self.settings.rows_are_byte_aligned && !has_eols {
+            return no_lines(has_eols);
+        }
+        white_lines(self.settings.encoding, columns, has_eols)
     }
 
-    /// Counts one more row that is the reference row again, with three ticks: for the bit that was looked at before it, for its
-    /// mode and for b1.
+    /// Counts one more row that is the reference row again, with two ticks: for its mode and for b1, or for the words of its run.
     #[inline(always)]
     pub(crate) fn take_row_again(&mut self)
         requires { self.old.held.taken + 1 < 2 ^ 64 }
         ensures frame { self.new ≡ record self.old {
           held = record self.old.held { taken = self.old.held.taken + 1 };
-          ticks = self.old.ticks + 3;
+          ticks = self.old.ticks + 2;
         } }
     {
         let rows = self.decoded_rows;
         self.decoded_rows = rows + 1;
-        self.ticks.tick();
         self.ticks.tick();
         self.ticks.tick();
     }

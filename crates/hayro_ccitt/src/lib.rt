@@ -49,6 +49,7 @@ mod row_feed;
 mod row_reader;
 mod rows;
 mod usual;
+mod white_lines;
 
 use bit_reader::{BitOrder, BitReader};
 pub use context::DecoderContext;

@@ -47,8 +47,8 @@ pub(crate) fn push_rows<D: Decoder>(
             *reader = at_bit(reader, rows.started_at);
             return Err(refusal);
         }
-        let repeats = ctx.repeats_white();
-        'white: while rows.read_white_row(repeats, ctx, reader) {
+        let lines = ctx.white_lines();
+        'white: while rows.read_white_row(lines, ctx, reader) {
             if let Err(refusal) = decoder.push_row(ctx.reference_row()) {
                 let damage = ctx.damaged_rows();
                 let cuts = ctx.cut_rows();

@@ -691,7 +691,8 @@ impl RowFeed {
         self.place -= bytes * 8;
     }
 
-    /// Feeds the bytes that come next in the data. Those that were read are dropped first, also if this fails.
+    /// Feeds the bytes that come next in the data. Those that were read are dropped first, also if this fails, and those that
+    /// are left are moved; while the same line or gap is waited for, none are.
     ///
     /// # Errors
     ///

@@ -16,15 +16,16 @@ ghost use Rattle.hayro_ccitt.specs.RowsRead.{ReachesNextLine};
 ghost use Rattle.hayro_ccitt.specs.RowsRead.{stand_after, line_after, is_at_line, at_end_of_rows, ended, seen, IsStanding};
 ghost use Rattle.hayro_ccitt.specs.PlainReading.{failed_at};
 ghost use Rattle.hayro_ccitt.specs.RowsTried.{PassesGapHere, StandsFirst, rows_behind_line};
-ghost use Rattle.hayro_ccitt.specs.RowsRead.{RepeatsWhite};
+ghost use Rattle.hayro_ccitt.specs.WhiteLines.{FollowWhite};
 ghost use Rattle.std.specs.Prelude.{drop, Ok};
 ghost use Rattle.hayro_ccitt.specs.RowsRead.{IsStandingAtLine, DamageIsCounted, ReadsNext, gaps_passed, row_came};
 
 use crate::context::DecoderContext;
 use crate::group3::read_leading_eols;
 use crate::rows::{limit_met, pass_gap, read_row};
+use crate::white_lines::{WhiteLines, pass_line};
 use crate::{DecodeError, Result};
-use fax_bits::bit_reader::{BitOrder, BitReader, bit_len, pass_one};
+use fax_bits::bit_reader::{BitOrder, BitReader, bit_len};
 use fax_bits::{DecodeSettings, EncodingMode};
 use std::alloc::Global;
 use std::marker::Model;
@@ -292,16 +293,16 @@ impl RowState {
         row
     }
 
-    /// If each one that is next is a white row, reads such a row, and returns whether one is here; otherwise nothing is read.
+    /// Reads the EOL and the line of a white row, if one of these is next, and returns whether one is; otherwise nothing is read.
     #[inline(always)]
     pub(crate) fn read_white_row(
         &mut self,
-        repeats: bool,
+        lines: WhiteLines,
         ctx: &mut DecoderContext,
         reader: &mut BitReader<'_>,
     ) -> bool
         requires behind_row { self.old.stand ≡ Stand.BehindRow }
-        requires white { repeats ≡ true → RepeatsWhite ctx.old.held × (ctx.old.held.has_eols ≡ false) }
+        requires follow { FollowWhite ctx.old.held.settings ctx.old.held.has_eols ctx.old.held.reference lines }
         requires rows { ctx.old.held.taken ≤ length reader.old.bits + 2 }
         ensures reads { (from : ℕ) → IsStanding from self.old ctx.old reader.old → result ≡ true
             → ReadsNext (seen self.old ctx.old reader.old) (seen self.new ctx.new reader.new) (Ok true) }
@@ -317,18 +318,15 @@ impl RowState {
         ensures within { result ≡ true → self.new.started_at ≤ length reader.old.bits }
         ensures none { result ≡ false → ctx.new.held.taken ≡ ctx.old.held.taken }
     {
-        if !repeats {
-            return false;
-        }
         if limit_met(ctx) {
             return false;
         }
         let start = reader.bit_pos();
-        if !pass_one(reader) {
+        if !pass_line(lines, reader) {
             return false;
         }
         ctx.take_row_again();
-        self.started_at = start;
+        self.started_at = start + lines.gap;
         self.damage = None;
         self.cut = false;
         self.missed = None;

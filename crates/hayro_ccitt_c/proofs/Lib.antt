@@ -1,9 +1,11 @@
 pub mod Encoded
+pub mod FedRows
 pub mod InvertedBits
 pub mod ListedMemory
 pub mod PackedMemory
 pub mod PackedTogether
 pub mod PointersHeld
 pub mod Reporting
+pub mod RowsStand
 pub mod SpreadRows
 pub mod TakenRows

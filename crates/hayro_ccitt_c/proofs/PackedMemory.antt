@@ -31,7 +31,7 @@ use Rattle.hayro_ccitt_c.proofs.Reporting.{counts, changes_counted}
 
 -- ---- one row
 -- the first elements of a list in two parts
-take_into : {X : Type 0} (front behind : List X) (n more : ℕ) → n ≡ length front + more
+pub take_into : {X : Type 0} (front behind : List X) (n more : ℕ) → n ≡ length front + more
     → take n (front ++ behind) ≡ front ++ take more behind
 take_into [] behind n more is = let same : n ≡ more = omega (arith, is) in ap (λ (m : ℕ). take m behind) same
 take_into (x ∷ front) behind zero more is = absurd (omega (arith, is))

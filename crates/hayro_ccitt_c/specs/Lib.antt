@@ -1,4 +1,5 @@
 pub mod Encoding
+pub mod GivenRows
 pub mod Handles
 pub mod Listing
 pub mod Owned

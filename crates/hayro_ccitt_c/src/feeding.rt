@@ -6,24 +6,25 @@ ghost use Rattle.hayro_ccitt.specs.Rows.{changes};
 ghost use Rattle.hayro_ccitt_c.specs.Encoding.{AreEncoded, HaveNoRoom};
 ghost use Rattle.hayro_ccitt_c.specs.Packing.{bytes_of_row};
 ghost use Rattle.hayro_ccitt_c.specs.RowsFed.{FinishesFeed, GivesFed, IsFeedOpened, TakesBytes, TurnsToFed, as_paused};
-ghost use Rattle.hayro_ccitt_c.specs.RowsFed.{is_fed_row, status_of_fed};
-ghost use Rattle.hayro_ccitt_c.specs.RowsGiven.{IsListed, IsPacked, TellsOf};
+ghost use Rattle.hayro_ccitt_c.specs.RowsFed.{ListsRows, PacksRows, is_fed_row, room_of_list, status_of_fed};
+ghost use Rattle.hayro_ccitt_c.specs.RowsGiven.{IsCounted, IsListed, IsPacked, TellsOf};
 ghost use Rattle.hayro_ccitt_c.specs.declared.status.TheConstants.{OK, REFUSED};
 
+use crate::packed_rows::Layout;
 use crate::reading::status_of_row;
 use crate::row_outcome::{RowOutcome, damage_told, miss_told};
-use crate::row_room::{list_over, pack_over};
+use crate::row_room::{count_over, list_over, pack_over};
 use crate::status;
 use hayro_ccitt::bit_reader::BitOrder;
 use hayro_ccitt::{DecodeError, DecodeSettings, Fed, Result, RowFeed};
 use std::alloc::Global;
 
-/// What a handle owns: a reading, whether its last row is still to be returned, and whether 0 stands for black in packed rows.
+/// What a handle owns: a reading, whether its last row is still to be returned, and the layout of packed rows.
 #[derive(Drop)]
 pub struct Feeding {
     pub(crate) rows: RowFeed,
     pub(crate) is_kept: bool,
-    pub(crate) black_is_0: bool,
+    pub(crate) layout: Layout,
 }
 
 /// Returns whether there was a row.
@@ -47,21 +48,34 @@ fn status_of_fed(answer: Result<Fed>) -> u32
     }
 }
 
+/// Returns the status of the last call of one row after this number of rows: a row that is kept then is `OK`.
+fn status_behind(status: u32, count: usize) -> u32
+    ensures other { status ≢ REFUSED → result ≡ status }
+    ensures first { count ≡ 0 → result ≡ status }
+    ensures kept { status ≡ REFUSED → 0 < count → result ≡ OK }
+{
+    if status == status::REFUSED && count > 0 {
+        status::OK
+    } else {
+        status
+    }
+}
+
 impl Feeding {
     /// Creates a reading to which nothing was fed. Its only error is `OutOfMemory`.
     pub(crate) fn new(
         alloc: Global,
         order: BitOrder,
         settings: DecodeSettings,
-        black_is_0: bool,
+        layout: Layout,
     ) -> Result<Feeding>
-        ensures opened { IfOk result (IsFeedOpened settings order black_is_0) }
+        ensures opened { IfOk result (IsFeedOpened settings order layout) }
     {
         let rows = RowFeed::new(alloc, order, settings)?;
         Ok(Feeding {
             rows,
             is_kept: false,
-            black_is_0,
+            layout,
         })
     }
 
@@ -91,7 +105,7 @@ impl Feeding {
     fn come_to_row(&mut self) -> Result<Fed>
         ensures turns { TurnsToFed self.old.is_kept self.old.rows self.new.rows result }
         ensures none_kept { self.new.is_kept ≡ false }
-        ensures black { self.new.black_is_0 ≡ self.old.black_is_0 }
+        ensures layout { self.new.layout ≡ self.old.layout }
     {
         if self.is_kept {
             self.is_kept = false;
@@ -106,7 +120,7 @@ impl Feeding {
         ensures refused { result ≡ false → length list.new < length (changes self.old.rows.ctx.held.reference) }
         ensures unwritten { result ≡ false → list.new ≡ list.old }
         ensures rows { self.new.rows ≡ self.old.rows }
-        ensures black { self.new.black_is_0 ≡ self.old.black_is_0 }
+        ensures layout { self.new.layout ≡ self.old.layout }
         ensures kept { self.new.is_kept ≡ not result }
     {
         let has_room = list_over(list, self.rows.row());
@@ -114,18 +128,34 @@ impl Feeding {
         has_room
     }
 
+    /// Writes the number of the last row's changes and then the changes, or keeps it if there is no room for it. Returns whether
+    /// there was.
+    fn count_row(&mut self, list: &mut [u32]) -> bool
+        ensures counted { result ≡ true → IsCounted self.old.rows.ctx.held.reference list.old list.new }
+        ensures refused { result ≡ false → length list.new < room_of_list self.old }
+        ensures unwritten { result ≡ false → list.new ≡ list.old }
+        ensures rows { self.new.rows ≡ self.old.rows }
+        ensures layout { self.new.layout ≡ self.old.layout }
+        ensures kept { self.new.is_kept ≡ not result }
+    {
+        let columns = self.rows.settings().columns;
+        let has_room = count_over(list, columns, self.rows.row());
+        self.is_kept = !has_room;
+        has_room
+    }
+
     /// Writes the last row packed, or keeps it if there is no room for it. Returns whether there was.
     fn pack_row(&mut self, bytes: &mut [u8]) -> bool
-        ensures packed { result ≡ true → IsPacked self.old.black_is_0 self.old.rows.ctx.held.settings.columns
+        ensures packed { result ≡ true → IsPacked self.old.layout.black_is_0 self.old.rows.ctx.held.settings.columns
             self.old.rows.ctx.held.reference bytes.old bytes.new }
         ensures refused { result ≡ false → length bytes.new < bytes_of_row self.old.rows.ctx.held.settings.columns }
         ensures unwritten { result ≡ false → bytes.new ≡ bytes.old }
         ensures rows { self.new.rows ≡ self.old.rows }
-        ensures black { self.new.black_is_0 ≡ self.old.black_is_0 }
+        ensures layout { self.new.layout ≡ self.old.layout }
         ensures kept { self.new.is_kept ≡ not result }
     {
         let columns = self.rows.settings().columns;
-        let has_room = pack_over(bytes, columns, self.rows.row(), self.black_is_0);
+        let has_room = pack_over(bytes, columns, self.rows.row(), self.layout.black_is_0);
         self.is_kept = !has_room;
         has_room
     }
@@ -151,7 +181,7 @@ impl Feeding {
     /// Writes the next row packed, and returns the status.
     pub(crate) fn pack_next(&mut self, bytes: &mut [u8]) -> u32
         ensures gives { GivesFed self.old self.new result }
-        ensures packed { result ≡ OK → IsPacked self.new.black_is_0 self.new.rows.ctx.held.settings.columns
+        ensures packed { result ≡ OK → IsPacked self.new.layout.black_is_0 self.new.rows.ctx.held.settings.columns
             self.new.rows.ctx.held.reference bytes.old bytes.new }
         ensures refused { result ≡ REFUSED → length bytes.new < bytes_of_row self.new.rows.ctx.held.settings.columns }
         ensures unwritten { result ≢ OK → bytes.new ≡ bytes.old }
@@ -164,6 +194,63 @@ impl Feeding {
             status::OK
         } else {
             status::REFUSED
+        }
+    }
+
+    /// Writes the number of the next row's changes and then the changes, and returns the status.
+    fn count_next(&mut self, list: &mut [u32]) -> u32
+        ensures gives { GivesFed self.old self.new result }
+        ensures counted { result ≡ OK → IsCounted self.new.rows.ctx.held.reference list.old list.new }
+        ensures refused { result ≡ REFUSED → length list.new < room_of_list self.new }
+        ensures unwritten { result ≢ OK → list.new ≡ list.old }
+    {
+        let answer = self.come_to_row();
+        if !is_fed_row(answer) {
+            return status_of_fed(answer);
+        }
+        if self.count_row(list) {
+            status::OK
+        } else {
+            status::REFUSED
+        }
+    }
+
+    /// Packs the next rows, as many as there is room for, each a stride behind the one before. `count` is how many.
+    pub(crate) fn pack_rows(&mut self, bytes: &mut [u8], count: &mut usize) -> u32
+        ensures { PacksRows self.old self.new bytes.old bytes.new count.new result }
+    {
+        let step = self.layout.stride.max(1) as usize;
+        let mut start = 0;
+        *count = 0;
+        loop {
+            let status = self.pack_next(&mut bytes[start..]);
+            if status != status::OK {
+                return status_behind(status, *count);
+            }
+            *count += 1;
+            if bytes.len() - start <= step {
+                return status::OK;
+            }
+            start += step;
+        }
+    }
+
+    /// Lists the next rows, as many as there is room for. `count` is how many.
+    pub(crate) fn list_rows(&mut self, lists: &mut [u32], count: &mut usize) -> u32
+        ensures { ListsRows self.old self.new lists.old lists.new count.new result }
+    {
+        let mut start = 0;
+        *count = 0;
+        loop {
+            let status = self.count_next(&mut lists[start..]);
+            if status != status::OK {
+                return status_behind(status, *count);
+            }
+            *count += 1;
+            start += 1 + self.rows.row().len();
+            if start == lists.len() {
+                return status::OK;
+            }
         }
     }
 

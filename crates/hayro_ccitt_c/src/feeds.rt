@@ -6,7 +6,7 @@ ghost use Rattle.hayro_ccitt.specs.Rows.{changes};
 ghost use Rattle.hayro_ccitt_c.specs.Encoding.{AreEncoded, HaveNoRoom};
 ghost use Rattle.hayro_ccitt_c.specs.Owned.{OnFeeding, OnFeedings};
 ghost use Rattle.hayro_ccitt_c.specs.Packing.{bytes_of_row};
-ghost use Rattle.hayro_ccitt_c.specs.RowsFed.{FinishesFeed, GivesFed, IsFeedOpened, TakesBytes, as_paused};
+ghost use Rattle.hayro_ccitt_c.specs.RowsFed.{FinishesFeed, GivesFed, IsFeedOpened, ListsRows, PacksRows, TakesBytes, as_paused};
 ghost use Rattle.hayro_ccitt_c.specs.RowsGiven.{IsListed, IsPacked, TellsOf, told_nothing};
 ghost use Rattle.hayro_ccitt_c.specs.Settings.{layout_of, order_of, settings_of};
 ghost use Rattle.hayro_ccitt_c.specs.declared.status.TheConstants.{OK, OUT_OF_MEMORY, REFUSED, NOT_TAKEN};
@@ -27,7 +27,7 @@ use std::alloc::Global;
 pub extern "C" fn hayro_ccitt_feed_open(alloc: Global, settings: &Settings, feed: &mut Feed) -> u32
     ensures statuses { (result ≡ OK) ⊎ (result ≡ OUT_OF_MEMORY) ⊎ (result ≡ NOT_TAKEN) }
     ensures opened { result ≡ OK → IfSome (settings_of settings.now) (λ s.
-        OnFeeding feed.new.handle.value (IsFeedOpened s (order_of settings.now) (layout_of settings.now).black_is_0)) }
+        OnFeeding feed.new.handle.value (IsFeedOpened s (order_of settings.now) (layout_of settings.now))) }
     ensures is_open { result ≡ OK → feed.new.is_open ≡ true }
     ensures unchanged { result ≢ OK → feed.new ≡ feed.old }
     ensures untaken { (result ≡ NOT_TAKEN) ↔ ((settings_of settings.now ≡ None) ⊎ (feed.old.is_open ≡ true)) }
@@ -38,8 +38,8 @@ pub extern "C" fn hayro_ccitt_feed_open(alloc: Global, settings: &Settings, feed
     let Some(meant) = settings_of(settings) else {
         return status::NOT_TAKEN;
     };
-    let black_is_0 = layout_of(settings).black_is_0;
-    let Ok(feeding) = Owned::feeding(alloc, order_of(settings), meant, black_is_0) else {
+    let layout = layout_of(settings);
+    let Ok(feeding) = Owned::feeding(alloc, order_of(settings), meant, layout) else {
         return status::OUT_OF_MEMORY;
     };
     feed.hold(feeding);
@@ -134,7 +134,7 @@ pub extern "C" fn hayro_ccitt_feed_next_packed(
     ensures gives { feed.old.is_open ≡ true → OnFeedings feed.old.handle.value feed.new.handle.value
         (λ old new. GivesFed old new result) }
     ensures packed { result ≡ OK → OnFeeding feed.new.handle.value (λ feeding.
-        IsPacked feeding.black_is_0 feeding.rows.ctx.held.settings.columns feeding.rows.ctx.held.reference
+        IsPacked feeding.layout.black_is_0 feeding.rows.ctx.held.settings.columns feeding.rows.ctx.held.reference
         bytes.old bytes.new) }
     ensures refused { result ≡ REFUSED → OnFeeding feed.new.handle.value (λ feeding.
         length bytes.new < bytes_of_row feeding.rows.ctx.held.settings.columns) }
@@ -151,6 +151,79 @@ pub extern "C" fn hayro_ccitt_feed_next_packed(
     }
     let mut feeding = feed.take(alloc);
     let status = feeding.pack_fed(bytes, outcome);
+    feed.hold(feeding);
+    status
+}
+
+/// Tells that no reading is open, and so no row is given.
+fn nothing_given(count: &mut usize, outcome: &mut RowOutcome) -> u32
+    ensures status { result ≡ NOT_TAKEN }
+    ensures none { count.new ≡ 0 }
+    ensures told { outcome.new ≡ told_nothing }
+{
+    *count = 0;
+    *outcome = nothing_told();
+    status::NOT_TAKEN
+}
+
+/// Reads the next rows, as many as there is room for, and packs them into `bitmap`, each as [`hayro_ccitt_feed_next_packed`] does,
+/// and each a stride behind the one before. `count` is how many. The bytes between them, and after the last one, keep their values.
+///
+/// `OK` says that there is no room for one more. The other statuses are those of [`hayro_ccitt_feed_next_packed`] after these
+/// rows: of them `REFUSED` says that there is no room for the first. `outcome` describes the last row that was read: if a
+/// stride is left of the bitmap, but not the bytes of a row, it is one that the next call gives.
+#[unsafe(no_mangle)]
+pub extern "C" fn hayro_ccitt_feed_rows_packed(
+    alloc: Global,
+    feed: &mut Feed,
+    bitmap: &mut [u8],
+    count: &mut usize,
+    outcome: &mut RowOutcome,
+) -> u32
+    ensures packs { feed.old.is_open ≡ true → OnFeedings feed.old.handle.value feed.new.handle.value
+        (λ old new. PacksRows old new bitmap.old bitmap.new count.new result) }
+    ensures told { feed.old.is_open ≡ true → OnFeeding feed.new.handle.value (λ feeding.
+        TellsOf (as_paused feeding.rows) outcome.new) }
+    ensures is_open { feed.new.is_open ≡ feed.old.is_open }
+    ensures untaken { feed.old.is_open ≡ false → (result ≡ NOT_TAKEN) × (feed.new ≡ feed.old) × (bitmap.new ≡ bitmap.old)
+        × (count.new ≡ 0) × (outcome.new ≡ told_nothing) }
+{
+    if !feed.is_open {
+        return nothing_given(count, outcome);
+    }
+    let mut feeding = feed.take(alloc);
+    let status = feeding.pack_all_fed(bitmap, count, outcome);
+    feed.hold(feeding);
+    status
+}
+
+/// Reads the next rows, as many as there is room for, and lists them in `lists`, one after another: of each row the number of its
+/// changes, and then the changes. `count` is how many. The numbers after the last row keep their values.
+///
+/// `OK` says that there is no room for one more. The other statuses are those of [`hayro_ccitt_feed_next_changes`] after these
+/// rows: of them `REFUSED` says that there is no room for the first. `outcome` describes the last row that was read: if numbers
+/// are left behind the last one in `lists`, it is one that the next call gives.
+#[unsafe(no_mangle)]
+pub extern "C" fn hayro_ccitt_feed_rows_changes(
+    alloc: Global,
+    feed: &mut Feed,
+    lists: &mut [u32],
+    count: &mut usize,
+    outcome: &mut RowOutcome,
+) -> u32
+    ensures lists { feed.old.is_open ≡ true → OnFeedings feed.old.handle.value feed.new.handle.value
+        (λ old new. ListsRows old new lists.old lists.new count.new result) }
+    ensures told { feed.old.is_open ≡ true → OnFeeding feed.new.handle.value (λ feeding.
+        TellsOf (as_paused feeding.rows) outcome.new) }
+    ensures is_open { feed.new.is_open ≡ feed.old.is_open }
+    ensures untaken { feed.old.is_open ≡ false → (result ≡ NOT_TAKEN) × (feed.new ≡ feed.old) × (lists.new ≡ lists.old)
+        × (count.new ≡ 0) × (outcome.new ≡ told_nothing) }
+{
+    if !feed.is_open {
+        return nothing_given(count, outcome);
+    }
+    let mut feeding = feed.take(alloc);
+    let status = feeding.list_all_fed(lists, count, outcome);
     feed.hold(feeding);
     status
 }

@@ -30,6 +30,7 @@ mod feed_handle;
 mod feeding;
 mod feeds;
 mod handle;
+mod laws;
 mod listed_rows;
 mod owned;
 mod owned_feeding;
@@ -50,7 +51,7 @@ pub use feed_handle::Feed;
 pub use feeds::{
     hayro_ccitt_feed, hayro_ccitt_feed_close, hayro_ccitt_feed_finish,
     hayro_ccitt_feed_next_changes, hayro_ccitt_feed_next_packed, hayro_ccitt_feed_open,
-    hayro_ccitt_feed_unused,
+    hayro_ccitt_feed_rows_changes, hayro_ccitt_feed_rows_packed, hayro_ccitt_feed_unused,
 };
 use hayro_ccitt::bits_fit;
 use listed_rows::ListedRows;

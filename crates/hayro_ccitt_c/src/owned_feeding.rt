@@ -6,12 +6,13 @@ ghost use Rattle.hayro_ccitt.specs.Rows.{changes};
 ghost use Rattle.hayro_ccitt_c.specs.Encoding.{AreEncoded, HaveNoRoom};
 ghost use Rattle.hayro_ccitt_c.specs.Owned.{IfFeeding, IfFeedings, is_feeding};
 ghost use Rattle.hayro_ccitt_c.specs.Packing.{bytes_of_row};
-ghost use Rattle.hayro_ccitt_c.specs.RowsFed.{FinishesFeed, GivesFed, IsFeedOpened, TakesBytes, as_paused};
+ghost use Rattle.hayro_ccitt_c.specs.RowsFed.{FinishesFeed, GivesFed, IsFeedOpened, ListsRows, PacksRows, TakesBytes, as_paused};
 ghost use Rattle.hayro_ccitt_c.specs.RowsGiven.{IsListed, IsPacked, TellsOf};
 ghost use Rattle.hayro_ccitt_c.specs.declared.status.TheConstants.{OK, REFUSED};
 
 use crate::feeding::Feeding;
 use crate::owned::Owned;
+use crate::packed_rows::Layout;
 use crate::row_outcome::RowOutcome;
 use crate::status;
 use hayro_ccitt::DecodeSettings;
@@ -24,12 +25,12 @@ impl Owned {
         alloc: Global,
         order: BitOrder,
         settings: DecodeSettings,
-        black_is_0: bool,
+        layout: Layout,
     ) -> hayro_ccitt::Result<Box<Owned>>
-        ensures opened { IfOk result (λ made. IfFeeding made.value (IsFeedOpened settings order black_is_0)) }
+        ensures opened { IfOk result (λ made. IfFeeding made.value (IsFeedOpened settings order layout)) }
         ensures kind { IfOk result (λ made. is_feeding made.value ≡ true) }
     {
-        let feeding = Feeding::new(alloc, order, settings, black_is_0)?;
+        let feeding = Feeding::new(alloc, order, settings, layout)?;
         let held = Box::new(alloc, Owned::Feeding(feeding))?;
         Ok(held)
     }
@@ -89,7 +90,7 @@ impl Owned {
         requires feeds { is_feeding self.old ≡ true }
         ensures gives { IfFeedings self.old self.new (λ old new. GivesFed old new result) }
         ensures packed { result ≡ OK → IfFeeding self.new (λ feeding.
-            IsPacked feeding.black_is_0 feeding.rows.ctx.held.settings.columns feeding.rows.ctx.held.reference
+            IsPacked feeding.layout.black_is_0 feeding.rows.ctx.held.settings.columns feeding.rows.ctx.held.reference
             bytes.old bytes.new) }
         ensures refused { result ≡ REFUSED → IfFeeding self.new (λ feeding.
             length bytes.new < bytes_of_row feeding.rows.ctx.held.settings.columns) }
@@ -100,6 +101,50 @@ impl Owned {
         match self {
             Owned::Feeding(feeding) => {
                 let status = feeding.pack_next(bytes);
+                *outcome = feeding.told();
+                status
+            }
+            Owned::Reading(_) | Owned::Strip(_) => status::NOT_TAKEN,
+        }
+    }
+
+    /// Packs the next rows of data in pieces, as many as there is room for, and returns the status. `count` is how many.
+    pub(crate) fn pack_all_fed(
+        &mut self,
+        bytes: &mut [u8],
+        count: &mut usize,
+        outcome: &mut RowOutcome,
+    ) -> u32
+        requires feeds { is_feeding self.old ≡ true }
+        ensures packs { IfFeedings self.old self.new (λ old new. PacksRows old new bytes.old bytes.new count.new result) }
+        ensures told { IfFeeding self.new (λ feeding. TellsOf (as_paused feeding.rows) outcome.new) }
+        ensures feeds { is_feeding self.new ≡ true }
+    {
+        match self {
+            Owned::Feeding(feeding) => {
+                let status = feeding.pack_rows(bytes, count);
+                *outcome = feeding.told();
+                status
+            }
+            Owned::Reading(_) | Owned::Strip(_) => status::NOT_TAKEN,
+        }
+    }
+
+    /// Lists the next rows of data in pieces, as many as there is room for, and returns the status. `count` is how many.
+    pub(crate) fn list_all_fed(
+        &mut self,
+        lists: &mut [u32],
+        count: &mut usize,
+        outcome: &mut RowOutcome,
+    ) -> u32
+        requires feeds { is_feeding self.old ≡ true }
+        ensures lists { IfFeedings self.old self.new (λ old new. ListsRows old new lists.old lists.new count.new result) }
+        ensures told { IfFeeding self.new (λ feeding. TellsOf (as_paused feeding.rows) outcome.new) }
+        ensures feeds { is_feeding self.new ≡ true }
+    {
+        match self {
+            Owned::Feeding(feeding) => {
+                let status = feeding.list_rows(lists, count);
                 *outcome = feeding.told();
                 status
             }

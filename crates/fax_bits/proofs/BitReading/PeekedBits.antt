@@ -21,7 +21,7 @@ low_bits-padded (suc n) x (b ∷ here) h =
     cc
 
 -- the highest n bits of a word that contains the next ones
-highest_bits : (wide : ℕ) (at : BitsAt) (word n : ℕ) → n ≤ wide → ((k : ℕ) → k < n
+pub highest_bits : (wide : ℕ) (at : BitsAt) (word n : ℕ) → n ≤ wide → ((k : ℕ) → k < n
     → bit_of word (wide - 1 - k) ≡ get_or at.bits (at.place + k) false) → low_bits n (word / 2 ^ (wide - n)) ≡ padded n (here at)
 highest_bits wide at word n le h = low_bits-padded n (word / 2 ^ (wide - n)) (here at) each
   where

@@ -27,7 +27,7 @@ use Rattle.fax_bits.proofs.BitReading.ConsecutiveEols.{eols_with_tags-none, last
 codes_miss : (color : Color) → each_word (begins_no_eol 0) (codes_of color) ≡ true
 codes_miss color = grind (arith, common_steps)
 
-run_starts : (color : Color) (n : ℕ) (word more : Bits) → Spells color n word → IsLineStart (word ++ more)
+pub run_starts : (color : Color) (n : ℕ) (word more : Bits) → Spells color n word → IsLineStart (word ++ more)
 run_starts color n word more (Spells.terminating m w has small) =
     grind (arith, common_steps, codes_miss, each_word_at, bits_at_word, no_eol_at_word, begins_no_eol)
 run_starts color n word more (Spells.makeup m w {n = k} {bits = next} has large rest) =
@@ -65,7 +65,7 @@ all_eols_more fill more =
     ap (λ (n : ℕ). eols n (eol fill ++ more)) (length-eol fill more) ∙ eols_more (11 + fill + length more) fill more
 
 -- one EOL before a line
-one_eol : (fill : ℕ) (here : Bits) → after_eol 0 here ≡ None → all_eols (eol fill ++ here) ≡ (1, here)
+pub one_eol : (fill : ℕ) (here : Bits) → after_eol 0 here ≡ None → all_eols (eol fill ++ here) ≡ (1, here)
 one_eol fill here none = all_eols_more fill here ∙ ap one_more (eols-none (11 + fill + length here) here none)
 
 tagged_eols_more : (most fill : ℕ) (more : Bits)

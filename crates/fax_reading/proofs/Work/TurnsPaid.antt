@@ -17,7 +17,7 @@ pub record PaysLine (encoding : EncodingMode) (here rest : Bits) (found : ℕ) :
   pub words : found + length rest ≤ length here
   pub zeros : looked_ahead encoding here + length rest ≤ length here
 
-whole_pays : (encoding : EncodingMode) (strict : Bool) (columns : ℕ) (reference : Row) (here : Bits) (row : Row) (rest : Bits)
+pub whole_pays : (encoding : EncodingMode) (strict : Bool) (columns : ℕ) (reference : Row) (here : Bits) (row : Row) (rest : Bits)
     → 0 < columns → line_by encoding strict columns reference here ≡ Line.whole row rest
     → PaysLine encoding here rest (length (line_found encoding strict columns reference here))
 whole_pays Group3_2D strict columns reference [] row rest wide e = absurd cc

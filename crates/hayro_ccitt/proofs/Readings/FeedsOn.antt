@@ -15,6 +15,7 @@ use Rattle.fax_bits.specs.declared.bit_reader.BitOrder.{BitOrder}
 use Rattle.hayro_ccitt.specs.Bits.{bits_of_byte}
 use Rattle.std.specs.Prelude.{◌^◌}
 use Rattle.hayro_ccitt.proofs.Readings.RowByRow.{at_line_stands, begun_is, few, paints_at_line, reads_on}
+use Rattle.hayro_ccitt.proofs.Readings.RowsDrawn.{row_drawn}
 use Rattle.hayro_ccitt.proofs.Readings.RowsFed.{stands_later, left_is, left_not, from_place, place_within}
 use Rattle.hayro_ccitt.proofs.Work.RoomTaken.{row_enough}
 use Rattle.hayro_ccitt.specs.declared.row_reader.RowState.{RowState}
@@ -32,7 +33,7 @@ use Rattle.hayro_ccitt.proofs.Names.{changes}
 use Rattle.fax_reading.proofs.Work.WordsPay.{found_within}
 use Rattle.hayro_ccitt.proofs.Work.TurnsPaid.{row_shorter}
 use Rattle.hayro_ccitt.proofs.Names.{append-nil, row_of_line, Row}
-use Rattle.hayro_ccitt.specs.RowFeeds.{Begins, CallGoesOn, ReachesLine, line_of_feed, most_to_find}
+use Rattle.hayro_ccitt.specs.RowFeeds.{Begins, CallGoesOn, DrawsRow, ReachesLine, line_of_feed, most_to_find}
 use Rattle.hayro_ccitt.proofs.Names.{and_parts}
 use Rattle.hayro_ccitt.specs.declared.line_parts.KeptPart.{KeptPart}
 use Rattle.fax_bits.specs.declared.error.DecodeError.TheVariants.{InvalidCode, OutOfMemory, Overflow, Refused, UnexpectedEof}
@@ -699,6 +700,22 @@ feeds_on {whole} {tried} more {old} {mid} {new} {answer} looks unkept none begun
   goes_on = record {
     counts = omega (arith, reaches.counts, next.goes_on.counts);
     stored = λ e. omega (arith, reaches.counts, next.goes_on.stored e);
+    draws = λ e.
+        let row = next.goes_on.draws e in
+        record {
+          start = row.start;
+          onward = omega (arith, reaches.onward, row.onward);
+          past_eol = λ unfinished was_begun no_line sought.
+              let eol = reaches.past_eol unfinished was_begun no_line sought in
+              record {
+                fill = eol.fill;
+                behind = eol.behind;
+                place = eol.place;
+                passed = omega (arith, eol.passed, row.onward);
+              };
+          most = row.most;
+          drawn = row.drawn;
+        };
     onward = λ unended. omega (arith, reaches.onward, next.goes_on.onward unended);
     near = λ was_begun unfinished unended.
         omega (arith, reaches.near was_begun unfinished, next.goes_on.onward unended);
@@ -885,19 +902,65 @@ line_onward {whole} {tried} {old} {new} (Err error) reads feed unended = by_left
     by_left true e = omega (arith, (reads.left (left_is (Err error) e)).1)
     by_left false e = absurd (fault_ends (reads.reads whole tried (left_not (Err error) e) feed) unended)
 
+-- the row of a line has no more changes than the line's bits pay
+line_draws : {whole : Bits} {tried : ℕ} {old new : Feeding} (answer : Result Bool DecodeError) → ReadsInFeed old new answer
+    → old.begun ≡ true → is_at_line old.rows.stand ≡ true → IsFeedOf whole tried old → answer ≡ Ok true → DrawsRow old new
+line_draws {whole} {tried} {old} {new} answer reads begun line feed e =
+    let held = old.ctx.held in
+    let row = reads.row_is whole tried e feed in
+    let from = row_drawn held.settings held.has_eols held.reference (drop old.place old.kept) (drop new.place new.kept)
+    new.ctx.held.reference wide row.0 in
+    record {
+      start = old.dropped + old.place;
+      onward = omega arith;
+      past_eol = λ unfinished begun no_line sought. absurd (false≢true (sym no_line ∙ line));
+      most = elim from [
+        | inl le ↦ omega (arith, le, before, behind, reads.within, row.1, reads.keeps.dropped, same)
+        | inr repaired ↦ omega (arith, repaired.2, before, row.1, reads.within, reads.keeps.dropped, same)
+      ];
+      drawn = elim from [
+        | inl le ↦ inl (omega (arith, le, before, behind, reads.within, row.1, reads.keeps.dropped, same))
+        | inr repaired ↦ inr (
+          row.2 ∙ repaired.0,
+          λ more fill behind is. omega (
+            arith,
+            row.1,
+            reads.keeps.dropped,
+            repaired.3 more fill behind (ap (λ (b : Bits). b ++ more) (sym repaired.1) ∙ is),
+          ),
+        )
+      ];
+    }
+  where
+    wide : 0 < old.ctx.held.settings.columns
+    wide =
+        let stands = subst (λ (b : Bool). StandsIn b tried old.rows old.ctx
+        (record { bits = whole; place = old.dropped + old.place })) begun feed.stands in
+        (at_line_stands old.rows.stand old.ctx.held.settings whole old.ctx.held (old.dropped + old.place) line stands.0).wide
+
+    same : length new.kept ≡ length old.kept
+    same = ap length reads.keeps.kept
+
+    before : length (drop old.place old.kept) ≡ length old.kept - old.place
+    before = length-drop old.place old.kept
+
+    behind : length (drop new.place new.kept) ≡ length new.kept - new.place
+    behind = length-drop new.place new.kept
+
 line_goes_on : {whole : Bits} {tried : ℕ} {old new : Feeding} (answer : Result Bool DecodeError)
-    → (reads : ReadsInFeed old new answer) → is_at_line old.rows.stand ≡ true → IsFeedOf whole tried old
+    → (reads : ReadsInFeed old new answer) → old.begun ≡ true → is_at_line old.rows.stand ≡ true → IsFeedOf whole tried old
     → CallGoesOn old new (fed_row answer) 0 reads.extra
-line_goes_on {whole} {tried} {old} {new} answer reads line feed = record {
+line_goes_on {whole} {tried} {old} {new} answer reads begun line feed = record {
   counts = reads.counted;
   stored = λ e. reads.stored (row_read answer e);
+  draws = λ e. line_draws answer reads begun line feed (row_read answer e);
   onward = λ unended. omega (arith, line_onward answer reads feed unended, reads.keeps.dropped);
-  near = λ begun unfinished unended.
+  near = λ was_begun unfinished unended.
       omega (arith, line_onward answer reads feed unended, reads.keeps.dropped, reads.looked);
   stays = λ left at. (reads.left (left_as_none answer left)).1;
   row_is = λ e at. (reads.row_is whole tried (row_read answer e) feed).0;
   tried = λ left at. reads.tried;
-  past_eol = λ unfinished begun no_line sought unended waits. absurd (false≢true (sym no_line ∙ line));
+  past_eol = λ unfinished was_begun no_line sought unended waits. absurd (false≢true (sym no_line ∙ line));
   behind = λ e. ap is_at_line (reads.behind (row_read answer e));
   sought = λ e at. (reads.row_is whole tried (row_read answer e) feed).2;
   waits = λ e away. absurd (false≢true (sym away ∙ still_at_line answer reads e));
@@ -944,7 +1007,7 @@ line_feeds {whole} {tried} {old} {new} (Ok true) reads unread begun line feed = 
   line_extra = reads.extra;
   extra_is = omega arith;
   line_work = line_paid (Ok true) reads unread line;
-  goes_on = line_goes_on (Ok true) reads line feed;
+  goes_on = line_goes_on (Ok true) reads begun line feed;
   stands = reads.stands whole tried feed;
   gap = 0;
   looks = none_looked old.finished (old.begun && is_at_line old.rows.stand) old.looked (drop old.place old.kept);
@@ -968,7 +1031,7 @@ line_feeds {whole} {tried} {old} {new} (Ok false) reads unread begun line feed =
   line_extra = reads.extra;
   extra_is = omega arith;
   line_work = line_paid (Ok false) reads unread line;
-  goes_on = line_goes_on (Ok false) reads line feed;
+  goes_on = line_goes_on (Ok false) reads begun line feed;
   stands = reads.stands whole tried feed;
   gap = 0;
   looks = none_looked old.finished (old.begun && is_at_line old.rows.stand) old.looked (drop old.place old.kept);
@@ -990,7 +1053,7 @@ line_feeds {whole} {tried} {old} {new} (Err error) reads unread begun line feed 
   line_extra = reads.extra;
   extra_is = omega arith;
   line_work = line_paid (Err error) reads unread line;
-  goes_on = line_goes_on (Err error) reads line feed;
+  goes_on = line_goes_on (Err error) reads begun line feed;
   stands = reads.stands whole tried feed;
   gap = 0;
   looks = none_looked old.finished (old.begun && is_at_line old.rows.stand) old.looked (drop old.place old.kept);
@@ -1024,6 +1087,7 @@ gap_ended {new = new} {answer = answer} counts space unkept over some other none
   paid = omega (arith, none_paid new.part new.line_read none);
   counts = counts;
   stored = λ e. absurd (other e);
+  draws = λ e. absurd (other e);
   onward = λ unended. absurd (over unended);
   near = λ begun unfinished unended. absurd (over unended);
   stays = λ left at. absurd (some left);
@@ -1075,6 +1139,7 @@ gap_feeds {whole} {tried} {old} {new} (Ok None) comes other begun unended unkept
       goes_on = record {
         counts = comes.counts;
         stored = λ e. cc;
+        draws = λ e. cc;
         onward = λ open_end. omega (arith, w.3, comes.keeps.dropped);
         near = λ was_begun unfinished open_end. omega (arith, w.3, comes.keeps.dropped, comes.looked refl);
         stays = λ left at. w.3;
@@ -1239,6 +1304,7 @@ front_waits_feeds {whole} {tried} {old} {new} begins unbegun unkept none feed =
       goes_on = record {
         counts = omega (arith, w.1);
         stored = λ e. cc;
+        draws = λ e. cc;
         onward = λ unended. omega (arith, w.3, begins.keeps.dropped);
         near = λ begun unfinished unended. absurd (false≢true (sym unbegun ∙ begun));
         stays = λ left at. absurd (not_begun old.begun (is_at_line old.rows.stand) unbegun at);

@@ -12,12 +12,14 @@ use Rattle.hayro_ccitt.specs.declared.line_parts.KeptPart.{KeptPart}
 use Rattle.hayro_ccitt.specs.declared.row_feed.Fed.{Fed}
 use Rattle.hayro_ccitt.specs.declared.row_reader.RowState.{RowState}
 use Rattle.hayro_ccitt.specs.RowFeeds.{CallGoesOn, Feeding, FeedsNext, HasNone, HoldsMore, IsFeedOf, IsOpenAt, KeepsBits}
-use Rattle.hayro_ccitt.specs.RowFeeds.{StandsIn, TriesFirst}
+use Rattle.hayro_ccitt.specs.RowFeeds.{DrawsRow, StandsIn, TriesFirst}
 use Rattle.hayro_ccitt.specs.RowFeeds.{fed_bits, fed_over, most_for_line, paid_by, paid_for_line}
 use Rattle.hayro_ccitt.proofs.Names.{IfErr}
-use Rattle.hayro_ccitt.specs.FeedsPaid.{FeedIsPaid, FirstsPaid, GapsPaid, IsBehind, IsPassed, LinesPaid, SeeksEol, WasShort}
-use Rattle.hayro_ccitt.specs.FeedsPaid.{WasTried, changes_of, cost_of_failure, left_for_line, offset}
+use Rattle.hayro_ccitt.proofs.Readings.FeedAccount.{FeedIsPaid, FirstsPaid, GapsPaid, IsBehind, IsPassed, LinesPaid, RowsPaid}
+use Rattle.hayro_ccitt.proofs.Readings.FeedAccount.{SeeksEol, WasShort, WasTried, offset}
+use Rattle.hayro_ccitt.specs.FeedsPaid.{FeedsArePaid, IsHistory, changes_of, cost_of_failure}
 use Rattle.hayro_ccitt.proofs.Readings.FeedsOn.{none_paid}
+use Rattle.hayro_ccitt.proofs.Readings.RowsDrawn.{eol_among, prefix_more}
 use Rattle.fax_reading.proofs.KeptRows.LinesAgain.{line_again}
 use Rattle.fax_reading.proofs.Work.TurnsPaid.{behind_shorter, broken_row}
 use Rattle.hayro_ccitt.proofs.Work.ChangesStored.{changes_white}
@@ -29,17 +31,6 @@ use Rattle.fax_reading.proofs.Continuations.ShortLines.{eol_ends_line}
 
 -- ---- Where a line ends that was short
 
--- bits that begin with some, and end with no fewer than others, are those and more
-prefix_more : (front rest seen more : Bits) → front ++ rest ≡ seen ++ more → length front ≤ length seen
-    → (others : Bits) × (seen ≡ front ++ others)
-prefix_more [] rest seen more e le = (seen, refl)
-prefix_more (b ∷ front) rest [] more e le = absurd (omega (arith, le))
-prefix_more (b ∷ front) rest (c ∷ seen) more e le =
-    let same : b ≡ c = cc in
-    let next : front ++ rest ≡ seen ++ more = cc in
-    let (others, is) = prefix_more front rest seen more next (omega (arith, le)) in
-    (others, ap (λ (x : Bits). c ∷ x) is ∙ ap (λ (x : Bool). x ∷ (front ++ others)) (sym same))
-
 -- no EOL ends among the bits of a line that was short
 pub short_before_eol : (settings : DecodeSettings) (reference : Row) (seen more fill behind : Bits)
     → is_short (line_here settings reference seen) ≡ true → seen ++ more ≡ fill ++ replicate 11 false ++ true ∷ behind
@@ -48,18 +39,7 @@ short_before_eol settings reference seen more fill behind short e =
     elim (cases_lt (length seen) (length fill + 12)) [
       | inl lt ↦ omega (arith, lt)
       | inr ge ↦
-          let eol : Bits = fill ++ replicate 11 false ++ true ∷ [] in
-          let whole : eol ++ behind ≡ seen ++ more =
-          append_assoc (fill ++ replicate 11 false) (true ∷ []) behind ∙ sym e in
-          let long : length eol ≤ length seen = omega (
-            arith,
-            ge,
-            length-append (fill ++ replicate 11 false) (true ∷ []),
-            length-append fill (replicate 11 false),
-          ) in
-          let (others, is) = prefix_more eol behind seen more whole long in
-          let there : seen ≡ fill ++ replicate 11 false ++ true ∷ others =
-          is ∙ append_assoc (fill ++ replicate 11 false) (true ∷ []) others in
+          let (others, there) = eol_among seen more fill behind e (omega (arith, ge)) in
           absurd (false≢true (sym (eol_ends_line settings reference fill others)
           ∙ ap (λ (b : Bits). is_short (line_here settings reference b)) (sym there) ∙ short))
     ]
@@ -99,14 +79,6 @@ short_row settings has_eols reference seen more rest row short is =
         ]
 
 -- ---- By the part that is kept
-
-left_none : (part : Option KeptPart) (changes seen : ℕ) → part ≡ None → left_for_line part changes seen ≡ 2 * changes
-left_none None changes seen e = refl
-left_none (Some part) changes seen e = absurd cc
-
-left_some : (part : Option KeptPart) (changes seen : ℕ) → part ≢ None → left_for_line part changes seen ≡ changes + 2 * seen
-left_some None changes seen e = absurd (e refl)
-left_some (Some part) changes seen e = refl
 
 passed_none : (part : Option KeptPart) (known : ℕ) (feed : Feeding) → part ≡ None → IsBehind known feed
     → IsPassed part known feed
@@ -179,12 +151,10 @@ module _ {next : Bits} {old new : Feeding} (holds : HoldsMore next old new) wher
   longer : length (drop new.place new.kept) ≡ length (drop old.place old.kept) + length next
   longer = ap length drop_is ∙ length-append (drop old.place old.kept) next
 
-  firsts_more : {calls tried firsts : ℕ} → FirstsPaid calls tried firsts old → FirstsPaid calls tried firsts new
+  firsts_more : {calls drawn firsts : ℕ} → FirstsPaid calls drawn firsts old → FirstsPaid calls drawn firsts new
   firsts_more paid = record {
     known = paid.known;
-    words = paid.words;
     known_most = omega (arith, paid.known_most, holds.fed);
-    words_most = omega (arith, paid.words_most, ap (λ (x : Context). x.ticks) holds.reading.0);
     most = paid.most;
     here = elim paid.here [
       | inl was ↦ inl (record {
@@ -193,9 +163,10 @@ module _ {next : Bits} {old new : Feeding} (holds : HoldsMore next old new) wher
       })
       | inr untried ↦ inr (record {
         behind = behind_more paid.known untried.behind;
-        left = λ unended. omega (
+        left = λ unended unfinished. omega (
           arith,
-          untried.left (sym (ap (λ (r : RowState). ended r.stand) holds.reading.1) ∙ unended),
+          untried.left (sym (ap (λ (r : RowState). ended r.stand) holds.reading.1) ∙ unended)
+              (sym holds.reading.2 ∙ unfinished),
           same_changes,
         );
       })
@@ -210,7 +181,12 @@ module _ {next : Bits} {old new : Feeding} (holds : HoldsMore next old new) wher
         gaps = paid.gaps;
         lines = paid.lines;
         firsts = paid.firsts;
+        drawn = paid.drawn;
         sum = paid.sum;
+        rows_paid = record {
+          most = omega (arith, paid.rows_paid.most, holds.fed);
+          behind = behind_more paid.drawn paid.rows_paid.behind;
+        };
         firsts_paid = firsts_more paid.firsts_paid;
         gaps_paid = record {
           first = gaps.first;
@@ -229,23 +205,21 @@ module _ {next : Bits} {old new : Feeding} (holds : HoldsMore next old new) wher
         lines_paid = record {
           known = lines.known;
           read = lines.read;
-          words = lines.words;
           seen = lines.seen;
           known_most = omega (arith, lines.known_most, holds.fed);
           read_most = omega (arith, lines.read_most, holds.fed);
           read_before = λ some. lines.read_before (λ none. some (holds.part ∙ none));
-          words_most = omega (arith, lines.words_most, ap (λ (x : Context). x.ticks) holds.reading.0);
           within = omega (arith, lines.within, holds.fed, holds.place);
           part_most = omega (arith, lines.part_most, same_paid, same_changes, longer);
           seen_is = λ some. omega (arith, lines.seen_is (λ none. some (holds.part ∙ none)), holds.place);
           most = omega (arith, lines.most, same_paid);
-          here = λ unended. omega (
+          next = λ none unended unfinished. omega (
             arith,
-            lines.here (sym (ap (λ (r : RowState). ended r.stand) holds.reading.1) ∙ unended),
-            same_paid,
-            ap (λ (p : Option KeptPart). left_for_line p (changes_of new) lines.seen) holds.part,
-            ap (λ (n : ℕ). left_for_line old.part n lines.seen) same_changes,
+            lines.next (sym holds.part ∙ none) (sym (ap (λ (r : RowState). ended r.stand) holds.reading.1) ∙ unended)
+                (sym holds.reading.2 ∙ unfinished),
+            same_changes,
           );
+          here = λ some. omega (arith, lines.here (λ none. some (holds.part ∙ none)), same_paid, same_changes);
           passed = subst (λ (p : Option KeptPart). IsPassed p lines.known new) (sym holds.part)
               (passed_more lines.known old.part lines.passed);
         };
@@ -278,18 +252,21 @@ finished_paid {calls} {lost} {tried} {old} {new} is paid =
       gaps = paid.gaps;
       lines = paid.lines;
       firsts = paid.firsts;
+      drawn = paid.drawn;
       sum = paid.sum;
+      rows_paid = record {
+        most = paid.rows_paid.most;
+        behind = λ unended unfinished. absurd (false≢true (sym unfinished));
+      };
       firsts_paid = record {
         known = firsts.known;
-        words = firsts.words;
         known_most = firsts.known_most;
-        words_most = firsts.words_most;
         most = firsts.most;
         here = elim firsts.here [
           | inl was ↦ inl (record { tried = was.tried; short = finished_short firsts.known old was.short })
           | inr untried ↦ inr (record {
             behind = λ unended unfinished. absurd (false≢true (sym unfinished));
-            left = untried.left;
+            left = λ unended unfinished. absurd (false≢true (sym unfinished));
           })
         ];
       };
@@ -303,16 +280,15 @@ finished_paid {calls} {lost} {tried} {old} {new} is paid =
       lines_paid = record {
         known = lines.known;
         read = lines.read;
-        words = lines.words;
         seen = lines.seen;
         known_most = lines.known_most;
         read_most = lines.read_most;
         read_before = lines.read_before;
-        words_most = lines.words_most;
         within = lines.within;
         part_most = lines.part_most;
         seen_is = lines.seen_is;
         most = lines.most;
+        next = λ none unended unfinished. absurd (false≢true (sym unfinished));
         here = lines.here;
         passed = finished_passed lines.known old old.part lines.passed;
       };
@@ -332,16 +308,16 @@ begun_paid whole feed is unbegun unlooked unkept =
       gaps = 0;
       lines = 0;
       firsts = 0;
+      drawn = 0;
       sum = omega arith;
+      rows_paid = record { most = omega arith; behind = λ unended unfinished. inl (omega arith) };
       firsts_paid = record {
         known = 0;
-        words = 0;
         known_most = omega arith;
-        words_most = omega arith;
         most = omega arith;
         here = inr (record {
           behind = λ unended unfinished. inl (omega arith);
-          left = λ unended. omega (arith, white);
+          left = λ unended unfinished. omega (arith, white);
         });
       };
       gaps_paid = record {
@@ -354,17 +330,16 @@ begun_paid whole feed is unbegun unlooked unkept =
       lines_paid = record {
         known = 0;
         read = 0;
-        words = 0;
         seen = 0;
         known_most = omega arith;
         read_most = omega arith;
         read_before = λ some. absurd (some unkept);
-        words_most = omega arith;
         within = omega (arith, front.start);
         part_most = omega (arith, none);
         seen_is = λ some. absurd (some unkept);
         most = omega arith;
-        here = λ unended. omega (arith, white, left_none feed.part (changes_of feed) 0 unkept);
+        next = λ kept unended unfinished. omega (arith, white);
+        here = λ some. absurd (some unkept);
         passed = passed_none feed.part 0 feed unkept (λ unended unfinished. inl (omega arith));
       };
     }
@@ -379,6 +354,10 @@ bool_not_true : (b : Bool) → (b ≡ true → ⊥) → b ≡ false
 bool_not_true true other = absurd (other refl)
 bool_not_true false other = refl
 
+bool_not_false : (b : Bool) → (b ≡ false → ⊥) → b ≡ true
+bool_not_false true other = refl
+bool_not_false false other = absurd (other refl)
+
 open_at_line : (begun : Bool) (stand : Stand) (ctx : Context) (next : Bits) → begun ≡ true → is_at_line stand ≡ true
     → IsOpenAt begun stand ctx next → is_short (line_here ctx.held.settings ctx.held.reference next) ≡ true
 open_at_line false stand ctx next begun line known = absurd (false≢true begun)
@@ -387,13 +366,19 @@ open_at_line true BehindRow ctx next begun line known = absurd (false≢true lin
 open_at_line true AtEnd ctx next begun line known = absurd (false≢true line)
 open_at_line true (AtFault error) ctx next begun line known = absurd (false≢true line)
 
+-- what a row adds to the changes of those before it: its own, but one, unless the data is finished
+record RowAdds (before drawn : ℕ) (new : Feeding) : Type 0 where
+  paid : RowsPaid drawn new
+  no_fewer : before ≤ drawn + 1
+  adds : new.finished ≡ false → before + changes_of new ≤ drawn + 1
+
 module _ {whole : Bits} {calls lost tried : ℕ} {old new : Feeding} {answer : Result Fed DecodeError}
     (unended : ended old.rows.stand ≡ None) (keeps : KeepsBits old new) (paid : FeedIsPaid calls lost tried old)
     (next : FeedsNext whole tried old new answer) where
   abbrev goes : CallGoesOn old new answer next.gap next.extra
   goes = next.goes_on
 
-  abbrev lines : LinesPaid calls lost tried paid.lines old
+  abbrev lines : LinesPaid calls lost paid.drawn paid.lines old
   lines = paid.lines_paid
 
   abbrev gaps : GapsPaid calls paid.gaps old
@@ -473,11 +458,20 @@ module _ {whole : Bits} {calls lost tried : ℕ} {old new : Feeding} {answer : R
       ]
 
   new_begun : old.begun ≡ true → new.begun ≡ true
-  new_begun begun = by_bool new.begun refl
-    where
-      by_bool : (b : Bool) → new.begun ≡ b → b ≡ true
-      by_bool true e = refl
-      by_bool false e = absurd (false≢true (sym (goes.unbegun e).0 ∙ begun))
+  new_begun begun = bool_not_false new.begun (λ e. false≢true (sym (goes.unbegun e).0 ∙ begun))
+
+  -- the changes of a row that is read begin no sooner than those before it end
+  start_passed : (known : ℕ) → IsBehind known old → old.finished ≡ false → (row : DrawsRow old new) → known ≤ row.start
+  start_passed known was unfinished row = elim (was unended unfinished) [
+    | inl le ↦ omega (arith, le, row.onward)
+    | inr seeks ↦
+        let eol = row.past_eol unfinished seeks.begun seeks.behind seeks.sought in
+        omega (
+          arith,
+          seeks.none [] eol.fill eol.behind (append-nil (drop old.place old.kept) ∙ eol.place),
+          eol.passed,
+        )
+  ]
 
   same_bits : new.place ≡ old.place → drop new.place new.kept ≡ drop old.place old.kept
   same_bits place = ap (λ (n : ℕ). drop n new.kept) place ∙ ap (drop old.place) keeps.kept
@@ -577,25 +571,73 @@ module _ {whole : Bits} {calls lost tried : ℕ} {old new : Feeding} {answer : R
     -- what is counted where it is read
     read_here : paid.lines + next.line_extra + paid_for_line old ≤ paid.lines + most_for_line old + 4
         → paid.lines + next.line_extra
-        ≤ 6 * lines.known + 2 * fed_bits old + 2 * lines.words + 8 * calls + lost + 4
+        ≤ 6 * lines.known + 2 * fed_bits old + 2 * paid.drawn + 8 * calls + lost + 4
     read_here read = omega (
       arith,
       read,
-      lines.here unended,
-      left_some old.part (changes_of old) lines.seen some,
+      lines.here some,
       lines.seen_is some,
       lines.read_before some,
       lines.known_most,
       here_within,
     )
 
+  -- ---- The changes of the rows
+
+  row_begun : answer ≡ Ok Fed.Row → new.begun ≡ true
+  row_begun e = bool_not_false new.begun (λ is. let never = sym e ∙ (goes.unbegun is).1 in cc)
+
+  -- a row is read
+  row_adds : answer ≡ Ok Fed.Row → (drawn : ℕ) × RowAdds paid.drawn drawn new
+  row_adds e = by_bool old.finished refl
+    where
+      row : DrawsRow old new
+      row = goes.draws e
+
+      by_bool : (b : Bool) → old.finished ≡ b → (drawn : ℕ) × RowAdds paid.drawn drawn new
+      by_bool true over = (
+        paid.drawn,
+        record {
+          paid = record {
+            most = omega (arith, paid.rows_paid.most, same_fed);
+            behind = λ still unfinished. absurd (false≢true (sym (still_unfinished unfinished) ∙ over));
+          };
+          no_fewer = omega arith;
+          adds = λ unfinished. absurd (false≢true (sym (still_unfinished unfinished) ∙ over));
+        },
+      )
+      by_bool false unfinished =
+          let passed = start_passed paid.drawn paid.rows_paid.behind unfinished row in (
+            (paid.drawn + changes_of new) - 1,
+            record {
+              paid = record {
+                most = omega (arith, passed, row.most);
+                behind = λ still going. elim row.drawn [
+                  | inl le ↦ inl (omega (arith, passed, le))
+                  | inr repaired ↦ inr (record {
+                    begun = row_begun e;
+                    behind = goes.behind e;
+                    sought = repaired.0;
+                    none = λ more fill behind is. omega (arith, passed, repaired.1 more fill behind is);
+                  })
+                ];
+              };
+              no_fewer = omega arith;
+              adds = λ going. omega arith;
+            },
+          )
+
+  -- no row is read
+  none_added : IsBehind paid.drawn new → RowsPaid paid.drawn new
+  none_added behind = record { most = omega (arith, paid.rows_paid.most, same_fed); behind = behind }
+
   -- ---- Lines
 
   abbrev counted : ℕ
   counted = paid.lines + next.line_extra
 
-  abbrev LinesNow : ℕ → Type 0
-  LinesNow count = LinesPaid (calls + 1) lost (tried + next.extra) count new
+  abbrev LinesNow : ℕ → ℕ → Type 0
+  LinesNow drawn count = LinesPaid (calls + 1) lost drawn count new
 
   -- the lines that were short, where no part of one was kept
   lines_behind : old.part ≡ None → IsBehind lines.known old
@@ -607,113 +649,58 @@ module _ {whole : Bits} {calls lost tried : ℕ} {old new : Feeding} {answer : R
   row_unkept : answer ≡ Ok Fed.Row → new.part ≡ None
   row_unkept e = goes.unkept (λ needs. let never = sym e ∙ needs in absurd cc)
 
+  -- no part of a line is kept
+  unkept_lines : {count drawn lost_now : ℕ} (known read : ℕ) → new.part ≡ None → known ≤ fed_bits old → read ≤ fed_bits old
+      → count ≤ 6 * known + 2 * read + 2 * drawn + 8 * (calls + 1) + lost_now
+      → (ended new.rows.stand ≡ None → new.finished ≡ false
+      → count + 2 * changes_of new ≤ 6 * known + 2 * read + 2 * drawn + 8 * (calls + 1) + lost_now)
+      → IsBehind known new → LinesPaid (calls + 1) lost_now drawn count new
+  unkept_lines known read gone known_most read_most most left behind = record {
+    known = known;
+    read = read;
+    seen = 0;
+    known_most = omega (arith, known_most, same_fed);
+    read_most = omega (arith, read_most, same_fed);
+    read_before = λ some. absurd (some gone);
+    within = goes.within;
+    part_most = goes.paid;
+    seen_is = λ some. absurd (some gone);
+    most = omega (arith, most);
+    next = λ none. left;
+    here = λ some. absurd (some gone);
+    passed = passed_none new.part known new gone behind;
+  }
+
   -- a row is read
-  row_lines : answer ≡ Ok Fed.Row → LinesNow counted
-  row_lines e = elim (none_or_some old.part) [
+  row_lines : (drawn : ℕ) → RowAdds paid.drawn drawn new → answer ≡ Ok Fed.Row → LinesNow drawn counted
+  row_lines drawn adds e = elim (none_or_some old.part) [
     | inl none ↦
         let at_once = next.line_work.at_once (row_not_left e) none in
-        record {
-          known = lines.known;
-          read = lines.read;
-          words = (lines.words + changes_of new) - 1;
-          seen = 0;
-          known_most = omega (arith, lines.known_most, same_fed);
-          read_most = omega (arith, lines.read_most, same_fed);
-          read_before = λ some. absurd (some (row_unkept e));
-          words_most = omega (arith, goes.stored e, goes.counts, lines.words_most);
-          within = goes.within;
-          part_most = goes.paid;
-          seen_is = λ some. absurd (some (row_unkept e));
-          most = omega (
-            arith,
-            lines.most,
-            at_once,
-            none_paid old.part old.line_read none,
-            none_paid new.part new.line_read (row_unkept e),
-          );
-          here = λ still. omega (
-            arith,
-            lines.most,
-            at_once,
-            none_paid old.part old.line_read none,
-            none_paid new.part new.line_read (row_unkept e),
-            left_none new.part (changes_of new) 0 (row_unkept e),
-          );
-          passed = passed_none new.part lines.known new (row_unkept e) (λ still unfinished.
-              inl (line_passed lines.known (lines_behind none) still (still_unfinished unfinished)
-              (λ needs. let never = sym e ∙ needs in absurd cc)));
-        }
+        let unpaid = none_paid old.part old.line_read none in
+        unkept_lines lines.known lines.read (row_unkept e) lines.known_most lines.read_most
+        (omega (arith, lines.most, at_once, unpaid, adds.no_fewer))
+        (λ still unfinished. omega (arith, lines.most, at_once, unpaid, adds.adds unfinished))
+        (λ still unfinished. inl (line_passed lines.known (lines_behind none) still (still_unfinished unfinished)
+        (λ needs. let never = sym e ∙ needs in absurd cc)))
     | inr some ↦
         let read = read_here some (omega (arith, next.line_work.read (row_not_left e))) in
-        record {
-          known = lines.known;
-          read = fed_bits old;
-          words = (lines.words + changes_of new) - 1;
-          seen = 0;
-          known_most = omega (arith, lines.known_most, same_fed);
-          read_most = omega (arith, same_fed);
-          read_before = λ kept. absurd (kept (row_unkept e));
-          words_most = omega (arith, goes.stored e, goes.counts, lines.words_most);
-          within = goes.within;
-          part_most = goes.paid;
-          seen_is = λ kept. absurd (kept (row_unkept e));
-          most = omega (arith, read, none_paid new.part new.line_read (row_unkept e));
-          here = λ still. omega (
-            arith,
-            read,
-            none_paid new.part new.line_read (row_unkept e),
-            left_none new.part (changes_of new) 0 (row_unkept e),
-          );
-          passed = passed_none new.part lines.known new (row_unkept e)
-              (λ still unfinished. behind_line (was some) e still);
-        }
+        unkept_lines lines.known (fed_bits old) (row_unkept e) lines.known_most (omega arith)
+        (omega (arith, read, adds.no_fewer)) (λ still unfinished. omega (arith, read, adds.adds unfinished))
+        (λ still unfinished. behind_line (was some) e still)
   ]
 
   -- the reading ends
-  end_lines : (ended new.rows.stand ≡ None → ⊥) → (HasNone answer → ⊥) → LinesNow counted
+  end_lines : (ended new.rows.stand ≡ None → ⊥) → (HasNone answer → ⊥) → LinesNow paid.drawn counted
   end_lines over other = elim (none_or_some old.part) [
     | inl none ↦
         let at_once = next.line_work.at_once other none in
-        record {
-          known = lines.known;
-          read = lines.read;
-          words = lines.words;
-          seen = 0;
-          known_most = omega (arith, lines.known_most, same_fed);
-          read_most = omega (arith, lines.read_most, same_fed);
-          read_before = λ some. absurd (some gone);
-          words_most = omega (arith, goes.counts, lines.words_most);
-          within = goes.within;
-          part_most = goes.paid;
-          seen_is = λ some. absurd (some gone);
-          most = omega (
-            arith,
-            lines.most,
-            at_once,
-            none_paid old.part old.line_read none,
-            none_paid new.part new.line_read gone,
-          );
-          here = λ still. absurd (over still);
-          passed = passed_none new.part lines.known new gone (λ still. absurd (over still));
-        }
+        unkept_lines lines.known lines.read gone lines.known_most lines.read_most
+        (omega (arith, lines.most, at_once, none_paid old.part old.line_read none)) (λ still. absurd (over still))
+        (λ still. absurd (over still))
     | inr some ↦
         let read = read_here some (omega (arith, next.line_work.read other)) in
-        record {
-          known = lines.known;
-          read = fed_bits old;
-          words = lines.words;
-          seen = 0;
-          known_most = omega (arith, lines.known_most, same_fed);
-          read_most = omega (arith, same_fed);
-          read_before = λ kept. absurd (kept gone);
-          words_most = omega (arith, goes.counts, lines.words_most);
-          within = goes.within;
-          part_most = goes.paid;
-          seen_is = λ kept. absurd (kept gone);
-          most = omega (arith, read, none_paid new.part new.line_read gone);
-          here = λ still. absurd (over still);
-          passed = passed_none new.part lines.known new gone (λ still. absurd (over still));
-        }
+        unkept_lines lines.known (fed_bits old) gone lines.known_most (omega arith) (omega (arith, read))
+        (λ still. absurd (over still)) (λ still. absurd (over still))
   ]
     where
       gone : new.part ≡ None
@@ -734,16 +721,12 @@ module _ {whole : Bits} {calls lost tried : ℕ} {old new : Feeding} {answer : R
     new_within = omega (arith, length-drop new.place new.kept, goes.within)
 
     kept_at_line : new.part ≢ None → is_at_line new.rows.stand ≡ true
-    kept_at_line some = by_bool (is_at_line new.rows.stand) refl
-      where
-        by_bool : (b : Bool) → is_at_line new.rows.stand ≡ b → b ≡ true
-        by_bool true is = refl
-        by_bool false is = absurd (some (goes.unkept (λ needs. is)))
+    kept_at_line some = bool_not_false (is_at_line new.rows.stand) (λ away. some (goes.unkept (λ needs. away)))
 
     -- the line here is short
     short_there : is_at_line new.rows.stand ≡ true → WasShort (offset new + length bits_here) new
     short_there line =
-        let begun = begun_there in
+        let begun = bool_not_false new.begun (λ is. false≢true (sym (goes.unbegun is).2 ∙ line)) in
         record {
           begun = begun;
           at_line = line;
@@ -753,181 +736,109 @@ module _ {whole : Bits} {calls lost tried : ℕ} {old new : Feeding} {answer : R
           short = open_at_line new.begun new.rows.stand new.ctx bits_here begun line (next.unsettled e).1;
           known_is = refl;
         }
-      where
-        begun_there : new.begun ≡ true
-        begun_there = by_bool new.begun refl
-          where
-            by_bool : (b : Bool) → new.begun ≡ b → b ≡ true
-            by_bool true is = refl
-            by_bool false is = absurd (false≢true (sym (goes.unbegun is).2 ∙ line))
 
     -- what is counted for it is counted for a first try, if anything is
-    waits_lines : old.part ≡ None → new.part ≡ None → LinesNow paid.lines
-    waits_lines none still = record {
-      known = lines.known;
+    waits_lines : old.part ≡ None → new.part ≡ None → LinesNow paid.drawn paid.lines
+    waits_lines none still =
+        unkept_lines lines.known lines.read still lines.known_most lines.read_most
+        (omega (arith, lines.most, none_paid old.part old.line_read none))
+        (λ open_end unfinished. omega (arith, lines.next none unended (still_unfinished unfinished), same_changes_there))
+        (stays_behind lines.known (lines_behind none) left)
+
+    -- a part of the line is kept
+    kept_lines : new.part ≢ None → counted + changes_of new
+        ≤ paid_for_line new + 6 * offset new + 4 * length bits_here + 2 * lines.read + 2 * paid.drawn + 8 * (calls + 1) + lost
+        → LinesNow paid.drawn counted
+    kept_lines some here = record {
+      known = offset new + length bits_here;
       read = lines.read;
-      words = lines.words;
-      seen = 0;
-      known_most = omega (arith, lines.known_most, same_fed);
+      seen = length bits_here;
+      known_most = omega (arith, new_within);
       read_most = omega (arith, lines.read_most, same_fed);
-      read_before = λ some. absurd (some still);
-      words_most = omega (arith, goes.counts, lines.words_most);
+      read_before = λ kept. omega (arith, lines.read_most, same_fed, new_within);
       within = goes.within;
       part_most = goes.paid;
-      seen_is = λ some. absurd (some still);
-      most = omega (
-        arith,
-        lines.most,
-        none_paid old.part old.line_read none,
-        none_paid new.part new.line_read still,
-      );
-      here = λ open_end. omega (
-        arith,
-        lines.here unended,
-        same_changes_there,
-        none_paid old.part old.line_read none,
-        none_paid new.part new.line_read still,
-        left_none old.part (changes_of old) lines.seen none,
-        left_none new.part (changes_of new) 0 still,
-      );
-      passed = passed_none new.part lines.known new still (stays_behind lines.known (lines_behind none) left);
+      seen_is = λ kept. refl;
+      most = omega (arith, here);
+      next = λ gone. absurd (some gone);
+      here = λ kept. omega (arith, here);
+      passed = kept_passed new.part (offset new + length bits_here) new some (short_there (kept_at_line some));
     }
 
-    begins_lines : old.part ≡ None → new.part ≢ None → LinesNow counted
+    begins_lines : old.part ≡ None → new.part ≢ None → LinesNow paid.drawn counted
     begins_lines none some =
-        let begins = next.line_work.begins e none in
-        let known = line_passed lines.known (lines_behind none) (next.none left).unended
-        (still_unfinished (next.unsettled e).0) (λ needs. kept_at_line some) in
-        record {
-          known = offset new + length bits_here;
-          read = lines.read;
-          words = lines.words;
-          seen = length bits_here;
-          known_most = omega (arith, new_within);
-          read_most = omega (arith, lines.read_most, same_fed);
-          read_before = λ kept. omega (arith, lines.read_most, same_fed, new_within);
-          words_most = omega (arith, goes.counts, lines.words_most);
-          within = goes.within;
-          part_most = goes.paid;
-          seen_is = λ kept. refl;
-          most = omega (
-            arith,
-            lines.here unended,
-            begins,
-            known,
-            same_changes_there,
-            none_paid old.part old.line_read none,
-            left_none old.part (changes_of old) lines.seen none,
-          );
-          here = λ open_end. omega (
-            arith,
-            lines.here unended,
-            begins,
-            known,
-            same_changes_there,
-            none_paid old.part old.line_read none,
-            left_none old.part (changes_of old) lines.seen none,
-            left_some new.part (changes_of new) (length bits_here) some,
-          );
-          passed = kept_passed new.part (offset new + length bits_here) new some (short_there (kept_at_line some));
-        }
+        let unfinished = still_unfinished (next.unsettled e).0 in
+        let known = line_passed lines.known (lines_behind none) (next.none left).unended unfinished
+        (λ needs. kept_at_line some) in
+        kept_lines some (omega (
+          arith,
+          lines.next none unended unfinished,
+          next.line_work.begins e none,
+          known,
+          same_changes_there,
+        ))
 
-    goes_on_lines : old.part ≢ None → LinesNow counted
+    goes_on_lines : old.part ≢ None → LinesNow paid.drawn counted
     goes_on_lines kept =
-        let some = next.line_work.some e kept in
-        let goes_on = next.line_work.goes_on e kept in
-        let short = was kept in
-        let place = goes.stays left (stays_at_line short) in
-        record {
-          known = offset new + length bits_here;
-          read = lines.read;
-          words = lines.words;
-          seen = length bits_here;
-          known_most = omega (arith, new_within);
-          read_most = omega (arith, lines.read_most, same_fed);
-          read_before = λ still. omega (arith, lines.read_most, same_fed, new_within);
-          words_most = omega (arith, goes.counts, lines.words_most);
-          within = goes.within;
-          part_most = goes.paid;
-          seen_is = λ still. refl;
-          most = omega (
-            arith,
-            lines.here unended,
-            goes_on,
-            new_within,
-            same_fed,
-            lines.known_most,
-            left_some old.part (changes_of old) lines.seen kept,
-          );
-          here = λ open_end. omega (
-            arith,
-            lines.here unended,
-            goes_on,
-            new_within,
-            same_fed,
-            same_changes_there,
-            place,
-            keeps.dropped,
-            lines.known_most,
-            lines.seen_is kept,
-            left_some old.part (changes_of old) lines.seen kept,
-            left_some new.part (changes_of new) (length bits_here) some,
-          );
-          passed = kept_passed new.part (offset new + length bits_here) new some (short_there (kept_at_line some));
-        }
+        kept_lines (next.line_work.some e kept) (omega (
+          arith,
+          lines.here kept,
+          next.line_work.goes_on e kept,
+          new_within,
+          same_fed,
+          same_changes_there,
+          goes.stays left (stays_at_line (was kept)),
+          keeps.dropped,
+          lines.known_most,
+          lines.seen_is kept,
+        ))
 
   -- ---- First tries
 
-  abbrev firsts : FirstsPaid calls tried paid.firsts old
+  abbrev firsts : FirstsPaid calls paid.drawn paid.firsts old
   firsts = paid.firsts_paid
 
-  abbrev FirstsNow : ℕ → Type 0
-  FirstsNow count = FirstsPaid (calls + 1) (tried + next.extra) count new
+  abbrev FirstsNow : ℕ → ℕ → Type 0
+  FirstsNow drawn count = FirstsPaid (calls + 1) drawn count new
 
   -- a row is read
-  row_firsts : answer ≡ Ok Fed.Row → FirstsNow paid.firsts
-  row_firsts e = record {
+  row_firsts : (drawn : ℕ) → RowAdds paid.drawn drawn new → answer ≡ Ok Fed.Row → FirstsNow drawn paid.firsts
+  row_firsts drawn adds e = record {
     known = firsts.known;
-    words = (firsts.words + changes_of new) - 1;
     known_most = omega (arith, firsts.known_most, same_fed);
-    words_most = omega (arith, goes.stored e, goes.counts, firsts.words_most);
-    most = omega (arith, firsts.most);
+    most = omega (arith, firsts.most, adds.no_fewer);
     here = inr (record {
       behind = λ still unfinished. elim firsts.here [
         | inl was ↦ behind_line was.short e still
         | inr untried ↦ inl (line_passed firsts.known untried.behind still (still_unfinished unfinished)
             (λ needs. let never = sym e ∙ needs in absurd cc))
       ];
-      left = λ still. omega (arith, firsts.most);
+      left = λ still unfinished. omega (arith, firsts.most, adds.adds unfinished);
     });
   }
 
   -- the reading ends
-  end_firsts : (ended new.rows.stand ≡ None → ⊥) → FirstsNow paid.firsts
+  end_firsts : (ended new.rows.stand ≡ None → ⊥) → FirstsNow paid.drawn paid.firsts
   end_firsts over = record {
     known = firsts.known;
-    words = firsts.words;
     known_most = omega (arith, firsts.known_most, same_fed);
-    words_most = omega (arith, goes.counts, firsts.words_most);
     most = omega (arith, firsts.most);
     here = inr (record { behind = λ still unfinished. absurd (over still); left = λ still. absurd (over still) });
   }
 
   -- no row is read, and no line is tried first
-  left_firsts : HasNone answer → FirstsNow paid.firsts
+  left_firsts : HasNone answer → FirstsNow paid.drawn paid.firsts
   left_firsts left = record {
     known = firsts.known;
-    words = firsts.words;
     known_most = omega (arith, firsts.known_most, same_fed);
-    words_most = omega (arith, goes.counts, firsts.words_most);
     most = omega (arith, firsts.most);
     here = elim firsts.here [
       | inl was ↦ inl (record { tried = tried_there was; short = stays_short was.short left })
       | inr untried ↦ inr (record {
         behind = stays_behind firsts.known untried.behind left;
-        left = λ still. omega (
+        left = λ still unfinished. omega (
           arith,
-          untried.left unended,
+          untried.left unended (still_unfinished unfinished),
           ap (λ (r : Row). length (changes r)) (next.none left).row,
         );
       })
@@ -942,22 +853,21 @@ module _ {whole : Bits} {calls lost tried : ℕ} {old new : Feeding} {answer : R
 
   -- a line is tried first, and is short
   first_firsts : (e : answer ≡ Ok Fed.NeedsMore) → old.part ≡ None → new.part ≡ None → TriesFirst old new
-      → FirstsNow (paid.firsts + next.line_extra)
+      → FirstsNow paid.drawn (paid.firsts + next.line_extra)
   first_firsts e none still first = elim firsts.here [
     | inl was ↦
         let stays = goes.stays (left e) (stays_at_line was.short) in
         absurd (first.untried (omega (arith, was.tried, stays, keeps.dropped)))
     | inr untried ↦
-        let known = line_passed firsts.known untried.behind (next.none (left e)).unended
-        (still_unfinished (next.unsettled e).0) (λ needs. first.at_line) in
+        let unfinished = still_unfinished (next.unsettled e).0 in
+        let known = line_passed firsts.known untried.behind (next.none (left e)).unended unfinished
+        (λ needs. first.at_line) in
         record {
           known = offset new + length (bits_here e);
-          words = firsts.words;
           known_most = omega (arith, new_within e);
-          words_most = omega (arith, goes.counts, firsts.words_most);
           most = omega (
             arith,
-            untried.left unended,
+            untried.left unended unfinished,
             known,
             next.line_work.begins e none,
             none_paid new.part new.line_read still,
@@ -976,45 +886,61 @@ module _ {whole : Bits} {calls lost tried : ℕ} {old new : Feeding} {answer : R
       let failed = subst (ReadsNext (fed_over whole old) (fed_over whole new)) is reads in
       let never = sym failed.error.0 ∙ still in cc
 
-  paid_now : (lines_now firsts_now : ℕ) → lines_now + firsts_now ≡ paid.lines + paid.firsts + next.line_extra
-      → LinesNow lines_now → FirstsNow firsts_now → FeedIsPaid (calls + 1) lost (tried + next.extra) new
-  paid_now lines_now firsts_now is lines_are firsts_are = record {
+  paid_now : (drawn lines_now firsts_now : ℕ) → lines_now + firsts_now ≡ paid.lines + paid.firsts + next.line_extra
+      → RowsPaid drawn new → LinesNow drawn lines_now → FirstsNow drawn firsts_now
+      → FeedIsPaid (calls + 1) lost (tried + next.extra) new
+  paid_now drawn lines_now firsts_now is rows_are lines_are firsts_are = record {
     gaps = paid.gaps + next.gap;
     lines = lines_now;
     firsts = firsts_now;
+    drawn = drawn;
     sum = omega (arith, paid.sum, next.extra_is, is);
+    rows_paid = rows_are;
     gaps_paid = gaps_step old.begun new.begun refl refl;
     lines_paid = lines_are;
     firsts_paid = firsts_are;
   }
 
   -- what is counted for a line is counted for it alone
-  line_paid : LinesNow counted → FirstsNow paid.firsts → FeedIsPaid (calls + 1) lost (tried + next.extra) new
-  line_paid = paid_now counted paid.firsts (omega arith)
+  line_paid : (drawn : ℕ) → RowsPaid drawn new → LinesNow drawn counted → FirstsNow drawn paid.firsts
+      → FeedIsPaid (calls + 1) lost (tried + next.extra) new
+  line_paid drawn = paid_now drawn counted paid.firsts (omega arith)
+
+  -- a row is read
+  row_paid : answer ≡ Ok Fed.Row → FeedIsPaid (calls + 1) lost (tried + next.extra) new
+  row_paid e =
+      let (drawn, adds) = row_adds e in line_paid drawn adds.paid (row_lines drawn adds e) (row_firsts drawn adds e)
+
+  -- no row is read, and the reading goes on
+  left_rows : HasNone answer → RowsPaid paid.drawn new
+  left_rows left = none_added (stays_behind paid.drawn paid.rows_paid.behind left)
 
   -- more data is needed
   needs_paid : answer ≡ Ok Fed.NeedsMore → FeedIsPaid (calls + 1) lost (tried + next.extra) new
   needs_paid e = elim (none_or_some old.part) [
     | inl none ↦ elim (none_or_some new.part) [
       | inl still ↦ elim (next.line_work.unread e none still) [
-        | inl nothing ↦
-            paid_now paid.lines paid.firsts (omega (arith, nothing)) (waits_lines e none still) (left_firsts (left e))
-        | inr first ↦ paid_now paid.lines (paid.firsts + next.line_extra) (omega arith) (waits_lines e none still)
-            (first_firsts e none still first)
+        | inl nothing ↦ paid_now paid.drawn paid.lines paid.firsts (omega (arith, nothing)) rows
+            (waits_lines e none still) (left_firsts (left e))
+        | inr first ↦ paid_now paid.drawn paid.lines (paid.firsts + next.line_extra) (omega arith) rows
+            (waits_lines e none still) (first_firsts e none still first)
       ]
-      | inr some ↦ line_paid (begins_lines e none some) (left_firsts (left e))
+      | inr some ↦ line_paid paid.drawn rows (begins_lines e none some) (left_firsts (left e))
     ]
-    | inr kept ↦ line_paid (goes_on_lines e kept) (left_firsts (left e))
+    | inr kept ↦ line_paid paid.drawn rows (goes_on_lines e kept) (left_firsts (left e))
   ]
+    where
+      rows : RowsPaid paid.drawn new
+      rows = left_rows (left e)
 
   -- the reading ends
   end_paid : (ended new.rows.stand ≡ None → ⊥) → (HasNone answer → ⊥)
       → FeedIsPaid (calls + 1) lost (tried + next.extra) new
-  end_paid over other = line_paid (end_lines over other) (end_firsts over)
+  end_paid over other = line_paid paid.drawn (none_added (λ still. absurd (over still))) (end_lines over other) (end_firsts over)
 
   answer_paid : (a : Result Fed DecodeError) → answer ≡ a → answer ≢ Err OutOfMemory
       → FeedIsPaid (calls + 1) lost (tried + next.extra) new
-  answer_paid (Ok Fed.Row) e other = line_paid (row_lines e) (row_firsts e)
+  answer_paid (Ok Fed.Row) e other = row_paid e
   answer_paid (Ok Fed.NeedsMore) e other = needs_paid e
   answer_paid (Ok Fed.End) e other = end_paid (ends_there (inl refl) (next.end e))
       (λ left. let never : Fed.End ≡ Fed.NeedsMore = subst HasNone e left in cc)
@@ -1046,36 +972,50 @@ module _ {whole : Bits} {calls lost tried : ℕ} {old new : Feeding} {answer : R
     abbrev known_now : ℕ
     known_now = lines.known - (lines.known - offset new)
 
-    -- counted for it, with what is left for the line
-    failed_most : counted + 2 * changes_of new
-        ≤ 6 * known_now + 2 * lines.read + 2 * lines.words + 8 * calls + lost + cost_of_failure new
+    failed_some : old.part ≢ None → counted + 2 * changes_of new
+        ≤ 6 * known_now + 2 * lines.read + 2 * paid.drawn + 8 * calls + lost + cost_of_failure new
+    failed_some some =
+        let place = goes.stays failed_left (stays_at_line (was some)) in
+        omega (
+          arith,
+          lines.here some,
+          next.line_work.failed e,
+          lines.seen_is some,
+          failed_changes,
+          failed_within,
+          here_within,
+          place,
+          keeps.dropped,
+          lines.known_most,
+        )
+
+    -- counted for it
+    failed_most : counted ≤ 6 * known_now + 2 * lines.read + 2 * paid.drawn + 8 * calls + lost + cost_of_failure new
     failed_most = elim (none_or_some old.part) [
       | inl none ↦ omega (
         arith,
-        lines.here unended,
+        lines.most,
         next.line_work.failed_at_once e none,
         none_paid old.part old.line_read none,
-        left_none old.part (changes_of old) lines.seen none,
+        failed_within,
+        lines.known_most,
+      )
+      | inr some ↦ omega (arith, failed_some some)
+    ]
+
+    -- counted for it, with what is left for the line
+    failed_next : ended new.rows.stand ≡ None → new.finished ≡ false → counted + 2 * changes_of new
+        ≤ 6 * known_now + 2 * lines.read + 2 * paid.drawn + 8 * calls + lost + cost_of_failure new
+    failed_next still unfinished = elim (none_or_some old.part) [
+      | inl none ↦ omega (
+        arith,
+        lines.next none unended (still_unfinished unfinished),
+        next.line_work.failed_at_once e none,
         failed_changes,
         failed_within,
         lines.known_most,
       )
-      | inr some ↦
-          let short = was some in
-          let place = goes.stays failed_left (stays_at_line short) in
-          omega (
-            arith,
-            lines.here unended,
-            next.line_work.failed e,
-            left_some old.part (changes_of old) lines.seen some,
-            lines.seen_is some,
-            failed_changes,
-            failed_within,
-            here_within,
-            place,
-            keeps.dropped,
-            lines.known_most,
-          )
+      | inr some ↦ failed_some some
     ]
 
     pub fails_paid : FeedIsPaid (calls + 1) (lost + cost_of_failure new) (tried + next.extra) new
@@ -1083,40 +1023,17 @@ module _ {whole : Bits} {calls lost tried : ℕ} {old new : Feeding} {answer : R
       gaps = paid.gaps + next.gap;
       lines = counted;
       firsts = paid.firsts;
+      drawn = paid.drawn;
       sum = omega (arith, paid.sum, next.extra_is);
+      rows_paid = left_rows failed_left;
       gaps_paid = gaps_step old.begun new.begun refl refl;
       firsts_paid = left_firsts failed_left;
-      lines_paid = record {
-        known = known_now;
-        read = lines.read;
-        words = lines.words;
-        seen = 0;
-        known_most = omega (arith, lines.known_most, same_fed);
-        read_most = omega (arith, lines.read_most, same_fed);
-        read_before = λ some. absurd (some failed_unkept);
-        words_most = omega (arith, goes.counts, lines.words_most);
-        within = goes.within;
-        part_most = goes.paid;
-        seen_is = λ some. absurd (some failed_unkept);
-        most = omega (arith, failed_most, none_paid new.part new.line_read failed_unkept);
-        here = λ still. omega (
-          arith,
-          failed_most,
-          none_paid new.part new.line_read failed_unkept,
-          left_none new.part (changes_of new) 0 failed_unkept,
-        );
-        passed = passed_none new.part known_now new failed_unkept (λ still unfinished. inl (omega arith));
-      };
+      lines_paid = unkept_lines known_now lines.read failed_unkept (omega (arith, lines.known_most)) lines.read_most
+          (omega (arith, failed_most)) (λ still unfinished. omega (arith, failed_next still unfinished))
+          (λ still unfinished. inl (omega arith));
     }
 
 -- ---- All calls
-
--- at a line nothing has ended
-line_unended : (stand : Stand) → is_at_line stand ≡ true → ended stand ≡ None
-line_unended AtLine is = refl
-line_unended BehindRow is = refl
-line_unended AtEnd is = absurd (false≢true is)
-line_unended (AtFault error) is = absurd (false≢true is)
 
 -- what the plain reading counts
 plain_most : {whole : Bits} {tried : ℕ} {feed : Feeding} → IsFeedOf whole tried feed
@@ -1148,37 +1065,43 @@ fed_within {whole} {tried} {feed} is = omega (
   length-drop feed.dropped whole,
 )
 
-lines_in_all : {calls lost tried lines : ℕ} {feed : Feeding} → (paid : LinesPaid calls lost tried lines feed)
-    → lines ≤ 8 * fed_bits feed + 2 * paid.words + 8 * calls + lost + 2
-lines_in_all {calls} {lost} {tried} {lines} {feed} paid = elim (none_or_some feed.part) [
+lines_in_all : {calls lost drawn lines : ℕ} {feed : Feeding} → (paid : LinesPaid calls lost drawn lines feed)
+    → lines ≤ 8 * fed_bits feed + 2 * drawn + 8 * calls + lost + 2
+lines_in_all {calls} {lost} {drawn} {lines} {feed} paid = elim (none_or_some feed.part) [
   | inl none ↦ omega (arith, paid.most, none_paid feed.part feed.line_read none, paid.known_most, paid.read_most)
-  | inr some ↦
-      let short = was_short feed.part paid.known feed some paid.passed in
-      omega (
-        arith,
-        paid.here (line_unended feed.rows.stand short.at_line),
-        left_some feed.part (changes_of feed) paid.seen some,
-        paid.part_most,
-        paid.seen_is some,
-        paid.known_most,
-        paid.read_most,
-        length-drop feed.place feed.kept,
-        paid.within,
-      )
+  | inr some ↦ omega (
+    arith,
+    paid.here some,
+    paid.part_most,
+    paid.seen_is some,
+    paid.known_most,
+    paid.read_most,
+    length-drop feed.place feed.kept,
+    paid.within,
+  )
 ]
 
-pub all_paid : (whole : Bits) (calls lost tried : ℕ) (feed : Feeding) → IsFeedOf whole tried feed
-    → FeedIsPaid calls lost tried feed → feed.ctx.ticks ≤ 160 * length whole + 256 + 32 * calls + lost
-all_paid whole calls lost tried feed is paid = omega (
-  arith,
-  plain_most is,
-  fed_within is,
-  paid.sum,
-  paid.gaps_paid.most,
-  paid.gaps_paid.first_most,
-  lines_in_all paid.lines_paid,
-  paid.lines_paid.words_most,
-  paid.firsts_paid.most,
-  paid.firsts_paid.known_most,
-  paid.firsts_paid.words_most,
-)
+-- what was called is paid
+history_paid : {calls lost tried : ℕ} {feed : Feeding} → IsHistory calls lost tried feed → FeedIsPaid calls lost tried feed
+history_paid (IsHistory.opens {feed} whole is unbegun unlooked unkept) = begun_paid whole feed is unbegun unlooked unkept
+history_paid (IsHistory.feeds next before holds) = more_paid holds (history_paid before)
+history_paid (IsHistory.finishes before is) = finished_paid is (history_paid before)
+history_paid (IsHistory.reads whole before unended keeps next other) =
+    reads_paid unended keeps (history_paid before) next other
+history_paid (IsHistory.fails whole before unended keeps next) = fails_paid unended keeps (history_paid before) next refl
+
+pub feeds_are_paid : FeedsArePaid
+feeds_are_paid calls lost tried whole feed history is =
+    let paid = history_paid history in
+    omega (
+      arith,
+      plain_most is,
+      fed_within is,
+      paid.sum,
+      paid.gaps_paid.most,
+      paid.gaps_paid.first_most,
+      lines_in_all paid.lines_paid,
+      paid.firsts_paid.most,
+      paid.firsts_paid.known_most,
+      paid.rows_paid.most,
+    )

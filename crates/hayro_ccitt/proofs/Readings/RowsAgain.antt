@@ -1,4 +1,4 @@
--- A row whose line follows a gap at which nothing is missed, and white rows of Group 4 that are read again and again.
+-- A row whose line follows a gap at which nothing is missed, and white rows that are read again and again.
 use Rattle.hayro_ccitt.proofs.Names.{◌≡◌, ◌+◌, ◌-◌, ◌*◌, ◌≤◌, ◌&&◌, ◌||◌, ◌++◌, ◌∷◌, ℕ, Bool, true, false, eqb, leb, not}
 use Rattle.hayro_ccitt.proofs.Names.{List, [], length, drop, cond, min, suc, None, Some, Result, Ok, pos, refl, sym}
 use Rattle.hayro_ccitt.proofs.Names.{ap, ◌∙◌, subst, arith, cond-true, cond-false, eq-eqb, le-leb, length-drop, false≢true}
@@ -15,7 +15,17 @@ use Rattle.hayro_ccitt.proofs.Names.{Misses, MissIsTold, WorkIsPaid, PaidAtLine,
 use Rattle.hayro_ccitt.proofs.Names.{cut_since, damage_since, failed_at, tag_tests, looked_ahead, pen_at, GoesOn2d, slice_get}
 use Rattle.hayro_ccitt.proofs.Names.{looked}
 use Rattle.hayro_ccitt.specs.declared.row_reader.RowState.{RowState}
-use Rattle.hayro_ccitt.specs.RowsRead.{RepeatsWhite}
+use Rattle.hayro_ccitt.proofs.Names.{Group3_1D, Group3_2D, at_end, ◌<◌}
+use Rattle.hayro_ccitt.proofs.Names.{after_eol, append_assoc, drop-drop, eol, inl, inr, length-append, tagged_eols, ◌⊎◌}
+use Rattle.hayro_ccitt.specs.EndOfLine.{one_more, pass_last_tag}
+use Rattle.hayro_ccitt.specs.WhiteLines.{AreWhiteLine, FollowWhite, IsWhiteLine, PassesLine, eol_before}
+use Rattle.fax_bits.specs.declared.tables.CodeWord.{CodeWord}
+use Rattle.hayro_ccitt.specs.declared.white_lines.WhiteLines.{WhiteLines}
+use Rattle.hayro_ccitt.proofs.BitReading.BitLists.{length-low_bits}
+use Rattle.hayro_ccitt.proofs.BitReading.ConsecutiveEols.{all_eols-none, eols-none, eols-some, eols_with_tags-none}
+use Rattle.hayro_ccitt.proofs.BitReading.PlainEols.{single_tagged_eol}
+use Rattle.hayro_ccitt.proofs.EncodedPictures.PicturesT4.{eol_stands, one_eol}
+use Rattle.std.proofs.Math.Seq.{drop-append_seam}
 use Rattle.hayro_ccitt.proofs.DrawingLines.CountedLines.{found_2d_from, found_after}
 use Rattle.hayro_ccitt.proofs.DrawingLines.Drawings.{step_2d}
 use Rattle.hayro_ccitt.proofs.DrawingLines.ReadLines.{drawn2, pen_left, step_2d_shrinks}
@@ -180,184 +190,208 @@ module _ (from : ℕ) (rows : RowState) (ctx : Context) (at : BitsAt) (stands : 
     pub stands_again : IsStanding from after after_ctx after_at
     stands_again = subst Standing (sym read.settings_are) standing
 
--- ---- A white line of Group 4
+-- ---- A white line below a white row
 
--- no EOL begins with a one (T.4, 4.1.2)
-eols_at_one : (settings : DecodeSettings) → settings.encoding ≡ Group4 → (rest : Bits)
-    → eols_here settings (true ∷ rest) ≡ (0, true ∷ rest)
-eols_at_one settings is rest =
-    ap (λ (e : EncodingMode). eols_by e settings.end_of_block (true ∷ rest)) is ∙ either_way settings.end_of_block
+-- no number of EOLs up to one is EOFB or RTC (T.4, 4.1.4; T.6, 2.4.1.1)
+one_is_not_end : (e : EncodingMode) (has_eols block : Bool) → (block && leb (eols_of_end e) (cond has_eols 1 0)) ≡ false
+one_is_not_end Group4 true true = refl
+one_is_not_end Group4 true false = refl
+one_is_not_end Group4 false true = refl
+one_is_not_end Group4 false false = refl
+one_is_not_end Group3_1D true true = refl
+one_is_not_end Group3_1D true false = refl
+one_is_not_end Group3_1D false true = refl
+one_is_not_end Group3_1D false false = refl
+one_is_not_end Group3_2D true true = refl
+one_is_not_end Group3_2D true false = refl
+one_is_not_end Group3_2D false true = refl
+one_is_not_end Group3_2D false false = refl
+
+-- the EOLs before a line that no EOL begins, nor after a tag
+no_tagged_eols : (line : Bits) → after_eol 0 line ≡ None → tagged_eols line ≡ (0, line)
+no_tagged_eols line none = ap pass_last_tag (eols_with_tags-none (length line) line none) ∙ kept line
   where
-    either_way : (b : Bool) → eols_by Group4 b (true ∷ rest) ≡ (0, true ∷ rest)
-    either_way true = refl
-    either_way false = refl
+    kept : (here : Bits) → pass_last_tag (0, here) ≡ (0, here)
+    kept [] = refl
+    kept (true ∷ here) = refl
+    kept (false ∷ here) = refl
 
--- so a gap that begins with one is empty, and the reading isn't over (T.6, 2.4.1.1)
-gap_at_one : (settings : DecodeSettings) (taken : ℕ) (rest : Bits) → settings.encoding ≡ Group4 → limit_met settings taken ≡ false
-    → gap_behind_row settings taken false (true ∷ rest) ≡ Gap.line_at false (true ∷ rest)
-gap_at_one settings taken rest is limit =
-    cond-false (misses_eol settings taken false (true ∷ rest)) _ _ (unmissed settings taken (true ∷ rest))
-    ∙ ap (behind_eols settings taken false) (eols_at_one settings is rest)
-    ∙ cond-false (is_over settings taken (0, true ∷ rest)) (Gap.over (Ok (true ∷ rest))) (Gap.line_at false (true ∷ rest)) goes_on
-  where
-    either_way : (b over : Bool) → over ≡ false → ((b && leb (eols_of_end Group4) 0) || over || false) ≡ false
-    either_way true over none = ap (λ (o : Bool). o || false) none
-    either_way false over none = ap (λ (o : Bool). o || false) none
+eols_counted : (e : EncodingMode) (has_eols block : Bool) (line : Bits) → after_eol 0 line ≡ None
+    → (e ≡ Group3_2D → after_eol 0 (drop 1 line) ≡ None) → eols_by e block (eol_before has_eols ++ line)
+    ≡ (cond has_eols 1 0, line)
+eols_counted Group3_1D true block line none no_tag = one_eol 0 line none
+eols_counted Group3_1D false block line none no_tag = all_eols-none line none
+eols_counted Group3_2D true block line none no_tag =
+    single_tagged_eol (eol 0 ++ line) line (eol_stands 0 line) none (no_tag refl)
+eols_counted Group3_2D false block line none no_tag = no_tagged_eols line none
+eols_counted Group4 true true line none no_tag =
+    eols-some 1 (eol 0 ++ line) line (eol_stands 0 line) ∙ ap one_more (eols-none 1 line none)
+eols_counted Group4 true false line none no_tag = one_eol 0 line none
+eols_counted Group4 false true line none no_tag = eols-none 2 line none
+eols_counted Group4 false false line none no_tag = all_eols-none line none
 
-    goes_on : is_over settings taken (0, true ∷ rest) ≡ false
-    goes_on =
-        ap (λ (e : EncodingMode). (settings.end_of_block && leb (eols_of_end e) 0) || limit_met settings taken || false) is
-        ∙ either_way settings.end_of_block (limit_met settings taken) limit
+-- an EOL that is there isn't missed
+sought_there : (has_eols a b : Bool) (found : ℕ × Bits) (line : Bits) → found ≡ (cond has_eols 1 0, line)
+    → (eqb found.0 0 && has_eols && a && b) ≡ false
+sought_there true a b found line is = ap (λ (f : ℕ × Bits). eqb f.0 0 && true && a && b) is
+sought_there false a b found line is = ap (λ (f : ℕ × Bits). eqb f.0 0 && false && a && b) is
 
--- and misses none
-none_missed_at : (held : Held) (here : Bits) → held.has_eols ≡ false → held.repairs ≡ repairs_behind held here
-none_missed_at held here unsought =
-    sym (ap (λ (b : Bool). cond (b && not held.settings.strict) (with_missed held.taken held.repairs) held.repairs)
-    (ap (λ (h : Bool). misses_eol held.settings held.taken h here) unsought ∙ unmissed held.settings held.taken here))
+open_end : (line rest : Bits) → 0 < length line → at_end (line ++ rest) ≡ false
+open_end [] rest some = absurd (omega arith)
+open_end (b ∷ line) rest some = refl
 
--- a row that is full is drawn, and finds no word more
-full_words : (full : Bool) (line : Line) (pen : Pen) (words : Pen → List Bits) → full ≡ true
-    → ◌≡◌ {A = List Bits} ([] ++ words_behind (cond full (Turn.done line) (Turn.next pen)) words) []
-full_words true _ pen words is = refl
-full_words false _ pen words is = absurd (false≢true is)
+-- the word that is passed is one of the lines
+line_passed : (settings : DecodeSettings) (has_eols : Bool) (reference : Row) (lines : WhiteLines) (at next : BitsAt)
+    → FollowWhite settings has_eols reference lines → (passes : PassesLine lines at next)
+    → IsWhiteLine settings.encoding settings.columns has_eols passes.word
+line_passed settings has_eols reference lines at next follow passes = elim passes.one [
+  | inl e ↦ subst (IsWhiteLine settings.encoding settings.columns has_eols) (sym e) follow.first
+  | inr e ↦ subst (IsWhiteLine settings.encoding settings.columns has_eols) (sym e) follow.second
+]
 
-full_step : (full : Bool) (line : Line) (pen : Pen) (step : Pen → Step) → full ≡ true
-    → turn_behind (cond full (Turn.done line) (Turn.next pen)) step ≡ Turn.done line
-full_step true _ pen step is = refl
-full_step false _ pen step is = absurd (false≢true is)
+-- its EOL and its line are all of it
+line_width : (encoding : EncodingMode) (columns : ℕ) (has_eols : Bool) (word : CodeWord) (gap : ℕ)
+    → (is : IsWhiteLine encoding columns has_eols word) → (some : 0 < word.count) → gap ≡ length (eol_before has_eols)
+    → gap + length (is.line some).0 ≡ word.count
+line_width encoding columns has_eols word gap is some gap_is = omega (
+  arith,
+  gap_is,
+  length-low_bits word.count word.bits,
+  ap length (is.line some).2,
+  length-append (eol_before has_eols) (is.line some).0,
+)
 
-module _ (strict : Bool) (columns : ℕ) (reference : Row) (pen : Pen) (full : columns ≤ length pen.front) where
-  is_full : leb columns (length pen.front) ≡ true
-  is_full = le-leb columns (length pen.front) full
-
-  last_step : step_2d strict columns reference pen ≡ Turn.done (Line.whole pen.front pen.rest)
-  last_step = full_step (leb columns (length pen.front)) (Line.whole pen.front pen.rest) pen _ is_full
-
-  full_line : drawn (draw_2d strict columns reference) pen ≡ Line.whole pen.front pen.rest
-  full_line = drawn2 strict columns reference pen ∙ ap (after_turn (drawn (draw_2d strict columns reference))) last_step
-
-  no_words : words_drawn (draw_2d strict columns reference) pen ≡ []
-  no_words =
-      gathered_turn (step_2d strict columns reference) (λ pen. (draw_2d strict columns reference pen).words) pen_left
-      (step_2d_shrinks strict columns reference) pen
-      ∙ ap (λ (words : List Bits). words ++ found_after (found_2d_from strict columns reference) (step_2d strict columns reference
-      pen)) (full_words (leb columns (length pen.front)) (Line.whole pen.front pen.rest) pen _ is_full)
-      ∙ ap (found_after (found_2d_from strict columns reference)) last_step
-
--- the code of V0
-v0_read : (rest : Bits) → read_code mode_codes (true ∷ rest) ≡ Ok (Vertical (pos 0), rest)
-v0_read rest = refl
-
-module _ (held : Held) (at : BitsAt) (repeats : RepeatsWhite held) (one : here at ≡ true ∷ here (moved 1 at)) where
-  abbrev columns : ℕ
-  columns = held.settings.columns
-
-  abbrev white : Row
-  white = pixels columns []
-
-  reads : read_code mode_codes (here at) ≡ Ok (Vertical (pos 0), here (moved 1 at))
-  reads = ap (read_code mode_codes) one ∙ v0_read (here (moved 1 at))
-
-  goes : GoesOn2d held.settings.strict columns white (pen_at 0 [] White at) (pen_at columns [] Black (moved 1 at)) 0 2 0 0
-  goes = white_line held.settings.strict columns at 0 2 repeats.wide repeats.fits reads refl
-
-  width : columns ≤ length (pixels columns [])
-  width = omega (arith, length-pixels columns [] tt)
-
-  abbrev end : Pen
-  end = pen_at columns [] Black (moved 1 at)
-
-  white_is : line_here held.settings held.reference (here at) ≡ Line.whole white (here (moved 1 at))
-  white_is =
-      ap (λ (e : EncodingMode). line_by e held.settings.strict columns held.reference (here at)) repeats.group4
-      ∙ ap (λ (r : Row). line_by Group4 held.settings.strict columns r (here at)) repeats.white
-      ∙ sym goes.line ∙ full_line held.settings.strict columns white end width
-
-  few_words : length (found_here held.settings held.reference (here at)) ≤ 2
-  few_words =
-      let found = ap (λ (e : EncodingMode). length (found_here (record held.settings { encoding = e }) held.reference (here at)))
-      repeats.group4 ∙ ap (λ (r : Row). length (found_here (record held.settings { encoding = Group4 }) r (here at)))
-      repeats.white in
-      omega (arith, found, goes.at_least, ap length (no_words held.settings.strict columns white end width))
-
-  row_read : row_of_line held.settings held.has_eols (here at) (line_here held.settings held.reference (here at))
-      ≡ Ok (white, here (moved 1 at))
-  row_read =
-      ap (row_of_line held.settings held.has_eols (here at)) white_is
-      ∙ ap {B = Result (Row × Bits) DecodeError} (λ (b : Bool). Ok (
-        white,
-        cond (b && not held.has_eols)
-            (aligned (here (moved 1 at))) (here (moved 1 at)),
-      )) repeats.anywhere
+-- a line begins within the data
+pub line_within : (settings : DecodeSettings) (has_eols : Bool) (reference : Row) (lines : WhiteLines) (at next : BitsAt)
+    → FollowWhite settings has_eols reference lines → PassesLine lines at next → at.place + lines.gap ≤ length at.bits
+line_within settings has_eols reference lines at next follow passes =
+    let is = line_passed settings has_eols reference lines at next follow passes in
+    let width = line_width settings.encoding settings.columns has_eols passes.word lines.gap is passes.some follow.gap in
+    omega (arith, width, passes.within)
 
 module _ (from : ℕ) (rows : RowState) (ctx : Context) (at : BitsAt) (stands : IsStanding from rows ctx at)
-    (behind_row : rows.stand ≡ BehindRow) (repeats : RepeatsWhite ctx.held) (unsought : ctx.held.has_eols ≡ false)
-    (limit : limit_met ctx.held.settings ctx.held.taken ≡ false) (one : slice_get at.bits at.place ≡ Some true) where
-  first : here at ≡ true ∷ here (moved 1 at)
-  first = here_next at (moved 1 at) true one refl
+    (behind_row : rows.stand ≡ BehindRow) (lines : WhiteLines) (follow : FollowWhite ctx.held.settings ctx.held.has_eols
+    ctx.held.reference lines) (limit : limit_met ctx.held.settings ctx.held.taken ≡ false) (next : BitsAt)
+    (passes : PassesLine lines at next) where
+  abbrev settings_now : DecodeSettings
+  settings_now = ctx.held.settings
 
-  within_bits : at.place ≤ length at.bits
-  within_bits = let lt = slice_get_within at.bits at.place true one in omega (arith, lt)
+  abbrev sought : Bool
+  sought = ctx.held.has_eols
 
-  within_next : at.place + 1 ≤ length at.bits
-  within_next = let lt = slice_get_within at.bits at.place true one in omega (arith, lt)
+  abbrev white : Row
+  white = pixels settings_now.columns []
 
-  abbrev strictly : Held
-  strictly = record ctx.held { settings = record ctx.held.settings { strict = true } }
+  word_is : IsWhiteLine settings_now.encoding settings_now.columns sought passes.word
+  word_is = line_passed settings_now sought ctx.held.reference lines at next follow passes
 
-  strict_repeats : RepeatsWhite strictly
-  strict_repeats = record {
-    group4 = repeats.group4;
-    anywhere = repeats.anywhere;
-    white = repeats.white;
-    wide = repeats.wide;
-    fits = repeats.fits;
-  }
+  abbrev line_bits : Bits
+  line_bits = (word_is.line passes.some).0
 
-  gap_said : gap_behind_row ctx.held.settings ctx.held.taken ctx.held.has_eols (here at) ≡ Gap.line_at ctx.held.has_eols (here at)
+  white_is : AreWhiteLine settings_now.encoding settings_now.columns line_bits
+  white_is = (word_is.line passes.some).1
+
+  abbrev rest : Bits
+  rest = drop (at.place + passes.word.count) at.bits
+
+  abbrev place : ℕ
+  place = at.place + lines.gap
+
+  starts : here at ≡ eol_before sought ++ (line_bits ++ rest)
+  starts =
+      passes.there ∙ ap (λ (b : Bits). b ++ rest) (word_is.line passes.some).2
+      ∙ append_assoc (eol_before sought) line_bits rest
+
+  line_there : drop place at.bits ≡ line_bits ++ rest
+  line_there =
+      sym (drop-drop lines.gap at.place at.bits) ∙ ap (drop lines.gap) starts
+      ∙ ap (λ (n : ℕ). drop n (eol_before sought ++ (line_bits ++ rest))) follow.gap
+      ∙ drop-append_seam (eol_before sought) (line_bits ++ rest)
+
+  within_place : place ≤ length at.bits
+  within_place = line_within settings_now sought ctx.held.reference lines at next follow passes
+
+  eols_are : eols_here settings_now (here at) ≡ (cond sought 1 0, line_bits ++ rest)
+  eols_are =
+      ap (eols_here settings_now) starts
+      ∙ eols_counted settings_now.encoding sought settings_now.end_of_block (line_bits ++ rest) (white_is.no_eol rest)
+      (λ e. white_is.no_tag e rest)
+
+  none_misses : misses_eol settings_now ctx.held.taken sought (here at) ≡ false
+  none_misses = sought_there sought _ _ (eols_here settings_now (here at)) (line_bits ++ rest) eols_are
+
+  goes_on : is_over settings_now ctx.held.taken (cond sought 1 0, line_bits ++ rest) ≡ false
+  goes_on =
+      ap (λ (b : Bool). b || limit_met settings_now ctx.held.taken || at_end (line_bits ++ rest))
+      (one_is_not_end settings_now.encoding sought settings_now.end_of_block)
+      ∙ ap (λ (b : Bool). b || at_end (line_bits ++ rest)) limit ∙ open_end line_bits rest white_is.some
+
+  gap_said : gap_behind_row settings_now ctx.held.taken sought (here at) ≡ Gap.line_at sought (drop place at.bits)
   gap_said =
-      ap (λ (b : Bool). gap_behind_row ctx.held.settings ctx.held.taken b (here at)) unsought
-      ∙ ap (gap_behind_row ctx.held.settings ctx.held.taken false) first
-      ∙ gap_at_one ctx.held.settings ctx.held.taken (here (moved 1 at)) repeats.group4 limit ∙ ap (Gap.line_at false) (sym first)
-      ∙ ap (λ (b : Bool). Gap.line_at b (here at)) (sym unsought)
+      cond-false (misses_eol settings_now ctx.held.taken sought (here at)) _ _ none_misses
+      ∙ ap (behind_eols settings_now ctx.held.taken sought) eols_are
+      ∙ cond-false (is_over settings_now ctx.held.taken (cond sought 1 0, line_bits ++ rest)) (Gap.over (Ok (line_bits ++ rest)))
+      (Gap.line_at sought (line_bits ++ rest)) goes_on ∙ ap (Gap.line_at sought) (sym line_there)
 
-  gap_work : ctx.ticks + 1 + 4 * length (here at) ≤ ctx.ticks + 4 * length (here at) + tag_tests ctx.held.settings.encoding
-      + looked_ahead ctx.held.settings.encoding (here at)
-  gap_work =
-      let one_bit : looked_ahead ctx.held.settings.encoding (here at) ≡ 1 =
-      ap (λ (e : EncodingMode). looked_ahead e (here at)) repeats.group4 ∙ ap looked first in
-      omega (arith, one_bit)
+  kept_repairs : ctx.held.repairs ≡ repairs_behind ctx.held (here at)
+  kept_repairs =
+      sym (ap (λ (b : Bool). cond (b && not settings_now.strict) (with_missed ctx.held.taken ctx.held.repairs) ctx.held.repairs)
+      none_misses)
+
+  gap_work : ctx.ticks + 4 * length (drop place at.bits) ≤ ctx.ticks + 4 * length (here at) + tag_tests settings_now.encoding
+      + looked_ahead settings_now.encoding (drop place at.bits)
+  gap_work = omega (arith, length-drop place at.bits, length-drop at.place at.bits)
+
+  line_read : (strict : Bool)
+      → line_here (record settings_now { strict = strict }) ctx.held.reference (drop place at.bits) ≡ Line.whole white rest
+  line_read strict =
+      ap (line_here (record settings_now { strict = strict }) ctx.held.reference) line_there
+      ∙ ap (λ (r : Row). line_by settings_now.encoding strict settings_now.columns r (line_bits ++ rest))
+      (follow.white passes.any) ∙ white_is.row strict rest
+
+  few_words : length (found_here settings_now ctx.held.reference (drop place at.bits)) ≤ 2
+  few_words =
+      let here_too = ap (λ (b : Bits). length (found_here settings_now ctx.held.reference b)) line_there
+      ∙ ap (λ (r : Row). length (found_here settings_now r (line_bits ++ rest))) (follow.white passes.any) in
+      omega (arith, here_too, white_is.words settings_now.strict rest)
+
+  row_read : row_of_line settings_now sought (drop place at.bits) (line_here settings_now ctx.held.reference (drop place at.bits))
+      ≡ Ok (white, rest)
+  row_read =
+      ap (row_of_line settings_now sought (drop place at.bits)) (line_read settings_now.strict)
+      ∙ ap {B = Result (Row × Bits) DecodeError} (λ (b : Bool). Ok (white, cond b (aligned rest) rest))
+      (follow.anywhere passes.any)
 
   abbrev one_row_more : Held
   one_row_more = record ctx.held { taken = ctx.held.taken + 1 }
 
-  held_is : one_row_more ≡ record (with_row_taken ctx.held (pixels ctx.held.settings.columns [])) {
-    repairs = repairs_with (line_here ctx.held.settings ctx.held.reference (here at))
-        (line_here strictly.settings ctx.held.reference (here at)) ctx.held.taken ctx.held.repairs;
+  held_is : one_row_more ≡ record (with_row_taken ctx.held white) {
+    repairs = repairs_with (line_here settings_now ctx.held.reference (drop place at.bits))
+        (line_here (record settings_now { strict = true }) ctx.held.reference (drop place at.bits)) ctx.held.taken
+        ctx.held.repairs;
   }
   held_is =
-      let behind : StandsBehindRow ctx.held.settings at.bits ctx.held (here at) =
-      subst (λ (s : Stand). ReaderStands s ctx.held.settings at.bits ctx.held at.place) behind_row stands.0 in
-      let white_row : Row = pixels ctx.held.settings.columns [] in
-      ap (λ (r : Row). record one_row_more { reference = r }) repeats.white
-      ∙ ap (λ (f : Row). record one_row_more { reference = white_row; front = f }) (ap (λ (h : Held). h.front) behind.held_is)
-      ∙ ap (λ (k : Color). record one_row_more { reference = white_row; front = []; color = k })
+      let behind : StandsBehindRow settings_now at.bits ctx.held (here at) =
+      subst (λ (s : Stand). ReaderStands s settings_now at.bits ctx.held at.place) behind_row stands.0 in
+      ap (λ (r : Row). record one_row_more { reference = r }) (follow.white passes.any)
+      ∙ ap (λ (f : Row). record one_row_more { reference = white; front = f }) (ap (λ (h : Held). h.front) behind.held_is)
+      ∙ ap (λ (k : Color). record one_row_more { reference = white; front = []; color = k })
       (ap (λ (h : Held). h.color) behind.held_is)
-      ∙ ap (λ (l : Line). record (with_row_taken ctx.held white_row) {
-        repairs = repairs_with l (Line.whole white_row (here (moved 1 at))) ctx.held.taken ctx.held.repairs;
-      }) (sym (white_is ctx.held at repeats first))
-      ∙ ap (λ (l : Line). record (with_row_taken ctx.held white_row) {
-        repairs = repairs_with (line_here ctx.held.settings ctx.held.reference (here at)) l ctx.held.taken ctx.held.repairs;
-      }) (sym (white_is strictly at strict_repeats first))
+      ∙ ap (λ (l : Line). record (with_row_taken ctx.held white) {
+        repairs = repairs_with l (Line.whole white rest) ctx.held.taken ctx.held.repairs;
+      }) (sym (line_read settings_now.strict))
+      ∙ ap (λ (l : Line). record (with_row_taken ctx.held white) {
+        repairs = repairs_with (line_here settings_now ctx.held.reference (drop place at.bits)) l ctx.held.taken ctx.held.repairs;
+      }) (sym (line_read true))
 
-  takes_white : TakesOneRow (line_here ctx.held.settings ctx.held.reference (here at))
-      (line_here strictly.settings ctx.held.reference (here at)) (row_of_line ctx.held.settings
-      ctx.held.has_eols (here at) (line_here ctx.held.settings ctx.held.reference (here at))) ctx.held one_row_more (Ok tt)
-      (drop (at.place + 1) at.bits)
+  takes_white : TakesOneRow (line_here settings_now ctx.held.reference (drop place at.bits))
+      (line_here (record settings_now { strict = true }) ctx.held.reference (drop place at.bits)) (row_of_line settings_now
+      sought (drop place at.bits) (line_here settings_now ctx.held.reference (drop place at.bits))) ctx.held one_row_more (Ok tt)
+      rest
   takes_white = record {
     taken = record {
-      taken = pixels ctx.held.settings.columns [];
-      is = row_read ctx.held at repeats first;
+      taken = white;
+      is = row_read;
       held = held_is;
     };
     fault = tt;
@@ -366,50 +400,43 @@ module _ (from : ℕ) (rows : RowState) (ctx : Context) (at : BitsAt) (stands : 
     not_refused = λ e. cc;
   }
 
-  found_least : ctx.ticks + 1 + length (found_here ctx.held.settings ctx.held.reference (here at)) ≤ ctx.ticks + 3
-  found_least = omega (arith, few_words ctx.held at repeats first)
+  found_least : ctx.ticks + length (found_here settings_now ctx.held.reference (drop place at.bits)) ≤ ctx.ticks + 2
+  found_least = omega (arith, few_words)
+
+  no_changes : length (changes ctx.held.reference) ≡ 0
+  no_changes = ap (λ (r : Row). length (changes r)) (follow.white passes.any)
+      ∙ ap length (changes-pixels settings_now.columns [] tt)
 
   found_stored : length (changes ctx.held.reference)
-      ≤ length (found_here ctx.held.settings ctx.held.reference (here at)) + 1
-  found_stored =
-      let none = ap (λ (r : Row). length (changes r)) repeats.white
-      ∙ ap length (changes-pixels ctx.held.settings.columns [] tt) in
-      omega (arith, none)
+      ≤ length (found_here settings_now ctx.held.reference (drop place at.bits)) + 1
+  found_stored = omega (arith, no_changes)
 
-  found_short : length (changes ctx.held.reference) ≤ suc (min ctx.held.settings.columns (length at.bits))
-  found_short =
-      let none = ap (λ (r : Row). length (changes r)) repeats.white
-      ∙ ap length (changes-pixels ctx.held.settings.columns [] tt) in
-      omega (arith, none)
+  found_short : length (changes ctx.held.reference) ≤ suc (min settings_now.columns (length at.bits))
+  found_short = omega (arith, no_changes)
 
-  -- a one is a white row, the next one of the plain reading
-  pub white_reads : ReadsNext (seen rows ctx at) (seen (record {
-    started_at = at.place;
-    damage = None;
-    cut = false;
-    missed = None;
-    stand = BehindRow;
-  }) (record ctx { held = one_row_more; ticks = ctx.ticks + 3 }) (moved 1 at)) (Ok true)
+  abbrev rows_then : RowState
+  rows_then = record { started_at = place; damage = None; cut = false; missed = None; stand = BehindRow }
+
+  abbrev ctx_then : Context
+  ctx_then = record ctx { held = one_row_more; ticks = ctx.ticks + 2 }
+
+  -- a white line is a white row, the next one of the plain reading
+  pub white_reads : ReadsNext (seen rows ctx at) (seen rows_then ctx_then next) (Ok true)
   white_reads =
-      reads_again from rows ctx at stands behind_row at.place (ctx.ticks + 1) within_bits gap_said
-      (none_missed_at ctx.held (here at) unsought) (omega arith) gap_work one_row_more (at.place + 1)
-      (ctx.ticks + 3) within_next takes_white refl found_least (omega arith) found_stored found_short
+      subst (λ (n : BitsAt). ReadsNext (seen rows ctx at) (seen rows_then ctx_then n) (Ok true)) (sym passes.moved_on)
+      (reads_again from rows ctx at stands behind_row place ctx.ticks within_place gap_said kept_repairs (omega arith) gap_work
+      one_row_more (at.place + passes.word.count) (ctx.ticks + 2) passes.within takes_white refl found_least (omega arith)
+      found_stored found_short)
 
   -- and the reading is behind it
-  pub white_stands : IsStanding from (record {
-    started_at = at.place;
-    damage = None;
-    cut = false;
-    missed = None;
-    stand = BehindRow;
-  })
-      (record ctx { held = one_row_more; ticks = ctx.ticks + 3 }) (moved 1 at)
+  pub white_stands : IsStanding from rows_then ctx_then next
   white_stands =
-      stands_again from rows ctx at stands behind_row at.place (ctx.ticks + 1) within_bits gap_said
-      (none_missed_at ctx.held (here at) unsought) (omega arith) gap_work one_row_more (at.place + 1)
-      (ctx.ticks + 3) within_next takes_white refl found_least (omega arith) found_stored found_short
+      subst (λ (n : BitsAt). IsStanding from rows_then ctx_then n) (sym passes.moved_on)
+      (stands_again from rows ctx at stands behind_row place ctx.ticks within_place gap_said kept_repairs (omega arith) gap_work
+      one_row_more (at.place + passes.word.count) (ctx.ticks + 2) passes.within takes_white refl found_least (omega arith)
+      found_stored found_short)
 
-  -- its line begins here
-  pub white_starts : length at.bits - length (here at) ≡ failed_at ctx.held.settings at.bits ctx.held.taken
-  white_starts = again_starts from rows ctx at stands behind_row at.place (ctx.ticks + 1) within_bits gap_said
-      (none_missed_at ctx.held (here at) unsought) (omega arith) gap_work
+  -- its line begins behind the EOL
+  pub white_starts : length at.bits - length (drop place at.bits) ≡ failed_at settings_now at.bits ctx.held.taken
+  white_starts = again_starts from rows ctx at stands behind_row place ctx.ticks within_place gap_said kept_repairs (omega arith)
+      gap_work

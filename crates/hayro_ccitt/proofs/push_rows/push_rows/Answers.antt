@@ -9,7 +9,7 @@ use Rattle.hayro_ccitt.proofs.PixelRows.ChangesAndPixels.{AreChanges-wider}
 use Rattle.hayro_ccitt.proofs.Readings.RowByRow.{at_line_stands, few, reader_fails_at_line}
 use Rattle.hayro_ccitt.proofs.Readings.RowsPushed.{HasRun, decodes_rows, ends_unfailed, means_pushed, none_missed, of_same}
 use Rattle.hayro_ccitt.proofs.Readings.RowsPushed.{few_rows_behind, run_is_over, run_refused}
-use Rattle.hayro_ccitt.specs.RowsRead.{RepeatsWhite}
+use Rattle.hayro_ccitt.specs.WhiteLines.{FollowWhite}
 use Rattle.hayro_ccitt.proofs.Names.{max, line_here, most_room, most_stored, room_for}
 use Rattle.hayro_ccitt.proofs.Work.RoomTaken.{grown_more, line_enough}
 use Rattle.hayro_ccitt.proofs.push_rows.push_rows.{Given.Over}
@@ -229,7 +229,7 @@ white-init g c =
       unrefused = c.in_default.ensures.not_refused ∙ inv.unrefused;
       space = room_there g (goal.at.white-init g c).After-read_line;
       unsought = λ is. c.read_line.ensures.has_eols ∙ inv.unsought is;
-      repeats = λ is. c.repeats_white-repeats.ensures is;
+      follow = c.white_lines-lines.ensures;
     }
 
 pub read_white_row-requires-clause-rows : goal.read_white_row-requires-clause-rows
@@ -273,15 +273,7 @@ white-preserved g c =
       unrefused = flag ∙ inv.unrefused;
       space = rw read.space inv.space;
       unsought = λ is. ap (λ (h : Held). h.has_eols) read.kept ∙ inv.unsought is;
-      repeats = λ is.
-          let before = inv.repeats is in
-          subst RepeatsWhite (sym read.kept) (record {
-            group4 = before.group4;
-            anywhere = before.anywhere;
-            white = before.white;
-            wide = before.wide;
-            fits = before.fits;
-          });
+      follow = subst (λ (h : Held). FollowWhite h.settings h.has_eols h.reference c.white_lines-lines.result) (sym read.kept) inv.follow;
     }
 
 pub returns-in-Err-push_row-clause-rows : goal.returns-in-Err-push_row-clause-rows

@@ -1,6 +1,6 @@
 use Rattle.hayro_ccitt.proofs.Names.{◌≡◌, ◌≤◌, ◌-◌, false, length, take, Group4, meaning_after, plain, IsStanding}
 use Rattle.hayro_ccitt.proofs.Names.{is_at_line, true, BehindRow}
-use Rattle.hayro_ccitt.specs.RowsRead.{RepeatsWhite}
+use Rattle.hayro_ccitt.specs.WhiteLines.{FollowWhite}
 use Rattle.hayro_ccitt.proofs.Names.{max, most_room}
 use Rattle.hayro_ccitt.proofs.push_rows.push_rows.Given as goal
 
@@ -35,7 +35,7 @@ invariant-white g l = record {
   unrefused : g.D.Decoder.has_refused l.decoder ≡ g.D.Decoder.has_refused l.fn.decoder;
   space : l.ctx.space ≤ max l.fn.ctx.space (most_room l.fn.ctx.held.settings l.fn.reader.bits);
   unsought : l.fn.ctx.held.settings.encoding ≡ Group4 → l.ctx.held.has_eols ≡ false;
-  repeats : l.repeats ≡ true → RepeatsWhite l.ctx.held;
+  follow : FollowWhite l.ctx.held.settings l.ctx.held.has_eols l.ctx.held.reference l.lines;
 }
 
 -- the rows that are left

@@ -1,4 +1,5 @@
-use Rattle.hayro_ccitt.proofs.Names.{◌≡◌, ◌∙◌, ap, sym, subst, refl, arith, length, false≢true, false, true, BitsAt, bits_in, List, ℕ, None}
+use Rattle.hayro_ccitt.proofs.Names.{◌≡◌, ◌∙◌, ap, sym, subst, refl, arith, length, false≢true, false, true, BitsAt, bits_in}
+use Rattle.hayro_ccitt.proofs.Names.{List, ℕ, None}
 use Rattle.hayro_ccitt.proofs.Names.{◌⊎◌, ◌≢◌, Context, Held, Bits, Ok, Some, is_at_line, here, drop, ended, ◌≤◌, ◌+◌}
 use Rattle.hayro_ccitt.proofs.BitReading.BitLists.{length-bits_in}
 use Rattle.hayro_ccitt.proofs.Readings.FeedsOn.{feed_comes, feed_reads, gap_feeds, line_feeds, reached_here, row_fits}
@@ -17,8 +18,8 @@ use Rattle.hayro_ccitt.proofs.row_feed.RowFeed.read_from_gap.Goals as goal
 gap_begun : (c : After-is_some_line) → c.self.inside.begun ≡ true
 gap_begun c = ap (λ (f : Feeding). f.begun) c.self.view_is ∙ c.requires.begun
 
-unkept : (c : After-is_some_line) → c.self.inside.part ≡ None
-unkept c = ap (λ (f : Feeding). f.part) c.self.view_is ∙ c.requires.none_kept
+gap_unkept : (c : After-is_some_line) → c.self.inside.part ≡ None
+gap_unkept c = ap (λ (f : Feeding). f.part) c.self.view_is ∙ c.requires.none_kept
 
 gap_is_at : (c : After-is_some_line) → c.placed_at-reader.result
     ≡ record { bits = bits_in c.self.inside.order c.self.inside.«data».items; place = c.self.inside.place }
@@ -85,7 +86,7 @@ gap_is_kept c =
           c.come_to_settled_line-line.ensures.same_bits c.bit_pos-self-inside.ensures.place)
           (kept_seen c.come_to_settled_line-line.result c.come_to_settled_line-line.ensures));
       line = kept_line c.come_to_settled_line-line.result c.come_to_settled_line-line.ensures;
-      part = none_kept c.self.inside.part _ _ _ _ _ _ _ _ _ (unkept c) c.self.invariant.part;
+      part = none_kept c.self.inside.part _ _ _ _ _ _ _ _ _ (gap_unkept c) c.self.invariant.part;
     }
 
 pub invariant_of-self : goal.invariant_of-self
@@ -96,7 +97,7 @@ returns-then-not-is_some_line-clause-reads c =
     let here = (goal.at.returns-then-not-is_some_line-clause-reads c).After-is_some_line in
     rw (← c.self.view_is) (λ whole tried feed. rw c.fed_none.ensures (gap_feeds c.come_to_settled_line-line.result (comes here)
     (c.is_some_line.ensures.none c.if-not-is_some_line.true) (gap_begun here)
-    (ap (λ (f : Feeding). ended f.rows.stand) c.self.view_is ∙ c.requires.unended) (unkept here) (unkept here) feed))
+    (ap (λ (f : Feeding). ended f.rows.stand) c.self.view_is ∙ c.requires.unended) (gap_unkept here) (gap_unkept here) feed))
 
 -- ---- The line
 
@@ -110,7 +111,8 @@ returns-then-not-can_take_row-clause-reads c =
     let line = c.is_some_line.ensures.here c.if-not-is_some_line.false in
     let comes = comes here in
     rw (← c.self.view_is) (λ whole tried feed.
-    let fits = row_fits comes.begun (comes.line line) (comes.stands whole tried (λ none. let never = sym line ∙ none in absurd cc) feed) in
+    let fits = row_fits comes.begun (comes.line line)
+    (comes.stands whole tried (λ none. let never = sym line ∙ none in absurd cc) feed) in
     absurd (false≢true (sym c.if-not-can_take_row.true ∙ c.can_take_row.ensures.room fits.0 fits.1)))
 
 pub overflow_add-line_start : goal.overflow_add-line_start
@@ -156,7 +158,7 @@ module _ (c : After-is_unsettled) where
   line_reads = feed_reads _ _ c.come_to_settled_line-line.new.reader c.try_line-row.new.reader line_is_at
       (record { order = refl; finished = refl; kept = refl; dropped = refl }) c.bit_pos-self-inside-2.ensures.place
       (gap_begun here_gap) (gap_begun here_gap) c.begin_line.new.self c.begin_line.ensures.frame c.begin_line.ensures.width
-      at_line (unkept here_gap) refl refl (unkept here_gap) line_begins c.try_line-row.result c.try_line-row.ensures.tries
+      at_line (gap_unkept here_gap) refl refl (gap_unkept here_gap) line_begins c.try_line-row.result c.try_line-row.ensures.tries
 
   -- of the gap behind the line nothing was seen
   line_is_fresh : c.come_to_settled_line-line.new.look ≡ nothing_seen
@@ -178,7 +180,7 @@ module _ (c : After-is_unsettled) where
     rows = λ e. absurd (false≢true (sym e ∙ gap_begun here_gap));
     seen = fresh_look _ _ line_is_fresh;
     line = λ e. line_is_fresh;
-    part = none_kept c.self.inside.part _ _ _ _ _ _ _ _ _ (unkept here_gap) c.self.invariant.part;
+    part = none_kept c.self.inside.part _ _ _ _ _ _ _ _ _ (gap_unkept here_gap) c.self.invariant.part;
   }
 
   -- the row is read behind the gap
@@ -189,7 +191,7 @@ module _ (c : After-is_unsettled) where
       → FeedsNext whole tried (feeding_of c.self.inside) new (fed_row c.try_line-row.result)
   feeds {whole = whole} reads unread feed =
       let gap = comes here_gap in
-      reached_here c.come_to_settled_line-line.result gap line_is (unkept here_gap) (unkept here_gap)
+      reached_here c.come_to_settled_line-line.result gap line_is (gap_unkept here_gap) (gap_unkept here_gap)
       (λ tried mid. line_feeds c.try_line-row.result reads (λ e none. unread e) gap.begun at_line mid) (gap_begun here_gap) feed
 
 pub invariant_of-self-then-is_unsettled : goal.invariant_of-self-then-is_unsettled
@@ -206,7 +208,7 @@ returns-clause-reads c =
           let is = c.is_unsettled.ensures.short w.if-is_unsettled.true in
           let short = subst (ReadsInFeed (feeding_of (behind_gap (here_gap here))) (feeding_of (behind_line here))) is
           (line_reads here) in
-          let none = unkept (here_gap here) in
+          let none = gap_unkept (here_gap here) in
           let reads = subst (ReadsInFeed (feeding_of (behind_gap (here_gap here))) w.keep_part.new.self) (sym is)
           (scanned_after short none none w.keep_part.ensures) in
           rw w.self-is (feeds here reads (λ e still. unread_line short refl
@@ -215,7 +217,8 @@ returns-clause-reads c =
           (ap (λ (b : BitsAt). drop b.place b.bits) (line_is_at here) ∙ end) is
           ∙ ap (λ (x : Context). x.ticks) c.begin_line.ensures.frame) w.keep_part.ensures still) feed)
       | else-is_unsettled w ↦
-          rw w.self-is (feeds here (line_reads here) (λ e none. absurd (c.is_unsettled.ensures.other w.if-is_unsettled.false e)) feed)
+          rw w.self-is (feeds here (line_reads here)
+          (λ e none. absurd (c.is_unsettled.ensures.other w.if-is_unsettled.false e)) feed)
     ]))
 
 -- a row is counted
@@ -234,7 +237,7 @@ returns-clause-counts c =
           let is = c.is_unsettled.ensures.short w.if-is_unsettled.true in
           let short = subst (ReadsInFeed (feeding_of (behind_gap (here_gap here))) (feeding_of (behind_line here))) is
           (line_reads here) in
-          let none = unkept (here_gap here) in
+          let none = gap_unkept (here_gap here) in
           rw w.self-is (counts here (subst (ReadsInFeed (feeding_of (behind_gap (here_gap here))) w.keep_part.new.self) (sym is)
           (scanned_after short none none w.keep_part.ensures)))
       | else-is_unsettled w ↦ rw w.self-is (counts here (line_reads here))

@@ -39,8 +39,8 @@ returns-then-is_unsettled-clause-unread c e none still =
     let same = c.is_unsettled.ensures.short c.if-is_unsettled.true in
     let reads = subst (ReadsInFeed c.is_still_short.new.self c.read_whole_line-row.new.self) same
     c.read_whole_line-row.ensures.reads in
-    elim (unread_line reads c.read_whole_line-row.ensures.tried (λ tagged end. c.read_whole_line-row.ensures.no_tag tagged end same)
-    c.keep_part.ensures still) [
+    elim (unread_line reads c.read_whole_line-row.ensures.tried
+    (λ tagged end. c.read_whole_line-row.ensures.no_tag tagged end same) c.keep_part.ensures still) [
       | inl uncounted ↦ inl (uncounted ∙ unkept.1)
       | inr first ↦ inr (λ tried. first.0 (c.is_still_short.ensures.tried ∙ tried), first.1)
     ]
