@@ -1,6 +1,7 @@
 pub mod BitsHeld
 pub mod BlackGoesOn
 pub mod FeedAccount
+pub mod FeedTurns
 pub mod FeedsOn
 pub mod FeedsPaid
 pub mod FirstGaps

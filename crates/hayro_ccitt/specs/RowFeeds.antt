@@ -331,7 +331,7 @@ pub record TriesLine (is_last : Bool) (line_start : ℕ) (rows kept : RowState) 
   pub same_bits : after.bits ≡ before.bits
   pub within : after.place ≤ length after.bits
   pub left : IsLeft answer → (kept ≡ rows) × (after ≡ before)
-  pub behind : answer ≡ Ok true → is_at_line kept.stand ≡ false
+  pub behind : answer ≡ Ok true → kept.stand ≡ BehindRow
   pub reads : (from : ℕ) (whole : Bits) (dropped : ℕ) → (IsLeft answer → ⊥) → LieIn whole dropped is_last before.bits
       → line_start ≡ dropped + before.place → IsStandingAtLine from rows old (record { bits = whole; place = line_start })
       → ReadsNext (seen rows old (record { bits = whole; place = line_start }))
@@ -361,10 +361,13 @@ pub record KeepsBits (old new : Feeding) : Type 0 where
   pub kept : new.kept ≡ old.kept
   pub dropped : new.dropped ≡ old.dropped
 
--- What a call that reads the next row leaves, whatever the data is: the settings, and that a row is counted.
+-- What a call that reads the next row leaves, whatever the data is: the settings; and of a row that it is counted, has as many
+-- pixels as there are columns, and a gap is next.
 pub record CountsRow (old new : Feeding) (answer : Result Fed DecodeError) : Type 0 where
   pub settings : new.ctx.held.settings ≡ old.ctx.held.settings
   pub taken : answer ≡ Ok Fed.Row → (new.ctx.held.taken ≡ old.ctx.held.taken + 1) × (new.ctx.held.taken < 2 ^ 64)
+  pub width : answer ≡ Ok Fed.Row → length new.ctx.held.reference ≡ old.ctx.held.settings.columns
+  pub stands : answer ≡ Ok Fed.Row → (new.begun ≡ true) × (new.rows.stand ≡ BehindRow) × (new.part ≡ None)
 
 -- how a reading goes on behind what is before its first line
 abbrev pub line_first : Stand → Result Bool DecodeError
@@ -461,7 +464,7 @@ pub record ReadsInFeed (old new : Feeding) (answer : Result Bool DecodeError) : 
   pub looked : new.looked ≡ old.looked
   pub done : answer ≢ Ok false → new.part ≡ None
   pub tried : (new.tried_at ≡ old.tried_at) ⊎ (new.tried_at ≡ new.dropped + new.place)
-  pub behind : answer ≡ Ok true → is_at_line new.rows.stand ≡ false
+  pub behind : answer ≡ Ok true → new.rows.stand ≡ BehindRow
   pub within : new.place ≤ length new.kept
   pub paid : paid_for_line new ≤ most_for_line new + 2
   pub row_is : (whole : Bits) (tried : ℕ) → answer ≡ Ok true → IsFeedOf whole tried old
@@ -469,6 +472,7 @@ pub record ReadsInFeed (old new : Feeding) (answer : Result Bool DecodeError) : 
       ≡ Ok (new.ctx.held.reference, drop new.place new.kept)) × (old.place ≤ new.place)
       × (new.ctx.held.has_eols ≡ old.ctx.held.has_eols)
   pub work : LineIsPaid old new answer extra
+  pub width : answer ≡ Ok true → length new.ctx.held.reference ≡ old.ctx.held.settings.columns
   pub settings : new.ctx.held.settings ≡ old.ctx.held.settings
   pub taken : answer ≡ Ok true → new.ctx.held.taken ≡ old.ctx.held.taken + 1
 

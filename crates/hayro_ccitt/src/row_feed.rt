@@ -176,6 +176,14 @@ fn fed_row(row: Result<bool>) -> Result<Fed>
 }
 
 /// Returns whether a row was read.
+fn is_read(row: &Result<bool>) -> bool
+    ensures read { result ≡ true → row.now ≡ Ok true }
+    ensures other { result ≡ false → row.now ≢ Ok true }
+{
+    matches!(row, Ok(true))
+}
+
+/// Returns whether a call read a row.
 fn is_row(fed: &Result<Fed>) -> bool
     ensures row { result ≡ true → fed.now ≡ Ok Fed.Row }
     ensures other { result ≡ false → fed.now ≢ Ok Fed.Row }
@@ -579,6 +587,56 @@ impl RowFeed {
         }
     }
 
+    /// Reads each row behind the last one, with one reader of the bits that are kept.
+    fn push_on<D: Decoder>(&mut self, decoder: &mut D) -> Result<Fed>
+        requires width { self.old.ctx.held.settings.columns ≤ D.width decoder.old }
+        requires begun { self.old.begun ≡ true }
+        requires behind { self.old.rows.stand ≡ Stand.BehindRow }
+        requires none_kept { self.old.part ≡ None }
+        ensures width { D.width decoder.new ≡ D.width decoder.old }
+        ensures pushes { PushesRows (D.step (D.width decoder.old))
+            (record { meaning = D.meaning decoder.old; refused = D.has_refused decoder.old; refuses = D.refuses decoder.old })
+            (record { meaning = D.meaning decoder.new; refused = D.has_refused decoder.new; refuses = D.refuses decoder.new })
+            self.old self.new result }
+    {
+        let mut reader = placed_at(&self.data, self.order, self.place);
+        let fed;
+        'rows: loop {
+            let gap_start = self.dropped + self.place;
+            let line = self.rows.come_to_settled_line(
+                &mut self.ctx,
+                &mut self.look,
+                &mut reader,
+                self.is_last,
+                gap_start,
+            );
+            self.place = reader.bit_pos();
+            if !is_some_line(&line) {
+                return fed_none(line);
+            }
+            if !can_take_row(&self.ctx) {
+                return Err(DecodeError::UnexpectedEof);
+            }
+            let line_start = self.dropped + self.place;
+            self.ctx.begin_line();
+            let row = self
+                .rows
+                .try_line(&mut self.ctx, &mut reader, self.is_last, line_start);
+            self.place = reader.bit_pos();
+            if !is_read(&row) {
+                fed = row;
+                break 'rows;
+            }
+            if let Err(refusal) = decoder.push_row(self.ctx.reference_row()) {
+                return Err(refusal);
+            }
+        }
+        if is_unsettled(&fed) {
+            self.keep_part();
+        }
+        fed_row(fed)
+    }
+
     /// Reads each row that no data that follows can change, and passes it to the sink, until more data is needed or the image
     /// ends: then it returns [`Fed::NeedsMore`] or [`Fed::End`]. So one call for each piece reads all rows, as calls of
     /// [`next_row`](RowFeed::next_row) do.
@@ -608,15 +666,14 @@ impl RowFeed {
             (record { meaning = D.meaning decoder.new; refused = D.has_refused decoder.new; refuses = D.refuses decoder.new })
             self.old self.new result }
     {
-        'rows: loop {
-            let fed = self.next_row();
-            if !is_row(&fed) {
-                return fed;
-            }
-            if let Err(refusal) = decoder.push_row(self.row()) {
-                return Err(refusal);
-            }
+        let fed = self.next_row();
+        if !is_row(&fed) {
+            return fed;
         }
+        if let Err(refusal) = decoder.push_row(self.row()) {
+            return Err(refusal);
+        }
+        self.push_on(decoder)
     }
 
     /// Drops the bytes that were read.

@@ -413,6 +413,7 @@ module _ (old new : Feeding) (before after : BitsAt) (before_is : before ≡ rec
         failed = λ e. omega (arith, line_found, none_paid old.part old.line_read unkept);
         failed_at_once = λ e none. line_found;
       };
+      width = λ e. (tries.tried.read e [] no_more).width ∙ ap (λ (x : Context). x.held.settings.columns) frame;
       settings = line_settings answer tries.tried;
       taken = λ e.
           omega (
@@ -960,7 +961,7 @@ line_goes_on {whole} {tried} {old} {new} answer reads begun line feed = record {
   row_is = λ e at. (reads.row_is whole tried (row_read answer e) feed).0;
   tried = λ left at. reads.tried;
   past_eol = λ unfinished was_begun no_line sought unended waits. absurd (false≢true (sym no_line ∙ line));
-  behind = λ e. reads.behind (row_read answer e);
+  behind = λ e. ap is_at_line (reads.behind (row_read answer e));
   sought = λ e at. (reads.row_is whole tried (row_read answer e) feed).2;
   waits = λ e away. absurd (false≢true (sym away ∙ still_at_line answer reads e));
   within = reads.within;

@@ -264,6 +264,7 @@ scanned_before {old} {mid} {new} answer stays begun reads =
           ap (λ (f : Feeding). most_to_find f) frame,
         );
       };
+      width = λ e. reads.width e ∙ ap (λ (f : Feeding). f.ctx.held.settings.columns) frame;
       settings = reads.settings ∙ ap (λ (f : Feeding). f.ctx.held.settings) frame;
       taken = λ e. omega (arith, reads.taken e, ap (λ (f : Feeding). f.ctx.held.taken) frame);
     }
@@ -343,6 +344,7 @@ scanned_after {old} {mid} {new} reads none unkept keeps_part =
         failed = λ e. cc;
         failed_at_once = λ e kept. cc;
       };
+      width = λ e. cc;
       settings = ap (λ (f : Feeding). f.ctx.held.settings) frame ∙ reads.settings;
       taken = λ e. cc;
     }
@@ -419,6 +421,7 @@ stays_short {old} {new} stays begun =
         failed = λ e. cc;
         failed_at_once = λ e none. cc;
       };
+      width = λ e. cc;
       settings = ap (λ (f : Feeding). f.ctx.held.settings) frame;
       taken = λ e. cc;
     }

@@ -1,9 +1,11 @@
 -- Rows of data in pieces that are passed to a sink.
 use Rattle.hayro_ccitt.proofs.Names.{◌≡◌, ◌∙◌, ◌++◌, ◌∷◌, [], refl, sym, ap, subst, ℕ, List, Ok, Err, changes, meaning_after}
-use Rattle.hayro_ccitt.proofs.Names.{◌+◌, ◌<◌, Bool, true, false, Result, DecodeError, arith}
+use Rattle.hayro_ccitt.proofs.Names.{◌+◌, ◌<◌, ◌≢◌, inl, inr, Bool, true, false, Result, DecodeError, DecodeSettings, arith}
 use Rattle.std.specs.Prelude.{◌^◌}
 use Rattle.hayro_ccitt.specs.RowFeeds.{CountsRow, Feeding, FeedsRow, FeedsRows, KeepsBits, PassesRows, ReadsInFeed, fed_row}
-use Rattle.hayro_ccitt.specs.RowFeeds.{last_left, rows_left}
+use Rattle.hayro_ccitt.specs.RowFeeds.{PushesRows, last_left, rows_left}
+use Rattle.hayro_ccitt.specs.Decoding.{SinkState}
+use Rattle.fax_bits.specs.declared.error.DecodeError.TheVariants.{Refused}
 use Rattle.hayro_ccitt.specs.declared.row_feed.Fed.{Fed}
 
 row_read : (answer : Result Bool DecodeError) → fed_row answer ≡ Ok Fed.Row → answer ≡ Ok true
@@ -18,6 +20,12 @@ pub counts_row : {old mid new : Feeding} (answer : Result Bool DecodeError)
 counts_row answer settings taken room reads = record {
   settings = reads.settings ∙ settings;
   taken = λ e. (omega (arith, reads.taken (row_read answer e), taken), omega (arith, reads.taken (row_read answer e), room));
+  stands = λ e. (
+    reads.begun,
+    reads.behind (row_read answer e),
+    reads.done (λ left. let never = sym (row_read answer e) ∙ left in absurd cc),
+  );
+  width = λ e. reads.width (row_read answer e) ∙ ap (λ (s : DecodeSettings). s.columns) settings;
 }
 
 -- one more row was read
@@ -35,6 +43,14 @@ more_means : {M : Type 0} (step : M → List ℕ → M) (before : M) (new : Feed
     ≡ step (meaning_after step before (rows_left rows)) (changes new.ctx.held.reference)
 more_means step before new [] = refl
 more_means step before new (next ∷ rows) = more_means step (step before (changes next.ctx.held.reference)) new rows
+
+-- no row was passed
+pub passes_none : {M : Type 0} {step : M → List ℕ → M} {before after : M} {old : Feeding} → after ≡ before
+    → PassesRows step before after old old
+passes_none same = record { rows = []; reads = tt; last = refl; meaning = same }
+
+pub keeps_all : {feed : Feeding} → KeepsBits feed feed
+keeps_all = record { order = refl; finished = refl; kept = refl; dropped = refl }
 
 -- and passed
 pub passes_more : {M : Type 0} {step : M → List ℕ → M} {before mid after : M} {old last new : Feeding}
@@ -55,4 +71,50 @@ keeps_on first then = record {
   finished = then.finished ∙ first.finished;
   kept = then.kept ∙ first.kept;
   dropped = then.dropped ∙ first.dropped;
+}
+
+module _ {M : Type 0} {step : M → List ℕ → M} {before after : SinkState M} {old mid new : Feeding} {answer : Result Fed DecodeError}
+    (passes : PassesRows step before.meaning after.meaning old mid) (keeps : KeepsBits old mid)
+    (settings : mid.ctx.held.settings ≡ old.ctx.held.settings) where
+  -- no row is next
+  pub pushed_to_end : FeedsRow mid new answer → answer ≢ Ok Fed.Row → after.refused ≡ before.refused
+      → PushesRows step before after old new answer
+  pushed_to_end call no_row flag = record {
+    mid = mid;
+    passes = passes;
+    ends = inl (record { call = call; no_row = no_row; flag = flag });
+    keeps = keeps_on keeps call.keeps;
+    settings = call.counts.settings ∙ settings;
+  }
+
+  -- the sink refuses the row that is next
+  pub pushed_to_refusal : FeedsRow mid new (Ok Fed.Row) → answer ≡ Err Refused → after.refused ≡ true
+      → after.refuses (changes new.ctx.held.reference) → PushesRows step before after old new answer
+  pushed_to_refusal call is flag row = record {
+    mid = mid;
+    passes = passes;
+    ends = inr (record { call = call; answer_is = is; flag = flag; row = row });
+    keeps = keeps_on keeps call.keeps;
+    settings = call.counts.settings ∙ settings;
+  }
+
+-- the first row was passed, and then others
+pub pushed_on : {M : Type 0} {step : M → List ℕ → M} {before mid after : SinkState M} {old first new : Feeding}
+    {answer : Result Fed DecodeError} → FeedsRow old first (Ok Fed.Row)
+    → mid.meaning ≡ step before.meaning (changes first.ctx.held.reference) → mid.refused ≡ before.refused
+    → PushesRows step mid after first new answer → PushesRows step before after old new answer
+pushed_on {step = step} call means flag pushes = record {
+  mid = pushes.mid;
+  passes = record {
+    rows = _ ∷ pushes.passes.rows;
+    reads = (call, pushes.passes.reads);
+    last = pushes.passes.last;
+    meaning = pushes.passes.meaning ∙ ap (λ m. meaning_after step m (rows_left pushes.passes.rows)) means;
+  };
+  ends = elim pushes.ends [
+    | inl none ↦ inl (record { call = none.call; no_row = none.no_row; flag = none.flag ∙ flag })
+    | inr refused ↦ inr refused
+  ];
+  keeps = keeps_on call.keeps pushes.keeps;
+  settings = pushes.settings ∙ call.counts.settings;
 }

@@ -1,5 +1,5 @@
 use Rattle.hayro_ccitt.proofs.Names.{rules, ◌≡◌, ◌∙◌, ap, sym, refl, arith, length, ◌≤◌, ℕ, Bool, true, false, Result, Ok, Err}
-use Rattle.hayro_ccitt.proofs.Names.{DecodeError, is_at_line}
+use Rattle.hayro_ccitt.proofs.Names.{BehindRow, DecodeError}
 use Rattle.hayro_ccitt.specs.Context.{Repairs}
 use Rattle.hayro_ccitt.specs.declared.row_reader.RowState.{RowState}
 use Rattle.hayro_ccitt.proofs.Readings.RowsFed.{left_is, left_not, line_step_stands, line_step_reads, none_read}
@@ -30,7 +30,7 @@ kept_behind_try c = search rules
 
 read_behind : (rows : RowState) (answer : Result Bool DecodeError) (start rows_before cut_before : ℕ) (repairs : Repairs)
     → answer ≡ Ok true
-    → is_at_line (rows_behind_line rows (line_answer answer) start rows_before cut_before repairs).stand ≡ false
+    → (rows_behind_line rows (line_answer answer) start rows_before cut_before repairs).stand ≡ BehindRow
 read_behind rows (Ok read) start rows_before cut_before repairs e = refl
 read_behind rows (Err error) start rows_before cut_before repairs e = absurd cc
 
@@ -48,7 +48,7 @@ returns-clause-tries c =
       same_bits = row.same_bits;
       within = omega (arith, c.bit_pos-end.ensures.place, c.bit_pos-end.ensures.within);
       left = λ is. absurd (left_not answer other is);
-      behind = λ e. ap (λ (r : RowState). is_at_line r.stand) (kept_behind_try c)
+      behind = λ e. ap (λ (r : RowState). r.stand) (kept_behind_try c)
           ∙ read_behind c.args.self.now answer c.args.line_start c.args.ctx.now.held.repairs.rows
           c.args.ctx.now.held.repairs.cut c.try_row-row.new.ctx.held.repairs e;
       reads = λ from whole dropped read lie starts at. line_step_reads c.args.is_last c.args.line_start c.args.self.now

@@ -1,0 +1,195 @@
+use Rattle.hayro_ccitt.proofs.Names.{◌≡◌, ◌∙◌, ap, sym, subst, arith, refl, Ok, Err, Some, true, is_at_line, ℕ, DecodeSettings, Result, Bool}
+use Rattle.hayro_ccitt.proofs.Names.{BitsAt, Context, DecodeError, Held, White, [], drop, false, false≢true, redrawn}
+use Rattle.hayro_ccitt.proofs.PixelRows.ChangesAndPixels.{AreChanges-wider}
+use Rattle.hayro_ccitt.proofs.Readings.FeedTurns.{IsReadBy, behind_gap, behind_line, full_row, gap_read_by, gap_row, line_read_by}
+use Rattle.hayro_ccitt.proofs.Readings.FeedTurns.{line_row, none_row, seen_by, turn_reads, unread_row}
+use Rattle.hayro_ccitt.proofs.Readings.PartsFed.{scanned_after, unread_line}
+use Rattle.hayro_ccitt.proofs.Readings.RowsPassed.{keeps_on, passes_more, pushed_to_end, pushed_to_refusal}
+use Rattle.hayro_ccitt.specs.RowFeeds.{FeedsRow, KeepsBits, PassesRows, ReadsInFeed, fed_row, feeding_of}
+use Rattle.hayro_ccitt.specs.RowsTried.{IsLeft}
+use Rattle.hayro_ccitt.specs.declared.row_reader.RowState.{RowState}
+use Rattle.hayro_ccitt.specs.declared.row_feed.Fed.{Fed}
+use Rattle.hayro_ccitt.specs.declared.row_feed.RowFeed.TheInside.{Inside}
+use Rattle.hayro_ccitt.proofs.row_feed.RowFeed.push_on.{Given.Over}
+use Rattle.hayro_ccitt.proofs.row_feed.RowFeed.push_on.Goals.{After-is_some_line, After-is_read, then-is_unsettled, else-is_unsettled}
+use Rattle.hayro_ccitt.proofs.row_feed.RowFeed.push_on.Goals as goal
+
+pub come_to_settled_line-line-requires-clause-seen : goal.come_to_settled_line-line-requires-clause-seen
+come_to_settled_line-line-requires-clause-seen g c = seen_by c.rows.invariant.read_by
+
+-- ---- The gap
+
+-- the feed behind the rows so far
+abbrev at_rows : (g : Over) → After-is_some_line g → Inside
+at_rows g c = behind_gap c.self.inside c.rows.self-inside.1.0 c.rows.self-inside.1.1.0
+    c.rows.self-inside.1.1.1.1.1.1.1.1.0 c.rows.self-inside.1.1.1.1.1.1.1.1.1.0
+
+rows_by : (g : Over) (c : After-is_some_line g) → IsReadBy (at_rows g c) c.rows.reader
+rows_by g c = c.rows.invariant.read_by
+
+-- where the gap was passed
+abbrev at_gap : (g : Over) → After-is_some_line g → Inside
+at_gap g c = behind_gap (at_rows g c) c.come_to_settled_line-line.new.ctx c.come_to_settled_line-line.new.self
+    c.bit_pos-self-inside.result c.come_to_settled_line-line.new.look
+
+gap_by : (g : Over) (c : After-is_some_line g) → IsReadBy (at_gap g c) c.come_to_settled_line-line.new.reader
+gap_by g c = gap_read_by (rows_by g c) c.bit_pos-self-inside.ensures.place c.come_to_settled_line-line.ensures
+
+pub invariant_of-self : goal.invariant_of-self
+invariant_of-self g c = (gap_by g (goal.at.invariant_of-self g c).After-is_some_line).kept
+
+pub returns-then-not-is_some_line-clause-pushes : goal.returns-then-not-is_some_line-clause-pushes
+returns-then-not-is_some_line-clause-pushes g c =
+    let here = (goal.at.returns-then-not-is_some_line-clause-pushes g c).After-is_some_line in
+    let inv = c.rows.invariant in
+    rw c.fed_none.ensures (pushed_to_end inv.passes inv.keeps inv.settings
+    (gap_row (rows_by g here) c.bit_pos-self-inside.ensures.place c.come_to_settled_line-line.ensures inv.behind
+    (c.is_some_line.ensures.none c.if-not-is_some_line.true)) (none_row c.come_to_settled_line-line.result) inv.unrefused)
+
+pub invariant_of-self-then-not-can_take_row : goal.invariant_of-self-then-not-can_take_row
+invariant_of-self-then-not-can_take_row g c =
+    (gap_by g (goal.at.invariant_of-self-then-not-can_take_row g c).After-is_some_line).kept
+
+pub returns-then-not-can_take_row-clause-pushes : goal.returns-then-not-can_take_row-clause-pushes
+returns-then-not-can_take_row-clause-pushes g c =
+    let here = (goal.at.returns-then-not-can_take_row-clause-pushes g c).After-is_some_line in
+    let inv = c.rows.invariant in
+    pushed_to_end inv.passes inv.keeps inv.settings
+    (full_row (rows_by g here) c.bit_pos-self-inside.ensures.place c.come_to_settled_line-line.ensures inv.behind
+    (c.is_some_line.ensures.here c.if-not-is_some_line.false)
+    (λ fits few. false≢true (sym c.if-not-can_take_row.true ∙ c.can_take_row.ensures.room fits few)) _) (λ e. cc) inv.unrefused
+
+pub overflow_add-line_start : goal.overflow_add-line_start
+overflow_add-line_start g c =
+    let kept = (gap_by g (goal.at.overflow_add-line_start g c).After-is_some_line).kept in
+    omega (arith, kept.within, kept.fit)
+
+-- ---- The line
+
+at_line : (g : Over) (c : After-is_read g) → is_at_line c.come_to_settled_line-line.new.self.stand ≡ true
+at_line g c = c.come_to_settled_line-line.ensures.line (c.is_some_line.ensures.here c.if-not-is_some_line.false)
+
+abbrev gap_here : (g : Over) → After-is_read g → After-is_some_line g
+gap_here g c = c.before.before.before.before.before.before.before.before.before.before.before.before.before.before
+
+-- where the line was read, or left
+abbrev at_row : (g : Over) → After-is_read g → Inside
+at_row g c = behind_line (at_gap g (gap_here g c)) c.try_line-row.new.ctx c.try_line-row.new.self
+    c.bit_pos-self-inside-in-rows.result
+
+row_by : (g : Over) (c : After-is_read g) → IsReadBy (at_row g c) c.try_line-row.new.reader
+row_by g c = line_read_by (gap_by g (gap_here g c)) (at_line g c) c.bit_pos-self-inside-in-rows.ensures.place
+    c.begin_line.ensures.frame c.try_line-row.ensures.tries
+
+reads_line : (g : Over) (c : After-is_read g)
+    → ReadsInFeed (feeding_of (at_gap g (gap_here g c))) (feeding_of (at_row g c)) c.try_line-row.result
+reads_line g c = turn_reads (gap_by g (gap_here g c)) (at_line g c) c.bit_pos-self-inside-in-rows.ensures.place
+    c.begin_line.ensures.frame c.try_line-row.ensures.tries c.begin_line.ensures.width
+
+-- a row was read
+reads_row : (g : Over) (c : After-is_read g) → c.try_line-row.result ≡ Ok true
+    → FeedsRow (feeding_of (at_rows g (gap_here g c))) (feeding_of (at_row g c)) (Ok Fed.Row)
+reads_row g c is =
+    subst (λ (r : Result Bool DecodeError). FeedsRow (feeding_of (at_rows g (gap_here g c))) (feeding_of (at_row g c))
+    (fed_row r)) is
+    (line_row (rows_by g (gap_here g c)) c.bit_pos-self-inside.ensures.place c.come_to_settled_line-line.ensures
+    c.rows.invariant.behind (c.is_some_line.ensures.here c.if-not-is_some_line.false)
+    (c.can_take_row.ensures.rows c.if-not-can_take_row.false) (reads_line g c)
+    (λ left none. let never = sym is ∙ left in absurd cc))
+
+pub invariant_of-self-then-not-is_read : goal.invariant_of-self-then-not-is_read
+invariant_of-self-then-not-is_read g c = (row_by g (goal.at.invariant_of-self-then-not-is_read g c).After-is_read).kept
+
+pub push_row-requires : goal.push_row-requires
+push_row-requires g c =
+    let here = (goal.at.push_row-requires g c).After-is_read in
+    let row = reads_row g here (c.is_read.ensures.read c.if-not-is_read.false) in
+    let settings = row.counts.settings ∙ c.rows.invariant.settings in
+    AreChanges-wider c.try_line-row.new.ctx.held.settings.columns (g.D.Decoder.width c.rows.decoder) c.reference_row.result.now
+    (omega (arith, c.requires.width, c.rows.invariant.width, ap (λ (s : DecodeSettings). s.columns) settings))
+    c.reference_row.ensures.lawful
+
+pub invariant_of-self-in-Err : goal.invariant_of-self-in-Err
+invariant_of-self-in-Err g c = (row_by g (goal.at.invariant_of-self-in-Err g c).After-is_read).kept
+
+pub returns-in-Err-clause-pushes : goal.returns-in-Err-clause-pushes
+returns-in-Err-clause-pushes g c =
+    let here = (goal.at.returns-in-Err-clause-pushes g c).After-is_read in
+    let inv = c.rows.invariant in
+    let step = g.D.Decoder.step (g.D.Decoder.width c.args.decoder.now) in
+    pushed_to_refusal (subst (λ (m : g.D.Decoder.Meaning). PassesRows step (g.D.Decoder.meaning c.args.decoder.now) m
+    c.args.self.now (feeding_of (at_rows g (gap_here g here)))) (sym c.in-Err.ensures.kept) inv.passes) inv.keeps inv.settings
+    (reads_row g here (c.is_read.ensures.read c.if-not-is_read.false)) (ap Err c.in-Err.ensures.only_refused)
+    c.in-Err.ensures.refused
+    (subst (g.D.Decoder.refuses c.push_row.new.self) c.reference_row.ensures.changes c.in-Err.ensures.refused_row)
+
+pub rows-smaller : goal.rows-smaller
+rows-smaller g c =
+    let here = (goal.at.rows-smaller g c).After-is_read in
+    let taken = (reads_row g here (c.is_read.ensures.read c.if-not-is_read.false)).counts.taken refl in
+    omega (arith, taken.0, taken.1)
+
+pub rows-preserved : goal.rows-preserved
+rows-preserved g c =
+    let here = (goal.at.rows-preserved g c).After-is_read in
+    let inv = c.rows.invariant in
+    let is = c.is_read.ensures.read c.if-not-is_read.false in
+    let row = reads_row g here is in
+    let step = g.D.Decoder.step (g.D.Decoder.width c.args.decoder.now) in
+    let meaning = g.D.Decoder.meaning c.rows.decoder in
+    record {
+      passes = passes_more inv.passes row (c.in_default.ensures.taken
+          ∙ ap (λ (w : ℕ). g.D.Decoder.step w meaning c.reference_row.result.now) inv.width
+          ∙ ap (step meaning) c.reference_row.ensures.changes);
+      keeps = keeps_on inv.keeps row.keeps;
+      settings = row.counts.settings ∙ inv.settings;
+      width = c.push_row.ensures.same_width ∙ inv.width;
+      unrefused = c.in_default.ensures.not_refused ∙ inv.unrefused;
+      read_by = row_by g here;
+      behind = (row.counts.stands refl).1;
+    }
+
+-- ---- A line that isn't read
+
+-- a short line is as it was
+line_stays : (g : Over) (c : After-is_read g) → c.try_line-row.result ≡ Ok false → c.try_line-row.new.self
+    ≡ c.come_to_settled_line-line.new.self
+line_stays g c is = (c.try_line-row.ensures.tries.left (subst IsLeft (sym is) refl)).0
+
+pub keep_part-requires-clause-line : goal.keep_part-requires-clause-line
+keep_part-requires-clause-line g c =
+    let here = (goal.at.keep_part-requires-clause-line g c).After-is_read in
+    ap (λ (r : RowState). is_at_line r.stand) (line_stays g here (c.is_unsettled.ensures.short c.if-is_unsettled.true))
+    ∙ at_line g here
+
+pub keep_part-requires-clause-none_drawn : goal.keep_part-requires-clause-none_drawn
+keep_part-requires-clause-none_drawn g c =
+    let is = c.is_unsettled.ensures.short c.if-is_unsettled.true in
+    let drawn = c.try_line-row.ensures.tries.tried.left (subst IsLeft (sym is) refl) in
+    ap (λ (h : Held). redrawn h [] White) drawn ∙ sym drawn
+
+pub returns-clause-pushes : goal.returns-clause-pushes
+returns-clause-pushes g c =
+    let here = (goal.at.returns-clause-pushes g c).After-is_read in
+    let inv = c.rows.invariant in
+    let gap = gap_here g here in
+    let reads = reads_line g here in
+    let some = c.is_some_line.ensures.here c.if-not-is_some_line.false in
+    let room = c.can_take_row.ensures.rows c.if-not-can_take_row.false in
+    let on = c.come_to_settled_line-line.ensures in
+    rw c.fed_row.ensures (pushed_to_end inv.passes inv.keeps inv.settings (elim c.if-is_unsettled.branch [
+      | then-is_unsettled w ↦
+          let is = c.is_unsettled.ensures.short w.if-is_unsettled.true in
+          let short = subst (ReadsInFeed (feeding_of (at_gap g gap)) (feeding_of (at_row g here))) is reads in
+          let kept = subst (ReadsInFeed (feeding_of (at_gap g gap)) w.keep_part.new.self) (sym is)
+          (scanned_after short (gap_by g gap).none (row_by g here).none w.keep_part.ensures) in
+          rw w.self-is (line_row (rows_by g gap) c.bit_pos-self-inside.ensures.place on inv.behind some room kept
+          (λ e still. unread_line short refl
+          (λ tagged end. c.try_line-row.ensures.no_tag
+          (ap (λ (x : Context). x.held.settings.encoding) c.begin_line.ensures.frame ∙ tagged)
+          (ap (λ (b : BitsAt). drop b.place b.bits) (gap_by g gap).is ∙ end) is
+          ∙ ap (λ (x : Context). x.ticks) c.begin_line.ensures.frame) w.keep_part.ensures still))
+      | else-is_unsettled w ↦
+          rw w.self-is (line_row (rows_by g gap) c.bit_pos-self-inside.ensures.place on inv.behind some room reads
+          (λ e none. absurd (c.is_unsettled.ensures.other w.if-is_unsettled.false e)))
+    ]) (unread_row c.try_line-row.result (c.is_read.ensures.other c.if-not-is_read.true)) inv.unrefused)
