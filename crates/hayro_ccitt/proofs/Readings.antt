@@ -12,6 +12,7 @@ pub mod PartsFed
 pub mod RowByRow
 pub mod RowsAgain
 pub mod RowsFed
+pub mod RowsPassed
 pub mod RowsPushed
 pub mod RowsTried
 pub use Rattle.fax_bits.proofs.Repetition.Gathered

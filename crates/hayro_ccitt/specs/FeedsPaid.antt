@@ -1,7 +1,6 @@
 -- What all calls of a feed count.
 use Rattle.std.specs.Prelude.{◌≡◌, ◌≢◌, ◌≤◌, ◌+◌, ◌*◌, ℕ, true, false, ◌∷◌, ◌++◌, ◌⊎◌, length, drop, replicate}
 use Rattle.std.specs.Prelude.{Option, Some, None, Result, Err}
-use Rattle.std.specs.Prelude.{◌==◌, if◌then◌else◌}
 use Rattle.fax_bits.specs.declared.error.DecodeError.{DecodeError}
 use Rattle.fax_bits.specs.declared.error.DecodeError.TheVariants.{OutOfMemory}
 use Rattle.hayro_ccitt.specs.declared.line_parts.KeptPart.{KeptPart}
@@ -47,9 +46,23 @@ pub record SeeksEol (known : ℕ) (feed : Feeding) : Type 0 where
       → known ≤ offset feed + length fill + 12
 
 -- Where the lines that were short were known up to this offset: the next one begins no sooner.
+abbrev pub IsBehind : ℕ → Feeding → Type 0
+IsBehind known feed = ended feed.rows.stand ≡ None → feed.finished ≡ false → (known ≤ offset feed) ⊎ SeeksEol known feed
+
+-- the same, unless one of them is here
 abbrev pub IsPassed : Option KeptPart → ℕ → Feeding → Type 0
-IsPassed None known feed = ended feed.rows.stand ≡ None → feed.finished ≡ false → (known ≤ offset feed) ⊎ SeeksEol known feed
+IsPassed None known feed = IsBehind known feed
 IsPassed (Some part) known feed = WasShort known feed
+
+-- the line here is the last that was tried
+pub record WasTried (known : ℕ) (feed : Feeding) : Type 0 where
+  pub tried : feed.tried_at ≡ offset feed
+  pub short : WasShort known feed
+
+-- lines that were tried are behind, and the changes are left that the next one passes
+pub record IsUntried (known firsts most : ℕ) (feed : Feeding) : Type 0 where
+  pub behind : IsBehind known feed
+  pub left : ended feed.rows.stand ≡ None → firsts + changes_of feed ≤ most
 
 -- What so many calls counted for gaps: the bits of gaps, those before the first line twice, and twelve bits a call.
 pub record GapsPaid (calls gaps : ℕ) (feed : Feeding) : Type 0 where
@@ -78,13 +91,25 @@ pub record LinesPaid (calls lost tried lines : ℕ) (feed : Feeding) : Type 0 wh
       ≤ paid_for_line feed + 6 * known + 2 * read + 2 * words + 8 * calls + lost
   pub passed : IsPassed feed.part known feed
 
+-- What they counted for first tries of lines: four ticks for each bit that was known when a line was tried first, the words of
+-- the rows, and two ticks a call.
+pub record FirstsPaid (calls tried firsts : ℕ) (feed : Feeding) : Type 0 where
+  pub known : ℕ
+  pub words : ℕ
+  pub known_most : known ≤ fed_bits feed
+  pub words_most : words + tried ≤ feed.ctx.ticks
+  pub most : firsts ≤ 4 * known + words + 2 * calls
+  pub here : WasTried known feed ⊎ IsUntried known firsts (4 * known + words + 2 * calls) feed
+
 -- What so many calls counted for what was tried and left, of which so much in calls that failed for memory.
 pub record FeedIsPaid (calls lost tried : ℕ) (feed : Feeding) : Type 0 where
   pub gaps : ℕ
   pub lines : ℕ
-  pub sum : tried ≤ gaps + lines
+  pub firsts : ℕ
+  pub sum : tried ≤ gaps + lines + firsts
   pub gaps_paid : GapsPaid calls gaps feed
   pub lines_paid : LinesPaid calls lost tried lines feed
+  pub firsts_paid : FirstsPaid calls tried firsts feed
 
 -- ---- The law
 
@@ -92,15 +117,9 @@ pub record FeedIsPaid (calls lost tried : ℕ) (feed : Feeding) : Type 0 where
 abbrev pub cost_of_failure : Feeding → ℕ
 cost_of_failure feed = 3 * changes_of feed + 12 * length (drop feed.place feed.kept) + 6
 
--- what a call costs that tries a line for the first time, and finds it short, beyond another call
-abbrev pub cost_of_first_try : Feeding → Feeding → ℕ
-cost_of_first_try old new = if new.tried_at == old.tried_at then 0
-    else changes_of new + 4 * length (drop new.place new.kept) + 2
-
--- In any history of a feed the count of work is at most 128 ticks a bit that was fed and 256, and 32 ticks for each call that
+-- In any history of a feed the count of work is at most 160 ticks a bit that was fed and 256, and 32 ticks for each call that
 -- reads the next row, whatever pieces the data comes in. A call that fails for memory costs more: three ticks for each change of
--- the row before and twelve for each bit from the line on that is kept, and six. So does one that finds a line to be short for
--- the first time: a tick for each change of the row before and four for each bit from the line on, and two.
+-- the row before and twelve for each bit from the line on that is kept, and six.
 pub record FeedsArePaid : Type 0 where
   pub begins : (whole : Bits) (feed : Feeding) → IsFeedOf whole 0 feed → feed.begun ≡ false → feed.looked ≡ 0
       → feed.part ≡ None → FeedIsPaid 0 0 0 feed
@@ -111,11 +130,11 @@ pub record FeedsArePaid : Type 0 where
   pub reads : (whole : Bits) (calls lost tried : ℕ) (old new : Feeding) (answer : Result Fed DecodeError)
       → ended old.rows.stand ≡ None → KeepsBits old new → FeedIsPaid calls lost tried old
       → (next : FeedsNext whole tried old new answer) → answer ≢ Err OutOfMemory
-      → FeedIsPaid (calls + 1) (lost + cost_of_first_try old new) (tried + next.extra) new
+      → FeedIsPaid (calls + 1) lost (tried + next.extra) new
   pub fails : (whole : Bits) (calls lost tried : ℕ) (old new : Feeding)
       → ended old.rows.stand ≡ None → KeepsBits old new → FeedIsPaid calls lost tried old
       → (next : FeedsNext whole tried old new (Err OutOfMemory))
       → FeedIsPaid (calls + 1) (lost + cost_of_failure new) (tried + next.extra) new
   pub bound : (whole : Bits) (calls lost tried : ℕ) (feed : Feeding) → IsFeedOf whole tried feed
       → FeedIsPaid calls lost tried feed
-      → feed.ctx.ticks ≤ 128 * length whole + 256 + 32 * calls + lost
+      → feed.ctx.ticks ≤ 160 * length whole + 256 + 32 * calls + lost

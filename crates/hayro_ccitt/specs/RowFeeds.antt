@@ -1,28 +1,29 @@
 -- Rows from data that comes in pieces: what is kept of it, what is seen of a reading, and which data it is a reading of.
 use Rattle.std.specs.Prelude.{◌≡◌, ◌≢◌, ◌≤◌, ◌<◌, ◌+◌, ◌*◌, ◌/◌, ◌^◌, ℕ, Bool, true, false, ◌++◌, [], not, ◌&&◌, ◌⊎◌}
-use Rattle.std.specs.Prelude.{max, drop, length, replicate, ◌∷◌, Option, None, Some, Result, Ok, Err, IfErr}
+use Rattle.std.specs.Prelude.{List, max, drop, length, replicate, ◌∷◌, Option, None, Some, Result, Ok, Err, IfErr}
 use Rattle.fax_bits.specs.declared.bit_reader.BitOrder.{BitOrder}
 use Rattle.fax_bits.specs.declared.codes.Color.TheVariants.{White}
 use Rattle.fax_bits.specs.declared.settings.EncodingMode.TheVariants.{Group3_2D}
 use Rattle.fax_bits.specs.declared.error.DecodeError.{DecodeError}
-use Rattle.fax_bits.specs.declared.error.DecodeError.TheVariants.{InvalidCode, OutOfMemory}
+use Rattle.fax_bits.specs.declared.error.DecodeError.TheVariants.{InvalidCode, OutOfMemory, Refused}
 use Rattle.hayro_ccitt.specs.declared.line_parts.KeptPart.{KeptPart}
 use Rattle.hayro_ccitt.specs.declared.row_feed.Fed.{Fed}
 use Rattle.hayro_ccitt.specs.declared.row_feed.RowFeed.TheInside.{Inside}
 use Rattle.hayro_ccitt.specs.declared.row_reader.RowState.{RowState}
 use Rattle.hayro_ccitt.specs.declared.row_reader.Stand.{Stand}
 use Rattle.hayro_ccitt.specs.declared.row_reader.Stand.TheVariants.{AtLine, BehindRow, AtEnd, AtFault}
-use Rattle.hayro_ccitt.specs.Answers.{HasBlack, PaintsBlack, front_of}
+use Rattle.hayro_ccitt.specs.Answers.{HasBlack, PaintsBlack, front_of, meaning_after}
 use Rattle.hayro_ccitt.specs.Bits.{AreWholeBytes, Bits, BitsAt, bits_in, here}
 use Rattle.hayro_ccitt.specs.Context.{Context, Held, fresh, redrawn}
 use Rattle.hayro_ccitt.specs.Continuations.{is_short}
+use Rattle.hayro_ccitt.specs.Decoding.{SinkState}
 use Rattle.hayro_ccitt.specs.GapsContinued.{first_gap_is_settled, gap_is_settled}
 use Rattle.hayro_ccitt.specs.GapsSeen.{IsSeen, nothing_seen, rules_for}
 use Rattle.hayro_ccitt.specs.declared.gap_look.GapLook.{GapLook}
 use Rattle.hayro_ccitt.specs.LineParts.{IsLawfulPart, IsPartOf}
 use Rattle.hayro_ccitt.specs.Lines.{Line}
 use Rattle.hayro_ccitt.specs.PlainReading.{line_here, lines_of, row_of_line}
-use Rattle.hayro_ccitt.specs.Rows.{changes}
+use Rattle.hayro_ccitt.specs.Rows.{Row, changes}
 use Rattle.hayro_ccitt.specs.RowsRead.{IsStanding, IsStandingAtLine, ReachesNextLine, ReadsNext, RowsRead, ended, is_at_line}
 use Rattle.hayro_ccitt.specs.RowsRead.{seen}
 use Rattle.hayro_ccitt.specs.RowsTried.{CanCome, IsLeft, TriesRow, no_memory}
@@ -295,6 +296,7 @@ pub record ComesOn (is_last : Bool) (gap_start : ℕ) (rows kept : RowState) (lo
   pub same_bits : after.bits ≡ before.bits
   pub within : after.place ≤ length after.bits
   pub space : new.space ≡ old.space
+  pub frame : new.held ≡ record old.held { has_eols = new.held.has_eols; repairs = new.held.repairs }
   pub waits : answer ≡ Ok None → (new.held ≡ old.held) × (new.ticks ≡ old.ticks + extra) × (kept ≡ rows) × (after ≡ before)
       × (is_last ≡ false) × (is_at_line rows.stand ≡ false)
       × (gap_is_settled old.held.settings old.held.taken old.held.has_eols (here before) ≡ false)
@@ -345,6 +347,11 @@ pub record KeepsBits (old new : Feeding) : Type 0 where
   pub kept : new.kept ≡ old.kept
   pub dropped : new.dropped ≡ old.dropped
 
+-- What a call that reads the next row leaves, whatever the data is: the settings, and that a row is counted.
+pub record CountsRow (old new : Feeding) (answer : Result Fed DecodeError) : Type 0 where
+  pub settings : new.ctx.held.settings ≡ old.ctx.held.settings
+  pub taken : answer ≡ Ok Fed.Row → (new.ctx.held.taken ≡ old.ctx.held.taken + 1) × (new.ctx.held.taken < 2 ^ 64)
+
 -- how a reading goes on behind what is before its first line
 abbrev pub line_first : Stand → Result Bool DecodeError
 line_first AtLine = Ok true
@@ -375,6 +382,8 @@ pub record Begins (old new : Feeding) (answer : Bool) : Type 0 where
   pub begun : new.begun ≡ answer
   pub within : new.place ≤ length new.kept
   pub space : new.ctx.space ≡ old.ctx.space
+  pub settings : new.ctx.held.settings ≡ old.ctx.held.settings
+  pub taken : new.ctx.held.taken ≡ old.ctx.held.taken
   pub waits : answer ≡ false → (new.ctx.held ≡ old.ctx.held) × (new.ctx.ticks ≡ old.ctx.ticks + extra) × (new.rows ≡ old.rows)
       × (new.place ≡ old.place) × (old.finished ≡ false)
       × (first_gap_is_settled old.ctx.held.settings.encoding old.ctx.held.settings old.kept ≡ false)
@@ -446,6 +455,8 @@ pub record ReadsInFeed (old new : Feeding) (answer : Result Bool DecodeError) : 
       ≡ Ok (new.ctx.held.reference, drop new.place new.kept)) × (old.place ≤ new.place)
       × (new.ctx.held.has_eols ≡ old.ctx.held.has_eols)
   pub work : LineIsPaid old new answer extra
+  pub settings : new.ctx.held.settings ≡ old.ctx.held.settings
+  pub taken : answer ≡ Ok true → new.ctx.held.taken ≡ old.ctx.held.taken + 1
 
 -- a short line is read on: nothing changes but the count of work, and what is kept of the line
 pub record Scans (old new : Feeding) : Type 0 where
@@ -509,6 +520,63 @@ abbrev pub fed_end : Result (Unit {0}) DecodeError → Result Fed DecodeError
 fed_end (Ok x) = Ok Fed.End
 fed_end (Err error) = Err error
 
+-- ---- Rows that are passed to a sink
+
+-- What a call leaves that reads the next row: of whatever data those fed are a beginning, the next row of the plain reading, its
+-- end or its fault, or nothing is read; and after the end nothing changes. What is kept of the data stays.
+pub record FeedsRow (old new : Feeding) (answer : Result Fed DecodeError) : Type 0 where
+  pub reads : (whole : Bits) (tried : ℕ) → ended old.rows.stand ≡ None → IsFeedOf whole tried old
+      → FeedsNext whole tried old new answer
+  pub keeps : KeepsBits old new
+  pub over : (end : Result (Unit {0}) DecodeError) → ended old.rows.stand ≡ Some end → (new ≡ old) × (answer ≡ fed_end end)
+  pub counts : CountsRow old new answer
+
+-- what calls leave, one after another, each of which reads a row
+abbrev pub FeedsRows : Feeding → List Feeding → Type 0
+FeedsRows old [] = Unit {0}
+FeedsRows old (new ∷ after) = FeedsRow old new (Ok Fed.Row) × FeedsRows new after
+
+-- and what the last of them leaves
+abbrev pub last_left : Feeding → List Feeding → Feeding
+last_left old [] = old
+last_left old (new ∷ after) = last_left new after
+
+-- the rows that they read
+abbrev pub rows_left : List Feeding → List Row
+rows_left [] = []
+rows_left (new ∷ after) = new.ctx.held.reference ∷ rows_left after
+
+-- Rows were read one after another, and each was passed to a sink of this step, which takes it from one meaning to another.
+pub record PassesRows {M : Type 0} (step : M → List ℕ → M) (before after : M) (old new : Feeding) : Type 0 where
+  pub rows : List Feeding
+  pub reads : FeedsRows old rows
+  pub last : new ≡ last_left old rows
+  pub meaning : after ≡ meaning_after step before (rows_left rows)
+
+-- a call that reads the next row has this answer, which is no row, and the sink has refused none
+pub record ComesToNoRow {M : Type 0} (before after : SinkState M) (old new : Feeding) (answer : Result Fed DecodeError)
+    : Type 0 where
+  pub call : FeedsRow old new answer
+  pub no_row : answer ≢ Ok Fed.Row
+  pub flag : after.refused ≡ before.refused
+
+-- it reads a row that the sink refuses
+pub record RefusesRow {M : Type 0} (after : SinkState M) (old new : Feeding) (answer : Result Fed DecodeError) : Type 0 where
+  pub call : FeedsRow old new (Ok Fed.Row)
+  pub answer_is : answer ≡ Err Refused
+  pub flag : after.refused ≡ true
+  pub row : after.refuses (changes new.ctx.held.reference)
+
+-- What a call leaves that passes rows to a sink: each was read as by a call that reads the next row, and the sink means them in
+-- order; then such a call comes to no row, or the sink refuses its row, and means what it meant before.
+pub record PushesRows {M : Type 0} (step : M → List ℕ → M) (before after : SinkState M) (old new : Feeding)
+    (answer : Result Fed DecodeError) : Type 0 where
+  pub mid : Feeding
+  pub passes : PassesRows step before.meaning after.meaning old mid
+  pub ends : ComesToNoRow before after mid new answer ⊎ RefusesRow after mid new answer
+  pub keeps : KeepsBits old new
+  pub settings : new.ctx.held.settings ≡ old.ctx.held.settings
+
 -- ---- More data
 
 -- how many bits were fed
@@ -519,12 +587,13 @@ fed_bits feed = feed.dropped + length feed.kept
 abbrev pub unused : Feeding → Bits
 unused feed = drop (8 * ((feed.place + 7) / 8)) feed.kept
 
--- These bits are held behind those that were, and the reading is at the same offset.
+-- These bits are held behind those that were, and the reading is at the same offset. Before it fewer than eight bits are held.
 pub record HoldsMore (next : Bits) (old new : Feeding) : Type 0 where
   pub unread : drop new.place new.kept ≡ drop old.place old.kept ++ next
   pub left : unused new ≡ unused old ++ next
   pub fed : fed_bits new ≡ fed_bits old + length next
   pub place : new.dropped + new.place ≡ old.dropped + old.place
+  pub few_read : new.place < 8
   pub begun : new.begun ≡ old.begun
   pub looked : new.looked ≡ old.looked
   pub part : new.part ≡ old.part
@@ -540,13 +609,14 @@ pub record ComeNext (whole : Bits) (feed : Feeding) (next : Bits) : Type 0 where
   pub bits : drop (feed.dropped + length feed.kept) whole ≡ next ++ rest
   pub bytes : AreWholeBytes rest
 
--- whole bytes before the next bit are dropped
+-- the whole bytes before the next bit are dropped
 pub record DropsRead (old new : Feeding) : Type 0 where
   pub bytes : ℕ
   pub read : 8 * bytes ≤ old.place
   pub kept : new.kept ≡ drop (8 * bytes) old.kept
   pub dropped : new.dropped ≡ old.dropped + 8 * bytes
   pub place : new.place + 8 * bytes ≡ old.place
+  pub few_read : new.place < 8
   pub looked : new.looked ≡ old.looked
   pub within : old.place ≤ length old.kept
   pub ctx : new.ctx ≡ old.ctx

@@ -18,7 +18,7 @@ pub fn steps_on_rows<D: Decoder>()
     ensures { StepsOnRows D.Meaning }
 {}
 
-/// What all calls of a [`RowFeed`](crate::RowFeed) count: at most 128 ticks a bit that was fed and 256, and 32 for each call of
+/// What all calls of a [`RowFeed`](crate::RowFeed) count: at most 160 ticks a bit that was fed and 256, and 32 for each call of
 /// `next_row`, whatever pieces the data comes in. A call that fails for memory costs more.
 pub fn feeds_paid()
     ensures { FeedsArePaid }

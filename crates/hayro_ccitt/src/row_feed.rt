@@ -12,7 +12,7 @@ ghost use Rattle.hayro_ccitt.specs.RowsTried.{IsLeft};
 ghost use Rattle.hayro_ccitt.specs.RowFeeds.{Begins, ComeNext, ComesInFeed, DropsRead, ReadsInFeed, ComesOn, FeedsNext};
 ghost use Rattle.hayro_ccitt.specs.RowFeeds.{IsFeedOf, KeepsBits, TriesLine, fed_bits, fed_end, fed_none, fed_row, is_left};
 ghost use Rattle.hayro_ccitt.specs.RowFeeds.{HoldsMore, KeepsPart, LineGoesOn, ScansLine, StaysShort, line_answer, some_line};
-ghost use Rattle.hayro_ccitt.specs.RowFeeds.{unused};
+ghost use Rattle.hayro_ccitt.specs.RowFeeds.{CountsRow, PushesRows, unused};
 ghost use Rattle.hayro_ccitt.specs.Rows.{AreChanges, changes};
 
 use crate::context::DecoderContext;
@@ -22,7 +22,7 @@ use crate::gap_look::{
 use crate::line_parts::{KeptPart, begin_part, continue_line};
 use crate::row_reader::{RowState, Stand, first_stand, has_ended, is_at_line};
 use crate::rows::try_row;
-use crate::{DecodeError, EncodingMode, Result};
+use crate::{DecodeError, Decoder, EncodingMode, Result};
 use fax_bits::DecodeSettings;
 use fax_bits::bit_reader::{BitOrder, BitReader, at_bit, placed_at};
 use fax_bits::codes::Color;
@@ -175,6 +175,25 @@ fn fed_row(row: Result<bool>) -> Result<Fed>
     }
 }
 
+/// Returns whether a row was read.
+fn is_row(fed: &Result<Fed>) -> bool
+    ensures row { result ≡ true → fed.now ≡ Ok Fed.Row }
+    ensures other { result ≡ false → fed.now ≢ Ok Fed.Row }
+{
+    matches!(fed, Ok(Fed::Row))
+}
+
+/// Returns whether one more row can be counted.
+#[inline(always)]
+fn can_take_row(ctx: &DecoderContext) -> bool
+    ensures rows { result ≡ true → ctx.now.held.taken + 1 < 2 ^ 64 }
+    ensures damaged { result ≡ true → ctx.now.held.repairs.rows ≤ ctx.now.held.taken }
+    ensures room { ctx.now.held.taken + 1 < 2 ^ 64 → ctx.now.held.repairs.rows ≤ ctx.now.held.taken → result ≡ true }
+{
+    let rows = ctx.decoded_rows();
+    rows < u64::MAX && ctx.damaged_rows() <= rows
+}
+
 impl RowState {
     /// Passes the gap before the next line, which begins at this offset of the data, if no data that follows can change it.
     /// Returns whether there is a line after it, or `None` if more data is needed.
@@ -205,6 +224,7 @@ impl RowState {
 
     /// Reads the line here, which begins at this offset of the data, and returns true, if no data that follows can change it;
     /// otherwise it is left, and false is returned. After an allocation failure it is left too.
+    #[inline(always)]
     pub(crate) fn try_line(
         &mut self,
         ctx: &mut DecoderContext,
@@ -235,6 +255,10 @@ impl RowState {
 }
 
 /// Reads the rows of an image from data that comes in pieces, each as soon as no data that follows can change its line.
+///
+/// It keeps the bits that weren't read, and after [`feed`](RowFeed::feed) fewer than eight before them. After
+/// [`Fed::NeedsMore`] they are those of the line that is next, as far as it came, or of the gap before it. So where each piece is
+/// fed after `NeedsMore`, no more is kept than the longest line or gap, and a piece.
 ///
 /// # Example
 ///
@@ -333,28 +357,6 @@ impl RowFeed {
         self.place = reader.bit_pos();
         self.begun = true;
         true
-    }
-
-    /// Passes the gap before the next line, if no data that follows can change it. Returns whether there is a line after it,
-    /// or `None` if more data is needed.
-    fn come_to_line(&mut self) -> Result<Option<bool>>
-        requires begun { self.old.begun ≡ true }
-        requires unended { ended self.old.rows.stand ≡ None }
-        requires none_kept { self.old.part ≡ None }
-        ensures comes { ComesInFeed self.old self.new result }
-        ensures none_kept { self.new.part ≡ None }
-    {
-        let mut reader = placed_at(&self.data, self.order, self.place);
-        let gap_start = self.dropped + self.place;
-        let line = self.rows.come_to_settled_line(
-            &mut self.ctx,
-            &mut self.look,
-            &mut reader,
-            self.is_last,
-            gap_start,
-        );
-        self.place = reader.bit_pos();
-        line
     }
 
     /// Reads the line here from its start, if no data that follows can change it, and returns whether it was read.
@@ -459,17 +461,6 @@ impl RowFeed {
         row
     }
 
-    /// Returns whether one more row can be counted.
-    fn can_take_row(&self) -> bool
-        ensures rows { result ≡ true → self.now.ctx.held.taken + 1 < 2 ^ 64 }
-        ensures damaged { result ≡ true → self.now.ctx.held.repairs.rows ≤ self.now.ctx.held.taken }
-        ensures room { self.now.ctx.held.taken + 1 < 2 ^ 64 → self.now.ctx.held.repairs.rows ≤ self.now.ctx.held.taken
-            → result ≡ true }
-    {
-        let rows = self.ctx.decoded_rows();
-        rows < u64::MAX && self.ctx.damaged_rows() <= rows
-    }
-
     /// Reads the row of the line here.
     #[inline(always)]
     fn read_here(&mut self) -> Result<Fed>
@@ -478,11 +469,52 @@ impl RowFeed {
         ensures reads { (whole : Bits) (tried : ℕ) → IsFeedOf whole tried self.old
             → FeedsNext whole tried self.old self.new result }
         ensures keeps { KeepsBits self.old self.new }
+        ensures counts { CountsRow self.old self.new result }
     {
-        if !self.can_take_row() {
+        if !can_take_row(&self.ctx) {
             return Err(DecodeError::UnexpectedEof);
         }
         let row = self.read_line();
+        fed_row(row)
+    }
+
+    /// Passes the gap before the next line, if there is one here, and reads the line, both from where no data that follows can change
+    /// them.
+    #[inline(always)]
+    fn read_from_gap(&mut self) -> Result<Fed>
+        requires begun { self.old.begun ≡ true }
+        requires unended { ended self.old.rows.stand ≡ None }
+        requires none_kept { self.old.part ≡ None }
+        ensures reads { (whole : Bits) (tried : ℕ) → IsFeedOf whole tried self.old
+            → FeedsNext whole tried self.old self.new result }
+        ensures keeps { KeepsBits self.old self.new }
+        ensures counts { CountsRow self.old self.new result }
+    {
+        let mut reader = placed_at(&self.data, self.order, self.place);
+        let gap_start = self.dropped + self.place;
+        let line = self.rows.come_to_settled_line(
+            &mut self.ctx,
+            &mut self.look,
+            &mut reader,
+            self.is_last,
+            gap_start,
+        );
+        self.place = reader.bit_pos();
+        if !is_some_line(&line) {
+            return fed_none(line);
+        }
+        if !can_take_row(&self.ctx) {
+            return Err(DecodeError::UnexpectedEof);
+        }
+        let line_start = self.dropped + self.place;
+        self.ctx.begin_line();
+        let row = self
+            .rows
+            .try_line(&mut self.ctx, &mut reader, self.is_last, line_start);
+        self.place = reader.bit_pos();
+        if is_unsettled(&row) {
+            self.keep_part();
+        }
         fed_row(row)
     }
 
@@ -493,15 +525,12 @@ impl RowFeed {
         ensures reads { (whole : Bits) (tried : ℕ) → IsFeedOf whole tried self.old
             → FeedsNext whole tried self.old self.new result }
         ensures keeps { KeepsBits self.old self.new }
+        ensures counts { CountsRow self.old self.new result }
     {
         if self.part.is_some() {
             return self.read_here();
         }
-        let line = self.come_to_line();
-        if !is_some_line(&line) {
-            return fed_none(line);
-        }
-        self.read_here()
+        self.read_from_gap()
     }
 
     /// Reads the first row, behind what is before it.
@@ -510,6 +539,7 @@ impl RowFeed {
         ensures reads { (whole : Bits) (tried : ℕ) → IsFeedOf whole tried self.old
             → FeedsNext whole tried self.old self.new result }
         ensures keeps { KeepsBits self.old self.new }
+        ensures counts { CountsRow self.old self.new result }
     {
         if !self.begin() {
             return Ok(Fed::NeedsMore);
@@ -532,6 +562,7 @@ impl RowFeed {
         ensures reads { (whole : Bits) (tried : ℕ) → ended self.old.rows.stand ≡ None → IsFeedOf whole tried self.old
             → FeedsNext whole tried self.old self.new result }
         ensures keeps { KeepsBits self.old self.new }
+        ensures counts { CountsRow self.old self.new result }
         ensures ended { (end : Result (Unit {0}) DecodeError) → ended self.old.rows.stand ≡ Some end
             → (self.new ≡ self.old) × (result ≡ fed_end end) }
     {
@@ -544,6 +575,46 @@ impl RowFeed {
                 } else {
                     self.read_first()
                 }
+            }
+        }
+    }
+
+    /// Reads each row that no data that follows can change, and passes it to the sink, until more data is needed or the image
+    /// ends: then it returns [`Fed::NeedsMore`] or [`Fed::End`]. So one call for each piece reads all rows, as calls of
+    /// [`next_row`](RowFeed::next_row) do.
+    ///
+    /// # Errors
+    ///
+    /// Those of [`next_row`](RowFeed::next_row), and `Refused` if the sink refuses a row. That row was read, and
+    /// [`row`](RowFeed::row) returns it; the next call goes on behind it.
+    ///
+    /// # Example
+    ///
+    /// ```text
+    /// let mut rows = RowFeed::new(alloc, BitOrder::HighestFirst, settings)?;
+    /// let mut sink = BitmapSink::new(alloc, settings.columns);
+    /// for piece in pieces {
+    ///     rows.feed(piece)?;
+    ///     rows.push_rows(&mut sink)?;
+    /// }
+    /// rows.finish();
+    /// rows.push_rows(&mut sink)?;
+    /// ```
+    pub fn push_rows<D: Decoder>(&mut self, decoder: &mut D) -> Result<Fed>
+        requires width { self.old.ctx.held.settings.columns ≤ D.width decoder.old }
+        ensures width { D.width decoder.new ≡ D.width decoder.old }
+        ensures pushes { PushesRows (D.step (D.width decoder.old))
+            (record { meaning = D.meaning decoder.old; refused = D.has_refused decoder.old; refuses = D.refuses decoder.old })
+            (record { meaning = D.meaning decoder.new; refused = D.has_refused decoder.new; refuses = D.refuses decoder.new })
+            self.old self.new result }
+    {
+        'rows: loop {
+            let fed = self.next_row();
+            if !is_row(&fed) {
+                return fed;
+            }
+            if let Err(refusal) = decoder.push_row(self.row()) {
+                return Err(refusal);
             }
         }
     }
@@ -563,7 +634,7 @@ impl RowFeed {
         self.place -= bytes * 8;
     }
 
-    /// Feeds the bytes that come next in the data. Those that were read are dropped first.
+    /// Feeds the bytes that come next in the data. Those that were read are dropped first, also if this fails.
     ///
     /// # Errors
     ///

@@ -24,6 +24,7 @@ holds_more {old} {mid} {new} next bytes drops whole is = subst (HoldsMore next o
       ∙ ap (λ (n : ℕ). drop n old.kept ++ next) (omega (arith, drops.place));
   fed = omega (arith, length-append mid.kept next, drops.dropped, drops.read, drops.within, ap length drops.kept, long);
   place = omega (arith, drops.dropped, drops.place);
+  few_read = drops.few_read;
   begun = drops.begun;
   looked = drops.looked;
   part = drops.part;

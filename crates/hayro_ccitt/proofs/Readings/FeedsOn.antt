@@ -22,7 +22,7 @@ use Rattle.hayro_ccitt.proofs.Readings.BlackGoesOn.{black_goes_on}
 use Rattle.hayro_ccitt.specs.Answers.{HasBlack, PaintsBlack}
 use Rattle.hayro_ccitt.specs.Continuations.{is_short}
 use Rattle.hayro_ccitt.specs.GapsContinued.{first_gap_is_settled, gap_is_settled}
-use Rattle.hayro_ccitt.specs.RowsTried.{CanCome, IsLeft, StandsFirst}
+use Rattle.hayro_ccitt.specs.RowsTried.{CanCome, IsLeft, StandsFirst, TriesRow}
 use Rattle.hayro_ccitt.specs.RowFeeds.{ComesInFeed, ComesOn, Feeding, IsFeedOf, KeepsBits, LieIn, ReadsInFeed, StandsIn}
 use Rattle.hayro_ccitt.specs.RowFeeds.{HasNone, LooksAhead, TriesLine, came, fed_over}
 use Rattle.hayro_ccitt.specs.declared.gap_look.GapLook.{GapLook}
@@ -35,7 +35,7 @@ use Rattle.hayro_ccitt.proofs.Names.{append-nil, row_of_line, Row}
 use Rattle.hayro_ccitt.specs.RowFeeds.{Begins, CallGoesOn, ReachesLine, line_of_feed, most_to_find}
 use Rattle.hayro_ccitt.proofs.Names.{and_parts}
 use Rattle.hayro_ccitt.specs.declared.line_parts.KeptPart.{KeptPart}
-use Rattle.fax_bits.specs.declared.error.DecodeError.TheVariants.{InvalidCode, OutOfMemory}
+use Rattle.fax_bits.specs.declared.error.DecodeError.TheVariants.{InvalidCode, OutOfMemory, Overflow, Refused, UnexpectedEof}
 use Rattle.hayro_ccitt.specs.declared.row_feed.Fed.{Fed}
 
 -- where no part is kept, nothing is paid
@@ -329,6 +329,22 @@ module _ (old new : Feeding) (before after : BitsAt) (before_is : before ≡ rec
       ap (λ (b : BitsAt). length (here b)) before_is,
     )
 
+    -- no line changes the settings
+    line_settings : (said : Result Bool DecodeError) → TriesRow old.finished mid new.ctx said before after
+        → new.ctx.held.settings ≡ old.ctx.held.settings
+    line_settings (Ok true) tried =
+        ap (λ (h : Held). h.settings) (tried.read refl [] no_more).row.taken.held ∙ ap (λ (x : Context). x.held.settings) frame
+    line_settings (Ok false) tried = ap (λ (h : Held). h.settings) (tried.left refl) ∙ ap (λ (x : Context). x.held.settings) frame
+    line_settings (Err OutOfMemory) tried =
+        ap (λ (h : Held). h.settings) (tried.left refl) ∙ ap (λ (x : Context). x.held.settings) frame
+    line_settings (Err UnexpectedEof) tried =
+        ap (λ (h : Held). h.settings) (tried.failed tt [] no_more).row.held ∙ ap (λ (x : Context). x.held.settings) frame
+    line_settings (Err InvalidCode) tried =
+        ap (λ (h : Held). h.settings) (tried.failed tt [] no_more).row.held ∙ ap (λ (x : Context). x.held.settings) frame
+    line_settings (Err Overflow) tried =
+        ap (λ (h : Held). h.settings) (tried.failed tt [] no_more).row.held ∙ ap (λ (x : Context). x.held.settings) frame
+    line_settings (Err Refused) tried = absurd (tried.not_refused refl)
+
     pub feed_reads : ReadsInFeed old new answer
     feed_reads = record {
       extra = cond (is_left answer) (new.ctx.ticks - old.ctx.ticks) 0;
@@ -396,6 +412,13 @@ module _ (old new : Feeding) (before after : BitsAt) (before_is : before ≡ rec
         failed = λ e. omega (arith, line_found, none_paid old.part old.line_read unkept);
         failed_at_once = λ e none. line_found;
       };
+      settings = line_settings answer tries.tried;
+      taken = λ e.
+          omega (
+            arith,
+            ap (λ (h : Held). h.taken) (tries.tried.read e [] no_more).row.taken.held,
+            ap (λ (x : Context). x.held.taken) frame,
+          );
     }
 
 -- ---- What is before the first line

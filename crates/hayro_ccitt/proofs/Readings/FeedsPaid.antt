@@ -12,12 +12,11 @@ use Rattle.hayro_ccitt.specs.declared.line_parts.KeptPart.{KeptPart}
 use Rattle.hayro_ccitt.specs.declared.row_feed.Fed.{Fed}
 use Rattle.hayro_ccitt.specs.declared.row_reader.RowState.{RowState}
 use Rattle.hayro_ccitt.specs.RowFeeds.{CallGoesOn, Feeding, FeedsNext, HasNone, HoldsMore, IsFeedOf, IsOpenAt, KeepsBits}
-use Rattle.hayro_ccitt.specs.RowFeeds.{StandsIn}
+use Rattle.hayro_ccitt.specs.RowFeeds.{StandsIn, TriesFirst}
 use Rattle.hayro_ccitt.specs.RowFeeds.{fed_bits, fed_over, most_for_line, paid_by, paid_for_line}
 use Rattle.hayro_ccitt.proofs.Names.{IfErr}
-use Rattle.hayro_ccitt.specs.FeedsPaid.{FeedIsPaid, GapsPaid, IsPassed, LinesPaid, SeeksEol, WasShort, changes_of}
-use Rattle.hayro_ccitt.specs.FeedsPaid.{cost_of_failure, cost_of_first_try, left_for_line, offset}
-use Rattle.hayro_ccitt.proofs.Names.{cond, eqb, ne_eqb}
+use Rattle.hayro_ccitt.specs.FeedsPaid.{FeedIsPaid, FirstsPaid, GapsPaid, IsBehind, IsPassed, LinesPaid, SeeksEol, WasShort}
+use Rattle.hayro_ccitt.specs.FeedsPaid.{WasTried, changes_of, cost_of_failure, left_for_line, offset}
 use Rattle.hayro_ccitt.proofs.Readings.FeedsOn.{none_paid}
 use Rattle.fax_reading.proofs.KeptRows.LinesAgain.{line_again}
 use Rattle.fax_reading.proofs.Work.TurnsPaid.{behind_shorter, broken_row}
@@ -109,8 +108,7 @@ left_some : (part : Option KeptPart) (changes seen : ℕ) → part ≢ None → 
 left_some None changes seen e = absurd (e refl)
 left_some (Some part) changes seen e = refl
 
-passed_none : (part : Option KeptPart) (known : ℕ) (feed : Feeding) → part ≡ None
-    → (ended feed.rows.stand ≡ None → feed.finished ≡ false → (known ≤ offset feed) ⊎ SeeksEol known feed)
+passed_none : (part : Option KeptPart) (known : ℕ) (feed : Feeding) → part ≡ None → IsBehind known feed
     → IsPassed part known feed
 passed_none None at feed e known = known
 passed_none (Some part) at feed e known = absurd cc
@@ -121,7 +119,7 @@ kept_passed None at feed e known = absurd (e refl)
 kept_passed (Some part) at feed e known = known
 
 was_passed : (part : Option KeptPart) (known : ℕ) (feed : Feeding) → part ≡ None → IsPassed part known feed
-    → ended feed.rows.stand ≡ None → feed.finished ≡ false → (known ≤ offset feed) ⊎ SeeksEol known feed
+    → IsBehind known feed
 was_passed None at feed e known = known
 was_passed (Some part) at feed e known = absurd cc
 
@@ -134,34 +132,14 @@ none_or_some : (part : Option KeptPart) → (part ≡ None) ⊎ (part ≢ None)
 none_or_some None = inl refl
 none_or_some (Some part) = inr (λ e. cc)
 
--- more may be lost
-more_lost : {calls lost tried lines : ℕ} {feed : Feeding} (more : ℕ) → LinesPaid calls lost tried lines feed
-    → LinesPaid calls (lost + more) tried lines feed
-more_lost more paid = record {
-  known = paid.known;
-  read = paid.read;
-  words = paid.words;
-  seen = paid.seen;
-  known_most = paid.known_most;
-  read_most = paid.read_most;
-  read_before = paid.read_before;
-  words_most = paid.words_most;
-  within = paid.within;
-  part_most = paid.part_most;
-  seen_is = paid.seen_is;
-  most = omega (arith, paid.most);
-  here = λ unended. omega (arith, paid.here unended);
-  passed = paid.passed;
-}
-
 -- ---- More data
 
 module _ {next : Bits} {old new : Feeding} (holds : HoldsMore next old new) where
   drop_is : drop new.place new.kept ≡ drop old.place old.kept ++ next
   drop_is = holds.unread
 
-  passed_more : (known : ℕ) (part : Option KeptPart) → IsPassed part known old → IsPassed part known new
-  passed_more known (Some part) was = record {
+  short_more : (known : ℕ) → WasShort known old → WasShort known new
+  short_more known was = record {
     begun = holds.begun ∙ was.begun;
     at_line = ap (λ (r : RowState). is_at_line r.stand) holds.reading.1 ∙ was.at_line;
     seen = was.seen;
@@ -170,7 +148,9 @@ module _ {next : Bits} {old new : Feeding} (holds : HoldsMore next old new) wher
     short = ap (λ (x : Context). is_short (line_here x.held.settings x.held.reference was.seen)) holds.reading.0 ∙ was.short;
     known_is = omega (arith, was.known_is, holds.place);
   }
-  passed_more known None was = λ unended unfinished.
+
+  behind_more : (known : ℕ) → IsBehind known old → IsBehind known new
+  behind_more known was = λ unended unfinished.
       elim (was (sym (ap (λ (r : RowState). ended r.stand) holds.reading.1) ∙ unended) (sym holds.reading.2 ∙ unfinished)) [
         | inl le ↦ inl (omega (arith, le, holds.place))
         | inr seeks ↦ inr (record {
@@ -186,6 +166,10 @@ module _ {next : Bits} {old new : Feeding} (holds : HoldsMore next old new) wher
         })
       ]
 
+  passed_more : (known : ℕ) (part : Option KeptPart) → IsPassed part known old → IsPassed part known new
+  passed_more known (Some part) was = short_more known was
+  passed_more known None was = behind_more known was
+
   same_paid : paid_for_line new ≡ paid_for_line old
   same_paid = ap (λ (p : Option KeptPart). paid_by p new.line_read) holds.part ∙ ap (paid_by old.part) holds.line_read
 
@@ -195,6 +179,29 @@ module _ {next : Bits} {old new : Feeding} (holds : HoldsMore next old new) wher
   longer : length (drop new.place new.kept) ≡ length (drop old.place old.kept) + length next
   longer = ap length drop_is ∙ length-append (drop old.place old.kept) next
 
+  firsts_more : {calls tried firsts : ℕ} → FirstsPaid calls tried firsts old → FirstsPaid calls tried firsts new
+  firsts_more paid = record {
+    known = paid.known;
+    words = paid.words;
+    known_most = omega (arith, paid.known_most, holds.fed);
+    words_most = omega (arith, paid.words_most, ap (λ (x : Context). x.ticks) holds.reading.0);
+    most = paid.most;
+    here = elim paid.here [
+      | inl was ↦ inl (record {
+        tried = holds.tried_at ∙ was.tried ∙ sym holds.place;
+        short = short_more paid.known was.short;
+      })
+      | inr untried ↦ inr (record {
+        behind = behind_more paid.known untried.behind;
+        left = λ unended. omega (
+          arith,
+          untried.left (sym (ap (λ (r : RowState). ended r.stand) holds.reading.1) ∙ unended),
+          same_changes,
+        );
+      })
+    ];
+  }
+
   pub more_paid : {calls lost tried : ℕ} → FeedIsPaid calls lost tried old → FeedIsPaid calls lost tried new
   more_paid {calls} {lost} {tried} paid =
       let gaps = paid.gaps_paid in
@@ -202,7 +209,9 @@ module _ {next : Bits} {old new : Feeding} (holds : HoldsMore next old new) wher
       record {
         gaps = paid.gaps;
         lines = paid.lines;
+        firsts = paid.firsts;
         sum = paid.sum;
+        firsts_paid = firsts_more paid.firsts_paid;
         gaps_paid = record {
           first = gaps.first;
           first_most = omega (arith, gaps.first_most, holds.fed);
@@ -243,10 +252,8 @@ module _ {next : Bits} {old new : Feeding} (holds : HoldsMore next old new) wher
       }
 
 -- the data is finished
-finished_passed : (known : ℕ) (feed : Feeding) (part : Option KeptPart) → IsPassed part known feed
-    → IsPassed part known (record feed { finished = true })
-finished_passed known feed None was = λ unended unfinished. absurd (false≢true (sym unfinished))
-finished_passed known feed (Some part) was = record {
+finished_short : (known : ℕ) (feed : Feeding) → WasShort known feed → WasShort known (record feed { finished = true })
+finished_short known feed was = record {
   begun = was.begun;
   at_line = was.at_line;
   seen = was.seen;
@@ -256,15 +263,36 @@ finished_passed known feed (Some part) was = record {
   known_is = was.known_is;
 }
 
+finished_passed : (known : ℕ) (feed : Feeding) (part : Option KeptPart) → IsPassed part known feed
+    → IsPassed part known (record feed { finished = true })
+finished_passed known feed None was = λ unended unfinished. absurd (false≢true (sym unfinished))
+finished_passed known feed (Some part) was = finished_short known feed was
+
 pub finished_paid : {calls lost tried : ℕ} {old new : Feeding} → new ≡ record old { finished = true }
     → FeedIsPaid calls lost tried old → FeedIsPaid calls lost tried new
 finished_paid {calls} {lost} {tried} {old} {new} is paid =
     let gaps = paid.gaps_paid in
     let lines = paid.lines_paid in
+    let firsts = paid.firsts_paid in
     subst (FeedIsPaid calls lost tried) (sym is) (record {
       gaps = paid.gaps;
       lines = paid.lines;
+      firsts = paid.firsts;
       sum = paid.sum;
+      firsts_paid = record {
+        known = firsts.known;
+        words = firsts.words;
+        known_most = firsts.known_most;
+        words_most = firsts.words_most;
+        most = firsts.most;
+        here = elim firsts.here [
+          | inl was ↦ inl (record { tried = was.tried; short = finished_short firsts.known old was.short })
+          | inr untried ↦ inr (record {
+            behind = λ unended unfinished. absurd (false≢true (sym unfinished));
+            left = untried.left;
+          })
+        ];
+      };
       gaps_paid = record {
         first = gaps.first;
         first_most = gaps.first_most;
@@ -303,7 +331,19 @@ begun_paid whole feed is unbegun unlooked unkept =
     record {
       gaps = 0;
       lines = 0;
+      firsts = 0;
       sum = omega arith;
+      firsts_paid = record {
+        known = 0;
+        words = 0;
+        known_most = omega arith;
+        words_most = omega arith;
+        most = omega arith;
+        here = inr (record {
+          behind = λ unended unfinished. inl (omega arith);
+          left = λ unended. omega (arith, white);
+        });
+      };
       gaps_paid = record {
         first = 0;
         first_most = omega arith;
@@ -418,10 +458,10 @@ module _ {whole : Bits} {calls lost tried : ℕ} {old new : Feeding} {answer : R
 
   -- ---- Where the next line begins
 
-  line_passed : old.part ≡ None → ended new.rows.stand ≡ None → old.finished ≡ false
-      → (answer ≡ Ok Fed.NeedsMore → is_at_line new.rows.stand ≡ true) → lines.known ≤ offset new
-  line_passed none still unfinished waits =
-      elim (was_passed old.part lines.known old none lines.passed unended unfinished) [
+  line_passed : (known : ℕ) → IsBehind known old → ended new.rows.stand ≡ None → old.finished ≡ false
+      → (answer ≡ Ok Fed.NeedsMore → is_at_line new.rows.stand ≡ true) → known ≤ offset new
+  line_passed known was still unfinished waits =
+      elim (was unended unfinished) [
         | inl le ↦ omega (arith, le, goes.onward still)
         | inr seeks ↦
             let eol = goes.past_eol unfinished seeks.begun seeks.behind seeks.sought still waits in
@@ -439,13 +479,15 @@ module _ {whole : Bits} {calls lost tried : ℕ} {old new : Feeding} {answer : R
       by_bool true e = refl
       by_bool false e = absurd (false≢true (sym (goes.unbegun e).0 ∙ begun))
 
-  gap_waits_on : old.part ≡ None → answer ≡ Ok Fed.NeedsMore → is_at_line new.rows.stand ≡ false
-      → ended new.rows.stand ≡ None → old.finished ≡ false → (lines.known ≤ offset new) ⊎ SeeksEol lines.known new
-  gap_waits_on none e away still unfinished =
+  same_bits : new.place ≡ old.place → drop new.place new.kept ≡ drop old.place old.kept
+  same_bits place = ap (λ (n : ℕ). drop n new.kept) place ∙ ap (drop old.place) keeps.kept
+
+  -- the gap waits for more data
+  gap_waits_on : (known : ℕ) → IsBehind known old → answer ≡ Ok Fed.NeedsMore → is_at_line new.rows.stand ≡ false
+      → ended new.rows.stand ≡ None → old.finished ≡ false → (known ≤ offset new) ⊎ SeeksEol known new
+  gap_waits_on known was e away still unfinished =
       let waits = goes.waits e away in
-      let there : drop new.place new.kept ≡ drop old.place old.kept =
-      ap (λ (n : ℕ). drop n new.kept) waits.0 ∙ ap (drop old.place) keeps.kept in
-      elim (was_passed old.part lines.known old none lines.passed unended unfinished) [
+      elim (was unended unfinished) [
         | inl le ↦ inl (omega (arith, le, goes.onward still))
         | inr seeks ↦ inr (record {
           begun = new_begun seeks.begun;
@@ -454,24 +496,35 @@ module _ {whole : Bits} {calls lost tried : ℕ} {old new : Feeding} {answer : R
           none = λ more fill behind is. omega (
             arith,
             goes.onward still,
-            seeks.none more fill behind (ap (λ (b : Bits). b ++ more) (sym there) ∙ is),
+            seeks.none more fill behind (ap (λ (b : Bits). b ++ more) (sym (same_bits waits.0)) ∙ is),
           );
         })
       ]
 
-  -- behind the row of a line that was short
-  module _ (some : old.part ≢ None) where
-    was : WasShort lines.known old
-    was = was_short old.part lines.known old some lines.passed
+  -- where lines that were short are behind, no row is read and the reading hasn't ended
+  stays_behind : (known : ℕ) → IsBehind known old → HasNone answer → IsBehind known new
+  stays_behind known was left still unfinished = by_line (is_at_line new.rows.stand) refl answer refl
+    where
+      by_line : (b : Bool) → is_at_line new.rows.stand ≡ b → (a : Result Fed DecodeError) → answer ≡ a
+          → (known ≤ offset new) ⊎ SeeksEol known new
+      by_line true line a is = inl (line_passed known was still (still_unfinished unfinished) (λ needs. line))
+      by_line false away (Ok fed) is =
+          let needs : answer ≡ Ok Fed.NeedsMore = is ∙ ap (λ (x : Fed). Ok x) (subst HasNone is left) in
+          gap_waits_on known was needs away still (still_unfinished unfinished)
+      by_line false away (Err error) is =
+          inl (line_passed known was still (still_unfinished unfinished) (λ needs. let never = sym is ∙ needs in absurd cc))
 
-    behind_line : answer ≡ Ok Fed.Row → ended new.rows.stand ≡ None
-        → (lines.known ≤ offset new) ⊎ SeeksEol lines.known new
+  -- at a line that was short
+  module _ {known : ℕ} (short : WasShort known old) where
+    stays_at_line : (old.begun && is_at_line old.rows.stand) ≡ true
+    stays_at_line = at_line_begun old.begun (is_at_line old.rows.stand) short.begun short.at_line
+
+    -- its row is read
+    behind_line : answer ≡ Ok Fed.Row → ended new.rows.stand ≡ None → (known ≤ offset new) ⊎ SeeksEol known new
     behind_line e still =
-        let short = was in
-        let at_line = at_line_begun old.begun (is_at_line old.rows.stand) short.begun short.at_line in
         let row = subst (λ (b : Bits). row_of_line old.ctx.held.settings old.ctx.held.has_eols b
         (line_here old.ctx.held.settings old.ctx.held.reference b)
-        ≡ Ok (new.ctx.held.reference, drop new.place new.kept)) short.are (goes.row_is e at_line) in
+        ≡ Ok (new.ctx.held.reference, drop new.place new.kept)) short.are (goes.row_is e stays_at_line) in
         elim (short_row old.ctx.held.settings old.ctx.held.has_eols old.ctx.held.reference short.seen short.more
         (drop new.place new.kept) new.ctx.held.reference short.short row) [
           | inl le ↦ inl (omega (
@@ -488,7 +541,7 @@ module _ {whole : Bits} {calls lost tried : ℕ} {old new : Feeding} {answer : R
           | inr repaired ↦ inr (record {
             begun = new_begun short.begun;
             behind = goes.behind e;
-            sought = goes.sought e at_line ∙ repaired.0;
+            sought = goes.sought e stays_at_line ∙ repaired.0;
             none = λ more fill behind is. omega (
               arith,
               short.known_is,
@@ -499,6 +552,27 @@ module _ {whole : Bits} {calls lost tried : ℕ} {old new : Feeding} {answer : R
             );
           })
         ]
+
+    -- it is left
+    stays_short : HasNone answer → WasShort known new
+    stays_short left =
+        let place = goes.stays left stays_at_line in
+        let stays = next.none left in
+        record {
+          begun = new_begun short.begun;
+          at_line = stays.line short.at_line;
+          seen = short.seen;
+          more = short.more;
+          are = same_bits place ∙ short.are;
+          short = ap (λ (s : DecodeSettings). is_short (line_here s new.ctx.held.reference short.seen)) stays.settings
+              ∙ ap (λ (r : Row). is_short (line_here old.ctx.held.settings r short.seen)) stays.row ∙ short.short;
+          known_is = omega (arith, short.known_is, place, keeps.dropped);
+        }
+
+  -- behind the row of a line of which a part was kept
+  module _ (some : old.part ≢ None) where
+    was : WasShort lines.known old
+    was = was_short old.part lines.known old some lines.passed
 
     -- what is counted where it is read
     read_here : paid.lines + next.line_extra + paid_for_line old ≤ paid.lines + most_for_line old + 4
@@ -521,7 +595,11 @@ module _ {whole : Bits} {calls lost tried : ℕ} {old new : Feeding} {answer : R
   counted = paid.lines + next.line_extra
 
   abbrev LinesNow : ℕ → Type 0
-  LinesNow lost_now = LinesPaid (calls + 1) lost_now (tried + next.extra) counted new
+  LinesNow count = LinesPaid (calls + 1) lost (tried + next.extra) count new
+
+  -- the lines that were short, where no part of one was kept
+  lines_behind : old.part ≡ None → IsBehind lines.known old
+  lines_behind none = was_passed old.part lines.known old none lines.passed
 
   row_not_left : answer ≡ Ok Fed.Row → HasNone answer → ⊥
   row_not_left e left = let never : Fed.Row ≡ Fed.NeedsMore = subst HasNone e left in cc
@@ -530,7 +608,7 @@ module _ {whole : Bits} {calls lost tried : ℕ} {old new : Feeding} {answer : R
   row_unkept e = goes.unkept (λ needs. let never = sym e ∙ needs in absurd cc)
 
   -- a row is read
-  row_lines : answer ≡ Ok Fed.Row → LinesNow lost
+  row_lines : answer ≡ Ok Fed.Row → LinesNow counted
   row_lines e = elim (none_or_some old.part) [
     | inl none ↦
         let at_once = next.line_work.at_once (row_not_left e) none in
@@ -562,7 +640,8 @@ module _ {whole : Bits} {calls lost tried : ℕ} {old new : Feeding} {answer : R
             left_none new.part (changes_of new) 0 (row_unkept e),
           );
           passed = passed_none new.part lines.known new (row_unkept e) (λ still unfinished.
-              inl (line_passed none still (still_unfinished unfinished) (λ needs. let never = sym e ∙ needs in absurd cc)));
+              inl (line_passed lines.known (lines_behind none) still (still_unfinished unfinished)
+              (λ needs. let never = sym e ∙ needs in absurd cc)));
         }
     | inr some ↦
         let read = read_here some (omega (arith, next.line_work.read (row_not_left e))) in
@@ -586,12 +665,12 @@ module _ {whole : Bits} {calls lost tried : ℕ} {old new : Feeding} {answer : R
             left_none new.part (changes_of new) 0 (row_unkept e),
           );
           passed = passed_none new.part lines.known new (row_unkept e)
-              (λ still unfinished. behind_line some e still);
+              (λ still unfinished. behind_line (was some) e still);
         }
   ]
 
   -- the reading ends
-  end_lines : (ended new.rows.stand ≡ None → ⊥) → (HasNone answer → ⊥) → LinesNow lost
+  end_lines : (ended new.rows.stand ≡ None → ⊥) → (HasNone answer → ⊥) → LinesNow counted
   end_lines over other = elim (none_or_some old.part) [
     | inl none ↦
         let at_once = next.line_work.at_once other none in
@@ -662,10 +741,9 @@ module _ {whole : Bits} {calls lost tried : ℕ} {old new : Feeding} {answer : R
         by_bool false is = absurd (some (goes.unkept (λ needs. is)))
 
     -- the line here is short
-    shorts : new.part ≢ None → WasShort (offset new + length bits_here) new
-    shorts some =
-        let line = kept_at_line some in
-        let begun = begun_there line in
+    short_there : is_at_line new.rows.stand ≡ true → WasShort (offset new + length bits_here) new
+    short_there line =
+        let begun = begun_there in
         record {
           begun = begun;
           at_line = line;
@@ -676,76 +754,50 @@ module _ {whole : Bits} {calls lost tried : ℕ} {old new : Feeding} {answer : R
           known_is = refl;
         }
       where
-        begun_there : is_at_line new.rows.stand ≡ true → new.begun ≡ true
-        begun_there line = by_bool new.begun refl
+        begun_there : new.begun ≡ true
+        begun_there = by_bool new.begun refl
           where
             by_bool : (b : Bool) → new.begun ≡ b → b ≡ true
             by_bool true is = refl
             by_bool false is = absurd (false≢true (sym (goes.unbegun is).2 ∙ line))
 
-    -- it is found to be short the first time
-    first_try : old.part ≡ None → new.part ≡ None → next.line_extra ≤ cost_of_first_try old new
-    first_try none still = elim (next.line_work.unread e none still) [
-      | inl nothing ↦ omega (arith, nothing)
-      | inr first ↦
-          let other : eqb new.tried_at old.tried_at ≡ false =
-          ne_eqb new.tried_at old.tried_at (λ same. first.untried (sym same ∙ first.tried)) in
-          omega (
-            arith,
-            next.line_work.begins e none,
-            none_paid new.part new.line_read still,
-            ap (λ (b : Bool). cond b 0 (changes_of new + 4 * length (drop new.place new.kept) + 2)) other,
-          )
-    ]
+    -- what is counted for it is counted for a first try, if anything is
+    waits_lines : old.part ≡ None → new.part ≡ None → LinesNow paid.lines
+    waits_lines none still = record {
+      known = lines.known;
+      read = lines.read;
+      words = lines.words;
+      seen = 0;
+      known_most = omega (arith, lines.known_most, same_fed);
+      read_most = omega (arith, lines.read_most, same_fed);
+      read_before = λ some. absurd (some still);
+      words_most = omega (arith, goes.counts, lines.words_most);
+      within = goes.within;
+      part_most = goes.paid;
+      seen_is = λ some. absurd (some still);
+      most = omega (
+        arith,
+        lines.most,
+        none_paid old.part old.line_read none,
+        none_paid new.part new.line_read still,
+      );
+      here = λ open_end. omega (
+        arith,
+        lines.here unended,
+        same_changes_there,
+        none_paid old.part old.line_read none,
+        none_paid new.part new.line_read still,
+        left_none old.part (changes_of old) lines.seen none,
+        left_none new.part (changes_of new) 0 still,
+      );
+      passed = passed_none new.part lines.known new still (stays_behind lines.known (lines_behind none) left);
+    }
 
-    waits_lines : old.part ≡ None → new.part ≡ None → LinesNow (lost + cost_of_first_try old new)
-    waits_lines none still =
-        let unread = first_try none still in
-        record {
-          known = lines.known;
-          read = lines.read;
-          words = lines.words;
-          seen = 0;
-          known_most = omega (arith, lines.known_most, same_fed);
-          read_most = omega (arith, lines.read_most, same_fed);
-          read_before = λ some. absurd (some still);
-          words_most = omega (arith, goes.counts, lines.words_most);
-          within = goes.within;
-          part_most = goes.paid;
-          seen_is = λ some. absurd (some still);
-          most = omega (
-            arith,
-            lines.most,
-            unread,
-            none_paid old.part old.line_read none,
-            none_paid new.part new.line_read still,
-          );
-          here = λ open_end. omega (
-            arith,
-            lines.here unended,
-            unread,
-            same_changes_there,
-            none_paid old.part old.line_read none,
-            none_paid new.part new.line_read still,
-            left_none old.part (changes_of old) lines.seen none,
-            left_none new.part (changes_of new) 0 still,
-          );
-          passed = passed_none new.part lines.known new still (λ open_end unfinished.
-              by_line none open_end unfinished (is_at_line new.rows.stand) refl);
-        }
-      where
-        by_line : old.part ≡ None → ended new.rows.stand ≡ None → new.finished ≡ false → (b : Bool)
-            → is_at_line new.rows.stand ≡ b → (lines.known ≤ offset new) ⊎ SeeksEol lines.known new
-        by_line none open_end unfinished true line =
-            inl (line_passed none open_end (still_unfinished unfinished) (λ needs. line))
-        by_line none open_end unfinished false away =
-            gap_waits_on none e away open_end (still_unfinished unfinished)
-
-    begins_lines : old.part ≡ None → new.part ≢ None → LinesNow lost
+    begins_lines : old.part ≡ None → new.part ≢ None → LinesNow counted
     begins_lines none some =
         let begins = next.line_work.begins e none in
-        let known = line_passed none (next.none left).unended (still_unfinished (next.unsettled e).0)
-        (λ needs. kept_at_line some) in
+        let known = line_passed lines.known (lines_behind none) (next.none left).unended
+        (still_unfinished (next.unsettled e).0) (λ needs. kept_at_line some) in
         record {
           known = offset new + length bits_here;
           read = lines.read;
@@ -777,15 +829,15 @@ module _ {whole : Bits} {calls lost tried : ℕ} {old new : Feeding} {answer : R
             left_none old.part (changes_of old) lines.seen none,
             left_some new.part (changes_of new) (length bits_here) some,
           );
-          passed = kept_passed new.part (offset new + length bits_here) new some (shorts some);
+          passed = kept_passed new.part (offset new + length bits_here) new some (short_there (kept_at_line some));
         }
 
-    goes_on_lines : old.part ≢ None → LinesNow lost
+    goes_on_lines : old.part ≢ None → LinesNow counted
     goes_on_lines kept =
         let some = next.line_work.some e kept in
         let goes_on = next.line_work.goes_on e kept in
         let short = was kept in
-        let place = goes.stays left (at_line_begun old.begun (is_at_line old.rows.stand) short.begun short.at_line) in
+        let place = goes.stays left (stays_at_line short) in
         record {
           known = offset new + length bits_here;
           read = lines.read;
@@ -821,17 +873,99 @@ module _ {whole : Bits} {calls lost tried : ℕ} {old new : Feeding} {answer : R
             left_some old.part (changes_of old) lines.seen kept,
             left_some new.part (changes_of new) (length bits_here) some,
           );
-          passed = kept_passed new.part (offset new + length bits_here) new some (shorts some);
+          passed = kept_passed new.part (offset new + length bits_here) new some (short_there (kept_at_line some));
         }
 
-    needs_lines : LinesNow (lost + cost_of_first_try old new)
-    needs_lines = elim (none_or_some old.part) [
-      | inl none ↦ elim (none_or_some new.part) [
-        | inl still ↦ waits_lines none still
-        | inr some ↦ more_lost (cost_of_first_try old new) (begins_lines none some)
+  -- ---- First tries
+
+  abbrev firsts : FirstsPaid calls tried paid.firsts old
+  firsts = paid.firsts_paid
+
+  abbrev FirstsNow : ℕ → Type 0
+  FirstsNow count = FirstsPaid (calls + 1) (tried + next.extra) count new
+
+  -- a row is read
+  row_firsts : answer ≡ Ok Fed.Row → FirstsNow paid.firsts
+  row_firsts e = record {
+    known = firsts.known;
+    words = (firsts.words + changes_of new) - 1;
+    known_most = omega (arith, firsts.known_most, same_fed);
+    words_most = omega (arith, goes.stored e, goes.counts, firsts.words_most);
+    most = omega (arith, firsts.most);
+    here = inr (record {
+      behind = λ still unfinished. elim firsts.here [
+        | inl was ↦ behind_line was.short e still
+        | inr untried ↦ inl (line_passed firsts.known untried.behind still (still_unfinished unfinished)
+            (λ needs. let never = sym e ∙ needs in absurd cc))
+      ];
+      left = λ still. omega (arith, firsts.most);
+    });
+  }
+
+  -- the reading ends
+  end_firsts : (ended new.rows.stand ≡ None → ⊥) → FirstsNow paid.firsts
+  end_firsts over = record {
+    known = firsts.known;
+    words = firsts.words;
+    known_most = omega (arith, firsts.known_most, same_fed);
+    words_most = omega (arith, goes.counts, firsts.words_most);
+    most = omega (arith, firsts.most);
+    here = inr (record { behind = λ still unfinished. absurd (over still); left = λ still. absurd (over still) });
+  }
+
+  -- no row is read, and no line is tried first
+  left_firsts : HasNone answer → FirstsNow paid.firsts
+  left_firsts left = record {
+    known = firsts.known;
+    words = firsts.words;
+    known_most = omega (arith, firsts.known_most, same_fed);
+    words_most = omega (arith, goes.counts, firsts.words_most);
+    most = omega (arith, firsts.most);
+    here = elim firsts.here [
+      | inl was ↦ inl (record { tried = tried_there was; short = stays_short was.short left })
+      | inr untried ↦ inr (record {
+        behind = stays_behind firsts.known untried.behind left;
+        left = λ still. omega (
+          arith,
+          untried.left unended,
+          ap (λ (r : Row). length (changes r)) (next.none left).row,
+        );
+      })
+    ];
+  }
+    where
+      tried_there : WasTried firsts.known old → new.tried_at ≡ offset new
+      tried_there was = elim (goes.tried left (stays_at_line was.short)) [
+        | inl same ↦ omega (arith, same, was.tried, goes.stays left (stays_at_line was.short), keeps.dropped)
+        | inr now ↦ now
       ]
-      | inr kept ↦ more_lost (cost_of_first_try old new) (goes_on_lines kept)
-    ]
+
+  -- a line is tried first, and is short
+  first_firsts : (e : answer ≡ Ok Fed.NeedsMore) → old.part ≡ None → new.part ≡ None → TriesFirst old new
+      → FirstsNow (paid.firsts + next.line_extra)
+  first_firsts e none still first = elim firsts.here [
+    | inl was ↦
+        let stays = goes.stays (left e) (stays_at_line was.short) in
+        absurd (first.untried (omega (arith, was.tried, stays, keeps.dropped)))
+    | inr untried ↦
+        let known = line_passed firsts.known untried.behind (next.none (left e)).unended
+        (still_unfinished (next.unsettled e).0) (λ needs. first.at_line) in
+        record {
+          known = offset new + length (bits_here e);
+          words = firsts.words;
+          known_most = omega (arith, new_within e);
+          words_most = omega (arith, goes.counts, firsts.words_most);
+          most = omega (
+            arith,
+            untried.left unended,
+            known,
+            next.line_work.begins e none,
+            none_paid new.part new.line_read still,
+            same_changes_there e,
+          );
+          here = inl (record { tried = first.tried; short = short_there e first.at_line });
+        }
+  ]
 
   -- ---- What a call comes to
 
@@ -842,28 +976,56 @@ module _ {whole : Bits} {calls lost tried : ℕ} {old new : Feeding} {answer : R
       let failed = subst (ReadsNext (fed_over whole old) (fed_over whole new)) is reads in
       let never = sym failed.error.0 ∙ still in cc
 
-  lines_step : (a : Result Fed DecodeError) → answer ≡ a → answer ≢ Err OutOfMemory
-      → LinesNow (lost + cost_of_first_try old new)
-  lines_step (Ok Fed.Row) e other = more_lost (cost_of_first_try old new) (row_lines e)
-  lines_step (Ok Fed.NeedsMore) e other = needs_lines e
-  lines_step (Ok Fed.End) e other = more_lost (cost_of_first_try old new) (end_lines (ends_there (inl refl) (next.end e))
-      (λ left. let never : Fed.End ≡ Fed.NeedsMore = subst HasNone e left in cc))
-  lines_step (Err error) e other =
+  paid_now : (lines_now firsts_now : ℕ) → lines_now + firsts_now ≡ paid.lines + paid.firsts + next.line_extra
+      → LinesNow lines_now → FirstsNow firsts_now → FeedIsPaid (calls + 1) lost (tried + next.extra) new
+  paid_now lines_now firsts_now is lines_are firsts_are = record {
+    gaps = paid.gaps + next.gap;
+    lines = lines_now;
+    firsts = firsts_now;
+    sum = omega (arith, paid.sum, next.extra_is, is);
+    gaps_paid = gaps_step old.begun new.begun refl refl;
+    lines_paid = lines_are;
+    firsts_paid = firsts_are;
+  }
+
+  -- what is counted for a line is counted for it alone
+  line_paid : LinesNow counted → FirstsNow paid.firsts → FeedIsPaid (calls + 1) lost (tried + next.extra) new
+  line_paid = paid_now counted paid.firsts (omega arith)
+
+  -- more data is needed
+  needs_paid : answer ≡ Ok Fed.NeedsMore → FeedIsPaid (calls + 1) lost (tried + next.extra) new
+  needs_paid e = elim (none_or_some old.part) [
+    | inl none ↦ elim (none_or_some new.part) [
+      | inl still ↦ elim (next.line_work.unread e none still) [
+        | inl nothing ↦
+            paid_now paid.lines paid.firsts (omega (arith, nothing)) (waits_lines e none still) (left_firsts (left e))
+        | inr first ↦ paid_now paid.lines (paid.firsts + next.line_extra) (omega arith) (waits_lines e none still)
+            (first_firsts e none still first)
+      ]
+      | inr some ↦ line_paid (begins_lines e none some) (left_firsts (left e))
+    ]
+    | inr kept ↦ line_paid (goes_on_lines e kept) (left_firsts (left e))
+  ]
+
+  -- the reading ends
+  end_paid : (ended new.rows.stand ≡ None → ⊥) → (HasNone answer → ⊥)
+      → FeedIsPaid (calls + 1) lost (tried + next.extra) new
+  end_paid over other = line_paid (end_lines over other) (end_firsts over)
+
+  answer_paid : (a : Result Fed DecodeError) → answer ≡ a → answer ≢ Err OutOfMemory
+      → FeedIsPaid (calls + 1) lost (tried + next.extra) new
+  answer_paid (Ok Fed.Row) e other = line_paid (row_lines e) (row_firsts e)
+  answer_paid (Ok Fed.NeedsMore) e other = needs_paid e
+  answer_paid (Ok Fed.End) e other = end_paid (ends_there (inl refl) (next.end e))
+      (λ left. let never : Fed.End ≡ Fed.NeedsMore = subst HasNone e left in cc)
+  answer_paid (Err error) e other =
       let no_memory : error ≢ OutOfMemory = λ is. other (e ∙ ap (λ (x : DecodeError). Err x) is) in
       let fault = subst (λ (r : Result Fed DecodeError). IfErr r (λ x. x ≢ OutOfMemory
       → ReadsNext (fed_over whole old) (fed_over whole new) (Err x))) e next.fault in
-      more_lost (cost_of_first_try old new) (end_lines (ends_there (inr (error, refl)) (fault no_memory))
-      (λ left. no_memory (subst HasNone e left)))
+      end_paid (ends_there (inr (error, refl)) (fault no_memory)) (λ left. no_memory (subst HasNone e left))
 
-  pub reads_paid : answer ≢ Err OutOfMemory
-      → FeedIsPaid (calls + 1) (lost + cost_of_first_try old new) (tried + next.extra) new
-  reads_paid other = record {
-    gaps = paid.gaps + next.gap;
-    lines = counted;
-    sum = omega (arith, paid.sum, next.extra_is);
-    gaps_paid = gaps_step old.begun new.begun refl refl;
-    lines_paid = lines_step answer refl other;
-  }
+  pub reads_paid : answer ≢ Err OutOfMemory → FeedIsPaid (calls + 1) lost (tried + next.extra) new
+  reads_paid = answer_paid answer refl
 
   -- ---- A call that fails for memory
 
@@ -900,8 +1062,7 @@ module _ {whole : Bits} {calls lost tried : ℕ} {old new : Feeding} {answer : R
       )
       | inr some ↦
           let short = was some in
-          let place = goes.stays failed_left
-          (at_line_begun old.begun (is_at_line old.rows.stand) short.begun short.at_line) in
+          let place = goes.stays failed_left (stays_at_line short) in
           omega (
             arith,
             lines.here unended,
@@ -921,8 +1082,10 @@ module _ {whole : Bits} {calls lost tried : ℕ} {old new : Feeding} {answer : R
     fails_paid = record {
       gaps = paid.gaps + next.gap;
       lines = counted;
+      firsts = paid.firsts;
       sum = omega (arith, paid.sum, next.extra_is);
       gaps_paid = gaps_step old.begun new.begun refl refl;
+      firsts_paid = left_firsts failed_left;
       lines_paid = record {
         known = known_now;
         read = lines.read;
@@ -1005,7 +1168,7 @@ lines_in_all {calls} {lost} {tried} {lines} {feed} paid = elim (none_or_some fee
 ]
 
 pub all_paid : (whole : Bits) (calls lost tried : ℕ) (feed : Feeding) → IsFeedOf whole tried feed
-    → FeedIsPaid calls lost tried feed → feed.ctx.ticks ≤ 128 * length whole + 256 + 32 * calls + lost
+    → FeedIsPaid calls lost tried feed → feed.ctx.ticks ≤ 160 * length whole + 256 + 32 * calls + lost
 all_paid whole calls lost tried feed is paid = omega (
   arith,
   plain_most is,
@@ -1015,4 +1178,7 @@ all_paid whole calls lost tried feed is paid = omega (
   paid.gaps_paid.first_most,
   lines_in_all paid.lines_paid,
   paid.lines_paid.words_most,
+  paid.firsts_paid.most,
+  paid.firsts_paid.known_most,
+  paid.firsts_paid.words_most,
 )

@@ -2,7 +2,8 @@
 use Rattle.hayro_ccitt.proofs.Names.{◌⊎◌, inl, inr}
 use Rattle.hayro_ccitt.proofs.Names.{◌≡◌, ◌≢◌, ◌∙◌, ◌+◌, ◌-◌, ◌*◌, ◌≤◌, [], ℕ, Bool, true, false, Result, Ok, None, Some}
 use Rattle.hayro_ccitt.proofs.Names.{Option, refl, sym, ap, subst, arith, length, drop, Bits, BitsAt, Held, Context}
-use Rattle.hayro_ccitt.proofs.Names.{DecodeError, White}
+use Rattle.hayro_ccitt.proofs.Names.{DecodeError, Group3_2D, White}
+use Rattle.std.proofs.lemmas.Bool.{cases_eq}
 use Rattle.hayro_ccitt.proofs.Names.{redrawn, here, Stand, false≢true, length-drop}
 use Rattle.hayro_ccitt.proofs.Names.{drop-drop, ◌++◌, append_assoc, length-append}
 use Rattle.std.proofs.lemmas.List.{drop-append-le}
@@ -263,6 +264,8 @@ scanned_before {old} {mid} {new} answer stays begun reads =
           ap (λ (f : Feeding). most_to_find f) frame,
         );
       };
+      settings = reads.settings ∙ ap (λ (f : Feeding). f.ctx.held.settings) frame;
+      taken = λ e. omega (arith, reads.taken e, ap (λ (f : Feeding). f.ctx.held.taken) frame);
     }
 
 part_paid : (part : Option KeptPart) (read : ℕ) {most : ℕ} → (part ≢ None → paid_by part read ≤ most) → paid_by part read ≤ most
@@ -340,7 +343,33 @@ scanned_after {old} {mid} {new} reads none unkept keeps_part =
         failed = λ e. cc;
         failed_at_once = λ e kept. cc;
       };
+      settings = ap (λ (f : Feeding). f.ctx.held.settings) frame ∙ reads.settings;
+      taken = λ e. cc;
     }
+
+-- a line that was short, and of which no part is kept, was tried for the first time, or nothing was counted for it
+pub unread_line : {old left new : Feeding} → ReadsInFeed old left (Ok false) → left.tried_at ≡ old.tried_at
+    → (old.ctx.held.settings.encoding ≡ Group3_2D → drop old.place old.kept ≡ [] → left.ctx.ticks ≡ old.ctx.ticks)
+    → KeepsPart left new → new.part ≡ None
+    → (new.ctx.ticks ≡ old.ctx.ticks) ⊎ ((old.tried_at ≢ new.dropped + new.place) × (new.tried_at ≡ new.dropped + new.place))
+unread_line {old} {left} {new} reads tried no_tag keeps_part none =
+    let gone = reads.left refl in
+    let there : drop left.place left.kept ≡ drop old.place old.kept =
+    ap (λ (n : ℕ). drop n left.kept) gone.1 ∙ ap (drop old.place) reads.keeps.kept in
+    let short = ap (λ (b : Bits). is_short (line_here left.ctx.held.settings left.ctx.held.reference b)) there
+    ∙ (reads.unsettled refl).1 in
+    let frame = keeps_part.scans.frame in
+    let offset : new.dropped + new.place ≡ left.dropped + left.place = omega (
+      arith,
+      ap (λ (f : Feeding). f.dropped) frame,
+      ap (λ (f : Feeding). f.place) frame,
+    ) in
+    elim (cases_eq left.tried_at (left.dropped + left.place)) [
+      | inl here ↦
+          let missing = keeps_part.no_tag short none here in
+          inl (missing.2 ∙ no_tag (ap (λ (h : Held). h.settings.encoding) (sym gone.2) ∙ missing.0) (sym there ∙ missing.1))
+      | inr other ↦ inr (λ same_place. other (tried ∙ same_place ∙ offset), keeps_part.tried ∙ sym offset)
+    ]
 
 -- the line still is short
 pub stays_short : {old new : Feeding} → StaysShort old new true → old.begun ≡ true → ReadsInFeed old new (Ok false)
@@ -390,4 +419,6 @@ stays_short {old} {new} stays begun =
         failed = λ e. cc;
         failed_at_once = λ e none. cc;
       };
+      settings = ap (λ (f : Feeding). f.ctx.held.settings) frame;
+      taken = λ e. cc;
     }

@@ -63,6 +63,8 @@ returns-then-front_waits-clause-begins c =
         length-bits_in c.self.inside.order c.self.inside.«data».items,
       );
       space = c.front_waits.ensures.space;
+      settings = ap (λ (h : Held). h.settings) c.front_waits.ensures.held;
+      taken = ap (λ (h : Held). h.taken) c.front_waits.ensures.held;
       waits = λ e. (
         c.front_waits.ensures.held,
         omega (arith, c.front_waits.ensures.looked, c.front_waits.ensures.onward),
@@ -167,6 +169,8 @@ returns-clause-begins c =
         ap (λ (b : BitsAt). length b.bits) (front_is at),
       );
       space = stood.ensures.space ∙ c.front_waits.ensures.space;
+      settings = settings_are ∙ ap (λ (h : Held). h.settings) same;
+      taken = stood.ensures.none_taken ∙ sym (ap (λ (h : Held). h.taken) (c.self.invariant.fresh (begun_not at)));
       waits = λ e. cc;
       unfailed = λ e. stood.ensures.unfailed;
       reaches = λ whole tried e feed. record {

@@ -1,10 +1,8 @@
 use Rattle.hayro_ccitt.proofs.Names.{refl}
-use Rattle.hayro_ccitt.proofs.Names.{◌≡◌, ◌∙◌, ap, sym, subst, Ok, false, false≢true, drop, line_here, Bits, Held, ℕ}
-use Rattle.hayro_ccitt.specs.Continuations.{is_short}
-use Rattle.hayro_ccitt.proofs.Readings.PartsFed.{scanned_after, scanned_before, stays_short}
-use Rattle.hayro_ccitt.specs.RowFeeds.{Feeding, ReadsInFeed, StaysShort}
-use Rattle.std.proofs.lemmas.Bool.{cases_eq}
-use Rattle.hayro_ccitt.proofs.Names.{◌+◌, arith, inl, inr}
+use Rattle.hayro_ccitt.proofs.Names.{◌∙◌, sym, subst, Ok, false, false≢true}
+use Rattle.hayro_ccitt.proofs.Readings.PartsFed.{scanned_after, scanned_before, stays_short, unread_line}
+use Rattle.hayro_ccitt.specs.RowFeeds.{ReadsInFeed, StaysShort}
+use Rattle.hayro_ccitt.proofs.Names.{inl, inr}
 use Rattle.hayro_ccitt.proofs.row_feed.RowFeed.read_line.Goals as goal
 
 pub returns-then-is_still_short-clause-reads : goal.returns-then-is_still_short-clause-reads
@@ -37,32 +35,12 @@ returns-else-is_unsettled-clause-unread c e none still =
 
 pub returns-then-is_unsettled-clause-unread : goal.returns-then-is_unsettled-clause-unread
 returns-then-is_unsettled-clause-unread c e none still =
-    let mid = c.is_still_short.new.self in
-    let left = c.read_whole_line-row.new.self in
+    let unkept = c.is_still_short.ensures.unkept none in
     let same = c.is_unsettled.ensures.short c.if-is_unsettled.true in
-    let reads = subst (ReadsInFeed mid left) same c.read_whole_line-row.ensures.reads in
-    let gone = reads.left refl in
-    let there : drop left.place left.kept ≡ drop mid.place mid.kept =
-    ap (λ (n : ℕ). drop n left.kept) gone.1 ∙ ap (drop mid.place) reads.keeps.kept in
-    let short = ap (λ (b : Bits). is_short (line_here left.ctx.held.settings left.ctx.held.reference b)) there
-    ∙ (reads.unsettled refl).1 in
-    let new = c.keep_part.new.self in
-    let frame = c.keep_part.ensures.scans.frame in
-    let tried : left.tried_at ≡ c.args.self.now.tried_at =
-    c.read_whole_line-row.ensures.tried ∙ c.is_still_short.ensures.tried in
-    let offset : new.dropped + new.place ≡ left.dropped + left.place = omega (
-      arith,
-      ap (λ (f : Feeding). f.dropped) frame,
-      ap (λ (f : Feeding). f.place) frame,
-    ) in
-    elim (cases_eq left.tried_at (left.dropped + left.place)) [
-      | inl here ↦
-          let no_tag = c.keep_part.ensures.no_tag short still here in
-          inl (no_tag.2 ∙ c.read_whole_line-row.ensures.no_tag
-          (ap (λ (h : Held). h.settings.encoding) (sym gone.2) ∙ no_tag.0) (sym there ∙ no_tag.1) same
-          ∙ (c.is_still_short.ensures.unkept none).1)
-      | inr other ↦ inr (
-        λ same_place. other (tried ∙ same_place ∙ offset),
-        c.keep_part.ensures.tried ∙ sym offset,
-      )
+    let reads = subst (ReadsInFeed c.is_still_short.new.self c.read_whole_line-row.new.self) same
+    c.read_whole_line-row.ensures.reads in
+    elim (unread_line reads c.read_whole_line-row.ensures.tried (λ tagged end. c.read_whole_line-row.ensures.no_tag tagged end same)
+    c.keep_part.ensures still) [
+      | inl uncounted ↦ inl (uncounted ∙ unkept.1)
+      | inr first ↦ inr (λ tried. first.0 (c.is_still_short.ensures.tried ∙ tried), first.1)
     ]

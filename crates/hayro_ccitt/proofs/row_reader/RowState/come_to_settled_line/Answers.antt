@@ -33,6 +33,7 @@ returns-then-is_at_line c =
       same_bits = refl;
       within = omega (arith, c.bit_pos-start.ensures.place, c.bit_pos-start.ensures.within);
       space = refl;
+      frame = refl;
       waits = λ e. cc;
       comes = λ from whole dropped passed lie starts stands. subst (λ (n : ℕ). ReachesNextLine
           (seen c.args.self.now c.args.ctx.now (record { bits = whole; place = c.args.gap_start }))
@@ -73,6 +74,7 @@ returns-then-gap_waits c =
       same_bits = refl;
       within = omega (arith, c.bit_pos-start.ensures.place, c.bit_pos-start.ensures.within);
       space = c.gap_waits.ensures.space;
+      frame = rw c.gap_waits.ensures.held refl;
       waits = λ e. (
         c.gap_waits.ensures.held,
         omega (arith, c.gap_waits.ensures.looked, c.gap_waits.ensures.onward),
@@ -233,6 +235,10 @@ returns c =
       same_bits = gap.same_bits;
       within = gap.within;
       space = gap.space ∙ c.gap_waits.ensures.space;
+      frame = (gap.passes [] (inl refl)).held ∙ ap (λ (h : Held). record h {
+        has_eols = c.pass_gap_here.new.ctx.held.has_eols;
+        repairs = c.pass_gap_here.new.ctx.held.repairs;
+      }) same;
       waits = λ e. absurd (passed_some answer (sym c.some_line.ensures ∙ e));
       comes = λ from whole dropped passed lie starts stands. rw c.some_line.ensures (gap_step_reaches c.args.is_last
           c.args.gap_start rows c.pass_gap_here.new.self old mid c.pass_gap_here.new.ctx c.args.reader.now
