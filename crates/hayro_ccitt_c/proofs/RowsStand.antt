@@ -1,5 +1,6 @@
 -- What memory contains after rows were given one after another.
-use Rattle.std.proofs.Common.{◌≡◌, ◌≤◌, ◌<◌, Bool, ℕ, ◌+◌, ◌-◌, max, true, false, Result, List, [], ◌∷◌, ◌++◌, length, take, drop, refl, sym, ap}
+use Rattle.std.proofs.Common.{◌≡◌, ◌≤◌, ◌<◌, Bool, ℕ, ◌+◌, ◌-◌, max, true, false, Result, List, [], ◌∷◌}
+use Rattle.std.proofs.Common.{◌++◌, length, take, drop, refl, sym, ap}
 use Rattle.std.proofs.Common.{subst, ◌∙◌, arith}
 use Rattle.std.proofs.lemmas.List.{drop-drop, drop-take, length-append, take-append-drop}
 use lib.Seq.{take-take}
@@ -50,10 +51,10 @@ behind_more place width stride one other reaches same =
 -- ---- Packed rows
 
 -- a call of one row leaves the width
-columns_stay : (is_kept : Bool) (old new : RowsFed) (answer : Result Fed DecodeError) → TurnsToFed is_kept old new answer
+width_stays : (is_kept : Bool) (old new : RowsFed) (answer : Result Fed DecodeError) → TurnsToFed is_kept old new answer
     → new.ctx.held.settings.columns ≡ old.ctx.held.settings.columns
-columns_stay true old new answer turns = ap (λ (f : RowsFed). f.ctx.held.settings.columns) turns.0
-columns_stay false old new answer turns = ap (λ (s : DecodeSettings). s.columns) turns.settings
+width_stays true old new answer turns = ap (λ (f : RowsFed). f.ctx.held.settings.columns) turns.0
+width_stays false old new answer turns = ap (λ (s : DecodeSettings). s.columns) turns.settings
 
 -- memory from a place on, after rows were packed there
 record StandFrom (layout : Layout) (columns place : ℕ) (rows : List Row) (before after : List ℕ) : Type 0 where
@@ -74,7 +75,7 @@ stand_from layout columns place old before (next ∷ more) each wide same reache
     let begin : ℕ = place + layout.stride in
     let layout_is : next.feeding.layout ≡ layout = one.gives.layout ∙ same in
     let columns_is : columns_of next.feeding ≡ columns =
-    columns_stay old.is_kept old.rows next.feeding.rows one.gives.answer one.gives.turns ∙ wide in
+    width_stays old.is_kept old.rows next.feeding.rows one.gives.answer one.gives.turns ∙ wide in
     let step : stride_of next.feeding ≡ layout.stride =
     let most : max layout.stride 1 ≡ layout.stride = omega (arith, some) in
     ap (λ (l : Layout). max l.stride 1) layout_is ∙ most in
@@ -112,10 +113,11 @@ stand_from layout columns place old before (next ∷ more) each wide same reache
     }
 
 pub stand_packed : (old : Feeding) (before : List ℕ) (given : List Given)
-    → GivesEach IsPackedRow stride_of room_of_row 0 old before given
-    → bytes_of_row (columns_of old) ≤ old.layout.stride → 0 < old.layout.stride
+    → GivesEach IsPackedRow stride_of room_of_row 0 old before given → 0 < columns_of old
     → StandPacked old.layout (columns_of old) (rows_given given) before (memory_after before given)
-stand_packed old before given each reaches some =
+stand_packed old before given each wide =
+    let reaches : bytes_of_row (columns_of old) ≤ old.layout.stride = old.reaches in
+    let some : 0 < old.layout.stride = omega (arith, reaches, wide) in
     (stand_from old.layout (columns_of old) 0 old before given each refl refl reaches some).stand
 
 -- ---- Lists of rows

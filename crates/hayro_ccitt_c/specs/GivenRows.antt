@@ -1,8 +1,8 @@
 -- What the caller's memory contains after rows were given one after another.
-use Rattle.std.specs.Prelude.{◌≡◌, ◌≤◌, ◌<◌, ℕ, List, [], ◌∷◌, length, map, take, drop}
+use Rattle.std.specs.Prelude.{◌≡◌, ◌<◌, ℕ, List, [], ◌∷◌, length, map, take, drop}
 use Rattle.hayro_ccitt.specs.Rows.{Row}
 use Rattle.hayro_ccitt_c.specs.Listing.{listed}
-use Rattle.hayro_ccitt_c.specs.Packing.{bytes_of_row, outside_rows, packed_row, rows_at}
+use Rattle.hayro_ccitt_c.specs.Packing.{outside_rows, packed_row, rows_at}
 use Rattle.hayro_ccitt_c.specs.RowsFed.{Given, GivesEach, IsCountedRow, IsPackedRow, memory_after, room_of_list, room_of_row}
 use Rattle.hayro_ccitt_c.specs.RowsFed.{stride_of}
 use Rattle.hayro_ccitt_c.specs.declared.feeding.Feeding.{Feeding}
@@ -27,12 +27,10 @@ pub record StandListed (rows : List Row) (before after : List ℕ) : Type 0 wher
   pub rows_are : take (length (listed rows)) after ≡ listed rows
   pub rest : drop (length (listed rows)) after ≡ drop (length (listed rows)) before
 
--- Rows that are given one after another stand where they were written: packed ones if a stride has room for them, as it has by the
--- settings of every feed that is open.
+-- Rows that are given one after another stand where they were written.
 pub record GivenRowsStand : Type 0 where
   pub packed : (old : Feeding) (before : List ℕ) (given : List Given)
-      → GivesEach IsPackedRow stride_of room_of_row 0 old before given
-      → bytes_of_row (columns_of old) ≤ old.layout.stride → 0 < old.layout.stride
+      → GivesEach IsPackedRow stride_of room_of_row 0 old before given → 0 < columns_of old
       → StandPacked old.layout (columns_of old) (rows_given given) before (memory_after before given)
   pub listed : (old : Feeding) (before : List ℕ) (given : List Given)
       → GivesEach IsCountedRow room_of_list room_of_list 0 old before given
