@@ -176,26 +176,6 @@ passed_kept {M} {step} {before} {mid} {after} {old} {first} {new} {answer} kept 
       ends = more.ends;
     }
 
--- and the sink refuses it
-pub refused_kept : {M : Type 0} {step : M → List ℕ → M} {before after : SinkState M} {old new : Feeding}
-    {answer : Result Fed DecodeError} → old.is_kept ≡ true → new.rows ≡ old.rows → new.layout ≡ old.layout
-    → after.meaning ≡ before.meaning → after.refused ≡ true → after.refuses (changes old.rows.ctx.held.reference)
-    → PassesAll step before after old new answer
-refused_kept {M} {step} {before} {after} {old} {new} {answer} kept same layout means flag refuses = record {
-  given = [];
-  each = tt;
-  wide = none_wide (columns_of old);
-  meaning = means;
-  layout = (layout, refl);
-  columns = ap (λ (r : RowsFed). r.ctx.held.settings.columns) same;
-  ends = inr (record {
-    flag = flag;
-    turns = subst (λ (r : RowsFed). TurnsToFed old.is_kept old.rows r (Ok Fed.Row)) (sym same)
-        (returned old.is_kept old.rows kept);
-    row = subst (λ (r : RowsFed). after.refuses (changes r.ctx.held.reference)) (sym same) refuses;
-  });
-}
-
 -- ---- What a call leaves
 module _ {M : Type 0} {step : M → List ℕ → M} {start final : SinkState M} {old new : Feeding} {answer : Result Fed DecodeError}
     (AreWritten : Feeding → List Row → List ℕ → List ℕ → Type 0) (need : Feeding → List Row → ℕ)

@@ -71,4 +71,5 @@ returns c =
     gives_rows AreListedRows room_of_lists c.push_all-answer.ensures.passes _ refl c.has_refused-self.ensures refl
     c.args.lists.now _ c.rows.result c.status_behind.result many (search rules)
     (λ refused full. let few : length c.push_all-answer.new.sink.lists.now
-    < room_of_lists c.push_all-answer.new.self (rows here) = omega (arith, full, end here) in search rules) c.status_behind.ensures
+    < room_of_lists c.push_all-answer.new.self (rows here) = omega (arith, full, end here) in search rules)
+    c.status_behind.ensures

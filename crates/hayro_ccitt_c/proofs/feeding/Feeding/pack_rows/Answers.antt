@@ -1,5 +1,5 @@
-use Rattle.std.proofs.Common.{◌≡◌, ◌∙◌, ◌≤◌, ◌<◌, ◌+◌, ◌*◌, ◌/◌, ℕ, All, Fits, w8, List, get_or, length, refl, sym, ap, subst, arith, rules}
-use Rattle.std.proofs.Common.{true}
+use Rattle.std.proofs.Common.{◌≡◌, ◌∙◌, ◌≤◌, ◌<◌, ◌+◌, ◌*◌, ◌/◌, ℕ, All, Fits, w8, List, get_or, length, refl, sym, ap}
+use Rattle.std.proofs.Common.{true, subst, arith, rules}
 use Rattle.hayro_ccitt.specs.Answers.{meaning_after}
 use Rattle.hayro_ccitt.specs.DecodeSettings.{DecodeSettings}
 use Rattle.hayro_ccitt.specs.Rows.{HaveWidth, Row}
@@ -93,9 +93,9 @@ module _ (c : After-push_all-answer) where
       omega (arith, place, bytes, c.push_all-answer.new.sink.full full)
 
 -- what holds of bytes holds of memory
-on_bytes : (P : List ℕ → Type 0) (memory : List ℕ) → (All (λ byte. byte < 256) memory → P memory)
+on_memory : (P : List ℕ → Type 0) (memory : List ℕ) → (All (λ byte. byte < 256) memory → P memory)
     → ((k : ℕ) → Fits w8 (get_or memory k 0)) → P memory
-on_bytes P memory holds fits = holds (all_fit memory fits)
+on_memory P memory holds fits = holds (all_fit memory fits)
 
 pub rows-requires : goal.rows-requires
 rows-requires c = some_apart (goal.at.rows-requires c).After-push_all-answer
@@ -108,5 +108,5 @@ returns c =
     let name = sym c.new-sink.ensures.same_reference ∙ same here in
     gives_rows ArePackedRows room_of_packed c.push_all-answer.ensures.passes _ refl c.has_refused-self.ensures refl
     c.args.bytes.now _ c.rows.result c.status_behind.result (c.rows.ensures ∙ count_is here)
-    (on_bytes (λ (m : List ℕ). ArePackedRows c.args.self.now (rows here) c.args.bytes.now m) _ (search rules) c.type_inv.bytes)
+    (on_memory (λ (m : List ℕ). ArePackedRows c.args.self.now (rows here) c.args.bytes.now m) _ (search rules) c.type_inv.bytes)
     (λ refused _. search rules) c.status_behind.ensures
