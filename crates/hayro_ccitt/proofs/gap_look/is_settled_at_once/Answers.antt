@@ -1,4 +1,4 @@
-use Rattle.hayro_ccitt.proofs.Names.{◌≡◌, ◌∙◌, true, false, Bool, not, refl, ap, sym, Some, BitsAt, here}
+use Rattle.hayro_ccitt.proofs.Names.{◌≡◌, ◌∙◌, ap, sym, Some, BitsAt, here}
 use Rattle.hayro_ccitt.specs.EndOfLine.{after_eol}
 use Rattle.hayro_ccitt.specs.GapsContinued.{holds_one}
 use Rattle.hayro_ccitt.proofs.Readings.GapsSeen.{settled_at_one, settled_behind_eol, settled_behind_tagged}
