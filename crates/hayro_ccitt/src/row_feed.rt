@@ -670,8 +670,8 @@ impl RowFeed {
         if !is_row(&fed) {
             return fed;
         }
-        if let Err(refusal) = decoder.push_row(self.row()) {
-            return Err(refusal);
+        if let Err(error) = decoder.push_row(self.row()) {
+            return Err(error);
         }
         self.push_on(decoder)
     }

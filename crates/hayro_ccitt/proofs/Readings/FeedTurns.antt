@@ -1,5 +1,5 @@
 -- A turn of a feed: the gap before the next line is passed, and its row is read.
-use Rattle.hayro_ccitt.proofs.Names.{◌≡◌, ◌≢◌, ◌∙◌, ◌+◌, ◌<◌, ◌≤◌, ◌⊎◌, [], ap, sym, subst, refl, arith, length, drop, false≢true}
+use Rattle.hayro_ccitt.proofs.Names.{◌≡◌, ◌≢◌, ◌∙◌, ◌+◌, ◌<◌, ◌≤◌, ◌⊎◌, [], ap, sym, refl, arith, length, false≢true}
 use Rattle.hayro_ccitt.proofs.Names.{Bool, true, false, Option, None, Some, Result, Ok, Err, ℕ, Bits, BitsAt, Context, Held, White}
 use Rattle.hayro_ccitt.proofs.Names.{DecodeError, bits_in, here, is_at_line, ended, redrawn, BehindRow}
 use Rattle.std.specs.Prelude.{◌^◌}
@@ -8,12 +8,12 @@ use Rattle.hayro_ccitt.proofs.Readings.FeedsOn.{feed_comes, feed_reads, gap_feed
 use Rattle.hayro_ccitt.proofs.Readings.LooksKept.{fresh_look, kept_line, kept_seen, seen_begun, seen_there}
 use Rattle.hayro_ccitt.proofs.Readings.PartsFed.{none_kept}
 use Rattle.hayro_ccitt.proofs.Readings.RowsPassed.{counts_row}
-use Rattle.hayro_ccitt.specs.GapsSeen.{IsSeen, nothing_seen, rules_for}
+use Rattle.hayro_ccitt.specs.GapsSeen.{IsSeen, rules_for}
 use Rattle.hayro_ccitt.specs.declared.gap_look.GapLook.{GapLook}
 use Rattle.hayro_ccitt.specs.declared.row_feed.Fed.{Fed}
 use Rattle.hayro_ccitt.specs.declared.row_feed.RowFeed.TheInside.{Inside}
 use Rattle.hayro_ccitt.specs.declared.row_reader.RowState.{RowState}
-use Rattle.hayro_ccitt.specs.RowFeeds.{ComesInFeed, ComesOn, CountsRow, Feeding, FeedsNext, FeedsRow, IsFeedOf, IsKept, KeepsBits}
+use Rattle.hayro_ccitt.specs.RowFeeds.{ComesInFeed, ComesOn, Feeding, FeedsRow, IsKept, KeepsBits}
 use Rattle.hayro_ccitt.specs.RowFeeds.{ReadsInFeed, TriesLine, fed_none, fed_row, feeding_of}
 
 -- A feed that has begun, and keeps no part of a line, is read by this reader of its bits.

@@ -1,11 +1,11 @@
-use Rattle.hayro_ccitt.proofs.Names.{◌≡◌, ◌∙◌, ap, sym, subst, arith, refl, Ok, Err, Some, true, is_at_line, ℕ, DecodeSettings, Result, Bool}
+use Rattle.hayro_ccitt.proofs.Names.{◌≡◌, ◌∙◌, ap, sym, subst, arith, refl, Ok, Err, true, is_at_line, ℕ, DecodeSettings, Result, Bool}
 use Rattle.hayro_ccitt.proofs.Names.{BitsAt, Context, DecodeError, Held, White, [], drop, false, false≢true, redrawn}
 use Rattle.hayro_ccitt.proofs.PixelRows.ChangesAndPixels.{AreChanges-wider}
 use Rattle.hayro_ccitt.proofs.Readings.FeedTurns.{IsReadBy, behind_gap, behind_line, full_row, gap_read_by, gap_row, line_read_by}
 use Rattle.hayro_ccitt.proofs.Readings.FeedTurns.{line_row, none_row, seen_by, turn_reads, unread_row}
 use Rattle.hayro_ccitt.proofs.Readings.PartsFed.{scanned_after, unread_line}
 use Rattle.hayro_ccitt.proofs.Readings.RowsPassed.{keeps_on, passes_more, pushed_to_end, pushed_to_refusal}
-use Rattle.hayro_ccitt.specs.RowFeeds.{FeedsRow, KeepsBits, PassesRows, ReadsInFeed, fed_row, feeding_of}
+use Rattle.hayro_ccitt.specs.RowFeeds.{FeedsRow, PassesRows, ReadsInFeed, fed_row, feeding_of}
 use Rattle.hayro_ccitt.specs.RowsTried.{IsLeft}
 use Rattle.hayro_ccitt.specs.declared.row_reader.RowState.{RowState}
 use Rattle.hayro_ccitt.specs.declared.row_feed.Fed.{Fed}

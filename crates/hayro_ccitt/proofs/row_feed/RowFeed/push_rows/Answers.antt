@@ -1,4 +1,4 @@
-use Rattle.hayro_ccitt.proofs.Names.{◌≡◌, ◌∙◌, ap, sym, subst, arith, Ok, Err, Result, DecodeError, DecodeSettings, ℕ, refl, true}
+use Rattle.hayro_ccitt.proofs.Names.{◌≡◌, ◌∙◌, ap, subst, arith, Ok, Err, DecodeSettings, ℕ, refl, true}
 use Rattle.hayro_ccitt.proofs.PixelRows.ChangesAndPixels.{AreChanges-wider}
 use Rattle.hayro_ccitt.proofs.Readings.RowsPassed.{keeps_all, passes_none, pushed_on, pushed_to_end, pushed_to_refusal}
 use Rattle.hayro_ccitt.specs.Decoding.{SinkState}
