@@ -1,16 +1,20 @@
 -- What memory contains after rows were given one after another.
-use Rattle.std.proofs.Common.{◌≡◌, ◌≤◌, ◌<◌, ℕ, ◌+◌, ◌-◌, max, List, [], ◌∷◌, ◌++◌, length, take, drop, refl, sym, ap}
+use Rattle.std.proofs.Common.{◌≡◌, ◌≤◌, ◌<◌, Bool, ℕ, ◌+◌, ◌-◌, max, true, false, Result, List, [], ◌∷◌}
+use Rattle.std.proofs.Common.{◌++◌, length, take, drop, refl, sym, ap}
 use Rattle.std.proofs.Common.{subst, ◌∙◌, arith}
 use Rattle.std.proofs.lemmas.List.{drop-drop, drop-take, length-append, take-append-drop}
-use Rattle.std.proofs.lemmas.List.Elements.{All-head, All-tail}
 use lib.Seq.{take-take}
 use Rattle.hayro_ccitt.specs.Bits.{Bits, bits_of}
 use Rattle.hayro_ccitt.specs.Rows.{Row, changes}
 use Rattle.hayro_ccitt_c.specs.Listing.{listed, listed_row}
 use Rattle.hayro_ccitt_c.specs.Packing.{bytes_of_row, outside_rows, packed_row, rows_at}
-use Rattle.hayro_ccitt_c.specs.GivenRows.{HaveColumns, StandListed, StandPacked, columns_of, rows_given}
+use Rattle.hayro_ccitt_c.specs.GivenRows.{StandListed, StandPacked, columns_of, rows_given}
 use Rattle.hayro_ccitt_c.specs.RowsFed.{Given, GivesEach, IsCountedRow, IsPackedRow, memory_after, room_of_list, room_of_row}
-use Rattle.hayro_ccitt_c.specs.RowsFed.{stride_of}
+use Rattle.hayro_ccitt_c.specs.RowsFed.{TurnsToFed, stride_of}
+use Rattle.hayro_ccitt.specs.RowFeeds.{Feeding as RowsFed}
+use Rattle.hayro_ccitt.specs.DecodeError.{DecodeError}
+use Rattle.hayro_ccitt.specs.DecodeSettings.{DecodeSettings}
+use Rattle.hayro_ccitt.specs.declared.row_feed.Fed.{Fed}
 use Rattle.hayro_ccitt_c.proofs.PackedMemory.{take_into}
 use Rattle.hayro_ccitt_c.specs.declared.feeding.Feeding.{Feeding}
 use Rattle.hayro_ccitt_c.specs.declared.packed_rows.Layout.{Layout}
@@ -46,13 +50,19 @@ behind_more place width stride one other reaches same =
 
 -- ---- Packed rows
 
+-- a call of one row leaves the width
+width_stays : (is_kept : Bool) (old new : RowsFed) (answer : Result Fed DecodeError) → TurnsToFed is_kept old new answer
+    → new.ctx.held.settings.columns ≡ old.ctx.held.settings.columns
+width_stays true old new answer turns = ap (λ (f : RowsFed). f.ctx.held.settings.columns) turns.0
+width_stays false old new answer turns = ap (λ (s : DecodeSettings). s.columns) turns.settings
+
 -- memory from a place on, after rows were packed there
 record StandFrom (layout : Layout) (columns place : ℕ) (rows : List Row) (before after : List ℕ) : Type 0 where
   front : take place after ≡ take place before
   stand : StandPacked layout columns rows (drop place before) (drop place after)
 
 stand_from : (layout : Layout) (columns place : ℕ) (old : Feeding) (before : List ℕ) (given : List Given)
-    → GivesEach IsPackedRow stride_of room_of_row place old before given → HaveColumns columns given → old.layout ≡ layout
+    → GivesEach IsPackedRow stride_of room_of_row place old before given → columns_of old ≡ columns → old.layout ≡ layout
     → bytes_of_row columns ≤ layout.stride → 0 < layout.stride
     → StandFrom layout columns place (rows_given given) before (memory_after before given)
 stand_from layout columns place old before [] each wide same reaches some =
@@ -65,14 +75,14 @@ stand_from layout columns place old before (next ∷ more) each wide same reache
     let begin : ℕ = place + layout.stride in
     let layout_is : next.feeding.layout ≡ layout = one.gives.layout ∙ same in
     let columns_is : columns_of next.feeding ≡ columns =
-    All-head (λ (g : Given). columns_of g.feeding ≡ columns) next more wide in
+    width_stays old.is_kept old.rows next.feeding.rows one.gives.answer one.gives.turns ∙ wide in
     let step : stride_of next.feeding ≡ layout.stride =
     let most : max layout.stride 1 ≡ layout.stride = omega (arith, some) in
     ap (λ (l : Layout). max l.stride 1) layout_is ∙ most in
     let below : StandFrom layout columns begin (rows_given more) next.memory after =
     stand_from layout columns begin next.feeding next.memory more
     (subst (λ (n : ℕ). GivesEach IsPackedRow stride_of room_of_row (place + n) next.feeding next.memory more) step each.1)
-    (All-tail (λ (g : Given). columns_of g.feeding ≡ columns) next more wide) layout_is reaches some in
+    columns_is layout_is reaches some in
     let bits : bits_of (take width (drop place next.memory)) ≡ packed_row layout.black_is_0 row =
     ap (λ (n : ℕ). bits_of (take (bytes_of_row n) (drop place next.memory))) (sym columns_is) ∙ one.written.row_is
     ∙ ap (λ (l : Layout). packed_row l.black_is_0 row) layout_is in
@@ -102,12 +112,13 @@ stand_from layout columns place old before (next ∷ more) each wide same reache
       };
     }
 
-pub stand_packed : (old : Feeding) (before : List ℕ) (given : List Given) (columns : ℕ)
-    → GivesEach IsPackedRow stride_of room_of_row 0 old before given → HaveColumns columns given
-    → bytes_of_row columns ≤ old.layout.stride → 0 < old.layout.stride
-    → StandPacked old.layout columns (rows_given given) before (memory_after before given)
-stand_packed old before given columns each wide reaches some =
-    (stand_from old.layout columns 0 old before given each wide refl reaches some).stand
+pub stand_packed : (old : Feeding) (before : List ℕ) (given : List Given)
+    → GivesEach IsPackedRow stride_of room_of_row 0 old before given → 0 < columns_of old
+    → StandPacked old.layout (columns_of old) (rows_given given) before (memory_after before given)
+stand_packed old before given each wide =
+    let reaches : bytes_of_row (columns_of old) ≤ old.layout.stride = old.reaches in
+    let some : 0 < old.layout.stride = omega (arith, reaches, wide) in
+    (stand_from old.layout (columns_of old) 0 old before given each refl refl reaches some).stand
 
 -- ---- Lists of rows
 -- what is behind two parts

@@ -38,6 +38,7 @@ pub record FeedsRow (old new : RowsFed) (answer : Result Fed DecodeError) : Type
   pub reads : (whole : Bits) (tried : ℕ) → ended old.rows.stand ≡ None → IsFeedOf whole tried old
       → FeedsNext whole tried old new answer
   pub keeps : KeepsBits old new
+  pub settings : new.ctx.held.settings ≡ old.ctx.held.settings
   pub over : (end : Result (Unit {0}) DecodeError) → ended old.rows.stand ≡ Some end → (new ≡ old) × (answer ≡ fed_end end)
 
 -- the same, but if the last row is still to be returned nothing is read

@@ -1,17 +1,10 @@
 //! A reading of the rows of an image whose data C passes in pieces.
 
-ghost use Rattle.std.specs.Prelude.{◌≡◌, ◌≢◌, ◌<◌, ◌⊎◌, length, not, false, true, IfOk};
-ghost use Rattle.hayro_ccitt.specs.RowFeeds.{unused};
-ghost use Rattle.hayro_ccitt.specs.Rows.{changes};
-ghost use Rattle.hayro_ccitt_c.specs.Encoding.{AreEncoded, HaveNoRoom};
+ghost use Rattle.std.specs.Prelude.{◌≤◌};
 ghost use Rattle.hayro_ccitt_c.specs.Packing.{bytes_of_row};
-ghost use Rattle.hayro_ccitt_c.specs.RowsFed.{FinishesFeed, GivesFed, IsFeedOpened, TakesBytes, TurnsToFed, as_paused};
-ghost use Rattle.hayro_ccitt_c.specs.RowsFed.{ListsRows, PacksRows, is_fed_row, room_of_list, status_of_fed};
-ghost use Rattle.hayro_ccitt_c.specs.RowsGiven.{IsCounted, IsListed, IsPacked, TellsOf};
-ghost use Rattle.hayro_ccitt_c.specs.declared.status.TheConstants.{OK, REFUSED};
 
+use crate::fed_status::{is_fed_row, status_behind, status_of_fed};
 use crate::packed_rows::Layout;
-use crate::reading::status_of_row;
 use crate::row_outcome::{RowOutcome, damage_told, miss_told};
 use crate::row_room::{count_over, list_over, pack_over};
 use crate::status;
@@ -25,43 +18,20 @@ pub struct Feeding {
     pub(crate) rows: RowFeed,
     pub(crate) is_kept: bool,
     pub(crate) layout: Layout,
-}
-
-/// Returns whether there was a row.
-fn is_fed_row(answer: Result<Fed>) -> bool
-    ensures { result ≡ is_fed_row answer }
-{
-    matches!(answer, Ok(Fed::Row))
-}
-
-/// Returns the status of a result.
-fn status_of_fed(answer: Result<Fed>) -> u32
-    ensures status { result ≡ status_of_fed answer }
-    ensures not_refused { result ≢ REFUSED }
-    ensures no_row { is_fed_row answer ≡ false → result ≢ OK }
-{
-    match answer {
-        Ok(Fed::Row) => status::OK,
-        Ok(Fed::End) => status::NO_ROW,
-        Ok(Fed::NeedsMore) => status::NEEDS_MORE,
-        Err(error) => status_of_row(Err(error)),
-    }
-}
-
-/// Returns the status of the last call of one row after this number of rows: a row that is kept then is `OK`.
-fn status_behind(status: u32, count: usize) -> u32
-    ensures other { status ≢ REFUSED → result ≡ status }
-    ensures first { count ≡ 0 → result ≡ status }
-    ensures kept { status ≡ REFUSED → 0 < count → result ≡ OK }
-{
-    if status == status::REFUSED && count > 0 {
-        status::OK
-    } else {
-        status
-    }
+    ghost reaches: { bytes_of_row rows.ctx.held.settings.columns ≤ layout.stride },
 }
 
 impl Feeding {
+    ghost use Rattle.std.specs.Prelude.{◌≡◌, ◌≢◌, ◌≤◌, ◌<◌, ◌⊎◌, length, not, false, true, IfOk};
+    ghost use Rattle.hayro_ccitt.specs.RowFeeds.{unused};
+    ghost use Rattle.hayro_ccitt.specs.Rows.{changes};
+    ghost use Rattle.hayro_ccitt_c.specs.Encoding.{AreEncoded, HaveNoRoom};
+    ghost use Rattle.hayro_ccitt_c.specs.Packing.{bytes_of_row};
+    ghost use Rattle.hayro_ccitt_c.specs.RowsFed.{FinishesFeed, GivesFed, IsFeedOpened, TakesBytes, TurnsToFed, as_paused};
+    ghost use Rattle.hayro_ccitt_c.specs.RowsFed.{ListsRows, PacksRows, is_fed_row, room_of_list, status_of_fed};
+    ghost use Rattle.hayro_ccitt_c.specs.RowsGiven.{IsCounted, IsListed, IsPacked, TellsOf};
+    ghost use Rattle.hayro_ccitt_c.specs.declared.status.TheConstants.{OK, REFUSED};
+
     /// Creates a reading to which nothing was fed. Its only error is `OutOfMemory`.
     pub(crate) fn new(
         alloc: Global,
@@ -69,6 +39,7 @@ impl Feeding {
         settings: DecodeSettings,
         layout: Layout,
     ) -> Result<Feeding>
+        requires reaches { bytes_of_row settings.columns ≤ layout.stride }
         ensures opened { IfOk result (IsFeedOpened settings order layout) }
     {
         let rows = RowFeed::new(alloc, order, settings)?;

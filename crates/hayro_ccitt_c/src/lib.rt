@@ -26,6 +26,7 @@ ghost use Rattle.hayro_ccitt_c.specs.declared.status.TheConstants.{OK, OUT_OF_ME
 
 mod change_count;
 mod encoding;
+mod fed_status;
 mod feed_handle;
 mod feeding;
 mod feeds;

@@ -1,6 +1,6 @@
 //! What a handle owns whose rows come from data in pieces.
 
-ghost use Rattle.std.specs.Prelude.{◌≡◌, ◌≢◌, ◌<◌, ◌⊎◌, IfOk, length, true};
+ghost use Rattle.std.specs.Prelude.{◌≡◌, ◌≢◌, ◌≤◌, ◌<◌, ◌⊎◌, IfOk, length, true};
 ghost use Rattle.hayro_ccitt.specs.RowFeeds.{unused};
 ghost use Rattle.hayro_ccitt.specs.Rows.{changes};
 ghost use Rattle.hayro_ccitt_c.specs.Encoding.{AreEncoded, HaveNoRoom};
@@ -27,6 +27,7 @@ impl Owned {
         settings: DecodeSettings,
         layout: Layout,
     ) -> hayro_ccitt::Result<Box<Owned>>
+        requires reaches { bytes_of_row settings.columns ≤ layout.stride }
         ensures opened { IfOk result (λ made. IfFeeding made.value (IsFeedOpened settings order layout)) }
         ensures kind { IfOk result (λ made. is_feeding made.value ≡ true) }
     {

@@ -1,0 +1,43 @@
+//! What a call says that reads a row of data in pieces.
+
+ghost use Rattle.std.specs.Prelude.{◌≡◌, ◌≢◌, ◌<◌, false};
+ghost use Rattle.hayro_ccitt_c.specs.RowsFed.{is_fed_row, status_of_fed};
+ghost use Rattle.hayro_ccitt_c.specs.declared.status.TheConstants.{OK, REFUSED};
+
+use crate::reading::status_of_row;
+use crate::status;
+use hayro_ccitt::{Fed, Result};
+
+/// Returns whether there was a row.
+pub(crate) fn is_fed_row(answer: Result<Fed>) -> bool
+    ensures { result ≡ is_fed_row answer }
+{
+    matches!(answer, Ok(Fed::Row))
+}
+
+/// Returns the status of a result.
+pub(crate) fn status_of_fed(answer: Result<Fed>) -> u32
+    ensures status { result ≡ status_of_fed answer }
+    ensures not_refused { result ≢ REFUSED }
+    ensures no_row { is_fed_row answer ≡ false → result ≢ OK }
+{
+    match answer {
+        Ok(Fed::Row) => status::OK,
+        Ok(Fed::End) => status::NO_ROW,
+        Ok(Fed::NeedsMore) => status::NEEDS_MORE,
+        Err(error) => status_of_row(Err(error)),
+    }
+}
+
+/// Returns the status of the last call of one row after this number of rows: a row that is kept then is `OK`.
+pub(crate) fn status_behind(status: u32, count: usize) -> u32
+    ensures other { status ≢ REFUSED → result ≡ status }
+    ensures first { count ≡ 0 → result ≡ status }
+    ensures kept { status ≡ REFUSED → 0 < count → result ≡ OK }
+{
+    if status == status::REFUSED && count > 0 {
+        status::OK
+    } else {
+        status
+    }
+}
