@@ -218,7 +218,7 @@ fn white_rows_one_after_another(rt: HostRuntime) {
         Group3_1D 8 columns 0 rows b l | 0019800CC004030019800CC0040040040040040040 | [[], [], [], [], []] Ok(21) | None 1 0 true
         Group3_1D 8 columns 0 rows b l | 0019800CE003300198008008008008008008 | [[], [], [], []] Ok(18) | None 0 1 true
         Group3_1D 8 columns 0 rows b l s | 0019800CE003300198008008008008008008 | [[], []] Err(InvalidCode) | Some(34) 0 0 true
-        Group3_1D 3 columns 0 rows l | 000300030003 | [[], [], []] Err(UnexpectedEof) | Some(47) 1 1 false
+        Group3_1D 3 columns 0 rows l | 000300030003 | [[], [], []] Err(UnexpectedEof) | Some(47) 1 0 false
         Group3_1D 3 columns 0 rows l s | 000300030003 | [[], []] Err(UnexpectedEof) | Some(47) 0 0 true
         Group3_1D 8 columns 0 rows b l | 00198000CC0066002002002002002002 | [[], [], []] Ok(16) | None 0 0 true
         Group3_2D 8 columns 0 rows b l | 001CC005001400730014006003001800C0060030 | [[], [], [], [], []] Ok(20) | None 0 0 true
