@@ -28,7 +28,7 @@ pub seen_by : {f : Inside} {reader : BitsAt} → IsReadBy f reader → IsSeen (r
 seen_by {f} {reader} by = seen_begun f.ctx.held by.begun (seen_there (ap here (sym by.is)) by.kept.seen)
 
 -- the reader of the same bits at another place
-same_bits_at : {reader : BitsAt} {bits : Bits} {from place : ℕ} (after : BitsAt) → reader ≡ record { bits = bits; place = from }
+pub same_bits_at : {reader : BitsAt} {bits : Bits} {from place : ℕ} (after : BitsAt) → reader ≡ record { bits = bits; place = from }
     → after.bits ≡ reader.bits → place ≡ after.place → after ≡ record { bits = bits; place = place }
 same_bits_at {reader} {bits} {from} {place} after is same there =
     ap (λ (b : Bits). record { bits = b; place = after.place }) (same ∙ ap (λ (r : BitsAt). r.bits) is)

@@ -3,15 +3,18 @@ use Rattle.hayro_ccitt.proofs.Names.{BitsAt, Context, DecodeError, Held, White, 
 use Rattle.hayro_ccitt.proofs.PixelRows.ChangesAndPixels.{AreChanges-wider}
 use Rattle.hayro_ccitt.proofs.Readings.FeedTurns.{IsReadBy, behind_gap, behind_line, full_row, gap_read_by, gap_row, line_read_by}
 use Rattle.hayro_ccitt.proofs.Readings.FeedTurns.{line_row, none_row, seen_by, turn_reads, unread_row}
+use Rattle.hayro_ccitt.proofs.Readings.FeedWhite.{white_read_by, white_row}
 use Rattle.hayro_ccitt.proofs.Readings.PartsFed.{scanned_after, unread_line}
 use Rattle.hayro_ccitt.proofs.Readings.RowsPassed.{keeps_on, passes_more, pushed_to_end, pushed_to_refusal}
 use Rattle.hayro_ccitt.specs.RowFeeds.{FeedsRow, PassesRows, ReadsInFeed, fed_row, feeding_of}
 use Rattle.hayro_ccitt.specs.RowsTried.{IsLeft}
+use Rattle.hayro_ccitt.specs.WhiteLines.{FollowWhite}
 use Rattle.hayro_ccitt.specs.declared.row_reader.RowState.{RowState}
 use Rattle.hayro_ccitt.specs.declared.row_feed.Fed.{Fed}
 use Rattle.hayro_ccitt.specs.declared.row_feed.RowFeed.TheInside.{Inside}
 use Rattle.hayro_ccitt.proofs.row_feed.RowFeed.push_on.{Given.Over}
-use Rattle.hayro_ccitt.proofs.row_feed.RowFeed.push_on.Goals.{After-is_some_line, After-is_read, then-is_unsettled, else-is_unsettled}
+use Rattle.hayro_ccitt.proofs.row_feed.RowFeed.push_on.Goals.{After-bit_pos-self-inside-in-white, After-is_some_line, After-is_read}
+use Rattle.hayro_ccitt.proofs.row_feed.RowFeed.push_on.Goals.{then-is_unsettled, else-is_unsettled}
 use Rattle.hayro_ccitt.proofs.row_feed.RowFeed.push_on.Goals as goal
 
 pub come_to_settled_line-line-requires-clause-seen : goal.come_to_settled_line-line-requires-clause-seen
@@ -123,18 +126,13 @@ returns-in-Err-clause-pushes g c =
     c.in-Err.ensures.refused
     (subst (g.D.Decoder.refuses c.push_row.new.self) c.reference_row.ensures.changes c.in-Err.ensures.refused_row)
 
-pub rows-smaller : goal.rows-smaller
-rows-smaller g c =
-    let here = (goal.at.rows-smaller g c).After-is_read in
-    let taken = (reads_row g here (c.is_read.ensures.read c.if-not-is_read.false)).counts.taken refl in
-    omega (arith, taken.0, taken.1)
+-- ---- The white rows after a row
 
-pub rows-preserved : goal.rows-preserved
-rows-preserved g c =
-    let here = (goal.at.rows-preserved g c).After-is_read in
+pub white-init : goal.white-init
+white-init g c =
+    let here = (goal.at.white-init g c).After-is_read in
     let inv = c.rows.invariant in
-    let is = c.is_read.ensures.read c.if-not-is_read.false in
-    let row = reads_row g here is in
+    let row = reads_row g here (c.is_read.ensures.read c.if-not-is_read.false) in
     let step = g.D.Decoder.step (g.D.Decoder.width c.args.decoder.now) in
     let meaning = g.D.Decoder.meaning c.rows.decoder in
     record {
@@ -147,7 +145,102 @@ rows-preserved g c =
       unrefused = c.in_default.ensures.not_refused ∙ inv.unrefused;
       read_by = row_by g here;
       behind = (row.counts.stands refl).1;
+      fresh = (gap_by g (gap_here g here)).kept.line (at_line g here);
+      follow = c.white_lines-lines.ensures;
+      more = omega arith;
     }
+
+-- the feed behind the white rows so far
+abbrev at_white : (g : Over) → After-bit_pos-self-inside-in-white g → Inside
+at_white g c = behind_gap c.self.inside c.white.self-inside.1.0 c.white.self-inside.1.1.0
+    c.white.self-inside.1.1.1.1.1.1.1.1.0 c.come_to_settled_line-line.new.look
+
+-- and behind one more
+abbrev behind_white : (g : Over) → After-bit_pos-self-inside-in-white g → Inside
+behind_white g c = behind_line (at_white g c) c.take_white_row.new.ctx c.take_white_row.new.self
+    c.bit_pos-self-inside-in-white.result
+
+reads_white : (g : Over) (c : After-bit_pos-self-inside-in-white g)
+    → FeedsRow (feeding_of (at_white g c)) (feeding_of (behind_white g c)) (Ok Fed.Row)
+reads_white g c =
+    let inv = c.white.invariant in
+    white_row inv.read_by c.bit_pos-self-inside-in-white.ensures.place inv.behind inv.fresh inv.follow
+    (c.take_white_row.ensures.taken c.white-test.true)
+
+white_by : (g : Over) (c : After-bit_pos-self-inside-in-white g) → IsReadBy (behind_white g c) c.take_white_row.new.reader
+white_by g c =
+    let inv = c.white.invariant in
+    white_read_by inv.read_by c.bit_pos-self-inside-in-white.ensures.place inv.behind inv.fresh inv.follow
+    (c.take_white_row.ensures.taken c.white-test.true)
+
+pub white-preserved : goal.white-preserved
+white-preserved g c =
+    let here = (goal.at.white-preserved g c).After-bit_pos-self-inside-in-white in
+    let inv = c.white.invariant in
+    let row = reads_white g here in
+    let takes = c.take_white_row.ensures.taken c.white-test.true in
+    let step = g.D.Decoder.step (g.D.Decoder.width c.args.decoder.now) in
+    let meaning = g.D.Decoder.meaning c.white.decoder in
+    record {
+      passes = passes_more inv.passes row (c.in_default-push_row.ensures.taken
+          ∙ ap (λ (w : ℕ). g.D.Decoder.step w meaning c.reference_row-in-white.result.now) inv.width
+          ∙ ap (step meaning) c.reference_row-in-white.ensures.changes);
+      keeps = keeps_on inv.keeps row.keeps;
+      settings = row.counts.settings ∙ inv.settings;
+      width = c.push_row-in-white.ensures.same_width ∙ inv.width;
+      unrefused = c.in_default-push_row.ensures.not_refused ∙ inv.unrefused;
+      read_by = white_by g here;
+      behind = (row.counts.stands refl).1;
+      fresh = inv.fresh;
+      follow = subst (λ (h : Held). FollowWhite h.settings h.has_eols h.reference c.white_lines-lines.result)
+          (sym (ap (λ (x : Context). x.held) takes.new_is)) inv.follow;
+      more = omega (arith, inv.more, ap (λ (x : Context). x.held.taken) takes.new_is);
+    }
+
+pub push_row-requires-in-white : goal.push_row-requires-in-white
+push_row-requires-in-white g c =
+    let row = reads_white g (goal.at.push_row-requires-in-white g c).After-bit_pos-self-inside-in-white in
+    let settings = row.counts.settings ∙ c.white.invariant.settings in
+    AreChanges-wider c.take_white_row.new.ctx.held.settings.columns (g.D.Decoder.width c.white.decoder)
+    c.reference_row-in-white.result.now
+    (omega (arith, c.requires.width, c.white.invariant.width, ap (λ (s : DecodeSettings). s.columns) settings))
+    c.reference_row-in-white.ensures.lawful
+
+pub invariant_of-self-in-Err-push_row : goal.invariant_of-self-in-Err-push_row
+invariant_of-self-in-Err-push_row g c =
+    (white_by g (goal.at.invariant_of-self-in-Err-push_row g c).After-bit_pos-self-inside-in-white).kept
+
+pub returns-in-Err-push_row-clause-pushes : goal.returns-in-Err-push_row-clause-pushes
+returns-in-Err-push_row-clause-pushes g c =
+    let here = (goal.at.returns-in-Err-push_row-clause-pushes g c).After-bit_pos-self-inside-in-white in
+    let inv = c.white.invariant in
+    let step = g.D.Decoder.step (g.D.Decoder.width c.args.decoder.now) in
+    pushed_to_refusal (subst (λ (m : g.D.Decoder.Meaning). PassesRows step (g.D.Decoder.meaning c.args.decoder.now) m
+    c.args.self.now (feeding_of (at_white g here))) (sym c.in-Err-push_row.ensures.kept) inv.passes) inv.keeps inv.settings
+    (reads_white g here) (ap Err c.in-Err-push_row.ensures.only_refused) c.in-Err-push_row.ensures.refused
+    (subst (g.D.Decoder.refuses c.push_row-in-white.new.self) c.reference_row-in-white.ensures.changes
+    c.in-Err-push_row.ensures.refused_row)
+
+pub rows-smaller : goal.rows-smaller
+rows-smaller g c =
+    let here = (goal.at.rows-smaller g c).After-is_read in
+    let taken = (reads_row g here (c.is_read.ensures.read c.if-not-is_read.false)).counts.taken refl in
+    let none = c.take_white_row.ensures.none c.white-test.false in
+    omega (arith, taken.0, taken.1, c.white.invariant.more, ap (λ (x : Context). x.held.taken) none.1)
+
+pub rows-preserved : goal.rows-preserved
+rows-preserved g c =
+    let inv = c.white.invariant in
+    let none = c.take_white_row.ensures.none c.white-test.false in
+    rw (none.0, none.1, none.2) (record {
+      passes = inv.passes;
+      keeps = inv.keeps;
+      settings = inv.settings;
+      width = inv.width;
+      unrefused = inv.unrefused;
+      read_by = inv.read_by;
+      behind = inv.behind;
+    })
 
 -- ---- A line that isn't read
 
