@@ -636,13 +636,13 @@ impl RowFeed {
         let mut reader = placed_at(&self.data, self.order, self.place);
         let fed;
         'rows: loop {
-            let gap_start = self.dropped + self.place;
+            let gap_place = self.dropped + self.place;
             let line = self.rows.come_to_settled_line(
                 &mut self.ctx,
                 &mut self.look,
                 &mut reader,
                 self.is_last,
-                gap_start,
+                gap_place,
             );
             self.place = reader.bit_pos();
             if !is_some_line(&line) {
@@ -672,8 +672,8 @@ impl RowFeed {
                 self.dropped + self.place,
             ) {
                 self.place = reader.bit_pos();
-                if let Err(refusal) = decoder.push_row(self.ctx.reference_row()) {
-                    return Err(refusal);
+                if let Err(refused) = decoder.push_row(self.ctx.reference_row()) {
+                    return Err(refused);
                 }
             }
         }
