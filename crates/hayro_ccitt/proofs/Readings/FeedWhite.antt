@@ -1,18 +1,22 @@
 -- A turn of a feed at a white line: it is a row whatever data follows.
-use Rattle.hayro_ccitt.proofs.Names.{◌≡◌, ◌∙◌, ◌+◌, ◌≤◌, ◌<◌, ◌++◌, [], ap, sym, subst, refl, arith, length, drop, false≢true, inl, inr}
-use Rattle.hayro_ccitt.proofs.Names.{Bool, true, false, None, Ok, ℕ, Bits, BitsAt, Context, Held, Row, DecodeSettings, append_assoc}
-use Rattle.hayro_ccitt.proofs.Names.{bits_in, here, is_at_line, ended, BehindRow, IsStanding, ReadsNext, seen, changes, pixels, length-append}
+use Rattle.hayro_ccitt.proofs.Names.{◌≡◌, ◌∙◌, ◌+◌, ◌≤◌, ◌<◌, ◌++◌, [], ap, sym, subst, refl}
+use Rattle.hayro_ccitt.proofs.Names.{arith, length, drop, false≢true, inl, inr}
+use Rattle.hayro_ccitt.proofs.Names.{Bool, true, false, None, Ok, ℕ, Bits, BitsAt}
+use Rattle.hayro_ccitt.proofs.Names.{Context, Held, Row, DecodeSettings, append_assoc}
+use Rattle.hayro_ccitt.proofs.Names.{bits_in, here, is_at_line, ended, BehindRow, IsStanding, ReadsNext}
+use Rattle.hayro_ccitt.proofs.Names.{seen, changes, pixels, length-append}
 use Rattle.hayro_ccitt.proofs.Names.{◌&&◌}
 use Rattle.hayro_ccitt.proofs.BitReading.BitLists.{length-bits_in, length-low_bits}
 use Rattle.hayro_ccitt.proofs.PixelRows.ChangesAndPixels.{changes-pixels, length-pixels}
-use Rattle.hayro_ccitt.proofs.Readings.FeedTurns.{IsReadBy, behind_line, same_bits_at}
+use Rattle.hayro_ccitt.proofs.Readings.FeedTurns.{IsReadBy, past_line, same_bits_at}
 use Rattle.hayro_ccitt.proofs.Readings.FeedsOn.{no_line_paid, none_looked, none_paid}
 use Rattle.hayro_ccitt.proofs.Readings.LooksKept.{fresh_look}
 use Rattle.hayro_ccitt.proofs.Readings.PartsFed.{none_kept}
 use Rattle.hayro_ccitt.proofs.Readings.RowsAgain.{white_reads, white_stands}
 use Rattle.hayro_ccitt.proofs.Readings.RowsFed.{from_place, place_within}
 use Rattle.hayro_ccitt.specs.GapsSeen.{nothing_seen}
-use Rattle.hayro_ccitt.specs.RowFeeds.{DrawsRow, FeedsNext, FeedsRow, IsFeedOf, PassesEol, StandsIn, TakesWhite, fed_over, feeding_of}
+use Rattle.hayro_ccitt.specs.RowFeeds.{DrawsRow, FeedsNext, FeedsRow, IsFeedOf, PassesEol, StandsIn}
+use Rattle.hayro_ccitt.specs.RowFeeds.{TakesWhite, fed_over, feeding_of}
 use Rattle.hayro_ccitt.specs.WhiteLines.{FollowWhite, IsWhiteLine, PassesLine, bits_of_word, eol_before}
 use Rattle.hayro_ccitt.specs.declared.row_feed.Fed.{Fed}
 use Rattle.hayro_ccitt.specs.declared.row_feed.RowFeed.TheInside.{Inside}
@@ -43,8 +47,10 @@ module _ {f : Inside} {before after : BitsAt} {rows : RowState} {ctx : Context} 
 
   word_line : IsWhiteLine f.ctx.held.settings.encoding f.ctx.held.settings.columns f.ctx.held.has_eols kept_passes.word
   word_line = elim kept_passes.one [
-    | inl e ↦ subst (IsWhiteLine f.ctx.held.settings.encoding f.ctx.held.settings.columns f.ctx.held.has_eols) (sym e) follow.first
-    | inr e ↦ subst (IsWhiteLine f.ctx.held.settings.encoding f.ctx.held.settings.columns f.ctx.held.has_eols) (sym e) follow.second
+    | inl e ↦ subst (IsWhiteLine f.ctx.held.settings.encoding f.ctx.held.settings.columns f.ctx.held.has_eols) (sym e)
+        follow.first
+    | inr e ↦ subst (IsWhiteLine f.ctx.held.settings.encoding f.ctx.held.settings.columns f.ctx.held.has_eols) (sym e)
+        follow.second
   ]
 
   abbrev line_after : Bits
@@ -80,7 +86,7 @@ module _ {f : Inside} {before after : BitsAt} {rows : RowState} {ctx : Context} 
   no_changes = ap (λ (r : Row). length (changes r)) white_row_is
       ∙ ap length (changes-pixels f.ctx.held.settings.columns [] tt)
 
-  white_draws : DrawsRow (feeding_of f) (feeding_of (behind_line f ctx rows place))
+  white_draws : DrawsRow (feeding_of f) (feeding_of (past_line f ctx rows place))
   white_draws = record {
     start = f.dropped + f.place + lines.gap;
     onward = omega arith;
@@ -117,7 +123,7 @@ module _ {f : Inside} {before after : BitsAt} {rows : RowState} {ctx : Context} 
         next_is : f.dropped + place ≡ f.dropped + f.place + count
         next_is = omega (arith, place_after)
 
-    white_next : ReadsNext (fed_over whole (feeding_of f)) (fed_over whole (feeding_of (behind_line f ctx rows place))) (Ok true)
+    white_next : ReadsNext (fed_over whole (feeding_of f)) (fed_over whole (feeding_of (past_line f ctx rows place))) (Ok true)
     white_next =
         subst (λ (r : RowState). ReadsNext (fed_over whole (feeding_of f)) (seen r ctx next_whole) (Ok true)) (sym takes.kept_is)
         (subst (λ (x : Context). ReadsNext (fed_over whole (feeding_of f)) (seen (record {
@@ -129,7 +135,7 @@ module _ {f : Inside} {before after : BitsAt} {rows : RowState} {ctx : Context} 
         }) x next_whole) (Ok true)) (sym takes.new_is)
         (white_reads tried f.rows f.ctx at_whole white_stood behind lines follow takes.unmet next_whole whole_passes))
 
-    white_fed : IsFeedOf whole (tried + 0) (feeding_of (behind_line f ctx rows place))
+    white_fed : IsFeedOf whole (tried + 0) (feeding_of (past_line f ctx rows place))
     white_fed =
         let none : tried + 0 ≡ tried = omega arith in
         record {
@@ -152,7 +158,7 @@ module _ {f : Inside} {before after : BitsAt} {rows : RowState} {ctx : Context} 
     not_at_line true e = false≢true (sym (ap is_at_line behind) ∙ e)
     not_at_line false e = false≢true e
 
-    white_feeds : FeedsNext whole tried (feeding_of f) (feeding_of (behind_line f ctx rows place)) (Ok Fed.Row)
+    white_feeds : FeedsNext whole tried (feeding_of f) (feeding_of (past_line f ctx rows place)) (Ok Fed.Row)
     white_feeds = record {
       row = λ e. white_next;
       end = λ e. cc;
@@ -192,7 +198,7 @@ module _ {f : Inside} {before after : BitsAt} {rows : RowState} {ctx : Context} 
     }
 
   -- a white row is read
-  pub white_row : FeedsRow (feeding_of f) (feeding_of (behind_line f ctx rows place)) (Ok Fed.Row)
+  pub white_row : FeedsRow (feeding_of f) (feeding_of (past_line f ctx rows place)) (Ok Fed.Row)
   white_row = record {
     reads = λ whole tried unended feed. white_feeds feed;
     keeps = record { order = refl; finished = refl; kept = refl; dropped = refl };
@@ -208,7 +214,7 @@ module _ {f : Inside} {before after : BitsAt} {rows : RowState} {ctx : Context} 
     };
   }
 
-  pub white_read_by : IsReadBy (behind_line f ctx rows place) after
+  pub white_read_by : IsReadBy (past_line f ctx rows place) after
   white_read_by = record {
     kept = record {
       within = omega (arith, within_kept, length-bits_in f.order f.«data».items);
