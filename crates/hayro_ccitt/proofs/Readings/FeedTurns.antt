@@ -147,7 +147,8 @@ abbrev pub past_line : Inside → Context → RowState → ℕ → Inside
 past_line f ctx rows place = record f { ctx = ctx; rows = rows; place = place }
 
 module _ {f : Inside} {before after : BitsAt} {begin ctx : Context} {rows : RowState} {place : ℕ}
-    {answer : Result Bool DecodeError} (by : IsReadBy f before) (line : is_at_line f.rows.stand ≡ true) (there : place ≡ after.place)
+    {answer : Result Bool DecodeError} (by : IsReadBy f before)
+    (line : is_at_line f.rows.stand ≡ true) (there : place ≡ after.place)
     (frame : begin ≡ record f.ctx { held = redrawn f.ctx.held [] White; passed = 0; cut = false })
     (tries : TriesLine f.is_last (f.dropped + f.place) f.rows rows begin ctx before after answer) where
   pub turn_reads : length f.ctx.held.reference ≡ f.ctx.held.settings.columns
