@@ -15,7 +15,7 @@ ghost use Rattle.hayro_ccitt.specs.RowFeeds.{HoldsMore, KeepsPart, LineGoesOn, S
 ghost use Rattle.hayro_ccitt.specs.RowFeeds.{CountsRow, PushesRows, unused};
 ghost use Rattle.hayro_ccitt.specs.Rows.{AreChanges, changes};
 ghost use Rattle.hayro_ccitt.specs.RowFeeds.{TakesWhite};
-ghost use Rattle.hayro_ccitt.specs.WhiteLines.{FollowWhite};
+ghost use Rattle.hayro_ccitt.specs.WhiteLines.{MayFollow};
 
 use crate::context::DecoderContext;
 use crate::gap_look::{
@@ -238,17 +238,23 @@ impl RowState {
     #[inline(always)]
     fn take_white_row(
         &mut self,
+        repeats: bool,
         lines: WhiteLines,
         ctx: &mut DecoderContext,
         reader: &mut BitReader<'_>,
         start: usize,
     ) -> bool
-        requires follow { FollowWhite ctx.old.held.settings ctx.old.held.has_eols ctx.old.held.reference lines }
+        requires follow { repeats ≡ true
+            → MayFollow ctx.old.held.settings ctx.old.held.has_eols ctx.old.held.reference lines }
         requires fits { start + 64 < 2 ^ 64 }
+        ensures repeats { result ≡ true → repeats ≡ true }
         ensures taken { result ≡ true
             → TakesWhite lines start self.old self.new ctx.old ctx.new reader.old reader.new }
         ensures none { result ≡ false → (self.new ≡ self.old) × (ctx.new ≡ ctx.old) × (reader.new ≡ reader.old) }
     {
+        if !repeats {
+            return false;
+        }
         if limit_met(ctx) || !can_take_row(ctx) {
             return false;
         }
@@ -634,6 +640,7 @@ impl RowFeed {
             self.old self.new result }
     {
         let mut reader = placed_at(&self.data, self.order, self.place);
+        let mut lines = self.ctx.no_white_lines();
         let fed;
         'rows: loop {
             let gap_place = self.dropped + self.place;
@@ -664,8 +671,9 @@ impl RowFeed {
             if let Err(refusal) = decoder.push_row(self.ctx.reference_row()) {
                 return Err(refusal);
             }
-            let lines = self.ctx.white_lines();
+            let repeats = self.ctx.repeats_white(&mut lines);
             'white: while self.rows.take_white_row(
+                repeats,
                 lines,
                 &mut self.ctx,
                 &mut reader,

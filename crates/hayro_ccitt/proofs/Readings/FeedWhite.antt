@@ -1,9 +1,9 @@
 -- A turn of a feed at a white line: it is a row whatever data follows.
-use Rattle.hayro_ccitt.proofs.Names.{◌≡◌, ◌∙◌, ◌+◌, ◌≤◌, ◌<◌, ◌++◌, [], ap, sym, subst, refl}
-use Rattle.hayro_ccitt.proofs.Names.{arith, length, drop, false≢true, inl, inr}
+use Rattle.hayro_ccitt.proofs.Names.{◌≡◌, ◌∙◌, ◌+◌, ◌≤◌, ◌++◌, [], ap, sym, subst, refl}
+use Rattle.hayro_ccitt.proofs.Names.{arith, length, drop, false≢true, inl}
 use Rattle.hayro_ccitt.proofs.Names.{Bool, true, false, None, Ok, ℕ, Bits, BitsAt}
-use Rattle.hayro_ccitt.proofs.Names.{Context, Held, Row, DecodeSettings, append_assoc}
-use Rattle.hayro_ccitt.proofs.Names.{bits_in, here, is_at_line, ended, BehindRow, IsStanding, ReadsNext}
+use Rattle.hayro_ccitt.proofs.Names.{Context, Row, append_assoc}
+use Rattle.hayro_ccitt.proofs.Names.{bits_in, is_at_line, ended, BehindRow, IsStanding, ReadsNext}
 use Rattle.hayro_ccitt.proofs.Names.{seen, changes, pixels, length-append}
 use Rattle.hayro_ccitt.proofs.Names.{◌&&◌}
 use Rattle.hayro_ccitt.proofs.BitReading.BitLists.{length-bits_in, length-low_bits}
@@ -12,12 +12,12 @@ use Rattle.hayro_ccitt.proofs.Readings.FeedTurns.{IsReadBy, past_line, same_bits
 use Rattle.hayro_ccitt.proofs.Readings.FeedsOn.{no_line_paid, none_looked, none_paid}
 use Rattle.hayro_ccitt.proofs.Readings.LooksKept.{fresh_look}
 use Rattle.hayro_ccitt.proofs.Readings.PartsFed.{none_kept}
-use Rattle.hayro_ccitt.proofs.Readings.RowsAgain.{white_reads, white_stands}
+use Rattle.hayro_ccitt.proofs.Readings.RowsAgain.{gap_width, line_passed, white_reads, white_stands}
 use Rattle.hayro_ccitt.proofs.Readings.RowsFed.{from_place, place_within}
 use Rattle.hayro_ccitt.specs.GapsSeen.{nothing_seen}
 use Rattle.hayro_ccitt.specs.RowFeeds.{DrawsRow, FeedsNext, FeedsRow, IsFeedOf, PassesEol, StandsIn}
 use Rattle.hayro_ccitt.specs.RowFeeds.{TakesWhite, fed_over, feeding_of}
-use Rattle.hayro_ccitt.specs.WhiteLines.{FollowWhite, IsWhiteLine, PassesLine, bits_of_word, eol_before}
+use Rattle.hayro_ccitt.specs.WhiteLines.{AreWhiteLine, IsWhiteLine, MayFollow, PassesLine, bits_of_word, eol_before}
 use Rattle.hayro_ccitt.specs.declared.row_feed.Fed.{Fed}
 use Rattle.hayro_ccitt.specs.declared.row_feed.RowFeed.TheInside.{Inside}
 use Rattle.hayro_ccitt.specs.declared.row_reader.RowState.{RowState}
@@ -25,7 +25,7 @@ use Rattle.hayro_ccitt.specs.declared.white_lines.WhiteLines.{WhiteLines}
 
 module _ {f : Inside} {before after : BitsAt} {rows : RowState} {ctx : Context} {place : ℕ} {lines : WhiteLines}
     (by : IsReadBy f before) (there : place ≡ after.place) (behind : f.rows.stand ≡ BehindRow) (fresh : f.look ≡ nothing_seen)
-    (follow : FollowWhite f.ctx.held.settings f.ctx.held.has_eols f.ctx.held.reference lines)
+    (follow : MayFollow f.ctx.held.settings f.ctx.held.has_eols f.ctx.held.reference lines)
     (takes : TakesWhite lines (f.dropped + f.place) f.rows rows f.ctx ctx before after) where
   abbrev kept_bits : Bits
   kept_bits = bits_in f.order f.«data».items
@@ -45,23 +45,27 @@ module _ {f : Inside} {before after : BitsAt} {rows : RowState} {ctx : Context} 
   kept_there : drop f.place kept_bits ≡ bits_of_word kept_passes.word ++ drop place kept_bits
   kept_there = kept_passes.there ∙ ap (λ (n : ℕ). bits_of_word kept_passes.word ++ drop n kept_bits) (sym place_after)
 
-  word_line : IsWhiteLine f.ctx.held.settings.encoding f.ctx.held.settings.columns f.ctx.held.has_eols kept_passes.word
-  word_line = elim kept_passes.one [
-    | inl e ↦ subst (IsWhiteLine f.ctx.held.settings.encoding f.ctx.held.settings.columns f.ctx.held.has_eols) (sym e)
-        follow.first
-    | inr e ↦ subst (IsWhiteLine f.ctx.held.settings.encoding f.ctx.held.settings.columns f.ctx.held.has_eols) (sym e)
-        follow.second
-  ]
+  word_passed : (most : ℕ)
+      × IsWhiteLine f.ctx.held.settings.encoding f.ctx.held.settings.columns f.ctx.held.has_eols most kept_passes.word
+  word_passed = line_passed f.ctx.held.settings f.ctx.held.has_eols f.ctx.held.reference lines
+      (record { bits = kept_bits; place = f.place }) after follow kept_passes
+
+  line_of_word : (line : Bits) × AreWhiteLine f.ctx.held.settings.encoding f.ctx.held.settings.columns line
+      × (bits_of_word kept_passes.word ≡ eol_before f.ctx.held.has_eols ++ line)
+  line_of_word = word_passed.1.line kept_passes.some
+
+  gap_is : lines.gap ≡ length (eol_before f.ctx.held.has_eols)
+  gap_is = gap_width f.ctx.held.settings f.ctx.held.has_eols f.ctx.held.reference lines follow
 
   abbrev line_after : Bits
-  line_after = (word_line.line kept_passes.some).0
+  line_after = line_of_word.0
 
   gap_in_word : lines.gap ≤ count
   gap_in_word = omega (
     arith,
-    follow.gap,
+    gap_is,
     length-low_bits kept_passes.word.count kept_passes.word.bits,
-    ap length (word_line.line kept_passes.some).2,
+    ap length line_of_word.2,
     length-append (eol_before f.ctx.held.has_eols) line_after,
   )
 
@@ -71,16 +75,16 @@ module _ {f : Inside} {before after : BitsAt} {rows : RowState} {ctx : Context} 
   eol_there sought to far = record {
     fill = [];
     behind = line_after ++ drop place kept_bits;
-    place = kept_there ∙ ap (λ (b : Bits). b ++ drop place kept_bits) ((word_line.line kept_passes.some).2
+    place = kept_there ∙ ap (λ (b : Bits). b ++ drop place kept_bits) (line_of_word.2
         ∙ ap (λ (s : Bool). eol_before s ++ line_after) sought);
     passed = omega (arith, far);
   }
 
   gap_is_eol : f.ctx.held.has_eols ≡ true → lines.gap ≡ 12
-  gap_is_eol sought = follow.gap ∙ ap (λ (s : Bool). length (eol_before s)) sought
+  gap_is_eol sought = gap_is ∙ ap (λ (s : Bool). length (eol_before s)) sought
 
   white_row_is : ctx.held.reference ≡ pixels f.ctx.held.settings.columns []
-  white_row_is = ap (λ (x : Context). x.held.reference) takes.new_is ∙ follow.white kept_passes.any
+  white_row_is = ap (λ (x : Context). x.held.reference) takes.new_is ∙ follow.white
 
   no_changes : length (changes ctx.held.reference) ≡ 0
   no_changes = ap (λ (r : Row). length (changes r)) white_row_is
@@ -110,7 +114,6 @@ module _ {f : Inside} {before after : BitsAt} {rows : RowState} {ctx : Context} 
       word = kept_passes.word;
       one = kept_passes.one;
       some = kept_passes.some;
-      any = kept_passes.any;
       there = from_place feed.lie f.place (omega (arith, within_kept, place_after))
           ∙ ap (λ (b : Bits). b ++ feed.lie.more) kept_there
           ∙ append_assoc (bits_of_word kept_passes.word) (drop place kept_bits) feed.lie.more

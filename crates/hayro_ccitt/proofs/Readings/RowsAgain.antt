@@ -231,7 +231,7 @@ open_end [] rest some = absurd (omega arith)
 open_end (b ∷ line) rest some = refl
 
 -- the word that is passed is one of the lines
-line_passed : (settings : DecodeSettings) (has_eols : Bool) (reference : Row) (lines : WhiteLines) (at next : BitsAt)
+pub line_passed : (settings : DecodeSettings) (has_eols : Bool) (reference : Row) (lines : WhiteLines) (at next : BitsAt)
     → MayFollow settings has_eols reference lines → (passes : PassesLine lines at next)
     → (most : ℕ) × IsWhiteLine settings.encoding settings.columns has_eols most passes.word
 line_passed settings has_eols reference lines at next follow passes = elim passes.one [
@@ -248,7 +248,7 @@ line_passed settings has_eols reference lines at next follow passes = elim passe
 ]
 
 -- the EOL before it
-gap_width : (settings : DecodeSettings) (has_eols : Bool) (reference : Row) (lines : WhiteLines)
+pub gap_width : (settings : DecodeSettings) (has_eols : Bool) (reference : Row) (lines : WhiteLines)
     → MayFollow settings has_eols reference lines → lines.gap ≡ length (eol_before has_eols)
 gap_width settings has_eols reference lines follow =
     follow.known.gap follow.some ∙ ap (λ (h : Bool). length (eol_before h)) follow.same

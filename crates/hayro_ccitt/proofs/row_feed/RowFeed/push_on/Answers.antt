@@ -10,7 +10,7 @@ use Rattle.hayro_ccitt.proofs.Readings.PartsFed.{scanned_after, unread_line}
 use Rattle.hayro_ccitt.proofs.Readings.RowsPassed.{keeps_on, passes_more, pushed_to_end, pushed_to_refusal}
 use Rattle.hayro_ccitt.specs.RowFeeds.{FeedsRow, PassesRows, ReadsInFeed, fed_row, feeding_of}
 use Rattle.hayro_ccitt.specs.RowsTried.{IsLeft}
-use Rattle.hayro_ccitt.specs.WhiteLines.{FollowWhite}
+use Rattle.hayro_ccitt.specs.WhiteLines.{AreKnown, MayFollow}
 use Rattle.hayro_ccitt.specs.declared.row_reader.RowState.{RowState}
 use Rattle.hayro_ccitt.specs.declared.row_feed.Fed.{Fed}
 use Rattle.hayro_ccitt.specs.declared.row_feed.RowFeed.TheInside.{Inside}
@@ -131,6 +131,13 @@ returns-in-Err-clause-pushes g c =
 
 -- ---- The white rows after a row
 
+pub repeats_white-repeats-requires : goal.repeats_white-repeats-requires
+repeats_white-repeats-requires g c =
+    let here = (goal.at.repeats_white-repeats-requires g c).After-is_read in
+    let row = reads_next_row g here (c.is_read.ensures.read c.if-not-is_read.false) in
+    subst (λ (s : DecodeSettings). AreKnown s c.rows.lines) (sym (row.counts.settings ∙ c.rows.invariant.settings))
+    c.rows.invariant.known
+
 pub white-init : goal.white-init
 white-init g c =
     let here = (goal.at.white-init g c).After-is_read in
@@ -149,7 +156,9 @@ white-init g c =
       read_by = row_by g here;
       behind = (row.counts.stands refl).1;
       fresh = (gap_by g (gap_here g here)).kept.line (line_is_here g here);
-      follow = c.white_lines-lines.ensures;
+      known = subst (λ (s : DecodeSettings). AreKnown s c.repeats_white-repeats.new.lines) (row.counts.settings ∙ inv.settings)
+          c.repeats_white-repeats.ensures.known;
+      follow = c.repeats_white-repeats.ensures.follow;
       more = omega arith;
     }
 
@@ -167,13 +176,15 @@ reads_white : (g : Over) (c : After-bit_pos-self-inside-in-white g)
     → FeedsRow (feeding_of (at_white g c)) (feeding_of (behind_white g c)) (Ok Fed.Row)
 reads_white g c =
     let inv = c.white.invariant in
-    white_row inv.read_by c.bit_pos-self-inside-in-white.ensures.place inv.behind inv.fresh inv.follow
+    white_row inv.read_by c.bit_pos-self-inside-in-white.ensures.place inv.behind inv.fresh
+    (inv.follow (c.take_white_row.ensures.repeats c.white-test.true))
     (c.take_white_row.ensures.taken c.white-test.true)
 
 white_by : (g : Over) (c : After-bit_pos-self-inside-in-white g) → IsReadBy (behind_white g c) c.take_white_row.new.reader
 white_by g c =
     let inv = c.white.invariant in
-    white_read_by inv.read_by c.bit_pos-self-inside-in-white.ensures.place inv.behind inv.fresh inv.follow
+    white_read_by inv.read_by c.bit_pos-self-inside-in-white.ensures.place inv.behind inv.fresh
+    (inv.follow (c.take_white_row.ensures.repeats c.white-test.true))
     (c.take_white_row.ensures.taken c.white-test.true)
 
 pub white-preserved : goal.white-preserved
@@ -195,8 +206,9 @@ white-preserved g c =
       read_by = white_by g here;
       behind = (row.counts.stands refl).1;
       fresh = inv.fresh;
-      follow = subst (λ (h : Held). FollowWhite h.settings h.has_eols h.reference c.white_lines-lines.result)
-          (sym (ap (λ (x : Context). x.held) takes.new_is)) inv.follow;
+      known = inv.known;
+      follow = λ is. subst (λ (h : Held). MayFollow h.settings h.has_eols h.reference c.repeats_white-repeats.new.lines)
+          (sym (ap (λ (x : Context). x.held) takes.new_is)) (inv.follow is);
       more = omega (arith, inv.more, ap (λ (x : Context). x.held.taken) takes.new_is);
     }
 
@@ -243,6 +255,7 @@ rows-preserved g c =
       unrefused = inv.unrefused;
       read_by = inv.read_by;
       behind = inv.behind;
+      known = inv.known;
     })
 
 -- ---- A line that isn't read

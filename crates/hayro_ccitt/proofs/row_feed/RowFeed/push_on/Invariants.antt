@@ -1,6 +1,6 @@
-use Rattle.hayro_ccitt.proofs.Names.{◌≡◌, ◌≤◌, ◌-◌, BehindRow}
+use Rattle.hayro_ccitt.proofs.Names.{◌≡◌, ◌≤◌, ◌-◌, BehindRow, true}
 use Rattle.hayro_ccitt.specs.GapsSeen.{nothing_seen}
-use Rattle.hayro_ccitt.specs.WhiteLines.{FollowWhite}
+use Rattle.hayro_ccitt.specs.WhiteLines.{AreKnown, MayFollow}
 use Rattle.std.specs.Prelude.{◌^◌}
 use Rattle.hayro_ccitt.proofs.Readings.FeedTurns.{IsReadBy}
 use Rattle.hayro_ccitt.specs.RowFeeds.{KeepsBits, PassesRows, feeding_of}
@@ -35,6 +35,7 @@ invariant-rows g l =
       unrefused : g.D.Decoder.has_refused l.decoder ≡ g.D.Decoder.has_refused l.fn.decoder;
       read_by : IsReadBy f l.reader;
       behind : f.rows.stand ≡ BehindRow;
+      known : AreKnown l.fn.self.ctx.held.settings l.lines;
     }
 
 -- the rows that can still be counted
@@ -70,7 +71,8 @@ invariant-white g l =
       read_by : IsReadBy f l.reader;
       behind : f.rows.stand ≡ BehindRow;
       fresh : f.look ≡ nothing_seen;
-      follow : FollowWhite f.ctx.held.settings f.ctx.held.has_eols f.ctx.held.reference l.lines;
+      known : AreKnown l.fn.self.ctx.held.settings l.lines;
+      follow : l.repeats ≡ true → MayFollow f.ctx.held.settings f.ctx.held.has_eols f.ctx.held.reference l.lines;
       more : l.initial.self-inside.1.0.held.taken ≤ f.ctx.held.taken;
     }
 
