@@ -72,6 +72,7 @@ fn look_waits(
 }
 
 /// Looks on at the gap that begins here, and returns whether it must wait for more data.
+#[inline(always)]
 fn gap_waits(
     ctx: &mut DecoderContext,
     look: &mut GapLook,
@@ -208,6 +209,7 @@ fn can_take_row(ctx: &DecoderContext) -> bool
 impl RowState {
     /// Passes the gap before the next line, which begins at this offset of the data, if no data that follows can change it.
     /// Returns whether there is a line after it, or `None` if more data is needed.
+    #[inline(always)]
     pub(crate) fn come_to_settled_line(
         &mut self,
         ctx: &mut DecoderContext,
