@@ -199,10 +199,10 @@ uint32_t hayro_ccitt_feed_next_changes(hayro_ccitt_row_feed *feed, uint32_t *cha
 uint32_t hayro_ccitt_feed_next_packed(hayro_ccitt_row_feed *feed, uint8_t *packed, size_t packed_length, hayro_ccitt_row *row);
 
 /* The rows one after another, as calls of hayro_ccitt_feed_next_changes give them, but listed as hayro_ccitt_decode_changes does, until
- * there is no room for one more; `count` is how many. HAYRO_CCITT_OK means that there may be more. After HAYRO_CCITT_NEEDS_MORE and
- * the other statuses too `count` rows were listed; it is 0 after HAYRO_CCITT_REFUSED, where there is no room for the first. The last
- * row that was read, which `row` describes, may be one that doesn't fit behind them: the next call gives it first. Where room for
- * many rows is passed, a row costs less than by calls of its own. */
+ * there is no room for one more; `count` is how many. HAYRO_CCITT_OK means that one more was read, which `row` describes: it doesn't
+ * fit behind them, and the next call gives it first. After HAYRO_CCITT_NEEDS_MORE and the other statuses too `count` rows were
+ * listed; it is 0 after HAYRO_CCITT_REFUSED, where there is no room for the first. Where room for many rows is passed, a row costs
+ * less than by calls of its own. */
 uint32_t hayro_ccitt_feed_rows_changes(hayro_ccitt_row_feed *feed, uint32_t *lists, size_t lists_length, size_t *count,
                                        hayro_ccitt_row *row);
 

@@ -181,18 +181,18 @@ static struct room some_room(size_t most_behind) {
     return room;
 }
 
-/* What such a call says of rows that it gave: that there is no room for one more, of which the last may be kept; or what a call of one
-   row says after them. `fits` is whether a place for the next row is left. */
-static uint32_t are_given(struct going *it, size_t count, uint32_t status, int fits, const hayro_ccitt_row *row) {
+/* What such a call says of rows that it gave: that there is no room for one more, which is kept; or what a call of one row says after
+   them. */
+static uint32_t are_given(struct going *it, size_t count, uint32_t status, const hayro_ccitt_row *row) {
     must(count <= count_known - it->taken, "no rows more, at once");
     it->taken += count;
     rows_at_once += count;
     rows_fed += count;
     if (status == HAYRO_CCITT_OK) {
         must(count > 0, "there is room for a row");
-        must(!fits || it->taken < count_known, "a row that is kept is there");
-        is_row(&rows_known[it->taken - !fits], row);
-        rows_kept += (unsigned long)fits;
+        must(it->taken < count_known, "a row that is kept is there");
+        is_row(&rows_known[it->taken], row);
+        rows_kept++;
     } else if (status == HAYRO_CCITT_REFUSED) {
         must(count == 0, "the first row is refused");
         is_refused_row(it, &rows_known[it->taken], row);
@@ -217,7 +217,7 @@ static uint32_t pack_rows(struct going *it, hayro_ccitt_row *row) {
     must(status != HAYRO_CCITT_OK || count == room.rows, "all room is used");
     must(status != HAYRO_CCITT_REFUSED || room.rows == 0, "there is no room");
     take_back(bitmap);
-    return are_given(it, count, status, count * step < size, row);
+    return are_given(it, count, status, row);
 }
 
 static uint32_t list_rows(struct going *it, hayro_ccitt_row *row) {
@@ -238,7 +238,7 @@ static uint32_t list_rows(struct going *it, hayro_ccitt_row *row) {
     if (status == HAYRO_CCITT_OK || status == HAYRO_CCITT_REFUSED)
         must(place == size || (from + count < count_known && size - place < 1 + rows_known[from + count].row.changes), "all room is used");
     take_back(lists);
-    return are_given(it, count, status, place < size, row);
+    return are_given(it, count, status, row);
 }
 
 /* After the end each call says the same, and no more is asked for. */

@@ -136,6 +136,7 @@ class RowFeed(Feeding):
     def read_rows(self, most: int) -> bytes:
         """The next rows that are known and weren't read, at most this many, one after another as in the result of `decode`. There are
         none where more data is needed, or at the end of the image. It takes less time than an iteration, and raises what that does.
+        If one more row is known, it was read too: `rows_read` counts it, and what is told of the last row is of it.
 
         Raises:
             ValueError: `most` isn't at least 1.

@@ -173,7 +173,7 @@ impl RowFeed {
     /// [`next_packed`](Self::next_packed) does. Returns how many: none only if there is no room for one. The bytes behind them
     /// keep their values. A row costs less than by a call of its own.
     ///
-    /// If bytes are left behind them, but not those of a row, one more row may have been read, which the next call returns.
+    /// If there is no room for a row that is known, it was read too: it is the last row, and the next call returns it.
     ///
     /// # Errors
     ///

@@ -1,141 +1,286 @@
--- Rows that are given one after another, from what each call of one row leaves.
-use Rattle.std.proofs.Common.{◌≡◌, ◌≤◌, ◌<◌, inl, inr, ℕ, ◌+◌, ◌-◌, List, [], ◌∷◌, ◌++◌, length, take, drop}
-use Rattle.std.proofs.Common.{refl, set, sym, ap, subst, ◌∙◌, arith}
-use Rattle.std.proofs.lemmas.List.{append-nil, drop_all, length-append, length-drop, length-take, take_rest}
-use Rattle.std.proofs.lemmas.Slice.{take-put_mid_below}
-use borrow.Rule.Slice.PartMut.{mid_of, put_mid, same_len_mid}
-use lib.Seq.{drop_at, length-take-le}
-use Rattle.hayro_ccitt.specs.Rows.{Row, changes}
-use Rattle.hayro_ccitt_c.specs.Listing.{listed_row}
-use Rattle.hayro_ccitt_c.specs.RowsGiven.{IsCounted}
-use Rattle.hayro_ccitt_c.proofs.ListedMemory.{listed_more}
-use Rattle.hayro_ccitt_c.specs.RowsFed.{Given, GivesEach, GivesFed, GivesOne, GivesRows}
-use Rattle.hayro_ccitt_c.specs.RowsFed.{feeding_after, memory_after, place_after}
+-- Rows that are given as many as there is room for, from what is left where they were passed to a sink.
+use Rattle.std.proofs.Common.{◌≡◌, ◌≢◌, ◌≤◌, ◌<◌, inl, inr, ℕ, zero, suc, Bool, true, false, List, [], ◌∷◌, length, refl, sym, ap}
+use Rattle.std.proofs.Common.{subst, ◌∙◌, arith, Result, Ok, Err}
+use Rattle.hayro_ccitt.specs.DecodeError.{DecodeError}
+use Rattle.hayro_ccitt.specs.DecodeSettings.{DecodeSettings}
+use Rattle.hayro_ccitt.specs.Answers.{meaning_after}
+use Rattle.hayro_ccitt.specs.Decoding.{SinkState}
+use Rattle.hayro_ccitt.specs.Rows.{HaveWidth, Row, changes}
+use Rattle.hayro_ccitt.specs.RowFeeds.{Feeding as RowsFed, FeedsRow as ReadsFed, FeedsRows, PushesRows, last_left, rows_left}
+use Rattle.hayro_ccitt.specs.declared.row_feed.Fed.{Fed}
+use Rattle.hayro_ccitt_c.specs.GivenRows.{ComesToNone, GivesEach, GivesRows, PassesAll, RefusesOne, columns_of, feeding_after}
+use Rattle.hayro_ccitt_c.specs.GivenRows.{rows_given, status_behind}
+use Rattle.hayro_ccitt_c.specs.Packing.{bytes_of_row}
+use Rattle.hayro_ccitt_c.specs.RowsFed.{FeedsRow, GivesFed, TurnsToFed, is_fed_row, status_of_fed}
 use Rattle.hayro_ccitt_c.specs.declared.feeding.Feeding.{Feeding}
-use Rattle.hayro_ccitt_c.specs.declared.status.TheConstants.{OK}
+use Rattle.hayro_ccitt_c.specs.declared.status.TheConstants.{OK, REFUSED}
 
--- ---- Memory of which what is behind a place was lent
-module _ (place : ℕ) (memory part : List ℕ) (within : place ≤ length memory) where
-  abbrev size : ℕ
-  size = length memory - place
+-- what a call of one row leaves
+fed : (old new : RowsFed) (answer : Result Fed DecodeError) → ReadsFed old new answer → FeedsRow old new answer
+fed old new answer call =
+    record { reads = call.reads; keeps = call.keeps; settings = call.counts.settings; over = call.over }
 
-  lent : mid_of place size memory ≡ drop place memory
-  lent = take_rest memory place
+pub turned : (kept : Bool) (old new : RowsFed) (answer : Result Fed DecodeError) → kept ≡ false → ReadsFed old new answer
+    → TurnsToFed kept old new answer
+turned kept old new answer none call =
+    subst (λ (k : Bool). TurnsToFed k old new answer) (sym none) (fed old new answer call)
 
-  -- what is before it stays
-  pub before_stays : take place (put_mid place size memory part) ≡ take place memory
-  before_stays = take-put_mid_below place size memory part place (omega arith) within
+-- a reading with these rows of which none is kept
+abbrev pub reading_of : (old : Feeding) (rows : RowsFed) → rows.ctx.held.settings ≡ old.rows.ctx.held.settings → Feeding
+reading_of old rows same = record {
+  rows = rows;
+  is_kept = false;
+  layout = old.layout;
+  reaches = subst (λ (s : DecodeSettings). bytes_of_row s.columns ≤ old.layout.stride) (sym same) old.reaches;
+}
 
-  -- behind it is what was lent
-  pub behind_is : length part ≡ length (mid_of place size memory) → drop place (put_mid place size memory part) ≡ part
-  behind_is same = drop_at (take place memory) (part ++ drop size (drop place memory)) place (length-take-le place memory within)
-      ∙ ap (λ (l : List ℕ). part ++ l) (drop_all size (drop place memory) (omega (arith, length-drop place memory)))
-      ∙ append-nil part
+-- calls that each read a row give them
+record ReadEach (old : Feeding) (read : List RowsFed) : Type 0 where
+  given : List Feeding
+  each : GivesEach old given
+  wide : HaveWidth (columns_of old) (rows_given given)
+  rows : rows_given given ≡ rows_left read
+  last : (feeding_after old given).rows ≡ last_left old.rows read
+  none_kept : (feeding_after old given).is_kept ≡ false
+  layout : (feeding_after old given).layout ≡ old.layout
+  settings : (last_left old.rows read).ctx.held.settings ≡ old.rows.ctx.held.settings
 
-  pub is_written_behind : (P : List ℕ → List ℕ → Type 0) → length part ≡ length (mid_of place size memory)
-      → P (mid_of place size memory) part → P (drop place memory) (drop place (put_mid place size memory part))
-  is_written_behind P same is = subst (λ (l : List ℕ). P (drop place memory) l) (sym (behind_is same)) (subst
-      (λ (l : List ℕ). P l part) lent is)
+-- one more row of the width
+pub wide_more : (columns : ℕ) (row : Row) (rows : List Row) → length row ≡ columns → HaveWidth columns rows
+    → HaveWidth columns (row ∷ rows)
+wide_more columns row rows one more zero d lt = one
+wide_more columns row rows one more (suc k) d lt = more k d (omega (arith, lt))
 
-  pub size_stays : length part ≡ length (mid_of place size memory) → length (put_mid place size memory part) ≡ length memory
-  size_stays same = same_len_mid place size memory part same
+none_wide : (columns : ℕ) → HaveWidth columns []
+none_wide columns k d lt = absurd (omega (arith, lt))
 
--- ---- A row and its number at the front of memory
-pub counted_front : (row lists part : List ℕ) → length row < length lists → part ≡ row → (whole : Row) → row ≡ changes whole
-    → IsCounted whole lists (put_mid 1 (1 + length row - 1) (set lists 0 (length row)) part)
-counted_front row lists part room is whole e =
-    let after : List ℕ = put_mid 1 (1 + length row - 1) (set lists 0 (length row)) part in
-    let count : 0 + 1 + length row ≡ length (listed_row row) = omega arith in
-    let more = listed_more 0 row lists part (omega arith) (omega arith) is in
-    let here : take (length (listed_row row)) after ≡ listed_row row = ap (λ (n : ℕ). take n after) (sym count) ∙ more.0 in
-    let behind : drop (length (listed_row row)) after ≡ drop (length (listed_row row)) lists =
-    ap (λ (n : ℕ). drop n after) (sym count) ∙ more.1 in
-    let all : length (listed_row row) ≤ length after =
-    omega (arith, ap length here, length-take (length (listed_row row)) after) in
+read_each : (old : Feeding) (read : List RowsFed) → old.is_kept ≡ false → FeedsRows old.rows read → ReadEach old read
+read_each old [] none reads = record {
+  given = [];
+  each = tt;
+  wide = none_wide (columns_of old);
+  rows = refl;
+  last = refl;
+  none_kept = none;
+  layout = refl;
+  settings = refl;
+}
+read_each old (next ∷ read) none reads =
+    let counts = reads.0.counts in
+    let first : Feeding = reading_of old next counts.settings in
+    let more : ReadEach first read = read_each first read refl reads.1 in
     record {
-      room = subst (λ (r : List ℕ). length (listed_row r) ≤ length after) e all;
-      row_is = subst (λ (r : List ℕ). take (length (listed_row r)) after ≡ listed_row r) e here;
-      rest = subst (λ (r : List ℕ). drop (length (listed_row r)) after ≡ drop (length (listed_row r)) lists) e behind;
+      given = first ∷ more.given;
+      each = (
+        record {
+          answer = Ok Fed.Row;
+          turns = turned old.is_kept old.rows next (Ok Fed.Row) none reads.0;
+          status_is = inl refl;
+          kept = λ e. absurd cc;
+          refused = λ e. absurd (omega (arith, e));
+          layout = refl;
+        },
+        more.each,
+      );
+      wide = wide_more (columns_of old) next.ctx.held.reference (rows_given more.given) (counts.width refl)
+          (subst (λ (s : DecodeSettings). HaveWidth s.columns (rows_given more.given)) counts.settings more.wide);
+      rows = ap (λ (l : List Row). next.ctx.held.reference ∷ l) more.rows;
+      last = more.last;
+      none_kept = more.none_kept;
+      layout = more.layout;
+      settings = more.settings ∙ counts.settings;
     }
 
--- ---- Rows so far
-module _ (IsWritten : Feeding → List ℕ → List ℕ → Type 0) (step need : Feeding → ℕ) where
-  -- one more row
-  feeding_more : (old : Feeding) (given : List Given) (next : Given) → feeding_after old (given ++ next ∷ []) ≡ next.feeding
-  feeding_more old [] next = refl
-  feeding_more old (first ∷ given) next = feeding_more first.feeding given next
+-- an answer that is no row
+no_row_is : (answer : Result Fed DecodeError) → answer ≢ Ok Fed.Row → is_fed_row answer ≡ false
+no_row_is (Ok Fed.Row) other = absurd (other refl)
+no_row_is (Ok Fed.NeedsMore) other = refl
+no_row_is (Ok Fed.End) other = refl
+no_row_is (Err error) other = refl
 
-  memory_more : (memory : List ℕ) (given : List Given) (next : Given) → memory_after memory (given ++ next ∷ []) ≡ next.memory
-  memory_more memory [] next = refl
-  memory_more memory (first ∷ given) next = memory_more first.memory given next
+-- the status of a call of one row is not that of one that is refused
+not_refused : (answer : Result Fed DecodeError) → status_of_fed answer ≢ REFUSED
+not_refused (Ok Fed.Row) e = absurd (omega (arith, e))
+not_refused (Ok Fed.NeedsMore) e = absurd (omega (arith, e))
+not_refused (Ok Fed.End) e = absurd (omega (arith, e))
+not_refused (Err DecodeError.UnexpectedEof) e = absurd (omega (arith, e))
+not_refused (Err DecodeError.InvalidCode) e = absurd (omega (arith, e))
+not_refused (Err DecodeError.Overflow) e = absurd (omega (arith, e))
+not_refused (Err DecodeError.OutOfMemory) e = absurd (omega (arith, e))
+not_refused (Err DecodeError.Refused) e = absurd (omega (arith, e))
 
-  place_more : (place : ℕ) (given : List Given) (next : Given) → place_after IsWritten step need place (given ++ next ∷ [])
-      ≡ place_after IsWritten step need place given + step next.feeding
-  place_more place [] next = refl
-  place_more place (first ∷ given) next = place_more (place + step first.feeding) given next
+-- none was kept before
+pub passed_all : {M : Type 0} {step : M → List ℕ → M} {before after : SinkState M} {old new : Feeding}
+    {answer : Result Fed DecodeError} → old.is_kept ≡ false → before.refused ≡ false
+    → PushesRows step before after old.rows new.rows answer → new.layout ≡ old.layout → PassesAll step before after old new answer
+passed_all {M} {step} {before} {after} {old} {new} {answer} none unrefused pushes layout =
+    let passes = pushes.passes in
+    let each : ReadEach old passes.rows = read_each old passes.rows none passes.reads in
+    let last : Feeding = feeding_after old each.given in
+    let mid : pushes.mid ≡ last.rows = passes.last ∙ sym each.last in
+    record {
+      given = each.given;
+      each = each.each;
+      wide = each.wide;
+      meaning = passes.meaning ∙ ap (meaning_after step before.meaning) (sym each.rows);
+      layout = (layout, each.layout);
+      columns = ap (λ (s : DecodeSettings). s.columns) pushes.settings;
+      ends = elim pushes.ends [
+        | inl end ↦ inl (record {
+          flag = end.flag ∙ unrefused;
+          turns = turned last.is_kept last.rows new.rows answer each.none_kept
+              (subst (λ (r : RowsFed). ReadsFed r new.rows answer) mid end.call);
+          no_row = no_row_is answer end.no_row;
+        })
+        | inr end ↦ inr (record {
+          flag = end.flag;
+          turns = turned last.is_kept last.rows new.rows (Ok Fed.Row) each.none_kept
+              (subst (λ (r : RowsFed). ReadsFed r new.rows (Ok Fed.Row)) mid end.call);
+          row = end.row;
+        })
+      ];
+    }
 
-  each_more : (place : ℕ) (old : Feeding) (memory : List ℕ) (given : List Given) (next : Given)
-      → GivesEach IsWritten step need place old memory given
-      → GivesOne IsWritten step need (place_after IsWritten step need place given) (feeding_after old given)
-      (memory_after memory given) next
-      → GivesEach IsWritten step need place old memory (given ++ next ∷ [])
-  each_more place old memory [] next each one = (one, tt)
-  each_more place old memory (first ∷ given) next each one =
-      (each.0, each_more (place + step first.feeding) first.feeding first.memory given next each.1 one)
+returned : (kept : Bool) (rows : RowsFed) → kept ≡ true → TurnsToFed kept rows rows (Ok Fed.Row)
+returned kept rows is = subst (λ (k : Bool). TurnsToFed k rows rows (Ok Fed.Row)) (sym is) (refl, refl)
 
-  -- the rows so far, from the front of memory up to a place
-  pub record HasGiven (old now : Feeding) (before after : List ℕ) (count place : ℕ) : Type 0 where
-    pub given : List Given
-    pub each : GivesEach IsWritten step need 0 old before given
-    pub now_is : now ≡ feeding_after old given
-    pub after_is : after ≡ memory_after before given
-    pub count_is : count ≡ length given
-    pub place_is : place ≡ place_after IsWritten step need 0 given
+-- one was, and the sink takes it
+pub passed_kept : {M : Type 0} {step : M → List ℕ → M} {before mid after : SinkState M} {old first new : Feeding}
+    {answer : Result Fed DecodeError} → old.is_kept ≡ true → first.rows ≡ old.rows → first.is_kept ≡ false
+    → first.layout ≡ old.layout → length old.rows.ctx.held.reference ≡ columns_of old
+    → mid.meaning ≡ step before.meaning (changes old.rows.ctx.held.reference)
+    → PassesAll step mid after first new answer → PassesAll step before after old new answer
+passed_kept {M} {step} {before} {mid} {after} {old} {first} {new} {answer} kept same none layout wide means more =
+    let columns : columns_of first ≡ columns_of old = ap (λ (r : RowsFed). r.ctx.held.settings.columns) same in
+    let row : first.rows.ctx.held.reference ≡ old.rows.ctx.held.reference = ap (λ (r : RowsFed). r.ctx.held.reference) same in
+    record {
+      given = first ∷ more.given;
+      each = (
+        record {
+          answer = Ok Fed.Row;
+          turns = subst (λ (r : RowsFed). TurnsToFed old.is_kept old.rows r (Ok Fed.Row)) (sym same)
+              (returned old.is_kept old.rows kept);
+          status_is = inl refl;
+          kept = λ e. absurd cc;
+          refused = λ e. absurd (omega (arith, e));
+          layout = layout;
+        },
+        more.each,
+      );
+      wide = wide_more (columns_of old) first.rows.ctx.held.reference (rows_given more.given) (ap length row ∙ wide)
+          (subst (λ (n : ℕ). HaveWidth n (rows_given more.given)) columns more.wide);
+      meaning = more.meaning ∙ ap (λ (m : M). meaning_after step m (rows_given more.given))
+          (means ∙ ap (λ (r : Row). step before.meaning (changes r)) (sym row));
+      layout = (more.layout.0 ∙ layout, more.layout.1 ∙ layout);
+      columns = more.columns ∙ columns;
+      ends = more.ends;
+    }
 
-  pub one_more : (old now : Feeding) (before memory : List ℕ) (count place : ℕ) (next : Given)
-      → HasGiven old now before memory count place → GivesOne IsWritten step need place now memory next
-      → HasGiven old next.feeding before next.memory (count + 1) (place + step next.feeding)
-  one_more old now before memory count place next so_far one = record {
-    given = so_far.given ++ next ∷ [];
-    each = each_more 0 old before so_far.given next so_far.each (subst (λ (p : ℕ).
-        GivesOne IsWritten step need p (feeding_after old so_far.given) (memory_after before so_far.given) next)
-        so_far.place_is (subst (λ (m : List ℕ). GivesOne IsWritten step need place (feeding_after old so_far.given) m next)
-        so_far.after_is (subst (λ (f : Feeding). GivesOne IsWritten step need place f memory next) so_far.now_is one)));
-    now_is = sym (feeding_more old so_far.given next);
-    after_is = sym (memory_more before so_far.given next);
-    count_is = omega (arith, so_far.count_is, length-append so_far.given (next ∷ []));
-    place_is = ap (λ (p : ℕ). p + step next.feeding) so_far.place_is ∙ sym (place_more 0 so_far.given next);
+-- and the sink refuses it
+pub refused_kept : {M : Type 0} {step : M → List ℕ → M} {before after : SinkState M} {old new : Feeding}
+    {answer : Result Fed DecodeError} → old.is_kept ≡ true → new.rows ≡ old.rows → new.layout ≡ old.layout
+    → after.meaning ≡ before.meaning → after.refused ≡ true → after.refuses (changes old.rows.ctx.held.reference)
+    → PassesAll step before after old new answer
+refused_kept {M} {step} {before} {after} {old} {new} {answer} kept same layout means flag refuses = record {
+  given = [];
+  each = tt;
+  wide = none_wide (columns_of old);
+  meaning = means;
+  layout = (layout, refl);
+  columns = ap (λ (r : RowsFed). r.ctx.held.settings.columns) same;
+  ends = inr (record {
+    flag = flag;
+    turns = subst (λ (r : RowsFed). TurnsToFed old.is_kept old.rows r (Ok Fed.Row)) (sym same)
+        (returned old.is_kept old.rows kept);
+    row = subst (λ (r : RowsFed). after.refuses (changes r.ctx.held.reference)) (sym same) refuses;
+  });
+}
+
+-- ---- What a call leaves
+module _ {M : Type 0} {step : M → List ℕ → M} {start final : SinkState M} {old new : Feeding} {answer : Result Fed DecodeError}
+    (AreWritten : Feeding → List Row → List ℕ → List ℕ → Type 0) (need : Feeding → List Row → ℕ)
+    (passes : PassesAll step start final old new answer) (left : Feeding) (rows : left.rows ≡ new.rows)
+    (flag : left.is_kept ≡ final.refused) (layout : left.layout ≡ new.layout) where
+  abbrev last : Feeding
+  last = feeding_after old passes.given
+
+  layout_is : left.layout ≡ last.layout
+  layout_is = layout ∙ passes.layout.0 ∙ sym passes.layout.1
+
+  gives_none : ComesToNone final.refused last new answer → GivesFed last left (status_of_fed answer)
+  gives_none end = record {
+    answer = answer;
+    turns = subst (λ (r : RowsFed). TurnsToFed last.is_kept last.rows r answer) (sym rows) end.turns;
+    status_is = inl refl;
+    kept = λ e. let never = sym e ∙ flag ∙ end.flag in absurd cc;
+    refused = λ e. absurd (not_refused answer e);
+    layout = layout_is;
   }
 
-  -- one more, that was written to memory behind the place
-  pub one_behind : (old now new : Feeding) (before memory part : List ℕ) (count place next : ℕ)
-      → HasGiven old now before memory count place → place ≤ length memory → GivesFed now new OK
-      → length part ≡ length (mid_of place (length memory - place) memory)
-      → IsWritten new (mid_of place (length memory - place) memory) part → place + step new ≡ next
-      → HasGiven old new before (put_mid place (length memory - place) memory part) (count + 1) next
-  one_behind old now new before memory part count place next so_far within gives same is behind =
-      subst (λ (n : ℕ). HasGiven old new before (put_mid place (length memory - place) memory part) (count + 1) n) behind
-      (one_more old now before memory count place
-      (record { feeding = new; memory = put_mid place (length memory - place) memory part }) so_far (record {
-        gives = gives;
-        before = before_stays place memory part within;
-        written = is_written_behind place memory part within (IsWritten new) same is;
-      }))
-
-  -- no place is left behind the last row
-  pub ends_full : (old now : Feeding) (before memory : List ℕ) (count place : ℕ) → HasGiven old now before memory count place
-      → 0 < count → length memory ≤ place → GivesRows IsWritten step need old now before memory count OK
-  ends_full old now before memory count place so_far some full = record {
-    given = so_far.given;
-    each = so_far.each;
-    count_is = so_far.count_is;
-    after_is = so_far.after_is;
-    some = λ _. some;
-    full = λ _ _. so_far.now_is;
-    kept = λ e. elim e [
-      | inl here ↦ absurd (omega (arith, here.1, so_far.place_is, full))
-      | inr f ↦ absurd (omega (arith, f))
-    ];
-    none = λ e. absurd (omega (arith, e));
-    ends = λ e. absurd (e refl);
+  gives_refused : RefusesOne final.refused final.refuses last new → GivesFed last left REFUSED
+  gives_refused end = record {
+    answer = Ok Fed.Row;
+    turns = subst (λ (r : RowsFed). TurnsToFed last.is_kept last.rows r (Ok Fed.Row)) (sym rows) end.turns;
+    status_is = inr (refl, refl);
+    kept = λ _. refl;
+    refused = λ _. flag ∙ end.flag;
+    layout = layout_is;
   }
+
+  -- the answer of a row doesn't occur
+  not_ok : (answer : Result Fed DecodeError) → is_fed_row answer ≡ false → status_of_fed answer ≢ OK
+  not_ok (Ok Fed.Row) none e = absurd cc
+  not_ok (Ok Fed.NeedsMore) none e = absurd (omega (arith, e))
+  not_ok (Ok Fed.End) none e = absurd (omega (arith, e))
+  not_ok (Err DecodeError.UnexpectedEof) none e = absurd (omega (arith, e))
+  not_ok (Err DecodeError.InvalidCode) none e = absurd (omega (arith, e))
+  not_ok (Err DecodeError.Overflow) none e = absurd (omega (arith, e))
+  not_ok (Err DecodeError.OutOfMemory) none e = absurd (omega (arith, e))
+  not_ok (Err DecodeError.Refused) none e = absurd (omega (arith, e))
+
+  status_kept : (count : ℕ) → (status_behind answer count true ≡ OK → 0 < count)
+      × (status_behind answer count true ≡ REFUSED → count ≡ 0)
+  status_kept zero = (λ e. absurd (omega (arith, e)), λ _. refl)
+  status_kept (suc count) = (λ _. omega arith, λ e. absurd (omega (arith, e)))
+
+  kept_ends : (count : ℕ) → status_behind answer count true ≢ OK → status_behind answer count true ≡ REFUSED
+  kept_ends zero other = refl
+  kept_ends (suc count) other = absurd (other refl)
+
+  pub gives_rows : (before after : List ℕ) (count status : ℕ) → count ≡ length passes.given
+      → AreWritten old (rows_given passes.given) before after
+      → (final.refused ≡ true → final.refuses (changes new.rows.ctx.held.reference)
+      → length after < need left (rows_given passes.given))
+      → status ≡ status_behind answer count left.is_kept → GivesRows AreWritten need old left before after count status
+  gives_rows before after count status many written room told = elim passes.ends [
+    | inl end ↦
+        let status_is : status ≡ status_of_fed answer =
+        told ∙ ap (status_behind answer count) (flag ∙ end.flag) in
+        record {
+          given = passes.given;
+          each = passes.each;
+          count_is = many;
+          written = written;
+          some = λ e. absurd (not_ok answer end.no_row (sym status_is ∙ e));
+          none = λ e. absurd (not_refused answer (sym status_is ∙ e));
+          kept = λ e. elim e [
+            | inl ok ↦ absurd (not_ok answer end.no_row (sym status_is ∙ ok))
+            | inr few ↦ absurd (not_refused answer (sym status_is ∙ few))
+          ];
+          ends = λ _. subst (GivesFed last left) (sym status_is) (gives_none end);
+        }
+    | inr end ↦
+        let status_is : status ≡ status_behind answer count true =
+        told ∙ ap (status_behind answer count) (flag ∙ end.flag) in
+        record {
+          given = passes.given;
+          each = passes.each;
+          count_is = many;
+          written = written;
+          some = λ e. (status_kept count).0 (sym status_is ∙ e);
+          none = λ e. (status_kept count).1 (sym status_is ∙ e);
+          kept = λ _. record { gives = gives_refused end; room = room end.flag end.row };
+          ends = λ other. subst (GivesFed last left)
+              (sym (status_is ∙ kept_ends count (λ e. other (status_is ∙ e)))) (gives_refused end);
+        }
+  ]

@@ -6,6 +6,6 @@ pub mod PackedMemory
 pub mod PackedTogether
 pub mod PointersHeld
 pub mod Reporting
-pub mod RowsStand
 pub mod SpreadRows
+pub mod StandingRows
 pub mod TakenRows

@@ -249,7 +249,7 @@ stand_where_laid layout columns (row ∷ rows) before after reaches have same fi
     }
 
 -- the room that n rows need
-room_for : (stride columns n size : ℕ) → n * stride + bytes_of_row columns ≤ size + stride → bytes_of_rows stride columns n ≤ size
+pub room_for : (stride columns n size : ℕ) → n * stride + bytes_of_row columns ≤ size + stride → bytes_of_rows stride columns n ≤ size
 room_for stride columns zero size le = omega arith
 room_for stride columns (suc n) size le = omega (arith, le, one_row_more n stride)
 

@@ -1,6 +1,6 @@
 -- Packed rows in the caller's memory.
 use Rattle.std.specs.Prelude.{ℕ, zero, suc, ◌+◌, ◌-◌, ◌*◌, ◌/◌, ◌%◌, ◌==◌, ◌||◌, Bool, false, List, [], ◌∷◌, ◌++◌}
-use Rattle.std.specs.Prelude.{length, map, take, drop, min, nat_le, nat_lt, if◌then◌else◌}
+use Rattle.std.specs.Prelude.{length, map, take, drop, max, min, nat_le, nat_lt, if◌then◌else◌}
 use Rattle.hayro_ccitt.specs.Bits.{Bits, bits_of}
 use Rattle.hayro_ccitt.specs.Rows.{Row, pixels}
 use Rattle.fax_encode.specs.Chosen.{filled_up}
@@ -22,6 +22,10 @@ layout_with columns stride black_is_0 = record {
 -- the layout of rows of this width that follow one another, with 1 for black
 abbrev pub together : ℕ → Layout
 together columns = record { stride = bytes_of_row columns; black_is_0 = false }
+
+-- the same layout, but rows without columns are a byte apart
+abbrev pub spaced : Layout → Layout
+spaced layout = record { stride = max layout.stride 1; black_is_0 = layout.black_is_0 }
 
 -- the bits of a packed row: its pixels from the left, and white ones up to a whole byte
 abbrev pub packed_row : Bool → Row → Bits

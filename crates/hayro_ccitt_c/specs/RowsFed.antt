@@ -1,19 +1,16 @@
 -- Rows that C reads from data in pieces.
 use Rattle.std.specs.Prelude.{◌≡◌, ◌<◌, ◌⊎◌, ◌↔◌, ◌+◌, ◌*◌, ◌^◌, ◌-◌, ℕ, Bool, true, false, List, [], length, None, Some, Result}
-use Rattle.std.specs.Prelude.{Ok, Err, ◌≢◌, ◌≤◌, ◌∷◌, take, drop, max}
+use Rattle.std.specs.Prelude.{Ok, Err}
 use Rattle.hayro_ccitt.specs.BitOrder.{BitOrder}
 use Rattle.hayro_ccitt.specs.DecodeError.{DecodeError}
 use Rattle.hayro_ccitt.specs.DecodeSettings.{DecodeSettings}
 use Rattle.hayro_ccitt.specs.Bits.{AreWholeBytes, Bits, bits_in}
 use Rattle.hayro_ccitt.specs.RowCursors.{Paused}
-use Rattle.hayro_ccitt.specs.Rows.{changes}
 use Rattle.hayro_ccitt.specs.RowFeeds.{Feeding as RowsFed, ComeNext, FeedsNext, HoldsMore, IsFeedOf, KeepsBits, fed_end}
 use Rattle.hayro_ccitt.specs.RowsRead.{ended}
 use Rattle.hayro_ccitt.specs.declared.row_feed.Fed.{Fed}
 use Rattle.hayro_ccitt.specs.declared.row_feed.Fed.TheVariants.{Row, NeedsMore, End}
-use Rattle.hayro_ccitt_c.specs.Listing.{listed_row}
-use Rattle.hayro_ccitt_c.specs.Packing.{bytes_of_row}
-use Rattle.hayro_ccitt_c.specs.RowsGiven.{IsCounted, IsPacked, status_of_row}
+use Rattle.hayro_ccitt_c.specs.RowsGiven.{status_of_row}
 use Rattle.hayro_ccitt_c.specs.declared.feeding.Feeding.{Feeding}
 use Rattle.hayro_ccitt_c.specs.declared.packed_rows.Layout.{Layout}
 use Rattle.hayro_ccitt_c.specs.declared.status.TheConstants.{OK, OVERFLOW, OUT_OF_MEMORY, REFUSED, NOT_TAKEN, NO_ROW, NEEDS_MORE}
@@ -110,83 +107,3 @@ pub record FinishesFeed (old new : Feeding) : Type 0 where
   pub reading : (whole : Bits) (tried : ℕ) → IsFeedOf whole tried old.rows
       → length whole ≡ old.rows.dropped + length old.rows.kept → IsFeedOf whole tried new.rows
   pub same : new ≡ record old { rows = record old.rows { finished = true } }
-
--- ---- As many rows as there is room for
-
--- A row that was given: the reading after it, and what the caller's memory contains then.
-pub record Given : Type 0 where
-  pub feeding : Feeding
-  pub memory : List ℕ
-
--- the reading after these rows, if it was this one before them
-abbrev pub feeding_after : Feeding → List Given → Feeding
-feeding_after old [] = old
-feeding_after old (next ∷ more) = feeding_after next.feeding more
-
--- what memory contains after them
-abbrev pub memory_after : List ℕ → List Given → List ℕ
-memory_after memory [] = memory
-memory_after memory (next ∷ more) = memory_after next.memory more
-
--- How rows are written: a row at the front of memory, how far behind its start the next one begins, and how much room it needs.
-module _ (IsWritten : Feeding → List ℕ → List ℕ → Type 0) (step need : Feeding → ℕ) where
-  -- where the next row begins after these
-  abbrev pub place_after : ℕ → List Given → ℕ
-  place_after place [] = place
-  place_after place (next ∷ more) = place_after (place + step next.feeding) more
-
-  -- A row is given as a call of one row gives it, and written at this place of memory. What is before it, and behind it, stays.
-  pub record GivesOne (place : ℕ) (old : Feeding) (memory : List ℕ) (next : Given) : Type 0 where
-    pub gives : GivesFed old next.feeding OK
-    pub before : take place next.memory ≡ take place memory
-    pub written : IsWritten next.feeding (drop place memory) (drop place next.memory)
-
-  -- So are these, one after another.
-  abbrev pub GivesEach : ℕ → Feeding → List ℕ → List Given → Type 0
-  GivesEach place old memory [] = Unit {0}
-  GivesEach place old memory (next ∷ more) =
-      GivesOne place old memory next × GivesEach (place + step next.feeding) next.feeding next.memory more
-
-  -- A row was kept since there is no room for it at this place of so much memory.
-  pub record KeepsRow (place size : ℕ) (old new : Feeding) : Type 0 where
-    pub gives : GivesFed old new REFUSED
-    pub room : size < place + need new
-
-  -- What a call leaves that gives rows, as many as there is room for. The status is `OK` if the next row would begin at the end
-  -- of memory or behind it, and isn't read, or if it needs more room than there is, and is kept. Else it is that of a call of one
-  -- row after these: such a call is refused only before the first.
-  pub record GivesRows (old new : Feeding) (before after : List ℕ) (count status : ℕ) : Type 0 where
-    pub given : List Given
-    pub each : GivesEach 0 old before given
-    pub count_is : count ≡ length given
-    pub after_is : after ≡ memory_after before given
-    pub some : status ≡ OK → 0 < count
-    pub full : status ≡ OK → length after ≤ place_after 0 given → new ≡ feeding_after old given
-    pub kept : (status ≡ OK) × (place_after 0 given < length after) ⊎ (status ≡ REFUSED)
-        → KeepsRow (place_after 0 given) (length after) (feeding_after old given) new
-    pub none : status ≡ REFUSED → count ≡ 0
-    pub ends : status ≢ OK → GivesFed (feeding_after old given) new status
-
--- Packed rows, each a stride behind the one before; rows without columns, which have no bytes, a byte behind.
-abbrev pub IsPackedRow : Feeding → List ℕ → List ℕ → Type 0
-IsPackedRow feeding before after = IsPacked feeding.layout.black_is_0 feeding.rows.ctx.held.settings.columns
-    feeding.rows.ctx.held.reference before after
-
-abbrev pub stride_of : Feeding → ℕ
-stride_of feeding = max feeding.layout.stride 1
-
-abbrev pub room_of_row : Feeding → ℕ
-room_of_row feeding = bytes_of_row feeding.rows.ctx.held.settings.columns
-
-abbrev pub PacksRows : Feeding → Feeding → List ℕ → List ℕ → ℕ → ℕ → Type 0
-PacksRows = GivesRows IsPackedRow stride_of room_of_row
-
--- Lists of rows, one after another: of each the number of its changes, and then the changes.
-abbrev pub IsCountedRow : Feeding → List ℕ → List ℕ → Type 0
-IsCountedRow feeding before after = IsCounted feeding.rows.ctx.held.reference before after
-
-abbrev pub room_of_list : Feeding → ℕ
-room_of_list feeding = length (listed_row (changes feeding.rows.ctx.held.reference))
-
-abbrev pub ListsRows : Feeding → Feeding → List ℕ → List ℕ → ℕ → ℕ → Type 0
-ListsRows = GivesRows IsCountedRow room_of_list room_of_list

@@ -10,7 +10,6 @@ use Rattle.hayro_ccitt.specs.Bits.{Bits, bits_in, bits_of}
 use Rattle.hayro_ccitt.specs.RowCursors.{Paused, IsReadingOf, rows_over}
 use Rattle.hayro_ccitt.specs.Rows.{Row, changes}
 use Rattle.hayro_ccitt.specs.RowsRead.{ReadsNext, at_end_of_rows, ended}
-use Rattle.hayro_ccitt_c.specs.Listing.{listed_row}
 use Rattle.hayro_ccitt_c.specs.Packing.{bytes_of_row, packed_row}
 use Rattle.hayro_ccitt_c.specs.declared.reading.Reading.{Reading}
 use Rattle.hayro_ccitt_c.specs.declared.row_outcome.RowOutcome.{RowOutcome}
@@ -60,12 +59,6 @@ pub record IsListed (row : Row) (before after : List ℕ) : Type 0 where
   pub room : length (changes row) ≤ length after
   pub row_is : take (length (changes row)) after ≡ changes row
   pub rest : drop (length (changes row)) after ≡ drop (length (changes row)) before
-
--- so are their number and they
-pub record IsCounted (row : Row) (before after : List ℕ) : Type 0 where
-  pub room : length (listed_row (changes row)) ≤ length after
-  pub row_is : take (length (listed_row (changes row))) after ≡ listed_row (changes row)
-  pub rest : drop (length (listed_row (changes row))) after ≡ drop (length (listed_row (changes row))) before
 
 -- a packed row is at the front of the caller's memory, and what follows it is unchanged
 pub record IsPacked (black_is_0 : Bool) (columns : ℕ) (row : Row) (before after : List ℕ) : Type 0 where

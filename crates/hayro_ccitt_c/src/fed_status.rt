@@ -1,6 +1,7 @@
 //! What a call says that reads a row of data in pieces.
 
-ghost use Rattle.std.specs.Prelude.{◌≡◌, ◌≢◌, ◌<◌, false};
+ghost use Rattle.std.specs.Prelude.{◌≡◌, ◌≢◌, false};
+ghost use Rattle.hayro_ccitt_c.specs.GivenRows.{status_behind};
 ghost use Rattle.hayro_ccitt_c.specs.RowsFed.{is_fed_row, status_of_fed};
 ghost use Rattle.hayro_ccitt_c.specs.declared.status.TheConstants.{OK, REFUSED};
 
@@ -29,15 +30,15 @@ pub(crate) fn status_of_fed(answer: Result<Fed>) -> u32
     }
 }
 
-/// Returns the status of the last call of one row after this number of rows: a row that is kept then is `OK`.
-pub(crate) fn status_behind(status: u32, count: usize) -> u32
-    ensures other { status ≢ REFUSED → result ≡ status }
-    ensures first { count ≡ 0 → result ≡ status }
-    ensures kept { status ≡ REFUSED → 0 < count → result ≡ OK }
+/// Returns the status of a call that comes to this behind this number of rows, or keeps a row.
+pub(crate) fn status_behind(answer: Result<Fed>, count: usize, is_kept: bool) -> u32
+    ensures { result ≡ status_behind answer count is_kept }
 {
-    if status == status::REFUSED && count > 0 {
+    if !is_kept {
+        status_of_fed(answer)
+    } else if count > 0 {
         status::OK
     } else {
-        status
+        status::REFUSED
     }
 }

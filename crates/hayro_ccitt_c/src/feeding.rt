@@ -4,12 +4,13 @@ ghost use Rattle.std.specs.Prelude.{◌≤◌};
 ghost use Rattle.hayro_ccitt_c.specs.Packing.{bytes_of_row};
 
 use crate::fed_status::{is_fed_row, status_behind, status_of_fed};
-use crate::packed_rows::Layout;
+use crate::listed_rows::ListedRows;
+use crate::packed_rows::{Layout, PackedRows, spaced};
 use crate::row_outcome::{RowOutcome, damage_told, miss_told};
-use crate::row_room::{count_over, list_over, pack_over};
+use crate::row_room::{list_over, pack_over};
 use crate::status;
 use hayro_ccitt::bit_reader::BitOrder;
-use hayro_ccitt::{DecodeError, DecodeSettings, Fed, Result, RowFeed};
+use hayro_ccitt::{DecodeError, DecodeSettings, Decoder, Fed, Result, RowFeed};
 use std::alloc::Global;
 
 /// What a handle owns: a reading, whether its last row is still to be returned, and the layout of packed rows.
@@ -28,8 +29,8 @@ impl Feeding {
     ghost use Rattle.hayro_ccitt_c.specs.Encoding.{AreEncoded, HaveNoRoom};
     ghost use Rattle.hayro_ccitt_c.specs.Packing.{bytes_of_row};
     ghost use Rattle.hayro_ccitt_c.specs.RowsFed.{FinishesFeed, GivesFed, IsFeedOpened, TakesBytes, TurnsToFed, as_paused};
-    ghost use Rattle.hayro_ccitt_c.specs.RowsFed.{ListsRows, PacksRows, is_fed_row, room_of_list, status_of_fed};
-    ghost use Rattle.hayro_ccitt_c.specs.RowsGiven.{IsCounted, IsListed, IsPacked, TellsOf};
+    ghost use Rattle.hayro_ccitt_c.specs.GivenRows.{ListsRows, PacksRows, PassesAll};
+    ghost use Rattle.hayro_ccitt_c.specs.RowsGiven.{IsListed, IsPacked, TellsOf};
     ghost use Rattle.hayro_ccitt_c.specs.declared.status.TheConstants.{OK, REFUSED};
 
     /// Creates a reading to which nothing was fed. Its only error is `OutOfMemory`.
@@ -99,22 +100,6 @@ impl Feeding {
         has_room
     }
 
-    /// Writes the number of the last row's changes and then the changes, or keeps it if there is no room for it. Returns whether
-    /// there was.
-    fn count_row(&mut self, list: &mut [u32]) -> bool
-        ensures counted { result ≡ true → IsCounted self.old.rows.ctx.held.reference list.old list.new }
-        ensures refused { result ≡ false → length list.new < room_of_list self.old }
-        ensures unwritten { result ≡ false → list.new ≡ list.old }
-        ensures rows { self.new.rows ≡ self.old.rows }
-        ensures layout { self.new.layout ≡ self.old.layout }
-        ensures kept { self.new.is_kept ≡ not result }
-    {
-        let columns = self.rows.settings().columns;
-        let has_room = count_over(list, columns, self.rows.row());
-        self.is_kept = !has_room;
-        has_room
-    }
-
     /// Writes the last row packed, or keeps it if there is no room for it. Returns whether there was.
     fn pack_row(&mut self, bytes: &mut [u8]) -> bool
         ensures packed { result ≡ true → IsPacked self.old.layout.black_is_0 self.old.rows.ctx.held.settings.columns
@@ -168,61 +153,48 @@ impl Feeding {
         }
     }
 
-    /// Writes the number of the next row's changes and then the changes, and returns the status.
-    fn count_next(&mut self, list: &mut [u32]) -> u32
-        ensures gives { GivesFed self.old self.new result }
-        ensures counted { result ≡ OK → IsCounted self.new.rows.ctx.held.reference list.old list.new }
-        ensures refused { result ≡ REFUSED → length list.new < room_of_list self.new }
-        ensures unwritten { result ≢ OK → list.new ≡ list.old }
+    /// Passes the next rows to a sink of their width, first the one that was kept. None is kept.
+    fn push_all<D: Decoder>(&mut self, sink: &mut D) -> Result<Fed>
+        requires width { D.width sink.old ≡ self.old.rows.ctx.held.settings.columns }
+        requires unrefused { D.has_refused sink.old ≡ false }
+        ensures width { D.width sink.new ≡ D.width sink.old }
+        ensures passes { PassesAll (D.step (D.width sink.old))
+            (record { meaning = D.meaning sink.old; refused = D.has_refused sink.old; refuses = D.refuses sink.old })
+            (record { meaning = D.meaning sink.new; refused = D.has_refused sink.new; refuses = D.refuses sink.new })
+            self.old self.new result }
     {
-        let answer = self.come_to_row();
-        if !is_fed_row(answer) {
-            return status_of_fed(answer);
+        if !self.is_kept {
+            return self.rows.push_rows(sink);
         }
-        if self.count_row(list) {
-            status::OK
-        } else {
-            status::REFUSED
+        self.is_kept = false;
+        if let Err(refusal) = sink.push_row(self.rows.row()) {
+            return Err(refusal);
         }
+        self.rows.push_rows(sink)
     }
 
     /// Packs the next rows, as many as there is room for, each a stride behind the one before. `count` is how many.
     pub(crate) fn pack_rows(&mut self, bytes: &mut [u8], count: &mut usize) -> u32
         ensures { PacksRows self.old self.new bytes.old bytes.new count.new result }
     {
-        let step = self.layout.stride.max(1) as usize;
-        let mut start = 0;
-        *count = 0;
-        loop {
-            let status = self.pack_next(&mut bytes[start..]);
-            if status != status::OK {
-                return status_behind(status, *count);
-            }
-            *count += 1;
-            if bytes.len() - start <= step {
-                return status::OK;
-            }
-            start += step;
-        }
+        let columns = self.rows.settings().columns;
+        let mut sink = PackedRows::new(bytes, columns, spaced(self.layout));
+        let answer = self.push_all(&mut sink);
+        *count = sink.rows();
+        self.is_kept = sink.has_refused();
+        status_behind(answer, *count, self.is_kept)
     }
 
     /// Lists the next rows, as many as there is room for. `count` is how many.
     pub(crate) fn list_rows(&mut self, lists: &mut [u32], count: &mut usize) -> u32
         ensures { ListsRows self.old self.new lists.old lists.new count.new result }
     {
-        let mut start = 0;
-        *count = 0;
-        loop {
-            let status = self.count_next(&mut lists[start..]);
-            if status != status::OK {
-                return status_behind(status, *count);
-            }
-            *count += 1;
-            start += 1 + self.rows.row().len();
-            if start == lists.len() {
-                return status::OK;
-            }
-        }
+        let columns = self.rows.settings().columns;
+        let mut sink = ListedRows::new(lists, columns);
+        let answer = self.push_all(&mut sink);
+        *count = sink.rows();
+        self.is_kept = sink.has_refused();
+        status_behind(answer, *count, self.is_kept)
     }
 
     /// Writes the bytes that were fed and aren't consumed if there is room for them, and returns the status. `count` is how many

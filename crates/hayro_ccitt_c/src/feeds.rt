@@ -6,7 +6,8 @@ ghost use Rattle.hayro_ccitt.specs.Rows.{changes};
 ghost use Rattle.hayro_ccitt_c.specs.Encoding.{AreEncoded, HaveNoRoom};
 ghost use Rattle.hayro_ccitt_c.specs.Owned.{OnFeeding, OnFeedings};
 ghost use Rattle.hayro_ccitt_c.specs.Packing.{bytes_of_row};
-ghost use Rattle.hayro_ccitt_c.specs.RowsFed.{FinishesFeed, GivesFed, IsFeedOpened, ListsRows, PacksRows, TakesBytes, as_paused};
+ghost use Rattle.hayro_ccitt_c.specs.RowsFed.{FinishesFeed, GivesFed, IsFeedOpened, TakesBytes, as_paused};
+ghost use Rattle.hayro_ccitt_c.specs.GivenRows.{ListsRows, PacksRows};
 ghost use Rattle.hayro_ccitt_c.specs.RowsGiven.{IsListed, IsPacked, TellsOf, told_nothing};
 ghost use Rattle.hayro_ccitt_c.specs.Settings.{layout_of, order_of, settings_of};
 ghost use Rattle.hayro_ccitt_c.specs.declared.status.TheConstants.{OK, OUT_OF_MEMORY, REFUSED, NOT_TAKEN};
@@ -169,9 +170,9 @@ fn nothing_given(count: &mut usize, outcome: &mut RowOutcome) -> u32
 /// Reads the next rows, as many as there is room for, and packs them into `bitmap`, each as [`hayro_ccitt_feed_next_packed`] does,
 /// and each a stride behind the one before. `count` is how many. The bytes between them, and after the last one, keep their values.
 ///
-/// `OK` says that there is no room for one more. The other statuses are those of [`hayro_ccitt_feed_next_packed`] after these
-/// rows: of them `REFUSED` says that there is no room for the first. `outcome` describes the last row that was read: if a
-/// stride is left of the bitmap, but not the bytes of a row, it is one that the next call gives.
+/// `OK` says that there is no room for one more, which was read: the next call gives it first. The other statuses are those of
+/// [`hayro_ccitt_feed_next_packed`] after these rows: of them `REFUSED` says that there is no room for the first. `outcome`
+/// describes the last row that was read.
 #[unsafe(no_mangle)]
 pub extern "C" fn hayro_ccitt_feed_rows_packed(
     alloc: Global,
@@ -200,9 +201,9 @@ pub extern "C" fn hayro_ccitt_feed_rows_packed(
 /// Reads the next rows, as many as there is room for, and lists them in `lists`, one after another: of each row the number of its
 /// changes, and then the changes. `count` is how many. The numbers after the last row keep their values.
 ///
-/// `OK` says that there is no room for one more. The other statuses are those of [`hayro_ccitt_feed_next_changes`] after these
-/// rows: of them `REFUSED` says that there is no room for the first. `outcome` describes the last row that was read: if numbers
-/// are left behind the last one in `lists`, it is one that the next call gives.
+/// `OK` says that there is no room for one more, which was read: the next call gives it first. The other statuses are those of
+/// [`hayro_ccitt_feed_next_changes`] after these rows: of them `REFUSED` says that there is no room for the first. `outcome`
+/// describes the last row that was read.
 #[unsafe(no_mangle)]
 pub extern "C" fn hayro_ccitt_feed_rows_changes(
     alloc: Global,

@@ -31,7 +31,6 @@ mod feed_handle;
 mod feeding;
 mod feeds;
 mod handle;
-mod laws;
 mod listed_rows;
 mod owned;
 mod owned_feeding;

@@ -1,6 +1,6 @@
 //! A sink that lists changes in the caller's memory.
 
-ghost use Rattle.std.specs.Prelude.{◌≡◌, ◌+◌, ◌<◌, ◌≤◌, true, length};
+ghost use Rattle.std.specs.Prelude.{◌≡◌, ◌+◌, ◌^◌, ◌<◌, ◌≤◌, true, length};
 
 use crate::change_count::counted;
 use hayro_ccitt::{DecodeError, Decoder};
@@ -45,6 +45,22 @@ impl<'a> ListedRows<'a> {
         ensures { result ≡ self.now.changes }
     {
         self.changes
+    }
+
+    /// Returns the number of the rows so far: each is a number and its changes.
+    pub(crate) fn rows(&self) -> usize
+        requires { self.now.changes ≤ self.now.end }
+        ensures rows { result + self.now.changes ≡ self.now.end }
+        ensures few { self.now.end < 2 ^ 64 }
+    {
+        self.end - self.changes as usize
+    }
+
+    /// Returns whether a row was refused.
+    pub(crate) fn has_refused(&self) -> bool
+        ensures { result ≡ self.now.has_refused }
+    {
+        self.has_refused
     }
 }
 

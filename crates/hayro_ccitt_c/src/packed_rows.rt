@@ -4,7 +4,7 @@ ghost use Rattle.std.specs.Prelude.{◌≡◌, ◌+◌, ◌/◌, ◌<◌, ◌≤
 ghost use Rattle.hayro_ccitt.specs.BitOrder.TheVariants.{HighestFirst};
 ghost use Rattle.hayro_ccitt.specs.Bits.{bits_of, bits_of_byte};
 ghost use Rattle.hayro_ccitt.specs.Rows.{AreChanges, pixels};
-ghost use Rattle.hayro_ccitt_c.specs.Packing.{packed_row};
+ghost use Rattle.hayro_ccitt_c.specs.Packing.{packed_row, spaced};
 
 use crate::change_count::counted;
 use fax_encode::paint_row;
@@ -17,6 +17,16 @@ pub struct Layout {
     pub stride: u32,
     /// Whether 0 stands for black, and 1 for white.
     pub black_is_0: bool,
+}
+
+/// Returns the same layout, but rows without columns are a byte apart.
+pub(crate) fn spaced(layout: Layout) -> Layout
+    ensures { result ≡ spaced layout }
+{
+    Layout {
+        stride: layout.stride.max(1),
+        black_is_0: layout.black_is_0,
+    }
 }
 
 /// Returns a byte with all bits inverted.
@@ -110,6 +120,21 @@ impl<'a> PackedRows<'a> {
         ensures { result ≡ self.now.changes }
     {
         self.changes
+    }
+
+    /// Returns the number of the rows so far.
+    pub(crate) fn rows(&self) -> usize
+        requires { 0 < self.now.layout.stride }
+        ensures { result ≡ self.now.start / self.now.layout.stride }
+    {
+        self.start / self.layout.stride as usize
+    }
+
+    /// Returns whether a row was refused.
+    pub(crate) fn has_refused(&self) -> bool
+        ensures { result ≡ self.now.has_refused }
+    {
+        self.has_refused
     }
 }
 

@@ -3,8 +3,7 @@
 ghost use Rattle.std.specs.Prelude.{◌≡◌, ◌<◌, length, false, true};
 ghost use Rattle.hayro_ccitt.specs.Rows.{AreChanges, Row, changes};
 ghost use Rattle.hayro_ccitt_c.specs.Packing.{bytes_of_row};
-ghost use Rattle.hayro_ccitt_c.specs.Listing.{listed_row};
-ghost use Rattle.hayro_ccitt_c.specs.RowsGiven.{IsCounted, IsListed, IsPacked};
+ghost use Rattle.hayro_ccitt_c.specs.RowsGiven.{IsListed, IsPacked};
 
 use crate::packed_rows::pack_row;
 
@@ -18,23 +17,6 @@ pub(crate) fn list_over(list: &mut [u32], row: &[u32]) -> bool
     let has_room = count <= list.len();
     if has_room {
         list[..count].copy_from_slice(row);
-    }
-    has_room
-}
-
-/// Writes the number of the changes of a row of a width and then the changes, if there is room for them. Returns whether there
-/// was.
-pub(crate) fn count_over(list: &mut [u32], _columns: u32, row: &[u32]) -> bool
-    requires changes { AreChanges _columns row.now }
-    ensures counted { result ≡ true → (whole : Row) → row.now ≡ changes whole → IsCounted whole list.old list.new }
-    ensures refused { result ≡ false → length list.new < length (listed_row row.now) }
-    ensures unwritten { result ≡ false → list.new ≡ list.old }
-{
-    let count = row.len();
-    let has_room = count < list.len();
-    if has_room {
-        list[0] = count as u32;
-        list[1..1 + count].copy_from_slice(row);
     }
     has_room
 }

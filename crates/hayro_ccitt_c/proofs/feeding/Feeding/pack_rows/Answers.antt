@@ -1,46 +1,112 @@
-use Rattle.std.proofs.Common.{◌≡◌, ◌+◌, inl, ap, sym, subst, ◌∙◌, arith, max}
-use Rattle.hayro_ccitt_c.specs.RowsFed.{GivesFed, IsPackedRow, room_of_row, stride_of}
+use Rattle.std.proofs.Common.{◌≡◌, ◌∙◌, ◌≤◌, ◌<◌, ◌+◌, ◌*◌, ◌/◌, ℕ, All, Fits, w8, List, get_or, length, refl, sym, ap, subst, arith, rules}
+use Rattle.std.proofs.Common.{true}
+use Rattle.hayro_ccitt.specs.Answers.{meaning_after}
+use Rattle.hayro_ccitt.specs.DecodeSettings.{DecodeSettings}
+use Rattle.hayro_ccitt.specs.Rows.{HaveWidth, Row}
+use Rattle.hayro_ccitt_c.specs.GivenRows.{ArePackedRows, StandPacked, columns_of, room_of_packed, rows_given}
+use Rattle.hayro_ccitt_c.specs.Packing.{Packing, bytes_of_row, spaced, with_packed}
 use Rattle.hayro_ccitt_c.specs.declared.packed_rows.Layout.{Layout}
-use Rattle.hayro_ccitt_c.specs.declared.status.TheConstants.{OK}
-use Rattle.hayro_ccitt_c.proofs.FedRows.{ends_full, one_behind}
+use Rattle.hayro_ccitt_c.proofs.FedRows.{gives_rows}
+use Rattle.hayro_ccitt_c.proofs.PackedMemory.{all_fit, packing_of, same_meaning}
+use Rattle.hayro_ccitt_c.proofs.StandingRows.{as_many, rows_before, same_layout, same_memory, stand_packed, start_of_next}
+use Rattle.hayro_ccitt_c.proofs.feeding.Feeding.pack_rows.Goals.{After-push_all-answer}
 use Rattle.hayro_ccitt_c.proofs.feeding.Feeding.pack_rows.Goals as goal
 
-pub returns-then-bytes-start : goal.returns-then-bytes-start
-returns-then-bytes-start c =
-    let old = c.args.self.now in
-    let now = c.loop-step.self in
-    let new = c.pack_next-status.new.self in
-    let gives : GivesFed now new OK =
-    subst (λ n. GivesFed now new n) c.if-status-ne-OK.false c.pack_next-status.ensures.gives in
-    let layout : new.layout ≡ old.layout = gives.layout ∙ c.loop-step.invariant.layout in
-    let step : stride_of new ≡ c.max-step.result =
-    ap (λ (l : Layout). max l.stride 1) layout ∙ sym c.loop-step.invariant.step in
-    let more = one_behind IsPackedRow stride_of room_of_row old now new c.args.bytes.now c.loop-step.bytes
-    c.pack_next-status.new.bytes c.loop-step.count c.loop-step.start (c.loop-step.start + c.max-step.result)
-    c.loop-step.invariant.so_far c.loop-step.invariant.within gives c.pack_next-status.auto.bytes
-    (c.pack_next-status.ensures.packed c.if-status-ne-OK.false) (omega (arith, step)) in
-    ends_full IsPackedRow stride_of room_of_row old new c.args.bytes.now _ (c.loop-step.count + 1)
-    (c.loop-step.start + c.max-step.result) more (omega arith) (omega (arith, c.if-bytes-start.true))
+module _ (c : After-push_all-answer) where
+  abbrev rows : List Row
+  rows = rows_given c.push_all-answer.ensures.passes.given
 
-pub loop-step-preserved : goal.loop-step-preserved
-loop-step-preserved c =
-    let old = c.args.self.now in
-    let now = c.loop-step.self in
-    let new = c.pack_next-status.new.self in
-    let gives : GivesFed now new OK =
-    subst (λ n. GivesFed now new n) c.if-status-ne-OK.false c.pack_next-status.ensures.gives in
-    let layout : new.layout ≡ old.layout = gives.layout ∙ c.loop-step.invariant.layout in
-    let step : stride_of new ≡ c.max-step.result =
-    ap (λ (l : Layout). max l.stride 1) layout ∙ sym c.loop-step.invariant.step in
-    let more = one_behind IsPackedRow stride_of room_of_row old now new c.args.bytes.now c.loop-step.bytes
-    c.pack_next-status.new.bytes c.loop-step.count c.loop-step.start (c.loop-step.start + c.max-step.result)
-    c.loop-step.invariant.so_far c.loop-step.invariant.within gives c.pack_next-status.auto.bytes
-    (c.pack_next-status.ensures.packed c.if-status-ne-OK.false) (omega (arith, step)) in
-    record {
-      so_far = more;
-      within = omega (arith, c.if-bytes-start.false);
-      more = inl (omega (arith, c.if-bytes-start.false));
-      counts = omega (arith, c.loop-step.invariant.counts, c.loop-step.invariant.step);
-      layout = layout;
-      step = c.loop-step.invariant.step;
-    }
+  abbrev layout : Layout
+  layout = spaced c.args.self.now.layout
+
+  columns : c.new-sink.result.columns ≡ columns_of c.args.self.now
+  columns = c.new-sink.ensures.columns ∙ ap (λ (s : DecodeSettings). s.columns) c.settings-columns.ensures
+
+  wide : HaveWidth c.new-sink.result.columns rows
+  wide = subst (λ (n : ℕ). HaveWidth n rows) (sym columns) c.push_all-answer.ensures.passes.wide
+
+  laid_out : c.new-sink.result.layout ≡ layout
+  laid_out = c.new-sink.ensures.layout ∙ c.spaced.ensures
+
+  -- what the sink means after these rows
+  meaning : packing_of c.push_all-answer.new.sink.layout c.push_all-answer.new.sink.start c.push_all-answer.new.sink.bitmap.now
+      c.push_all-answer.new.sink.changes c.push_all-answer.new.sink.bitmap.ghost_name
+      ≡ meaning_after (with_packed c.new-sink.result.columns)
+      (packing_of layout 0 c.args.bytes.now 0 c.new-sink.result.bitmap.ghost_name) rows
+  meaning =
+      c.push_all-answer.ensures.passes.meaning ∙ ap (λ (before : Packing). meaning_after
+      (with_packed c.new-sink.result.columns) before rows)
+      (same_meaning c.new-sink.result.layout layout c.new-sink.result.start 0 c.new-sink.result.bitmap.now c.args.bytes.now
+      c.new-sink.result.changes 0 c.new-sink.result.bitmap.ghost_name laid_out c.new-sink.ensures.start
+      c.new-sink.ensures.bytes c.new-sink.ensures.changes)
+
+  same : c.new-sink.result.bitmap.ghost_name ≡ c.push_all-answer.new.sink.bitmap.ghost_name
+  same = same_memory layout c.push_all-answer.new.sink.layout c.new-sink.result.columns c.push_all-answer.new.sink.start _ _
+      c.push_all-answer.new.sink.changes rows c.args.bytes.now c.push_all-answer.new.sink.bitmap.now wide meaning
+
+  start_is : c.push_all-answer.new.sink.start ≡ length rows * layout.stride
+  start_is = start_of_next layout c.push_all-answer.new.sink.layout c.new-sink.result.columns c.push_all-answer.new.sink.start _ _
+      c.push_all-answer.new.sink.changes rows c.args.bytes.now c.push_all-answer.new.sink.bitmap.now wide meaning
+
+  layout_is : c.push_all-answer.new.sink.layout ≡ layout
+  layout_is = same_layout layout c.push_all-answer.new.sink.layout c.new-sink.result.columns c.push_all-answer.new.sink.start _ _
+      c.push_all-answer.new.sink.changes rows c.args.bytes.now c.push_all-answer.new.sink.bitmap.now wide meaning
+
+  some : 0 < layout.stride
+  some = omega arith
+
+  some_apart : 0 < c.push_all-answer.new.sink.layout.stride
+  some_apart = subst (λ (l : Layout). 0 < l.stride) (sym layout_is) some
+
+  count_is : c.push_all-answer.new.sink.start / c.push_all-answer.new.sink.layout.stride
+      ≡ length c.push_all-answer.ensures.passes.given
+  count_is =
+      ap (λ (l : Layout). c.push_all-answer.new.sink.start / l.stride) layout_is
+      ∙ ap (λ (n : ℕ). n / layout.stride) start_is ∙ rows_before (length rows) layout.stride some
+      ∙ as_many c.push_all-answer.ensures.passes.given
+
+  reaches : bytes_of_row c.new-sink.result.columns ≤ layout.stride
+  reaches = subst (λ (l : Layout). bytes_of_row c.new-sink.result.columns ≤ l.stride) laid_out c.new-sink.result.reaches
+
+  room : c.push_all-answer.new.sink.start + bytes_of_row c.new-sink.result.columns
+      ≤ length c.push_all-answer.new.sink.bitmap.now + c.push_all-answer.new.sink.layout.stride
+  room = subst (λ (n : ℕ). c.push_all-answer.new.sink.start + bytes_of_row n
+      ≤ length c.push_all-answer.new.sink.bitmap.now + c.push_all-answer.new.sink.layout.stride) c.push_all-answer.ensures.width
+      c.push_all-answer.new.sink.within
+
+  written : All (λ byte. byte < 256) c.push_all-answer.new.sink.bitmap.now
+      → ArePackedRows c.args.self.now rows c.args.bytes.now c.push_all-answer.new.sink.bitmap.now
+  written fit = subst (λ (n : ℕ). StandPacked layout n rows c.args.bytes.now c.push_all-answer.new.sink.bitmap.now) columns
+      (stand_packed layout c.push_all-answer.new.sink.layout c.new-sink.result.columns c.push_all-answer.new.sink.start _ _
+      c.push_all-answer.new.sink.changes rows c.args.bytes.now c.push_all-answer.new.sink.bitmap.now wide meaning reaches room
+      c.new-sink.ensures.are_bytes fit)
+
+  few : c.push_all-answer.new.sink.has_refused ≡ true
+      → length c.push_all-answer.new.sink.bitmap.now < room_of_packed c.push_all-answer.new.self rows
+  few full =
+      let width : c.push_all-answer.new.sink.columns ≡ columns_of c.push_all-answer.new.self =
+      c.push_all-answer.ensures.width ∙ columns ∙ sym c.push_all-answer.ensures.passes.columns in
+      let place : c.push_all-answer.new.sink.start ≡ length rows * (spaced c.push_all-answer.new.self.layout).stride =
+      start_is ∙ ap (λ (l : Layout). length rows * (spaced l).stride) (sym c.push_all-answer.ensures.passes.layout.0) in
+      let bytes : (c.push_all-answer.new.sink.columns + 7) / 8 ≡ bytes_of_row (columns_of c.push_all-answer.new.self) =
+      ap bytes_of_row width in
+      omega (arith, place, bytes, c.push_all-answer.new.sink.full full)
+
+-- what holds of bytes holds of memory
+on_bytes : (P : List ℕ → Type 0) (memory : List ℕ) → (All (λ byte. byte < 256) memory → P memory)
+    → ((k : ℕ) → Fits w8 (get_or memory k 0)) → P memory
+on_bytes P memory holds fits = holds (all_fit memory fits)
+
+pub rows-requires : goal.rows-requires
+rows-requires c = some_apart (goal.at.rows-requires c).After-push_all-answer
+
+pub returns : goal.returns
+returns c =
+    let here = (goal.at.returns c).After-push_all-answer in
+    let are = written here in
+    let full = few here in
+    let name = sym c.new-sink.ensures.same_reference ∙ same here in
+    gives_rows ArePackedRows room_of_packed c.push_all-answer.ensures.passes _ refl c.has_refused-self.ensures refl
+    c.args.bytes.now _ c.rows.result c.status_behind.result (c.rows.ensures ∙ count_is here)
+    (on_bytes (λ (m : List ℕ). ArePackedRows c.args.self.now (rows here) c.args.bytes.now m) _ (search rules) c.type_inv.bytes)
+    (λ refused _. search rules) c.status_behind.ensures
