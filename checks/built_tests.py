@@ -28,6 +28,7 @@ NAMED = {
     "decoder_tests": {
         "tests::refused_memory::calls_without_memory": (1, 0),
         "tests::refused_memory::contexts_without_memory": (1, 0),
+        "tests::refused_memory::pushed_rows_without_memory": (8, 6),
         "tests::refused_memory::reach_without_memory": (1, 0),
         "tests::refused_memory::refused_bodies": (2, 1),
         "tests::refused_memory::refused_growths_of_a_row": (8, 7),

@@ -1,6 +1,6 @@
 -- What holds of an error by its kind.
 use Rattle.fax_bits.proofs.Names.{◌≡◌, refl, DecodeError, UnexpectedEof, InvalidCode, Overflow, OutOfMemory, Refused}
-use Rattle.fax_bits.proofs.Names.{ByKind, ErrorKind, IsFault, kind_of}
+use Rattle.fax_bits.proofs.Names.{ByKind, ErrorKind, IsFault}
 
 -- what holds of each fault of the data, of an allocation failure and of a refusal holds of every error
 pub by_kind : (P : DecodeError → Type 0) → ((e : DecodeError) → IsFault e → P e) → P OutOfMemory → P Refused

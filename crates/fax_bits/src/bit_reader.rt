@@ -1,7 +1,8 @@
 //! The bits of a slice of bytes, read from the start.
 
 ghost use Rattle.std.specs.Prelude.{◌≡◌, ◌+◌, ◌-◌, ◌*◌, ◌/◌, ◌%◌, ◌^◌, ◌<◌, ◌≤◌, ◌==◌, ◌↔◌, ◌∷◌, ℕ, length, min, false};
-ghost use Rattle.std.specs.Prelude.{◌++◌, slice_get, slice_index, get_or, Some, IfSome, true, IfOk, OnOk, OnErr, IsErr, IsOkUnless};
+ghost use Rattle.std.specs.Prelude.{◌++◌, slice_get, slice_index, get_or, Some, IfSome, true, IfOk, OnOk, OnErr, IsErr};
+ghost use Rattle.std.specs.Prelude.{IsOkUnless};
 ghost use Rattle.fax_bits.specs.Bits.{AreWholeBytes, BitsAt, BitsFit, bits_of, low_first_bits_of, bits_in, bit_of, here};
 ghost use Rattle.fax_bits.specs.Bits.{at_end, aligned, low_bits};
 ghost use Rattle.fax_bits.specs.Window.{place_in_word, AtHand, moved};
@@ -486,7 +487,8 @@ pub fn pass_more_bits(reader: &mut BitReader<'_>, bits: u64, count: usize) -> bo
     ensures moved { result ≡ true → reader.new ≡ moved count reader.old }
     ensures unchanged { result ≡ false → reader.new ≡ reader.old }
 {
-    if reader.window >> (64 - count) != bits {
+    let others = 64 - count;
+    if reader.window >> others != bits {
         return false;
     }
     let place = reader.bit_pos();

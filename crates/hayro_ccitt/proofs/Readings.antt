@@ -2,6 +2,7 @@ pub mod BitsHeld
 pub mod BlackGoesOn
 pub mod FeedAccount
 pub mod FeedTurns
+pub mod FeedWhite
 pub mod FeedsOn
 pub mod FeedsPaid
 pub mod FirstGaps

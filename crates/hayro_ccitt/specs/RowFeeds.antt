@@ -22,8 +22,10 @@ use Rattle.hayro_ccitt.specs.GapsSeen.{IsSeen, nothing_seen, rules_for}
 use Rattle.hayro_ccitt.specs.declared.gap_look.GapLook.{GapLook}
 use Rattle.hayro_ccitt.specs.LineParts.{IsLawfulPart, IsPartOf}
 use Rattle.hayro_ccitt.specs.Lines.{Line}
-use Rattle.hayro_ccitt.specs.PlainReading.{line_here, lines_of, row_of_line}
+use Rattle.hayro_ccitt.specs.PlainReading.{limit_met, line_here, lines_of, row_of_line}
 use Rattle.hayro_ccitt.specs.Rows.{Row, changes}
+use Rattle.hayro_ccitt.specs.WhiteLines.{PassesLine}
+use Rattle.hayro_ccitt.specs.declared.white_lines.WhiteLines.{WhiteLines}
 use Rattle.hayro_ccitt.specs.RowsRead.{IsStanding, IsStandingAtLine, ReachesNextLine, ReadsNext, RowsRead, ended, is_at_line}
 use Rattle.hayro_ccitt.specs.RowsRead.{seen}
 use Rattle.hayro_ccitt.specs.RowsTried.{CanCome, IsLeft, TriesRow, no_memory}
@@ -339,6 +341,15 @@ pub record TriesLine (is_last : Bool) (line_start : ℕ) (rows kept : RowState) 
   pub stands : (from : ℕ) (whole : Bits) (dropped : ℕ) → (IsLeft answer → ⊥) → LieIn whole dropped is_last before.bits
       → line_start ≡ dropped + before.place → IsStandingAtLine from rows old (record { bits = whole; place = line_start })
       → IsStanding from kept new (record { bits = whole; place = dropped + after.place })
+
+-- a white row is read by its bits, with the EOL before it, from this offset of the data on (T.4, 4.1.2; T.6, 2.2)
+pub record TakesWhite (lines : WhiteLines) (start : ℕ) (rows kept : RowState) (old new : Context) (before after : BitsAt)
+    : Type 0 where
+  pub unmet : limit_met old.held.settings old.held.taken ≡ false
+  pub room : old.held.taken + 1 < 2 ^ 64
+  pub passes : PassesLine lines before after
+  pub kept_is : kept ≡ record { started_at = start + lines.gap; damage = None; cut = false; missed = None; stand = BehindRow }
+  pub new_is : new ≡ record old { held = record old.held { taken = old.held.taken + 1 }; ticks = old.ticks + 2 }
 
 abbrev pub some_line : Result Bool DecodeError → Result (Option Bool) DecodeError
 some_line (Ok line) = Ok (Some line)

@@ -1,6 +1,6 @@
 -- White lines below a white row, by their bits. This is not part of the trusted specification: no contract of a public call cites
 -- it.
-use Rattle.std.specs.Prelude.{◌≡◌, ◌≤◌, ◌<◌, ◌+◌, ◌^◌, ◌++◌, ◌&&◌, ℕ, Bool, true, false, not, [], drop, length, None, if◌then◌else◌, ◌⊎◌}
+use Rattle.std.specs.Prelude.{◌≡◌, ◌≤◌, ◌<◌, ◌+◌, ◌^◌, ◌++◌, ◌&&◌, ℕ, Bool, true, false, not, [], drop, length, None, ◌⊎◌}
 use Rattle.fax_bits.specs.declared.codes.Color.TheVariants.{White}
 use Rattle.fax_bits.specs.declared.settings.DecodeSettings.{DecodeSettings}
 use Rattle.fax_bits.specs.declared.settings.EncodingMode.{EncodingMode}
@@ -21,13 +21,13 @@ abbrev pub bits_of_word : CodeWord → Bits
 bits_of_word word = low_bits word.count word.bits
 
 -- a word that fits in its bits
-pub record IsWhole (word : CodeWord) (most : ℕ) : Type 0 where
+pub record FitsIn (word : CodeWord) (most : ℕ) : Type 0 where
   pub few : word.count ≤ most
   pub fits : word.bits < 2 ^ word.count
 
 -- the words of a white run, one or two, whatever follows (T.4, 4.1.1)
 pub record IsWhiteRun (columns : ℕ) (word : CodeWord) : Type 0 where
-  pub is_whole : IsWhole word 20
+  pub is_whole : FitsIn word 20
   pub some : 0 < word.count
   pub spells : Spells White columns (bits_of_word word)
   pub run : (rest : Bits) → (words : ℕ) × (words ≤ 2)
@@ -51,7 +51,7 @@ eol_before false = []
 
 -- a word, if it has bits, is a white line
 pub record IsLine (encoding : EncodingMode) (columns most : ℕ) (word : CodeWord) : Type 0 where
-  pub is_whole : IsWhole word most
+  pub is_whole : FitsIn word most
   pub line : 0 < word.count → AreWhiteLine encoding columns (bits_of_word word)
 
 -- A word of at most this many bits, if it has any, is the EOL before a line, in data that have EOLs, and a white line.

@@ -14,6 +14,8 @@ ghost use Rattle.hayro_ccitt.specs.RowFeeds.{IsFeedOf, KeepsBits, TriesLine, fed
 ghost use Rattle.hayro_ccitt.specs.RowFeeds.{HoldsMore, KeepsPart, LineGoesOn, ScansLine, StaysShort, line_answer, some_line};
 ghost use Rattle.hayro_ccitt.specs.RowFeeds.{CountsRow, PushesRows, unused};
 ghost use Rattle.hayro_ccitt.specs.Rows.{AreChanges, changes};
+ghost use Rattle.hayro_ccitt.specs.RowFeeds.{TakesWhite};
+ghost use Rattle.hayro_ccitt.specs.WhiteLines.{MayFollow};
 
 use crate::context::DecoderContext;
 use crate::gap_look::{
@@ -21,7 +23,8 @@ use crate::gap_look::{
 };
 use crate::line_parts::{KeptPart, begin_part, continue_line};
 use crate::row_reader::{RowState, Stand, first_stand, has_ended, is_at_line};
-use crate::rows::try_row;
+use crate::rows::{limit_met, try_row};
+use crate::white_lines::{WhiteLines, pass_line};
 use crate::{DecodeError, Decoder, EncodingMode, Result};
 use fax_bits::DecodeSettings;
 use fax_bits::bit_reader::{BitOrder, BitReader, at_bit, placed_at};
@@ -69,6 +72,7 @@ fn look_waits(
 }
 
 /// Looks on at the gap that begins here, and returns whether it must wait for more data.
+#[inline(always)]
 fn gap_waits(
     ctx: &mut DecoderContext,
     look: &mut GapLook,
@@ -205,6 +209,7 @@ fn can_take_row(ctx: &DecoderContext) -> bool
 impl RowState {
     /// Passes the gap before the next line, which begins at this offset of the data, if no data that follows can change it.
     /// Returns whether there is a line after it, or `None` if more data is needed.
+    #[inline(always)]
     pub(crate) fn come_to_settled_line(
         &mut self,
         ctx: &mut DecoderContext,
@@ -228,6 +233,43 @@ impl RowState {
         }
         *look = GapLook::new();
         some_line(self.pass_gap_here(ctx, reader, gap_start))
+    }
+
+    /// Reads a white row at this offset of the data, if the bits of one of these lines are next, and returns whether they are;
+    /// otherwise nothing is read. No data that follows can change such a row.
+    #[inline(always)]
+    fn take_white_row(
+        &mut self,
+        repeats: bool,
+        lines: WhiteLines,
+        ctx: &mut DecoderContext,
+        reader: &mut BitReader<'_>,
+        start: usize,
+    ) -> bool
+        requires follow { repeats ≡ true
+            → MayFollow ctx.old.held.settings ctx.old.held.has_eols ctx.old.held.reference lines }
+        requires fits { start + 64 < 2 ^ 64 }
+        ensures repeats { result ≡ true → repeats ≡ true }
+        ensures taken { result ≡ true
+            → TakesWhite lines start self.old self.new ctx.old ctx.new reader.old reader.new }
+        ensures none { result ≡ false → (self.new ≡ self.old) × (ctx.new ≡ ctx.old) × (reader.new ≡ reader.old) }
+    {
+        if !repeats {
+            return false;
+        }
+        if limit_met(ctx) || !can_take_row(ctx) {
+            return false;
+        }
+        if !pass_line(lines, reader) {
+            return false;
+        }
+        ctx.take_row_again();
+        self.started_at = start + lines.gap;
+        self.damage = None;
+        self.cut = false;
+        self.missed = None;
+        self.stand = Stand::BehindRow;
+        true
     }
 
     /// Reads the line here, which begins at this offset of the data, and returns true, if no data that follows can change it;
@@ -600,15 +642,16 @@ impl RowFeed {
             self.old self.new result }
     {
         let mut reader = placed_at(&self.data, self.order, self.place);
+        let mut lines = self.ctx.no_white_lines();
         let fed;
         'rows: loop {
-            let gap_start = self.dropped + self.place;
+            let gap_place = self.dropped + self.place;
             let line = self.rows.come_to_settled_line(
                 &mut self.ctx,
                 &mut self.look,
                 &mut reader,
                 self.is_last,
-                gap_start,
+                gap_place,
             );
             self.place = reader.bit_pos();
             if !is_some_line(&line) {
@@ -629,6 +672,19 @@ impl RowFeed {
             }
             if let Err(refusal) = decoder.push_row(self.ctx.reference_row()) {
                 return Err(refusal);
+            }
+            let repeats = self.ctx.repeats_white(&mut lines);
+            'white: while self.rows.take_white_row(
+                repeats,
+                lines,
+                &mut self.ctx,
+                &mut reader,
+                self.dropped + self.place,
+            ) {
+                self.place = reader.bit_pos();
+                if let Err(refused) = decoder.push_row(self.ctx.reference_row()) {
+                    return Err(refused);
+                }
             }
         }
         if is_unsettled(&fed) {
@@ -670,8 +726,8 @@ impl RowFeed {
         if !is_row(&fed) {
             return fed;
         }
-        if let Err(refusal) = decoder.push_row(self.row()) {
-            return Err(refusal);
+        if let Err(error) = decoder.push_row(self.row()) {
+            return Err(error);
         }
         self.push_on(decoder)
     }

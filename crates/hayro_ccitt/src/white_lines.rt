@@ -1,7 +1,7 @@
 //! White lines below a white row, by their bits.
 
 ghost use Rattle.std.specs.Prelude.{◌≡◌, ◌+◌, ◌<◌, ◌≤◌, ◌++◌, ◌⊎◌, true, false, ℕ};
-ghost use Rattle.hayro_ccitt.specs.WhiteLines.{AreKnown, IsLine, IsWhole, IsWhiteLine, IsWhiteRun, PassesLine, bits_of_word};
+ghost use Rattle.hayro_ccitt.specs.WhiteLines.{AreKnown, IsLine, FitsIn, IsWhiteLine, IsWhiteRun, PassesLine, bits_of_word};
 
 use crate::{DecodeSettings, EncodingMode};
 use fax_bits::bit_reader::{BitReader, pass_bits, pass_more_bits};
@@ -23,9 +23,9 @@ pub(crate) struct WhiteLines {
 /// Returns two words as one.
 #[inline(always)]
 fn joined(first: CodeWord, second: CodeWord) -> CodeWord
-    requires first { IsWhole first 12 }
-    requires second { IsWhole second 21 }
-    ensures whole { IsWhole result (first.count + second.count) }
+    requires first { FitsIn first 12 }
+    requires second { FitsIn second 21 }
+    ensures whole { FitsIn result (first.count + second.count) }
     ensures count { result.count ≡ first.count + second.count }
     ensures bits { bits_of_word result ≡ bits_of_word first ++ bits_of_word second }
 {
@@ -37,7 +37,7 @@ fn joined(first: CodeWord, second: CodeWord) -> CodeWord
 
 /// Returns the words of a white run, if they are at most two (T.4, 4.1.1); otherwise no bits.
 fn white_run(columns: u32) -> CodeWord
-    ensures whole { IsWhole result 20 }
+    ensures whole { FitsIn result 20 }
     ensures run { 0 < result.count → IsWhiteRun columns result }
 {
     if columns > 2623 {
@@ -85,7 +85,7 @@ fn second_line(encoding: EncodingMode, columns: u32) -> CodeWord
 /// Returns a white line with the EOL before it, in data that have EOLs.
 #[inline(always)]
 fn behind_eol(has_eols: bool, line: CodeWord) -> CodeWord
-    requires { IsWhole line 21 }
+    requires { FitsIn line 21 }
     ensures { (encoding : EncodingMode) (columns most : ℕ) → IsLine encoding columns most line
         → IsWhiteLine encoding columns has_eols (12 + most) result }
 {

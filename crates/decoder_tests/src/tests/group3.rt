@@ -205,3 +205,33 @@ fn damage_ends_at_a_one_dimensional_line(rt: HostRuntime) {
         Group3_2D 2 columns 0 rows l | 0006638002A80002C8E1B80037 | [[], [], [], []] Ok(13)",
     );
 }
+
+/// Rows that are white one after another: up to RTC, a row limit, a refusal, a damaged line, a missed EOL, fill or the end of the
+/// data; of either kind of line, without EOLs, aligned, and with runs of two and of three words.
+#[test]
+fn white_rows_one_after_another(rt: HostRuntime) {
+    decodes_each(
+        &rt,
+        "Group3_1D 8 columns 0 rows b l | 0019800CC0066003300198008008008008008008 | [[], [], [], [], []] Ok(20) | None 0 0 true
+        Group3_1D 8 columns 3 rows b l | 0019800CC0066003300198008008008008008008 | [[], [], []] Ok(8) | None 0 0 true
+        Group3_1D 8 columns 0 rows b l, 2 | 0019800CC0066003300198008008008008008008 | [[], []] Err(Refused) | Some(46) 0 0 true
+        Group3_1D 8 columns 0 rows b l | 0019800CC004030019800CC0040040040040040040 | [[], [], [], [], []] Ok(21) | None 1 0 true
+        Group3_1D 8 columns 0 rows b l | 0019800CE003300198008008008008008008 | [[], [], [], []] Ok(18) | None 0 1 true
+        Group3_1D 8 columns 0 rows b l s | 0019800CE003300198008008008008008008 | [[], []] Err(InvalidCode) | Some(34) 0 0 true
+        Group3_1D 3 columns 0 rows l | 000300030003 | [[], [], []] Err(UnexpectedEof) | Some(47) 1 0 false
+        Group3_1D 3 columns 0 rows l s | 000300030003 | [[], []] Err(UnexpectedEof) | Some(47) 0 0 true
+        Group3_1D 8 columns 0 rows b l | 00198000CC0066002002002002002002 | [[], [], []] Ok(16) | None 0 0 true
+        Group3_2D 8 columns 0 rows b l | 001CC005001400730014006003001800C0060030 | [[], [], [], [], []] Ok(20) | None 0 0 true
+        Group3_2D 8 columns 0 rows b l, 3 | 001CC005001400730014006003001800C0060030 | [[], [], []] Err(Refused) | Some(58) 0 0 true
+        Group3_1D 8 columns 4 rows | 9CE730 | [[], [], [], []] Ok(3) | None 0 0 false
+        Group3_2D 8 columns 4 rows | CD73 | [[], [], [], []] Ok(2) | None 0 0 false
+        Group3_1D 8 columns 3 rows a | 989898 | [[], [], []] Ok(3) | None 0 0 false
+        Group3_1D 2480 columns 0 rows b l | 00101D0B00101D0B00101D0B00101D0B001001001001001001 | [[], [], [], []] Ok(25) | None 0 0 true
+        Group3_2D 2480 columns 0 rows b l | 00180E85800A002800C0742C006003001800C0060030 | [[], [], [], []] Ok(22) | None 0 0 true
+        Group3_1D 2623 columns 0 rows b l | 00101F3400101F3400101F3400101F34001001001001001001 | [[], [], [], []] Ok(25) | None 0 0 true
+        Group3_2D 2623 columns 0 rows b l | 00180F9A000A002800C07CD0006003001800C0060030 | [[], [], [], []] Ok(22) | None 0 0 true
+        Group3_1D 2624 columns 0 rows b l | 00101FD9A80080FECD400407F66A00203FB350010010010010010010 | [[], [], [], []] Ok(28) | None 0 0 true
+        Group3_2D 2624 columns 0 rows b l | 00180FECD4005001400603FB35001800C006003001800C | [[], [], [], []] Ok(23) | None 0 0 true
+        Group3_2D 8 columns 0 rows b l | 001CC005001400601800A003001800C00600300180 | [[], [], [], [], []] Ok(21) | None 1 0 true",
+    );
+}

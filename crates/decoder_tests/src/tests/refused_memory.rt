@@ -5,10 +5,11 @@ ghost use Rattle.std.specs.Prelude.{◌<◌};
 
 use super::calls::{draws_2d, fills, is_local, moves_on, places_of, reach_of, step_of};
 use super::cases::{cases_of, settings_in};
+use super::rows::pushes_fed;
 use super::{RowsAsText, bytes_of, context_of, decoded, joined, same, same_text, sink_of, written};
 use hayro_ccitt::DecodeError::{OutOfMemory, Refused};
-use hayro_ccitt::bit_reader::BitReader;
-use hayro_ccitt::{DecodeSettings, DecoderContext, Result, bits_fit, decode};
+use hayro_ccitt::bit_reader::{BitOrder, BitReader};
+use hayro_ccitt::{DecodeSettings, DecoderContext, Result, RowFeed, bits_fit, decode};
 use named_requests::{refuse_request, was_refused};
 use std::alloc::AllocGlobal;
 use std::process::Abort;
@@ -232,5 +233,54 @@ fn white_rows_without_memory(rt: HostRuntime) {
     );
     for (settings, digits, expected) in &cases {
         decodes_without_any(&rt, settings, digits, expected);
+    }
+}
+
+/// Passes on the rows of a feed while the allocation with this number is to be refused; a call that lacks memory is made again.
+/// Returns what was passed on, and whether it was refused.
+fn pushes_without(
+    rt: &(impl Abort + AllocGlobal),
+    settings: DecodeSettings,
+    data: &[u8],
+    number: usize,
+) -> (String, bool)
+    requires { number < 100 }
+{
+    let mut feed = RowFeed::new(rt.alloc(), BitOrder::HighestFirst, settings).expect(rt, "memory");
+    let mut sink = sink_of(rt, 9);
+    refuse_request(rt.alloc(), number);
+    assert!(rt; !feed.is_finished());
+    if feed.feed(data) == Err(OutOfMemory) {
+        assert!(rt; !feed.is_finished());
+        same(rt, feed.feed(data), Ok(()));
+    }
+    feed.finish();
+    let mut fed = pushes_fed(&mut feed, &mut sink);
+    if fed == Err(OutOfMemory) {
+        fed = pushes_fed(&mut feed, &mut sink);
+    }
+    let is_refused = was_refused(rt.alloc());
+    let text = written(rt, &sink, fed.map(|_| feed.bytes_read()));
+    (text, is_refused)
+}
+
+/// Two rows, the second a copy, and three tagged lines, in one piece.
+#[test]
+fn pushed_rows_without_memory(rt: HostRuntime) {
+    let cases = cases_of(
+        &rt,
+        "Group4 8 columns 2 rows | 31F8 | [[3, 5], [3, 5]] Ok(2)
+        Group3_2D 8 columns 0 rows b | 001C70002E00231C006003001800C0060030 | [[3, 5], [3, 5], [3, 5]] Ok(18)",
+    );
+    for (words, digits, expected) in &cases {
+        let (settings, data) = (settings_in(&rt, words), bytes_of(&rt, digits));
+        let expected = joined(&rt, expected);
+        for number in 1..MANY {
+            let (found, is_refused) = pushes_without(&rt, settings, &data, number);
+            same_text(&rt, digits, found.as_str(), expected.as_str());
+            if !is_refused {
+                break;
+            }
+        }
     }
 }

@@ -1,10 +1,14 @@
 //! Rows one at a time, as cases: the settings, the data, and what each call of `next_row` returns, with what is then said of the
 //! row and of all rows.
 
+ghost use Rattle.std.specs.Prelude.{◌<◌};
+
 use super::cases::{cases_of, settings_in};
-use super::{bytes_of, said, same, same_text};
+use super::{RowsAsText, bytes_of, context_of, decoded, said, same, same_text, sink_of, written};
 use hayro_ccitt::bit_reader::BitOrder;
-use hayro_ccitt::{DecodeSettings, Fed, Result, RowCursor, RowFeed, RowReader, bits_fit};
+use hayro_ccitt::{
+    DecodeError, DecodeSettings, Fed, Result, RowCursor, RowFeed, RowReader, bits_fit,
+};
 use std::alloc::AllocGlobal;
 use std::process::Abort;
 
@@ -94,6 +98,36 @@ fn feeds_bytes(
     }
 }
 
+/// Passes the rows of a feed on. The proofs of the callers carry none of what its contract says.
+pub(super) fn pushes_fed(feed: &mut RowFeed, sink: &mut RowsAsText) -> Result<Fed> {
+    // The range of a number is known once it is read.
+    let _columns = feed.settings().columns;
+    feed.push_rows(sink)
+}
+
+/// Passes on the rows of data that comes in pieces of so many bytes, and writes them as a decoder's.
+fn pushed_in_pieces(
+    rt: &(impl Abort + AllocGlobal),
+    data: &[u8],
+    settings: DecodeSettings,
+    size: usize,
+) -> String
+    requires { 0 < size }
+{
+    let mut feed = RowFeed::new(rt.alloc(), BitOrder::HighestFirst, settings).expect(rt, "memory");
+    let mut sink = sink_of(rt, 99);
+    for piece in data.chunks(size) {
+        assert!(rt; !feed.is_finished());
+        same(rt, feed.feed(piece), Ok(()));
+        let _fed = pushes_fed(&mut feed, &mut sink);
+    }
+    feed.finish();
+    let fed = pushes_fed(&mut feed, &mut sink);
+    assert!(rt; fed != Ok(Fed::Row) && fed != Ok(Fed::NeedsMore));
+    same(rt, sink.rows, feed.rows_read());
+    written(rt, &sink, fed.map(|_| feed.bytes_read()))
+}
+
 /// Feeds bytes of this value one at a time, after each of which more is needed.
 fn feeds_alike(rt: &impl Abort, feed: &mut RowFeed, byte: u8, count: usize) {
     for _ in 0..count {
@@ -101,6 +135,12 @@ fn feeds_alike(rt: &impl Abort, feed: &mut RowFeed, byte: u8, count: usize) {
         same(rt, feed.feed(&[byte]), Ok(()));
         same(rt, feed.next_row(), Ok(Fed::NeedsMore));
     }
+}
+
+/// Feeds these bytes.
+fn feeds(rt: &impl Abort, feed: &mut RowFeed, data: &[u8]) {
+    assert!(rt; !feed.is_finished());
+    same(rt, feed.feed(data), Ok(()));
 }
 
 /// Feeds these bytes, and reads a row.
@@ -270,6 +310,46 @@ fn rows_of_group_4_one_at_a_time(rt: HostRuntime) {
          Err(InvalidCode) ([3, 5], 10, None, [1, 0, 0], 2) None; Err(InvalidCode) ([3, 5], 10, None, [1, 0, 0], 2) None
         Group4 0 columns 0 rows | 31C0 | Ok(false) ([], 0, None, [0, 0, 0], 0) None; Ok(false) ([], 0, None, [0, 0, 0], 0) None",
     );
+}
+
+/// Rows that are passed on from data in pieces are those of `decode`.
+#[test]
+fn rows_are_pushed_in_pieces(rt: HostRuntime) {
+    let cases = cases_of(
+        &rt,
+        "Group3_1D 8 columns 0 rows l | 0019800C700033 | []
+        Group3_1D 8 columns 0 rows l | 0019800C400033 | []
+        Group3_1D 8 columns 0 rows l s | 0019800C400033 | []
+        Group3_2D 8 columns 0 rows b | 001C70002E00231C006003001800C0060030 | []
+        Group4 8 columns 0 rows b | 31C0040040 | []
+        Group4 8 columns 40 rows | 31FFFFFFFFFFFF | []
+        Group4 8 columns 0 rows b | FFFFFFFF31FFFF001001 | []
+        Group4 0 columns 0 rows | 31C0 | []",
+    );
+    for (words, digits, _) in &cases {
+        let (settings, data) = (settings_in(&rt, words), bytes_of(&rt, digits));
+        let expected = decoded(&rt, &mut context_of(&rt, settings), &data, 99);
+        for size in [1usize, 3, 100] {
+            let found = pushed_in_pieces(&rt, &data, settings, size);
+            same_text(&rt, digits, found.as_str(), expected.as_str());
+        }
+    }
+}
+
+/// A row that the sink refuses was read, and the next call goes on behind it.
+#[test]
+fn pushed_rows_are_refused(rt: HostRuntime) {
+    let settings = settings_in(&rt, "Group4 8 columns 4 rows");
+    let mut feed = RowFeed::new(rt.alloc(), BitOrder::HighestFirst, settings).expect(&rt, "memory");
+    let mut sink = sink_of(&rt, 1);
+    feeds(&rt, &mut feed, &bytes_of(&rt, "31F9F8"));
+    let fed = pushes_fed(&mut feed, &mut sink);
+    let found = (fed, sink.rows, feed.rows_read());
+    same(&rt, found, (Err(DecodeError::Refused), 1, 2));
+    sink.limit = 9;
+    let fed = pushes_fed(&mut feed, &mut sink);
+    let found = (fed, sink.rows, feed.rows_read());
+    same(&rt, found, (Ok(Fed::NeedsMore), 2, 3));
 }
 
 /// Fill, and a damaged stretch before the next EOL, that come byte by byte (T.4, 4.1.2 and 4.1.3): what was looked at once isn't

@@ -45,7 +45,8 @@ has_listed (c ∷ list) n word e = elim (or_cases (eqb c.value n && same_bits c.
 
 -- whether an entry is the word of a length, with at most this many bits
 is_word : ℕ → ℕ → ℕ × ℕ × ℕ → Bool
-is_word most n entry = (ltb 0 entry.1 && leb entry.1 most) && (ltb entry.2 (2 ^ entry.1) && listed white_codes n (low_bits entry.1 entry.2))
+is_word most n entry =
+    (ltb 0 entry.1 && leb entry.1 most) && (ltb entry.2 (2 ^ entry.1) && listed white_codes n (low_bits entry.1 entry.2))
 
 word_from : (most n : ℕ) (entry : ℕ × ℕ × ℕ) (word : CodeWord) → most ≤ 12 → (n < 64 → most ≤ 8) → word.count ≡ entry.1
     → word.bits ≡ entry.2 → is_word most n entry ≡ true → IsWhiteWord n word
@@ -66,22 +67,25 @@ word_from most n entry word twelve eight count bits e =
       some = omega (arith, count, above);
     }
 
-pub white_terminating : (n : ℕ) (word : CodeWord) → n < 64 → word.count ≡ (get_or WHITE_TERMINATING n (0, 0, 0)).1
+pub white_terminating_listed : (n : ℕ) (word : CodeWord) → n < 64 → word.count ≡ (get_or WHITE_TERMINATING n (0, 0, 0)).1
     → word.bits ≡ (get_or WHITE_TERMINATING n (0, 0, 0)).2 → IsWhiteWord n word
 unfolding is_word listed same_bits
-white_terminating n word lt count bits = word_from 8 n (get_or WHITE_TERMINATING n (0, 0, 0)) word (omega arith) (λ l. omega arith)
-    count bits (agree_below_at (λ m. is_word 8 m (get_or WHITE_TERMINATING m (0, 0, 0))) (λ m. true) 64 n refl lt)
+white_terminating_listed n word lt count bits = word_from 8 n (get_or WHITE_TERMINATING n (0, 0, 0)) word (omega arith)
+    (λ l. omega arith) count bits
+    (agree_below_at (λ m. is_word 8 m (get_or WHITE_TERMINATING m (0, 0, 0))) (λ m. true) 64 n refl lt)
 
-pub white_makeup : (times i : ℕ) (word : CodeWord) → i < 27 → times ≡ i + 1 → word.count ≡ (get_or WHITE_MAKEUP i (0, 0, 0)).1
+pub white_makeup_listed : (times i : ℕ) (word : CodeWord) → i < 27 → times ≡ i + 1
+    → word.count ≡ (get_or WHITE_MAKEUP i (0, 0, 0)).1
     → word.bits ≡ (get_or WHITE_MAKEUP i (0, 0, 0)).2 → IsWhiteWord (64 * times) word
 unfolding is_word listed same_bits
-white_makeup times i word lt is count bits = subst (λ (m : ℕ). IsWhiteWord (64 * m) word)
+white_makeup_listed times i word lt is count bits = subst (λ (m : ℕ). IsWhiteWord (64 * m) word)
     (sym is) (word_from 12 (64 * (i + 1)) (get_or WHITE_MAKEUP i (0, 0, 0)) word (omega arith) (λ l. omega arith) count bits
     (agree_below_at (λ m. is_word 12 (64 * (m + 1)) (get_or WHITE_MAKEUP m (0, 0, 0))) (λ m. true) 27 i refl lt))
 
-pub common_makeup : (times i : ℕ) (word : CodeWord) → i < 13 → times ≡ i + 28 → word.count ≡ (get_or COMMON_MAKEUP i (0, 0, 0)).1
+pub common_makeup_listed : (times i : ℕ) (word : CodeWord) → i < 13 → times ≡ i + 28
+    → word.count ≡ (get_or COMMON_MAKEUP i (0, 0, 0)).1
     → word.bits ≡ (get_or COMMON_MAKEUP i (0, 0, 0)).2 → IsWhiteWord (64 * times) word
 unfolding is_word listed same_bits
-common_makeup times i word lt is count bits = subst (λ (m : ℕ). IsWhiteWord (64 * m) word)
+common_makeup_listed times i word lt is count bits = subst (λ (m : ℕ). IsWhiteWord (64 * m) word)
     (sym is) (word_from 12 (64 * (i + 28)) (get_or COMMON_MAKEUP i (0, 0, 0)) word (omega arith) (λ l. omega arith) count bits
     (agree_below_at (λ m. is_word 12 (64 * (m + 28)) (get_or COMMON_MAKEUP m (0, 0, 0))) (λ m. true) 13 i refl lt))

@@ -1,12 +1,15 @@
 -- White lines below a white row are read from their bits, whatever follows.
-use Rattle.hayro_ccitt.proofs.Names.{◌≡◌, ℕ, zero, suc, ◌+◌, ◌-◌, ◌*◌, ◌/◌, ◌%◌, ◌<◌, ◌≤◌, ◌++◌, ◌∷◌, [], Bool, true, false, cond, leb, List}
-use Rattle.hayro_ccitt.proofs.Names.{length, drop, None, Ok, Some, pos, refl, sym, ap, subst, ◌∙◌, arith, cond-true, le-leb, false≢true}
-use Rattle.hayro_ccitt.proofs.Names.{append_assoc, drop-drop, length-append, Bits, BitsAt, here, moved, Color, White, Black, codes_of, Has}
-use Rattle.hayro_ccitt.proofs.Names.{read_code, mode_codes, Vertical, IsWordHere, IsRunHere, GoesOn, GoesOn2d, pen_at, Line, Pen, Row, Turn}
-use Rattle.hayro_ccitt.proofs.Names.{Step, drawn, draw_2d, words_drawn, turn_behind, words_behind, line_1d, line_2d, found_1d, pixels, Spells}
-use Rattle.hayro_ccitt.proofs.Names.{after_eol, EncodingMode, Group3_1D, Group3_2D, Group4, start, line_by, line_found}
+use Rattle.hayro_ccitt.proofs.Names.{◌≡◌, ℕ, zero, suc, ◌+◌, ◌-◌, ◌*◌, ◌/◌, ◌%◌, ◌<◌, ◌≤◌, ◌++◌, ◌∷◌, [], Bool, true, false}
+use Rattle.hayro_ccitt.proofs.Names.{cond, leb, List}
+use Rattle.hayro_ccitt.proofs.Names.{length, drop, None, Ok, pos, refl, sym, ap, subst, ◌∙◌, arith, le-leb, false≢true}
+use Rattle.hayro_ccitt.proofs.Names.{append_assoc, drop-drop, Bits, BitsAt, here, moved, Color, White, Black, codes_of, Has}
+use Rattle.hayro_ccitt.proofs.Names.{read_code, mode_codes, Vertical, IsWordHere, IsRunHere, GoesOn, GoesOn2d, pen_at, Line}
+use Rattle.hayro_ccitt.proofs.Names.{Pen, Row, Turn}
+use Rattle.hayro_ccitt.proofs.Names.{Step, drawn, draw_2d, words_drawn, turn_behind, words_behind, line_1d, line_2d, found_1d}
+use Rattle.hayro_ccitt.proofs.Names.{pixels, Spells}
+use Rattle.hayro_ccitt.proofs.Names.{after_eol, Group3_1D, Group3_2D, Group4}
 use Rattle.hayro_ccitt.specs.Lines.{draw_1d, found_2d}
-use Rattle.hayro_ccitt.specs.WhiteLines.{AreWhiteLine, IsLine, IsWhiteRun, IsWhole, bits_of_word}
+use Rattle.hayro_ccitt.specs.WhiteLines.{AreWhiteLine, IsWhiteRun, FitsIn, bits_of_word}
 use Rattle.fax_bits.specs.Bits.{bit_of, low_bits}
 use Rattle.fax_bits.specs.WhiteWords.{IsWhiteWord}
 use Rattle.fax_bits.specs.declared.tables.CodeWord.{CodeWord}
@@ -43,7 +46,7 @@ low_bits_joined (suc width) k a b lt =
     ap (λ (m : ℕ). low_bits m (a * 2 ^ k + b)) n ∙ (let both : bit_of (a * 2 ^ k + b) (width + k)
     ∷ low_bits (width + k) (a * 2 ^ k + b) ≡ bit_of a width ∷ (low_bits width a ++ low_bits k b) = cc in both)
 
-module _ (first second : CodeWord) (bits : ℕ) (a : IsWhole first 12) (b : IsWhole second 21)
+module _ (first second : CodeWord) (bits : ℕ) (a : FitsIn first 12) (b : FitsIn second 21)
     (is : bits ≡ bit_or (first.bits * 2 ^ second.count % 2 ^ 64) second.bits) where
   sum : bits ≡ first.bits * 2 ^ second.count + second.bits
   sum =
@@ -102,7 +105,7 @@ one_word_run columns word lt is = record {
 
 module _ (columns : ℕ) (first second word : CodeWord) (some : 64 ≤ columns) (few : columns ≤ 2623)
     (makeup : IsWhiteWord (64 * (columns / 64)) first) (last : IsWhiteWord (columns % 64) second)
-    (is_whole : IsWhole word (first.count + second.count)) (count : word.count ≡ first.count + second.count)
+    (is_whole : FitsIn word (first.count + second.count)) (count : word.count ≡ first.count + second.count)
     (bits : bits_of_word word ≡ bits_of_word first ++ bits_of_word second) where
   short : columns % 64 < 64
   short = omega arith
@@ -117,7 +120,8 @@ module _ (columns : ℕ) (first second word : CodeWord) (some : 64 ≤ columns) 
   total = omega arith
 
   spells_both : Spells White columns (bits_of_word word)
-  spells_both = subst (λ (n : ℕ). Spells White n (bits_of_word word)) total (subst (λ (b : Bits). Spells White (64 * (columns / 64)
+  spells_both = subst (λ (n : ℕ). Spells White n (bits_of_word word)) total (subst (λ (b : Bits). Spells White (64 *
+      (columns / 64)
       + columns % 64) b) (sym bits) (Spells.makeup (64 * (columns / 64)) (bits_of_word first) makeup.listed long
       (Spells.terminating (columns % 64) (bits_of_word second) last.listed short)))
 
@@ -128,7 +132,8 @@ module _ (columns : ℕ) (first second word : CodeWord) (some : 64 ≤ columns) 
   starts_with rest = ap (λ (b : Bits). b ++ rest) bits ∙ append_assoc (bits_of_word first) (bits_of_word second) rest
 
   first_there : (rest : Bits) → IsWordHere White (at rest) (64 * (columns / 64)) first.count
-  first_there rest = word_there White (at rest) (64 * (columns / 64)) first.count (bits_of_word first) (bits_of_word second ++ rest)
+  first_there rest = word_there White (at rest) (64 * (columns / 64)) first.count (bits_of_word first) (bits_of_word
+      second ++ rest)
       makeup.listed (starts_with rest) (length-low_bits first.count first.bits) (omega (arith, makeup.few))
 
   second_there : (rest : Bits) → IsWordHere White (moved first.count (at rest)) (columns % 64) second.count

@@ -1,6 +1,7 @@
 -- A turn of a feed: the gap before the next line is passed, and its row is read.
-use Rattle.hayro_ccitt.proofs.Names.{◌≡◌, ◌≢◌, ◌∙◌, ◌+◌, ◌<◌, ◌≤◌, ◌⊎◌, [], ap, sym, subst, refl, arith, length, drop, false≢true}
-use Rattle.hayro_ccitt.proofs.Names.{Bool, true, false, Option, None, Some, Result, Ok, Err, ℕ, Bits, BitsAt, Context, Held, White}
+use Rattle.hayro_ccitt.proofs.Names.{◌≡◌, ◌≢◌, ◌∙◌, ◌+◌, ◌<◌, ◌≤◌, ◌⊎◌, [], ap, sym, refl, arith, length, false≢true}
+use Rattle.hayro_ccitt.proofs.Names.{Bool, true, false, Option, None, Some, Result, Ok, Err, ℕ}
+use Rattle.hayro_ccitt.proofs.Names.{Bits, BitsAt, Context, Held, White}
 use Rattle.hayro_ccitt.proofs.Names.{DecodeError, bits_in, here, is_at_line, ended, redrawn, BehindRow}
 use Rattle.std.specs.Prelude.{◌^◌}
 use Rattle.hayro_ccitt.proofs.BitReading.BitLists.{length-bits_in}
@@ -8,12 +9,12 @@ use Rattle.hayro_ccitt.proofs.Readings.FeedsOn.{feed_comes, feed_reads, gap_feed
 use Rattle.hayro_ccitt.proofs.Readings.LooksKept.{fresh_look, kept_line, kept_seen, seen_begun, seen_there}
 use Rattle.hayro_ccitt.proofs.Readings.PartsFed.{none_kept}
 use Rattle.hayro_ccitt.proofs.Readings.RowsPassed.{counts_row}
-use Rattle.hayro_ccitt.specs.GapsSeen.{IsSeen, nothing_seen, rules_for}
+use Rattle.hayro_ccitt.specs.GapsSeen.{IsSeen, rules_for}
 use Rattle.hayro_ccitt.specs.declared.gap_look.GapLook.{GapLook}
 use Rattle.hayro_ccitt.specs.declared.row_feed.Fed.{Fed}
 use Rattle.hayro_ccitt.specs.declared.row_feed.RowFeed.TheInside.{Inside}
 use Rattle.hayro_ccitt.specs.declared.row_reader.RowState.{RowState}
-use Rattle.hayro_ccitt.specs.RowFeeds.{ComesInFeed, ComesOn, CountsRow, Feeding, FeedsNext, FeedsRow, IsFeedOf, IsKept, KeepsBits}
+use Rattle.hayro_ccitt.specs.RowFeeds.{ComesInFeed, ComesOn, Feeding, FeedsRow, IsKept, KeepsBits}
 use Rattle.hayro_ccitt.specs.RowFeeds.{ReadsInFeed, TriesLine, fed_none, fed_row, feeding_of}
 
 -- A feed that has begun, and keeps no part of a line, is read by this reader of its bits.
@@ -28,7 +29,8 @@ pub seen_by : {f : Inside} {reader : BitsAt} → IsReadBy f reader → IsSeen (r
 seen_by {f} {reader} by = seen_begun f.ctx.held by.begun (seen_there (ap here (sym by.is)) by.kept.seen)
 
 -- the reader of the same bits at another place
-same_bits_at : {reader : BitsAt} {bits : Bits} {from place : ℕ} (after : BitsAt) → reader ≡ record { bits = bits; place = from }
+pub same_bits_at : {reader : BitsAt} {bits : Bits} {from place : ℕ} (after : BitsAt)
+    → reader ≡ record { bits = bits; place = from }
     → after.bits ≡ reader.bits → place ≡ after.place → after ≡ record { bits = bits; place = place }
 same_bits_at {reader} {bits} {from} {place} after is same there =
     ap (λ (b : Bits). record { bits = b; place = after.place }) (same ∙ ap (λ (r : BitsAt). r.bits) is)
@@ -48,13 +50,13 @@ unread_row (Ok false) other e = cc
 unread_row (Err error) other e = cc
 
 -- the feed where the gap was passed
-abbrev pub behind_gap : Inside → Context → RowState → ℕ → GapLook → Inside
-behind_gap f ctx rows place look = record f { ctx = ctx; rows = rows; place = place; look = look }
+abbrev pub past_gap : Inside → Context → RowState → ℕ → GapLook → Inside
+past_gap f ctx rows place look = record f { ctx = ctx; rows = rows; place = place; look = look }
 
 module _ {f : Inside} {before after : BitsAt} {rows : RowState} {ctx : Context} {look : GapLook} {place : ℕ}
     {line : Result (Option Bool) DecodeError} (by : IsReadBy f before) (there : place ≡ after.place)
     (on : ComesOn f.is_last (f.dropped + f.place) f.rows rows f.look look f.ctx ctx before after line) where
-  pub turn_comes : ComesInFeed (feeding_of f) (feeding_of (behind_gap f ctx rows place look)) line
+  pub turn_comes : ComesInFeed (feeding_of f) (feeding_of (past_gap f ctx rows place look)) line
   turn_comes =
       feed_comes _ _ before after by.is (record { order = refl; finished = refl; kept = refl; dropped = refl }) there
       by.begun by.begun refl f.look look refl refl line on
@@ -63,7 +65,7 @@ module _ {f : Inside} {before after : BitsAt} {rows : RowState} {ctx : Context} 
   gap_is : after ≡ record { bits = bits_in f.order f.«data».items; place = place }
   gap_is = same_bits_at after by.is on.same_bits there
 
-  pub gap_read_by : IsReadBy (behind_gap f ctx rows place look) after
+  pub gap_read_by : IsReadBy (past_gap f ctx rows place look) after
   gap_read_by = record {
     kept = record {
       within = omega (
@@ -88,12 +90,12 @@ module _ {f : Inside} {before after : BitsAt} {rows : RowState} {ctx : Context} 
     is = gap_is;
   }
 
-  keeps_gap : KeepsBits (feeding_of f) (feeding_of (behind_gap f ctx rows place look))
+  keeps_gap : KeepsBits (feeding_of f) (feeding_of (past_gap f ctx rows place look))
   keeps_gap = record { order = refl; finished = refl; kept = refl; dropped = refl }
 
   -- no line is reached
   pub gap_row : f.rows.stand ≡ BehindRow → line ≢ Ok (Some true)
-      → FeedsRow (feeding_of f) (feeding_of (behind_gap f ctx rows place look)) (fed_none line)
+      → FeedsRow (feeding_of f) (feeding_of (past_gap f ctx rows place look)) (fed_none line)
   gap_row behind other = record {
     reads = λ whole tried unended feed. gap_feeds line turn_comes other by.begun unended by.none by.none feed;
     keeps = keeps_gap;
@@ -109,7 +111,7 @@ module _ {f : Inside} {before after : BitsAt} {rows : RowState} {ctx : Context} 
   -- one is, and no more rows can be counted: these are rows of no data
   pub full_row : f.rows.stand ≡ BehindRow → line ≡ Ok (Some true)
       → (ctx.held.taken + 1 < 2 ^ 64 → ctx.held.repairs.rows ≤ ctx.held.taken → ⊥) → (error : DecodeError)
-      → FeedsRow (feeding_of f) (feeding_of (behind_gap f ctx rows place look)) (Err error)
+      → FeedsRow (feeding_of f) (feeding_of (past_gap f ctx rows place look)) (Err error)
   full_row behind is full error = record {
     reads = λ whole tried unended feed.
         let fits = row_fits turn_comes.begun (turn_comes.line is) (turn_comes.stands whole tried
@@ -121,7 +123,7 @@ module _ {f : Inside} {before after : BitsAt} {rows : RowState} {ctx : Context} 
 
   -- its row is read, or it is left
   pub line_row : {new : Feeding} {answer : Result Bool DecodeError} → f.rows.stand ≡ BehindRow → line ≡ Ok (Some true)
-      → ctx.held.taken + 1 < 2 ^ 64 → ReadsInFeed (feeding_of (behind_gap f ctx rows place look)) new answer
+      → ctx.held.taken + 1 < 2 ^ 64 → ReadsInFeed (feeding_of (past_gap f ctx rows place look)) new answer
       → (answer ≡ Ok false → new.part ≡ None → (new.ctx.ticks ≡ ctx.ticks)
       ⊎ ((f.tried ≢ new.dropped + new.place) × (new.tried_at ≡ new.dropped + new.place)))
       → FeedsRow (feeding_of f) new (fed_row answer)
@@ -141,21 +143,22 @@ module _ {f : Inside} {before after : BitsAt} {rows : RowState} {ctx : Context} 
 -- ---- The line
 
 -- the feed where the line was read, or left
-abbrev pub behind_line : Inside → Context → RowState → ℕ → Inside
-behind_line f ctx rows place = record f { ctx = ctx; rows = rows; place = place }
+abbrev pub past_line : Inside → Context → RowState → ℕ → Inside
+past_line f ctx rows place = record f { ctx = ctx; rows = rows; place = place }
 
-module _ {f : Inside} {before after : BitsAt} {begin ctx : Context} {rows : RowState} {place : ℕ} {answer : Result Bool DecodeError}
-    (by : IsReadBy f before) (line : is_at_line f.rows.stand ≡ true) (there : place ≡ after.place)
+module _ {f : Inside} {before after : BitsAt} {begin ctx : Context} {rows : RowState} {place : ℕ}
+    {answer : Result Bool DecodeError} (by : IsReadBy f before)
+    (line : is_at_line f.rows.stand ≡ true) (there : place ≡ after.place)
     (frame : begin ≡ record f.ctx { held = redrawn f.ctx.held [] White; passed = 0; cut = false })
     (tries : TriesLine f.is_last (f.dropped + f.place) f.rows rows begin ctx before after answer) where
   pub turn_reads : length f.ctx.held.reference ≡ f.ctx.held.settings.columns
-      → ReadsInFeed (feeding_of f) (feeding_of (behind_line f ctx rows place)) answer
+      → ReadsInFeed (feeding_of f) (feeding_of (past_line f ctx rows place)) answer
   turn_reads width =
       feed_reads _ _ before after by.is (record { order = refl; finished = refl; kept = refl; dropped = refl }) there
       by.begun by.begun begin frame width line by.none refl refl by.none
       (omega (arith, by.kept.within, length-bits_in f.order f.«data».items)) answer tries
 
-  pub line_read_by : IsReadBy (behind_line f ctx rows place) after
+  pub line_read_by : IsReadBy (past_line f ctx rows place) after
   line_read_by = record {
     kept = record {
       within = omega (

@@ -808,7 +808,7 @@ next_is : {old new : Feeding} → KeepsBits old new → new.place ≡ old.place 
 next_is {old} {new} keeps place = ap (λ (n : ℕ). drop n old.kept) (sym place) ∙ ap (drop new.place) (sym keeps.kept)
 
 -- at a line no gap is looked at
-none_looked : (finished line : Bool) (looked : ℕ) (gap : Bits) → LooksAhead finished line looked gap 0
+pub none_looked : (finished line : Bool) (looked : ℕ) (gap : Bits) → LooksAhead finished line looked gap 0
 none_looked finished line looked gap =
     record { line = λ e. refl; finished = λ e. refl; within = λ some. absurd (omega (arith, some)) }
 
@@ -1061,7 +1061,7 @@ line_feeds {whole} {tried} {old} {new} (Err error) reads unread begun line feed 
 }
 
 -- without a line nothing is counted for it
-no_line_paid : {old new : Feeding} {answer : Result Fed DecodeError} → old.part ≡ None → LineWork old new answer 0
+pub no_line_paid : {old new : Feeding} {answer : Result Fed DecodeError} → old.part ≡ None → LineWork old new answer 0
 no_line_paid {old} {new} {answer} unkept = record {
   some = λ e some. absurd (some unkept);
   unread = λ e none still. inl refl;

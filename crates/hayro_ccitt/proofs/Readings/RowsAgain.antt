@@ -1,22 +1,21 @@
 -- A row whose line follows a gap at which nothing is missed, and white rows that are read again and again.
 use Rattle.hayro_ccitt.proofs.Names.{◌≡◌, ◌+◌, ◌-◌, ◌*◌, ◌≤◌, ◌&&◌, ◌||◌, ◌++◌, ◌∷◌, ℕ, Bool, true, false, eqb, leb, not}
-use Rattle.hayro_ccitt.proofs.Names.{List, [], length, drop, cond, min, suc, None, Some, Result, Ok, pos, refl, sym}
-use Rattle.hayro_ccitt.proofs.Names.{ap, ◌∙◌, subst, arith, cond-true, cond-false, eq-eqb, le-leb, length-drop, false≢true}
-use Rattle.hayro_ccitt.proofs.Names.{DecodeError, DecodeSettings, EncodingMode, Group4, Bits, BitsAt, here, moved, Context, Held}
-use Rattle.hayro_ccitt.proofs.Names.{Repairs, with_missed, TakesOneRow, repairs_with, repairs_behind, with_row_taken, Line, Pen}
-use Rattle.hayro_ccitt.proofs.Names.{draw_2d, drawn, words_drawn, turn_behind, words_behind, line_here, line_by, row_of_line}
+use Rattle.hayro_ccitt.proofs.Names.{[], length, drop, cond, min, suc, None, Some, Result, Ok, refl, sym}
+use Rattle.hayro_ccitt.proofs.Names.{ap, ◌∙◌, subst, arith, cond-true, cond-false, eq-eqb, length-drop}
+use Rattle.hayro_ccitt.proofs.Names.{DecodeError, DecodeSettings, EncodingMode, Group4, Bits, BitsAt, here, Context, Held}
+use Rattle.hayro_ccitt.proofs.Names.{Repairs, with_missed, TakesOneRow, repairs_with, repairs_behind, with_row_taken, Line}
+use Rattle.hayro_ccitt.proofs.Names.{line_here, line_by, row_of_line}
 use Rattle.hayro_ccitt.proofs.Names.{Gap, gap_behind_row, behind_eols, misses_eol, eols_by, eols_here, is_over, limit_met}
 use Rattle.hayro_ccitt.specs.PlainReading.{eols_of_end}
-use Rattle.hayro_ccitt.proofs.Names.{aligned, Row, changes, pixels, White, Black, Turn, Step, found_here}
-use Rattle.hayro_ccitt.proofs.Names.{mode_codes, read_code, Vertical, Stand, AtLine, BehindRow, ReadsNext, ReachesNextLine, seen}
+use Rattle.hayro_ccitt.proofs.Names.{aligned, Row, changes, pixels, found_here}
+use Rattle.hayro_ccitt.proofs.Names.{Stand, AtLine, BehindRow, ReadsNext, ReachesNextLine, seen}
 use Rattle.hayro_ccitt.proofs.Names.{StandsAtLine, StandsBehindRow, ReaderStands, DamageIsCounted, MissesAreCounted}
 use Rattle.hayro_ccitt.proofs.Names.{MissesBehindRow}
 use Rattle.hayro_ccitt.proofs.Names.{Misses, MissIsTold, WorkIsPaid, PaidAtLine, PaidBehindRow, IsPaid, IsStanding, missed_before}
-use Rattle.hayro_ccitt.proofs.Names.{cut_since, damage_since, failed_at, tag_tests, looked_ahead, pen_at, GoesOn2d, slice_get}
-use Rattle.hayro_ccitt.proofs.Names.{looked}
+use Rattle.hayro_ccitt.proofs.Names.{cut_since, damage_since, failed_at, tag_tests, looked_ahead}
 use Rattle.hayro_ccitt.specs.declared.row_reader.RowState.{RowState}
 use Rattle.hayro_ccitt.proofs.Names.{Group3_1D, Group3_2D, at_end, ne_eqb, ◌<◌, ◌≢◌}
-use Rattle.hayro_ccitt.proofs.Names.{after_eol, append_assoc, drop-drop, eol, inl, inr, length-append, tagged_eols, ◌⊎◌}
+use Rattle.hayro_ccitt.proofs.Names.{after_eol, append_assoc, drop-drop, eol, inl, inr, length-append, tagged_eols}
 use Rattle.hayro_ccitt.specs.EndOfLine.{one_more, pass_last_tag}
 use Rattle.hayro_ccitt.specs.WhiteLines.{AreWhiteLine, IsWhiteLine, MayFollow, PassesLine, eol_before}
 use Rattle.fax_bits.specs.declared.tables.CodeWord.{CodeWord}
@@ -26,20 +25,11 @@ use Rattle.hayro_ccitt.proofs.BitReading.ConsecutiveEols.{all_eols-none, eols-no
 use Rattle.hayro_ccitt.proofs.BitReading.PlainEols.{single_tagged_eol}
 use Rattle.hayro_ccitt.proofs.EncodedPictures.PicturesT4.{eol_stands, one_eol}
 use Rattle.std.proofs.Math.Seq.{drop-append_seam}
-use Rattle.hayro_ccitt.proofs.DrawingLines.CountedLines.{found_2d_from, found_after}
-use Rattle.hayro_ccitt.proofs.DrawingLines.Drawings.{step_2d}
-use Rattle.hayro_ccitt.proofs.DrawingLines.ReadLines.{drawn2, pen_left, step_2d_shrinks}
-use Rattle.hayro_ccitt.proofs.DrawingLines.UsualModes.{white_line}
-use Rattle.hayro_ccitt.proofs.PixelRows.ChangesAndPixels.{changes-pixels, length-pixels}
-use Rattle.hayro_ccitt.proofs.Readings.Gathered.{gathered_turn}
-use Rattle.hayro_ccitt.proofs.Readings.Repeated.{after_turn}
+use Rattle.hayro_ccitt.proofs.PixelRows.ChangesAndPixels.{changes-pixels}
 use Rattle.hayro_ccitt.proofs.Readings.RowByRow.{IsRead, comes_to_line, gap_stands, is_read, miss_told, misses_passed, reads_on}
 use Rattle.hayro_ccitt.proofs.Readings.RowByRow.{reader_fails_at_line}
-use Rattle.hayro_ccitt.proofs.Readings.RowsAndGaps.{unmissed}
 use Rattle.hayro_ccitt.proofs.Work.CallsPaid.{gap_paid}
-use Rattle.hayro_ccitt.proofs.BitReading.ZeroRuns.{here_next}
 use Rattle.fax_bits.specs.declared.codes.Color.{Color}
-use Rattle.std.proofs.lemmas.Option.{slice_get_within}
 
 -- ---- A gap at which nothing is missed, and the line after it
 
@@ -241,24 +231,24 @@ open_end [] rest some = absurd (omega arith)
 open_end (b ∷ line) rest some = refl
 
 -- the word that is passed is one of the lines
-line_passed : (settings : DecodeSettings) (has_eols : Bool) (reference : Row) (lines : WhiteLines) (at next : BitsAt)
+pub line_passed : (settings : DecodeSettings) (has_eols : Bool) (reference : Row) (lines : WhiteLines) (at next : BitsAt)
     → MayFollow settings has_eols reference lines → (passes : PassesLine lines at next)
     → (most : ℕ) × IsWhiteLine settings.encoding settings.columns has_eols most passes.word
 line_passed settings has_eols reference lines at next follow passes = elim passes.one [
   | inl e ↦ (
-      32,
-      subst (λ (h : Bool). IsWhiteLine settings.encoding settings.columns h 32 passes.word) follow.same
-          (subst (IsWhiteLine settings.encoding settings.columns lines.has_eols 32) (sym e) follow.known.first),
-    )
+    32,
+    subst (λ (h : Bool). IsWhiteLine settings.encoding settings.columns h 32 passes.word) follow.same
+        (subst (IsWhiteLine settings.encoding settings.columns lines.has_eols 32) (sym e) follow.known.first),
+  )
   | inr e ↦ (
-      33,
-      subst (λ (h : Bool). IsWhiteLine settings.encoding settings.columns h 33 passes.word) follow.same
-          (subst (IsWhiteLine settings.encoding settings.columns lines.has_eols 33) (sym e) follow.known.second),
-    )
+    33,
+    subst (λ (h : Bool). IsWhiteLine settings.encoding settings.columns h 33 passes.word) follow.same
+        (subst (IsWhiteLine settings.encoding settings.columns lines.has_eols 33) (sym e) follow.known.second),
+  )
 ]
 
 -- the EOL before it
-gap_width : (settings : DecodeSettings) (has_eols : Bool) (reference : Row) (lines : WhiteLines)
+pub gap_width : (settings : DecodeSettings) (has_eols : Bool) (reference : Row) (lines : WhiteLines)
     → MayFollow settings has_eols reference lines → lines.gap ≡ length (eol_before has_eols)
 gap_width settings has_eols reference lines follow =
     follow.known.gap follow.some ∙ ap (λ (h : Bool). length (eol_before h)) follow.same

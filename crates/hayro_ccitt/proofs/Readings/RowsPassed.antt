@@ -8,10 +8,10 @@ use Rattle.hayro_ccitt.specs.Decoding.{SinkState}
 use Rattle.fax_bits.specs.declared.error.DecodeError.TheVariants.{Refused}
 use Rattle.hayro_ccitt.specs.declared.row_feed.Fed.{Fed}
 
-row_read : (answer : Result Bool DecodeError) → fed_row answer ≡ Ok Fed.Row → answer ≡ Ok true
-row_read (Ok true) e = refl
-row_read (Ok false) e = absurd cc
-row_read (Err error) e = absurd cc
+line_was_read : (answer : Result Bool DecodeError) → fed_row answer ≡ Ok Fed.Row → answer ≡ Ok true
+line_was_read (Ok true) e = refl
+line_was_read (Ok false) e = absurd cc
+line_was_read (Err error) e = absurd cc
 
 -- a row is counted whose line is read behind a gap
 pub counts_row : {old mid new : Feeding} (answer : Result Bool DecodeError)
@@ -19,13 +19,16 @@ pub counts_row : {old mid new : Feeding} (answer : Result Bool DecodeError)
     → mid.ctx.held.taken + 1 < 2 ^ 64 → ReadsInFeed mid new answer → CountsRow old new (fed_row answer)
 counts_row answer settings taken room reads = record {
   settings = reads.settings ∙ settings;
-  taken = λ e. (omega (arith, reads.taken (row_read answer e), taken), omega (arith, reads.taken (row_read answer e), room));
+  taken = λ e. (
+    omega (arith, reads.taken (line_was_read answer e), taken),
+    omega (arith, reads.taken (line_was_read answer e), room),
+  );
   stands = λ e. (
     reads.begun,
-    reads.behind (row_read answer e),
-    reads.done (λ left. let never = sym (row_read answer e) ∙ left in absurd cc),
+    reads.behind (line_was_read answer e),
+    reads.done (λ left. let never = sym (line_was_read answer e) ∙ left in absurd cc),
   );
-  width = λ e. reads.width (row_read answer e) ∙ ap (λ (s : DecodeSettings). s.columns) settings;
+  width = λ e. reads.width (line_was_read answer e) ∙ ap (λ (s : DecodeSettings). s.columns) settings;
 }
 
 -- one more row was read
@@ -73,8 +76,8 @@ keeps_on first then = record {
   dropped = then.dropped ∙ first.dropped;
 }
 
-module _ {M : Type 0} {step : M → List ℕ → M} {before after : SinkState M} {old mid new : Feeding} {answer : Result Fed DecodeError}
-    (passes : PassesRows step before.meaning after.meaning old mid) (keeps : KeepsBits old mid)
+module _ {M : Type 0} {step : M → List ℕ → M} {before after : SinkState M} {old mid new : Feeding}
+    {answer : Result Fed DecodeError} (passes : PassesRows step before.meaning after.meaning old mid) (keeps : KeepsBits old mid)
     (settings : mid.ctx.held.settings ≡ old.ctx.held.settings) where
   -- no row is next
   pub pushed_to_end : FeedsRow mid new answer → answer ≢ Ok Fed.Row → after.refused ≡ before.refused

@@ -9,7 +9,7 @@ returns-clause-within c = search rules
 pub returns-clause-there : goal.returns-clause-there
 returns-clause-there c =
     let r = c.reader.inside in
-    let is : r.window / 2 ^ (64 - c.args.count) ≡ c.args.bits = omega (arith, c.if-reader-count.false) in
+    let is : r.window / 2 ^ (64 - c.args.count) ≡ c.args.bits = omega (arith, c.if-reader-others.false) in
     let within : c.args.reader.now.place + c.args.count ≤ length c.args.reader.now.bits = returns-clause-within c refl in
     let room : r.place + c.args.count ≤ length (bits_in r.order r.«data».now) =
     subst (λ (x : BitsAt). x.place + c.args.count ≤ length x.bits) (sym c.reader.view_is) within in

@@ -1,17 +1,23 @@
-use Rattle.hayro_ccitt.proofs.Names.{◌≡◌, ◌∙◌, ap, sym, subst, arith, refl, Ok, Err, Some, true, is_at_line, ℕ, DecodeSettings, Result, Bool}
+use Rattle.hayro_ccitt.proofs.Names.{◌≡◌, ◌∙◌, ap, sym, subst, arith, refl, Ok, Err, true}
+use Rattle.hayro_ccitt.proofs.Names.{is_at_line, ℕ, DecodeSettings, Result, Bool}
 use Rattle.hayro_ccitt.proofs.Names.{BitsAt, Context, DecodeError, Held, White, [], drop, false, false≢true, redrawn}
 use Rattle.hayro_ccitt.proofs.PixelRows.ChangesAndPixels.{AreChanges-wider}
-use Rattle.hayro_ccitt.proofs.Readings.FeedTurns.{IsReadBy, behind_gap, behind_line, full_row, gap_read_by, gap_row, line_read_by}
+use Rattle.hayro_ccitt.proofs.Readings.FeedTurns.{IsReadBy, past_gap, past_line, full_row}
+use Rattle.hayro_ccitt.proofs.Readings.FeedTurns.{gap_read_by, gap_row, line_read_by}
 use Rattle.hayro_ccitt.proofs.Readings.FeedTurns.{line_row, none_row, seen_by, turn_reads, unread_row}
+use Rattle.hayro_ccitt.proofs.Readings.FeedWhite.{white_read_by, white_row}
 use Rattle.hayro_ccitt.proofs.Readings.PartsFed.{scanned_after, unread_line}
 use Rattle.hayro_ccitt.proofs.Readings.RowsPassed.{keeps_on, passes_more, pushed_to_end, pushed_to_refusal}
-use Rattle.hayro_ccitt.specs.RowFeeds.{FeedsRow, KeepsBits, PassesRows, ReadsInFeed, fed_row, feeding_of}
+use Rattle.hayro_ccitt.specs.RowFeeds.{FeedsRow, PassesRows, ReadsInFeed, fed_row, feeding_of}
 use Rattle.hayro_ccitt.specs.RowsTried.{IsLeft}
+use Rattle.hayro_ccitt.specs.WhiteLines.{AreKnown, MayFollow}
 use Rattle.hayro_ccitt.specs.declared.row_reader.RowState.{RowState}
 use Rattle.hayro_ccitt.specs.declared.row_feed.Fed.{Fed}
 use Rattle.hayro_ccitt.specs.declared.row_feed.RowFeed.TheInside.{Inside}
 use Rattle.hayro_ccitt.proofs.row_feed.RowFeed.push_on.{Given.Over}
-use Rattle.hayro_ccitt.proofs.row_feed.RowFeed.push_on.Goals.{After-is_some_line, After-is_read, then-is_unsettled, else-is_unsettled}
+use Rattle.hayro_ccitt.proofs.row_feed.RowFeed.push_on.Goals.{After-bit_pos-self-inside-in-white, After-is_some_line}
+use Rattle.hayro_ccitt.proofs.row_feed.RowFeed.push_on.Goals.{After-is_read}
+use Rattle.hayro_ccitt.proofs.row_feed.RowFeed.push_on.Goals.{then-is_unsettled, else-is_unsettled}
 use Rattle.hayro_ccitt.proofs.row_feed.RowFeed.push_on.Goals as goal
 
 pub come_to_settled_line-line-requires-clause-seen : goal.come_to_settled_line-line-requires-clause-seen
@@ -21,7 +27,7 @@ come_to_settled_line-line-requires-clause-seen g c = seen_by c.rows.invariant.re
 
 -- the feed behind the rows so far
 abbrev at_rows : (g : Over) → After-is_some_line g → Inside
-at_rows g c = behind_gap c.self.inside c.rows.self-inside.1.0 c.rows.self-inside.1.1.0
+at_rows g c = past_gap c.self.inside c.rows.self-inside.1.0 c.rows.self-inside.1.1.0
     c.rows.self-inside.1.1.1.1.1.1.1.1.0 c.rows.self-inside.1.1.1.1.1.1.1.1.1.0
 
 rows_by : (g : Over) (c : After-is_some_line g) → IsReadBy (at_rows g c) c.rows.reader
@@ -29,7 +35,7 @@ rows_by g c = c.rows.invariant.read_by
 
 -- where the gap was passed
 abbrev at_gap : (g : Over) → After-is_some_line g → Inside
-at_gap g c = behind_gap (at_rows g c) c.come_to_settled_line-line.new.ctx c.come_to_settled_line-line.new.self
+at_gap g c = past_gap (at_rows g c) c.come_to_settled_line-line.new.ctx c.come_to_settled_line-line.new.self
     c.bit_pos-self-inside.result c.come_to_settled_line-line.new.look
 
 gap_by : (g : Over) (c : After-is_some_line g) → IsReadBy (at_gap g c) c.come_to_settled_line-line.new.reader
@@ -66,30 +72,30 @@ overflow_add-line_start g c =
 
 -- ---- The line
 
-at_line : (g : Over) (c : After-is_read g) → is_at_line c.come_to_settled_line-line.new.self.stand ≡ true
-at_line g c = c.come_to_settled_line-line.ensures.line (c.is_some_line.ensures.here c.if-not-is_some_line.false)
+line_is_here : (g : Over) (c : After-is_read g) → is_at_line c.come_to_settled_line-line.new.self.stand ≡ true
+line_is_here g c = c.come_to_settled_line-line.ensures.line (c.is_some_line.ensures.here c.if-not-is_some_line.false)
 
 abbrev gap_here : (g : Over) → After-is_read g → After-is_some_line g
 gap_here g c = c.before.before.before.before.before.before.before.before.before.before.before.before.before.before
 
 -- where the line was read, or left
 abbrev at_row : (g : Over) → After-is_read g → Inside
-at_row g c = behind_line (at_gap g (gap_here g c)) c.try_line-row.new.ctx c.try_line-row.new.self
+at_row g c = past_line (at_gap g (gap_here g c)) c.try_line-row.new.ctx c.try_line-row.new.self
     c.bit_pos-self-inside-in-rows.result
 
 row_by : (g : Over) (c : After-is_read g) → IsReadBy (at_row g c) c.try_line-row.new.reader
-row_by g c = line_read_by (gap_by g (gap_here g c)) (at_line g c) c.bit_pos-self-inside-in-rows.ensures.place
+row_by g c = line_read_by (gap_by g (gap_here g c)) (line_is_here g c) c.bit_pos-self-inside-in-rows.ensures.place
     c.begin_line.ensures.frame c.try_line-row.ensures.tries
 
 reads_line : (g : Over) (c : After-is_read g)
     → ReadsInFeed (feeding_of (at_gap g (gap_here g c))) (feeding_of (at_row g c)) c.try_line-row.result
-reads_line g c = turn_reads (gap_by g (gap_here g c)) (at_line g c) c.bit_pos-self-inside-in-rows.ensures.place
+reads_line g c = turn_reads (gap_by g (gap_here g c)) (line_is_here g c) c.bit_pos-self-inside-in-rows.ensures.place
     c.begin_line.ensures.frame c.try_line-row.ensures.tries c.begin_line.ensures.width
 
 -- a row was read
-reads_row : (g : Over) (c : After-is_read g) → c.try_line-row.result ≡ Ok true
+reads_next_row : (g : Over) (c : After-is_read g) → c.try_line-row.result ≡ Ok true
     → FeedsRow (feeding_of (at_rows g (gap_here g c))) (feeding_of (at_row g c)) (Ok Fed.Row)
-reads_row g c is =
+reads_next_row g c is =
     subst (λ (r : Result Bool DecodeError). FeedsRow (feeding_of (at_rows g (gap_here g c))) (feeding_of (at_row g c))
     (fed_row r)) is
     (line_row (rows_by g (gap_here g c)) c.bit_pos-self-inside.ensures.place c.come_to_settled_line-line.ensures
@@ -103,7 +109,7 @@ invariant_of-self-then-not-is_read g c = (row_by g (goal.at.invariant_of-self-th
 pub push_row-requires : goal.push_row-requires
 push_row-requires g c =
     let here = (goal.at.push_row-requires g c).After-is_read in
-    let row = reads_row g here (c.is_read.ensures.read c.if-not-is_read.false) in
+    let row = reads_next_row g here (c.is_read.ensures.read c.if-not-is_read.false) in
     let settings = row.counts.settings ∙ c.rows.invariant.settings in
     AreChanges-wider c.try_line-row.new.ctx.held.settings.columns (g.D.Decoder.width c.rows.decoder) c.reference_row.result.now
     (omega (arith, c.requires.width, c.rows.invariant.width, ap (λ (s : DecodeSettings). s.columns) settings))
@@ -119,22 +125,24 @@ returns-in-Err-clause-pushes g c =
     let step = g.D.Decoder.step (g.D.Decoder.width c.args.decoder.now) in
     pushed_to_refusal (subst (λ (m : g.D.Decoder.Meaning). PassesRows step (g.D.Decoder.meaning c.args.decoder.now) m
     c.args.self.now (feeding_of (at_rows g (gap_here g here)))) (sym c.in-Err.ensures.kept) inv.passes) inv.keeps inv.settings
-    (reads_row g here (c.is_read.ensures.read c.if-not-is_read.false)) (ap Err c.in-Err.ensures.only_refused)
+    (reads_next_row g here (c.is_read.ensures.read c.if-not-is_read.false)) (ap Err c.in-Err.ensures.only_refused)
     c.in-Err.ensures.refused
     (subst (g.D.Decoder.refuses c.push_row.new.self) c.reference_row.ensures.changes c.in-Err.ensures.refused_row)
 
-pub rows-smaller : goal.rows-smaller
-rows-smaller g c =
-    let here = (goal.at.rows-smaller g c).After-is_read in
-    let taken = (reads_row g here (c.is_read.ensures.read c.if-not-is_read.false)).counts.taken refl in
-    omega (arith, taken.0, taken.1)
+-- ---- The white rows after a row
 
-pub rows-preserved : goal.rows-preserved
-rows-preserved g c =
-    let here = (goal.at.rows-preserved g c).After-is_read in
+pub repeats_white-repeats-requires : goal.repeats_white-repeats-requires
+repeats_white-repeats-requires g c =
+    let here = (goal.at.repeats_white-repeats-requires g c).After-is_read in
+    let row = reads_next_row g here (c.is_read.ensures.read c.if-not-is_read.false) in
+    subst (λ (s : DecodeSettings). AreKnown s c.rows.lines) (sym (row.counts.settings ∙ c.rows.invariant.settings))
+    c.rows.invariant.known
+
+pub white-init : goal.white-init
+white-init g c =
+    let here = (goal.at.white-init g c).After-is_read in
     let inv = c.rows.invariant in
-    let is = c.is_read.ensures.read c.if-not-is_read.false in
-    let row = reads_row g here is in
+    let row = reads_next_row g here (c.is_read.ensures.read c.if-not-is_read.false) in
     let step = g.D.Decoder.step (g.D.Decoder.width c.args.decoder.now) in
     let meaning = g.D.Decoder.meaning c.rows.decoder in
     record {
@@ -147,20 +155,121 @@ rows-preserved g c =
       unrefused = c.in_default.ensures.not_refused ∙ inv.unrefused;
       read_by = row_by g here;
       behind = (row.counts.stands refl).1;
+      fresh = (gap_by g (gap_here g here)).kept.line (line_is_here g here);
+      known = subst (λ (s : DecodeSettings). AreKnown s c.repeats_white-repeats.new.lines) (row.counts.settings ∙ inv.settings)
+          c.repeats_white-repeats.ensures.known;
+      follow = c.repeats_white-repeats.ensures.follow;
+      more = omega arith;
     }
+
+-- the feed behind the white rows so far
+abbrev at_white : (g : Over) → After-bit_pos-self-inside-in-white g → Inside
+at_white g c = past_gap c.self.inside c.white.self-inside.1.0 c.white.self-inside.1.1.0
+    c.white.self-inside.1.1.1.1.1.1.1.1.0 c.come_to_settled_line-line.new.look
+
+-- and behind one more
+abbrev behind_white : (g : Over) → After-bit_pos-self-inside-in-white g → Inside
+behind_white g c = past_line (at_white g c) c.take_white_row.new.ctx c.take_white_row.new.self
+    c.bit_pos-self-inside-in-white.result
+
+reads_white : (g : Over) (c : After-bit_pos-self-inside-in-white g)
+    → FeedsRow (feeding_of (at_white g c)) (feeding_of (behind_white g c)) (Ok Fed.Row)
+reads_white g c =
+    let inv = c.white.invariant in
+    white_row inv.read_by c.bit_pos-self-inside-in-white.ensures.place inv.behind inv.fresh
+    (inv.follow (c.take_white_row.ensures.repeats c.white-test.true))
+    (c.take_white_row.ensures.taken c.white-test.true)
+
+white_by : (g : Over) (c : After-bit_pos-self-inside-in-white g) → IsReadBy (behind_white g c) c.take_white_row.new.reader
+white_by g c =
+    let inv = c.white.invariant in
+    white_read_by inv.read_by c.bit_pos-self-inside-in-white.ensures.place inv.behind inv.fresh
+    (inv.follow (c.take_white_row.ensures.repeats c.white-test.true))
+    (c.take_white_row.ensures.taken c.white-test.true)
+
+pub white-preserved : goal.white-preserved
+white-preserved g c =
+    let here = (goal.at.white-preserved g c).After-bit_pos-self-inside-in-white in
+    let inv = c.white.invariant in
+    let row = reads_white g here in
+    let takes = c.take_white_row.ensures.taken c.white-test.true in
+    let step = g.D.Decoder.step (g.D.Decoder.width c.args.decoder.now) in
+    let meaning = g.D.Decoder.meaning c.white.decoder in
+    record {
+      passes = passes_more inv.passes row (c.in_default-push_row.ensures.taken
+          ∙ ap (λ (w : ℕ). g.D.Decoder.step w meaning c.reference_row-in-white.result.now) inv.width
+          ∙ ap (step meaning) c.reference_row-in-white.ensures.changes);
+      keeps = keeps_on inv.keeps row.keeps;
+      settings = row.counts.settings ∙ inv.settings;
+      width = c.push_row-in-white.ensures.same_width ∙ inv.width;
+      unrefused = c.in_default-push_row.ensures.not_refused ∙ inv.unrefused;
+      read_by = white_by g here;
+      behind = (row.counts.stands refl).1;
+      fresh = inv.fresh;
+      known = inv.known;
+      follow = λ is. subst (λ (h : Held). MayFollow h.settings h.has_eols h.reference c.repeats_white-repeats.new.lines)
+          (sym (ap (λ (x : Context). x.held) takes.new_is)) (inv.follow is);
+      more = omega (arith, inv.more, ap (λ (x : Context). x.held.taken) takes.new_is);
+    }
+
+pub push_row-requires-in-white : goal.push_row-requires-in-white
+push_row-requires-in-white g c =
+    let row = reads_white g (goal.at.push_row-requires-in-white g c).After-bit_pos-self-inside-in-white in
+    let settings = row.counts.settings ∙ c.white.invariant.settings in
+    AreChanges-wider c.take_white_row.new.ctx.held.settings.columns (g.D.Decoder.width c.white.decoder)
+    c.reference_row-in-white.result.now
+    (omega (arith, c.requires.width, c.white.invariant.width, ap (λ (s : DecodeSettings). s.columns) settings))
+    c.reference_row-in-white.ensures.lawful
+
+pub invariant_of-self-in-Err-push_row : goal.invariant_of-self-in-Err-push_row
+invariant_of-self-in-Err-push_row g c =
+    (white_by g (goal.at.invariant_of-self-in-Err-push_row g c).After-bit_pos-self-inside-in-white).kept
+
+pub returns-in-Err-push_row-clause-pushes : goal.returns-in-Err-push_row-clause-pushes
+returns-in-Err-push_row-clause-pushes g c =
+    let here = (goal.at.returns-in-Err-push_row-clause-pushes g c).After-bit_pos-self-inside-in-white in
+    let inv = c.white.invariant in
+    let step = g.D.Decoder.step (g.D.Decoder.width c.args.decoder.now) in
+    pushed_to_refusal (subst (λ (m : g.D.Decoder.Meaning). PassesRows step (g.D.Decoder.meaning c.args.decoder.now) m
+    c.args.self.now (feeding_of (at_white g here))) (sym c.in-Err-push_row.ensures.kept) inv.passes) inv.keeps inv.settings
+    (reads_white g here) (ap Err c.in-Err-push_row.ensures.only_refused) c.in-Err-push_row.ensures.refused
+    (subst (g.D.Decoder.refuses c.push_row-in-white.new.self) c.reference_row-in-white.ensures.changes
+    c.in-Err-push_row.ensures.refused_row)
+
+pub rows-smaller : goal.rows-smaller
+rows-smaller g c =
+    let here = (goal.at.rows-smaller g c).After-is_read in
+    let taken = (reads_next_row g here (c.is_read.ensures.read c.if-not-is_read.false)).counts.taken refl in
+    let none = c.take_white_row.ensures.none c.white-test.false in
+    omega (arith, taken.0, taken.1, c.white.invariant.more, ap (λ (x : Context). x.held.taken) none.1)
+
+pub rows-preserved : goal.rows-preserved
+rows-preserved g c =
+    let inv = c.white.invariant in
+    let none = c.take_white_row.ensures.none c.white-test.false in
+    rw (none.0, none.1, none.2) (record {
+      passes = inv.passes;
+      keeps = inv.keeps;
+      settings = inv.settings;
+      width = inv.width;
+      unrefused = inv.unrefused;
+      read_by = inv.read_by;
+      behind = inv.behind;
+      known = inv.known;
+    })
 
 -- ---- A line that isn't read
 
 -- a short line is as it was
-line_stays : (g : Over) (c : After-is_read g) → c.try_line-row.result ≡ Ok false → c.try_line-row.new.self
+short_line_stays : (g : Over) (c : After-is_read g) → c.try_line-row.result ≡ Ok false → c.try_line-row.new.self
     ≡ c.come_to_settled_line-line.new.self
-line_stays g c is = (c.try_line-row.ensures.tries.left (subst IsLeft (sym is) refl)).0
+short_line_stays g c is = (c.try_line-row.ensures.tries.left (subst IsLeft (sym is) refl)).0
 
 pub keep_part-requires-clause-line : goal.keep_part-requires-clause-line
 keep_part-requires-clause-line g c =
     let here = (goal.at.keep_part-requires-clause-line g c).After-is_read in
-    ap (λ (r : RowState). is_at_line r.stand) (line_stays g here (c.is_unsettled.ensures.short c.if-is_unsettled.true))
-    ∙ at_line g here
+    ap (λ (r : RowState). is_at_line r.stand) (short_line_stays g here (c.is_unsettled.ensures.short c.if-is_unsettled.true))
+    ∙ line_is_here g here
 
 pub keep_part-requires-clause-none_drawn : goal.keep_part-requires-clause-none_drawn
 keep_part-requires-clause-none_drawn g c =

@@ -1,4 +1,4 @@
-use Rattle.hayro_ccitt.proofs.Names.{◌≡◌, ◌∙◌, ap, sym, subst, arith, Ok, Err, Result, DecodeError, DecodeSettings, ℕ, refl, true}
+use Rattle.hayro_ccitt.proofs.Names.{◌≡◌, ◌∙◌, ap, subst, arith, Ok, Err, DecodeSettings, ℕ, refl, true}
 use Rattle.hayro_ccitt.proofs.PixelRows.ChangesAndPixels.{AreChanges-wider}
 use Rattle.hayro_ccitt.proofs.Readings.RowsPassed.{keeps_all, passes_none, pushed_on, pushed_to_end, pushed_to_refusal}
 use Rattle.hayro_ccitt.specs.Decoding.{SinkState}
@@ -23,9 +23,9 @@ returns-then-not-is_row-clause-pushes g c =
     pushed_to_end (passes_none refl) keeps_all refl (first_call g here) (c.is_row.ensures.other c.if-not-is_row.true) refl
 
 -- a row was read
-reads_row : (g : Over) (c : After-is_row g) → c.is_row.result ≡ true
+reads_first_row : (g : Over) (c : After-is_row g) → c.is_row.result ≡ true
     → FeedsRow c.args.self.now c.next_row-fed.new.self (Ok Fed.Row)
-reads_row g c is = subst (FeedsRow c.args.self.now c.next_row-fed.new.self) (c.is_row.ensures.row is) (first_call g c)
+reads_first_row g c is = subst (FeedsRow c.args.self.now c.next_row-fed.new.self) (c.is_row.ensures.row is) (first_call g c)
 
 pub push_row-requires : goal.push_row-requires
 push_row-requires g c =
@@ -36,7 +36,7 @@ push_row-requires g c =
 pub returns-in-Err-clause-pushes : goal.returns-in-Err-clause-pushes
 returns-in-Err-clause-pushes g c =
     let here = (goal.at.returns-in-Err-clause-pushes g c).After-is_row in
-    pushed_to_refusal (passes_none c.in-Err.ensures.kept) keeps_all refl (reads_row g here c.if-not-is_row.false)
+    pushed_to_refusal (passes_none c.in-Err.ensures.kept) keeps_all refl (reads_first_row g here c.if-not-is_row.false)
     (ap Err c.in-Err.ensures.only_refused) c.in-Err.ensures.refused
     (subst (g.D.Decoder.refuses c.push_row.new.self) c.row.ensures.changes c.in-Err.ensures.refused_row)
 
@@ -54,7 +54,7 @@ returns-clause-pushes g c =
       refused = D.has_refused c.push_on.new.decoder;
       refuses = D.refuses c.push_on.new.decoder;
     } in
-    pushed_on {mid = mid} (reads_row g here c.if-not-is_row.false)
+    pushed_on {mid = mid} (reads_first_row g here c.if-not-is_row.false)
     (c.in_default.ensures.taken ∙ ap (D.step (D.width c.args.decoder.now) (D.meaning c.args.decoder.now)) c.row.ensures.changes)
     c.in_default.ensures.not_refused
     (subst (λ (w : ℕ). PushesRows (D.step w) mid after c.next_row-fed.new.self c.push_on.new.self c.push_on.result)

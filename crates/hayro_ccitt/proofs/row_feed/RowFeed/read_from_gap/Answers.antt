@@ -7,7 +7,8 @@ use Rattle.hayro_ccitt.proofs.Readings.LooksKept.{kept_line, kept_seen, seen_beg
 use Rattle.hayro_ccitt.proofs.Readings.PartsFed.{none_kept, scanned_after, unread_line}
 use Rattle.hayro_ccitt.proofs.Readings.RowsPassed.{counts_row}
 use Rattle.hayro_ccitt.specs.GapsSeen.{nothing_seen}
-use Rattle.hayro_ccitt.specs.RowFeeds.{ComesInFeed, CountsRow, Feeding, FeedsNext, IsFeedOf, IsKept, ReadsInFeed, fed_row, feeding_of}
+use Rattle.hayro_ccitt.specs.RowFeeds.{ComesInFeed, CountsRow, Feeding, FeedsNext, IsFeedOf, IsKept}
+use Rattle.hayro_ccitt.specs.RowFeeds.{ReadsInFeed, fed_row, feeding_of}
 use Rattle.hayro_ccitt.specs.declared.row_feed.RowFeed.TheInside.{Inside}
 use Rattle.hayro_ccitt.proofs.row_feed.RowFeed.read_from_gap.Goals.{After-is_some_line}
 use Rattle.hayro_ccitt.proofs.row_feed.RowFeed.read_from_gap.Goals.{After-is_unsettled, then-is_unsettled, else-is_unsettled}

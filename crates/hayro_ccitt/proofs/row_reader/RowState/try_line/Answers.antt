@@ -1,4 +1,4 @@
-use Rattle.hayro_ccitt.proofs.Names.{rules, ◌≡◌, ◌∙◌, ap, sym, refl, arith, length, ◌≤◌, ℕ, Bool, true, false, Result, Ok, Err}
+use Rattle.hayro_ccitt.proofs.Names.{rules, ◌≡◌, ◌∙◌, ap, sym, refl, arith, length, ◌≤◌, ℕ, Bool, true, Result, Ok, Err}
 use Rattle.hayro_ccitt.proofs.Names.{BehindRow, DecodeError}
 use Rattle.hayro_ccitt.specs.Context.{Repairs}
 use Rattle.hayro_ccitt.specs.declared.row_reader.RowState.{RowState}
