@@ -76,7 +76,8 @@ module _ (start final : Listing) (rows : List Row) (before after : List ℕ) (be
 
   pub stand_listed : StandListed rows before after
   stand_listed = record {
-    rows_are = ap (λ (n : ℕ). take n after) (sym end_is) ∙ numbers ∙ listing.numbers ∙ ap (λ (l : List ℕ). l ++ listed rows) empty;
+    rows_are = ap (λ (n : ℕ). take n after) (sym end_is) ∙ numbers ∙ listing.numbers
+        ∙ ap (λ (l : List ℕ). l ++ listed rows) empty;
     rest = ap (λ (n : ℕ). drop n after) (sym end_is) ∙ rest ∙ listing.rest ∙ ap (drop (length (listed rows))) whole;
   }
 
