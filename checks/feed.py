@@ -92,10 +92,10 @@ def rows_in_pieces():
 # By what factor feeding pieces of 4,096 bytes and reading many rows a call may cost more than one call for the whole data, and than a
 # reader of it, on the pages of cost.tsv, and on those whose rows have few runs; and single bytes more than a reader, on rows of three
 # pages, which have some 3, 20 and 330 bytes a line, and go on a word at a time.
-PIECES = {"changes": 1.25, "packed": 1.18, "next_changes": 1.09, "next_packed": 1.07}
+PIECES = {"changes": 1.11, "packed": 1.08, "next_changes": 1.07, "next_packed": 1.05}
 FEW_RUNS = {
-    "blank": {"changes": 5.7, "packed": 4.6, "next_changes": 1.28, "next_packed": 1.28},
-    "borders": {"changes": 1.72, "packed": 1.57, "next_changes": 1.18, "next_packed": 1.15},
+    "blank": {"changes": 1.45, "packed": 1.28, "next_changes": 0.4, "next_packed": 0.4},
+    "borders": {"changes": 1.4, "packed": 1.29, "next_changes": 1, "next_packed": 1},
 }
 BYTES = {("blank", 256): 8.4, ("text", 300): 14.6, ("dither", 10): 19.3}
 # the place of a reader, and of single bytes, among the ways of measured_pages.c
