@@ -2,9 +2,6 @@
 #include <stdlib.h>
 #include <string.h>
 
-/* So many bytes are kept before more than one piece of data is waited for. */
-enum { MANY = 1 << 16 };
-
 static int has_ended(const reading *it)
 {
     return it->status != HAYRO_CCITT_OK && it->status != HAYRO_CCITT_NEEDS_MORE;
@@ -66,7 +63,6 @@ static int take_rows(piped *it)
 {
     uint64_t missed = it->lenient.row.missed_eols;
     int is_taken = 1;
-    it->fresh = 0;
     while (read_row(it, &it->strict))
         continue;
     while (is_taken && read_row(it, &it->lenient)) {
@@ -80,26 +76,12 @@ static int take_rows(piped *it)
     return is_taken && has_memory(it);
 }
 
-/* How many bytes are kept for the next row. */
-static size_t bytes_kept(reading *it)
-{
-    size_t count = 0;
-    uint8_t none;
-    if (!has_ended(it))
-        hayro_ccitt_feed_unused(&it->feed, &none, 0, &count);
-    return count;
-}
-
 int feed_piped(piped *it, span bytes)
 {
     feed_reading(&it->lenient, bytes);
     feed_reading(&it->strict, bytes);
     it->bytes += bytes.length;
-    it->fresh += bytes.length;
-    /* Each try begins at the row's start. So the tries of a row that doesn't end take no longer than its data, as each has twice as
-     * much as the one before. */
-    size_t kept = bytes_kept(&it->lenient);
-    return has_memory(it) && (kept <= MANY || it->fresh >= kept / 2 ? take_rows(it) : 1);
+    return has_memory(it) && take_rows(it);
 }
 
 int finish_piped(piped *it)

@@ -25,7 +25,6 @@ typedef struct {
     uint8_t *packed;      /* a row */
     size_t width;
     uint64_t bytes;       /* of the data so far */
-    size_t fresh;         /* of them, those after which no row was tried */
 } piped;
 
 /* Begins to read. The rows are taken in order, each as soon as no data that follows can change it. Each of these returns 0 if an
