@@ -16,6 +16,7 @@ pub mod RowByRow
 pub mod RowsAgain
 pub mod RowsDrawn
 pub mod RowsFed
+pub mod RowsOfFeeds
 pub mod RowsPassed
 pub mod RowsPushed
 pub mod RowsTried

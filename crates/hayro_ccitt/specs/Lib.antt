@@ -7,6 +7,7 @@ pub mod Lending
 pub mod LineParts
 pub mod RowCursors
 pub mod RowFeeds
+pub mod RowsOfFeeds
 pub mod RowsRead
 pub mod RowsTried
 pub mod TwoRunsHere

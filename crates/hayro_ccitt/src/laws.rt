@@ -3,6 +3,7 @@
 
 ghost use Rattle.hayro_ccitt.specs.FeedsPaid.{FeedsArePaid};
 ghost use Rattle.hayro_ccitt.specs.Laws.{StepsOnRows};
+ghost use Rattle.hayro_ccitt.specs.RowsOfFeeds.{PassesPlainRows};
 
 use crate::Decoder;
 pub use fax_reading::laws::{
@@ -22,4 +23,11 @@ pub fn steps_on_rows<D: Decoder>()
 /// `next_row`, whatever pieces the data comes in. A call that fails for memory costs more.
 pub fn feeds_paid()
     ensures { FeedsArePaid }
+{}
+
+/// The rows that a call of [`RowFeed::push_rows`](crate::RowFeed::push_rows) passes to its sink: those that the plain reading has
+/// next, of each data of which the bytes fed so far are a beginning, in whatever pieces they came. Its end, its fault, or the
+/// refusal of the sink comes behind them (T.4, 4; T.6, 2).
+pub fn feeds_pass_rows<D: Decoder>()
+    ensures { PassesPlainRows D.meaning D.has_refused D.refuses }
 {}
