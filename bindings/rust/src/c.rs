@@ -251,6 +251,13 @@ unsafe extern "C" {
         packed_length: usize,
         row: *mut Row,
     ) -> u32;
+    fn hayro_ccitt_feed_rows_changes(
+        feed: *mut Reader,
+        lists: *mut u32,
+        lists_length: usize,
+        count: *mut usize,
+        row: *mut Row,
+    ) -> u32;
     fn hayro_ccitt_feed_rows_packed(
         feed: *mut Reader,
         bitmap: *mut u8,
@@ -431,6 +438,23 @@ impl Feed {
                 &mut self.row,
             )
         }
+    }
+
+    /// Lists the next rows, as many as there is room for, of each the number of its changes and then the changes; and returns the
+    /// status and how many.
+    pub(crate) fn rows_changes(&mut self, lists: &mut [u32]) -> (u32, usize) {
+        let mut count = 0;
+        // SAFETY: as above.
+        let status = unsafe {
+            hayro_ccitt_feed_rows_changes(
+                &mut self.reader,
+                lists.as_mut_ptr(),
+                lists.len(),
+                &mut count,
+                &mut self.row,
+            )
+        };
+        (status, count)
     }
 
     /// Packs the next rows, as many as there is room for, and returns the status and how many.

@@ -138,6 +138,12 @@ pub fn decode_packed_low_first(data: &[u8], ctx: &mut DecoderContext) -> PackedR
     pack_rows(data, ctx, c::Settings::from(&ctx.settings).low_first())
 }
 
+/// How many bytes of the data are fed at a time, where not all rows are decoded at once.
+const PIECE: usize = 1 << 16;
+
+/// For how many numbers there is room at first in the lists of rows that are decoded at a time.
+const LISTED: usize = 1 << 11;
+
 fn push_rows(
     data: &[u8],
     decoder: &mut impl Decoder,
@@ -148,20 +154,40 @@ fn push_rows(
     ctx.missed_eols = 0;
     ctx.cut_rows = 0;
     ctx.fault_start = None;
-    let mut rows = RowReader::with(data, &ctx.settings, settings);
-    let result = loop {
-        match rows.next_row() {
-            Ok(Some(changes)) => decoder.push_row(changes),
-            Ok(None) => break Ok(rows.bytes_read()),
-            Err(error) => break Err(error),
+    let mut feed = open_feed(&settings);
+    let mut pieces = data.chunks(PIECE);
+    let mut lists = zeros(LISTED);
+    let status = loop {
+        let (status, count) = feed.rows_changes(&mut lists);
+        push_listed(&lists, count, decoder);
+        match status {
+            c::OK => {}
+            c::NEEDS_MORE => feed_next(&mut feed, pieces.next()),
+            c::REFUSED => lists = zeros(lists.len() * 2),
+            status => break status,
         }
     };
-    ctx.damaged_rows = rows.damaged_rows();
-    ctx.missed_eols = rows.missed_eols();
-    ctx.cut_rows = rows.cut_rows();
-    // After an error the reader tells the place of the fault.
-    ctx.fault_start = result.is_err().then(|| rows.line_start());
-    result
+    ctx.tell_of(&feed.row, status)
+}
+
+/// Passes the first rows of these lists to the decoder, as many as are counted.
+fn push_listed(lists: &[u32], count: usize, decoder: &mut impl Decoder) {
+    let mut rest = lists;
+    for _ in 0..count {
+        let (changes, after) = rest[1..].split_at(rest[0] as usize);
+        decoder.push_row(changes);
+        rest = after;
+    }
+}
+
+/// Feeds the next piece of the data, or finishes it after the last one.
+fn feed_next(feed: &mut c::Feed, piece: Option<&[u8]>) {
+    let Some(piece) = piece else {
+        return feed.finish();
+    };
+    if feed.feed(piece) != c::OK {
+        out_of_memory::<u8>(piece.len());
+    }
 }
 
 fn pack_rows(data: &[u8], ctx: &mut DecoderContext, settings: c::Settings) -> PackedRows {
@@ -175,7 +201,7 @@ fn pack_rows(data: &[u8], ctx: &mut DecoderContext, settings: c::Settings) -> Pa
     packed
 }
 
-/// Returns the length of a bitmap of as many rows as there may be, if that is usual: up to 1 MiB, or 64 times the length of the
+/// Returns the length of a bitmap of as many rows as there may be, if that is usual: up to 16 MiB, or 64 times the length of the
 /// data. There may be as many as the limit, and one more than the data has bits. With more room nothing is allocated for rows
 /// that may not come.
 fn room_for_all(data: &[u8], settings: &DecodeSettings, width: usize) -> Option<usize> {
@@ -184,7 +210,7 @@ fn room_for_all(data: &[u8], settings: &DecodeSettings, width: usize) -> Option<
         rows => rows as usize,
     };
     let rows = limit.min(data.len().saturating_mul(8).saturating_add(1));
-    let usual = data.len().saturating_mul(64).max(1 << 20);
+    let usual = data.len().saturating_mul(64).max(1 << 24);
     rows.checked_mul(width).filter(|room| *room <= usual)
 }
 
@@ -209,44 +235,44 @@ fn pack_at_once(
     }
 }
 
-/// Packs the rows one after another into a bitmap that grows as they come.
+/// Packs the rows into a bitmap that grows as they come.
 fn pack_as_they_come(
     data: &[u8],
     ctx: &mut DecoderContext,
     settings: &c::Settings,
     width: usize,
 ) -> PackedRows {
-    let mut rows = open_rows(data, settings);
-    let mut bytes = Vec::new();
-    let mut end = 0;
+    let mut feed = open_feed(settings);
+    let mut pieces = data.chunks(PIECE);
+    let mut bytes: Vec<u8> = Vec::new();
+    let mut rows = 0;
     let status = loop {
-        match rows.next_packed(&mut bytes[end..]) {
-            c::OK => end += width,
+        let (status, count) = feed.rows_packed(&mut bytes[rows * width..]);
+        rows += count;
+        match status {
             // The next call packs the row for which there was no room.
-            c::REFUSED => {
-                let room = (end / width * 2)
-                    .max(data.len().saturating_mul(8) / width)
-                    .max(1);
-                let mut longer = zeros(room.saturating_mul(width));
-                longer[..end].copy_from_slice(&bytes);
-                bytes = longer;
-            }
+            c::OK | c::REFUSED => bytes.resize(more_rows(rows).saturating_mul(width), 0),
+            c::NEEDS_MORE => feed_next(&mut feed, pieces.next()),
             status => break status,
         }
     };
-    let result = match status {
-        c::NO_ROW => Ok(usize_of(rows.row.bytes_read)),
-        _ => Err(error_of(status)),
-    };
-    ctx.damaged_rows = rows.row.damaged_rows;
-    ctx.missed_eols = rows.row.missed_eols;
-    ctx.cut_rows = rows.row.cut_rows;
-    // After an error the reader tells the place of the fault.
-    ctx.fault_start = result.is_err().then(|| usize_of(rows.row.line_start));
     PackedRows {
-        rows: usize_of(rows.row.rows),
+        rows,
         bytes,
-        result,
+        result: ctx.tell_of(&feed.row, status),
+    }
+}
+
+/// Returns for how many rows there is to be room where there was room for so many.
+fn more_rows(rows: usize) -> usize {
+    rows.saturating_mul(2).max(64)
+}
+
+/// Opens a reader of data in pieces. The settings are valid; so if it can't, an allocation failed.
+fn open_feed(settings: &c::Settings) -> c::Feed {
+    match c::Feed::open(settings) {
+        Ok(feed) => feed,
+        Err(_) => out_of_memory::<u8>(0),
     }
 }
 
@@ -320,6 +346,20 @@ impl DecoderContext {
         self.missed_eols = outcome.missed_eols;
         self.cut_rows = outcome.cut_rows;
         self.fault_start = is_fault.then(|| usize_of(outcome.fault_start));
+    }
+
+    /// Takes the counts of an image whose rows were read up to this status, and returns what its decoding returns.
+    fn tell_of(&mut self, row: &c::Row, status: u32) -> Result<usize> {
+        let result = match status {
+            c::NO_ROW => Ok(usize_of(row.bytes_read)),
+            _ => Err(error_of(status)),
+        };
+        self.damaged_rows = row.damaged_rows;
+        self.missed_eols = row.missed_eols;
+        self.cut_rows = row.cut_rows;
+        // After an error it is the place of the fault.
+        self.fault_start = result.is_err().then(|| usize_of(row.line_start));
+        result
     }
 
     /// Returns the number of rows of the last image whose line was damaged and repaired, as a lenient reading of Group 3 with EOLs
