@@ -5,7 +5,7 @@ ghost use Rattle.std.specs.Prelude.{MatchResult, Ok, Err, Some, None, true, fals
 ghost use Rattle.std.specs.Prelude.{drop, [], slice_get, is_some, min, pos};
 ghost use Rattle.std.specs.Borrow.{ftrue};
 ghost use Rattle.fax_bits.specs.Faults.{IsFault};
-ghost use Rattle.fax_bits.specs.Bits.{here};
+ghost use Rattle.fax_bits.specs.Bits.{Bits, here};
 ghost use Rattle.fax_bits.specs.CodeLists.{mode_codes};
 ghost use Rattle.fax_bits.specs.CodeReading.{read_code, leading_zeros};
 ghost use Rattle.fax_bits.specs.EndOfLine.{after_eol, eols, all_eols, next_eol, past_tag, eols_with_tags, pass_last_tag};
@@ -502,6 +502,20 @@ impl<'a> BitReader<'a> {
         }
     }
 
+    /// Returns whether an EOL without fill is here. Then each of its bits is a tick.
+    #[inline(always)]
+    fn is_at_plain_eol(&self, ticks: &mut Ticks) -> bool
+        ensures eol { result ≡ true → (rest : Bits) × (after_eol 0 (here self.now) ≡ Some rest) }
+        ensures looked { result ≡ true → ticks.new ≡ ticks.old + looked (here self.now) }
+        ensures other { result ≡ false → ticks.new ≡ ticks.old }
+    {
+        if self.peek_u32() >> 20 != 1 {
+            return false;
+        }
+        tick_times(ticks, 12);
+        true
+    }
+
     /// Consumes a tag of 1 here before an EOL (T.4, 4.2.2). Each bit that is examined is a tick.
     fn pass_tag(&mut self, ticks: &mut Ticks)
         ensures rest { here self.new ≡ past_tag (here self.old) }
@@ -513,6 +527,10 @@ impl<'a> BitReader<'a> {
             Ok(0) => ticks.tick(),
             Ok(_) => {
                 ticks.tick();
+                if behind.is_at_plain_eol(ticks) {
+                    *self = behind;
+                    return;
+                }
                 let mut end = copy(&behind);
                 if pass_eol(&mut end, ticks) {
                     *self = behind;

@@ -37,19 +37,24 @@ module _ (at : BitsAt) (w : ℕ) (small : w < 2 ^ 32) (held : HoldsNextBits w at
         ap looked run ∙ looked_run n (drop (at.place + n + 1) at.bits),
       )
 
-  -- the EOL of a word that begins with one
-  module _ (one : w / 1048576 ≡ 1) (next : BitsAt) (e : next ≡ record at { place = min (at.place + 12) (length at.bits) }) where
-    eleven : count_leading_zeros 32 w ≡ 11
-    eleven = eleven_zeros w small one
+  -- an EOL without fill is here
+  pub plain_eol_here : w / 1048576 ≡ 1
+      → (after_eol 0 (here at) ≡ Some (drop (at.place + 12) at.bits)) × (looked (here at) ≡ 12)
+  plain_eol_here one =
+      let eleven = eleven_zeros w small one in
+      let says = word_says (omega (arith, eleven)) in (
+        says.0 ∙ ap (λ (n : ℕ). cond (leb 11 n) (Some (drop (at.place + (n + 1)) at.bits)) None) eleven,
+        omega (arith, says.1, eleven),
+      )
 
+  -- it is passed
+  module _ (one : w / 1048576 ≡ 1) (next : BitsAt) (e : next ≡ record at { place = min (at.place + 12) (length at.bits) }) where
     pub plain_eol : after_eol 0 (here at) ≡ Some (here next)
-    plain_eol = (word_says (omega (arith, eleven))).0
-        ∙ ap (λ (n : ℕ). cond (leb 11 n) (Some (drop (at.place + (n + 1)) at.bits)) None) eleven
-        ∙ ap {B = Option Bits} (λ (b : Bits). Some b) (sym (ap here e ∙ drop_min (at.place + 12) at.bits))
+    plain_eol = (plain_eol_here one).0 ∙ ap {B = Option Bits} (λ (b : Bits). Some b)
+        (sym (ap here e ∙ drop_min (at.place + 12) at.bits))
 
     pub twelve_more : length (here at) ≡ length (here next) + 12
-    twelve_more =
-        omega (arith, looked_eol 0 (here at) (here next) plain_eol, (word_says (omega (arith, eleven))).1, eleven)
+    twelve_more = omega (arith, looked_eol 0 (here at) (here next) plain_eol, (plain_eol_here one).1)
 
     pub plain_eol_within : next.place ≡ at.place + 12
     plain_eol_within = grind (arith, common_steps, length-drop, twelve_more)
