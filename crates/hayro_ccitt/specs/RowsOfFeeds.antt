@@ -1,5 +1,6 @@
 -- The rows that a call passes to a sink, of data that comes in pieces.
-use Rattle.std.specs.Prelude.{◌≡◌, ◌≢◌, ◌≤◌, ◌<◌, ◌+◌, ℕ, List, [], drop, get_or, length, take, None, Result, Ok, Err, IfErr, Bool, false}
+use Rattle.std.specs.Prelude.{◌≡◌, ◌≢◌, ◌≤◌, ◌<◌, ◌+◌, ℕ, Bool, false, List, [], drop, get_or, length, take}
+use Rattle.std.specs.Prelude.{None, Result, Ok, Err, IfErr}
 use Rattle.fax_bits.specs.declared.error.DecodeError.{DecodeError}
 use Rattle.fax_bits.specs.declared.error.DecodeError.TheVariants.{Refused}
 use Rattle.hayro_ccitt.specs.declared.row_feed.Fed.{Fed}
@@ -54,6 +55,7 @@ sink_state meaning has_refused refuses sink = record {
 abbrev pub PassesPlainRows : {S M : Type 0} → (S → M) → (S → Bool) → (S → List ℕ → Type 0) → Type 0
 PassesPlainRows {S} {M} meaning has_refused refuses = (whole : Bits) (tried : ℕ) (step : M → List ℕ → M) (before after : S)
     (old new : Feeding) (answer : Result Fed DecodeError) → ended old.rows.stand ≡ None → IsFeedOf whole tried old
-    → PushesRows step (sink_state meaning has_refused refuses before) (sink_state meaning has_refused refuses after) old new answer
+    → PushesRows step (sink_state meaning has_refused refuses before) (sink_state meaning has_refused refuses after)
+    old new answer
     → PassesNextRows whole step (sink_state meaning has_refused refuses before) (sink_state meaning has_refused refuses after)
     old new answer

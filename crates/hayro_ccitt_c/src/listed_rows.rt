@@ -87,6 +87,7 @@ impl Decoder for ListedRows<'_> {
     // A row needs one number more than it has changes.
     ghost refuses = { λ sink row. length sink.lists.now < sink.end + 1 + length row };
 
+    #[inline(always)]
     fn push_row(&mut self, changes: &[u32]) -> hayro_ccitt::Result<()> {
         if self.lists.len() - self.end <= changes.len() {
             self.has_refused = true;

@@ -1,7 +1,8 @@
 -- The rows that calls read one after another, of data in pieces, are those that the plain reading has next.
 use Rattle.hayro_ccitt.proofs.Names.{◌≡◌, ◌≢◌, ◌∙◌, ◌∷◌, [], refl, sym, ap, subst, ℕ, List, Ok, Err, changes, meaning_after}
-use Rattle.hayro_ccitt.proofs.Names.{◌+◌, ◌<◌, ◌≤◌, suc, inl, inr, Result, None, DecodeError, DecodeSettings, arith, Row, plain, length}
-use Rattle.hayro_ccitt.proofs.Names.{Bits, SinkState, IsFault, HasEnded, HasFailed, OutOfMemory, Refused, take, drop, get_or, ended}
+use Rattle.hayro_ccitt.proofs.Names.{◌+◌, ◌<◌, ◌≤◌, suc, inl, inr, Result, None, DecodeError, DecodeSettings, arith, Row, plain}
+use Rattle.hayro_ccitt.proofs.Names.{Bits, SinkState, IsFault, HasEnded, HasFailed, OutOfMemory, Refused, ended}
+use Rattle.hayro_ccitt.proofs.Names.{drop, get_or, length, take}
 use Rattle.std.specs.Prelude.{Bool, IfErr}
 use Rattle.fax_bits.specs.declared.error.DecodeError.TheVariants.{InvalidCode, Overflow, UnexpectedEof}
 use Rattle.std.proofs.lemmas.List.{drop_more}
@@ -102,9 +103,9 @@ module _ {whole : Bits} {tried : ℕ} {old new : Feeding} where
   has_failed (Err Refused) next = λ fault. absurd fault
 
 -- a refusal is no fault
-no_fault : (P : DecodeError → Type 0) (answer : Result Fed DecodeError) → answer ≡ Err Refused
+refusal_is_no_fault : (P : DecodeError → Type 0) (answer : Result Fed DecodeError) → answer ≡ Err Refused
     → IfErr answer (λ e. IsFault e → P e)
-no_fault P answer is = subst (λ (a : Result Fed DecodeError). IfErr a (λ e. IsFault e → P e)) (sym is) (λ fault. absurd fault)
+refusal_is_no_fault P answer is = subst (λ (a : Result Fed DecodeError). IfErr a (λ e. IsFault e → P e)) (sym is) (λ fault. absurd fault)
 
 -- ---- All of them
 
@@ -158,7 +159,7 @@ module _ {M : Type 0} (whole : Bits) (step : M → List ℕ → M) (before after
         );
         waits = λ e. let never = sym ends.answer_is ∙ e in absurd cc;
         end = λ e. let never = sym ends.answer_is ∙ e in absurd cc;
-        fault = no_fault _ answer ends.answer_is;
+        fault = refusal_is_no_fault _ answer ends.answer_is;
         tried = read.tried + next.extra;
         stands = next.stands;
       }
