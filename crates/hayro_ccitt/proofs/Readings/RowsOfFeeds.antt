@@ -105,7 +105,8 @@ module _ {whole : Bits} {tried : ℕ} {old new : Feeding} where
 -- a refusal is no fault
 refusal_is_no_fault : (P : DecodeError → Type 0) (answer : Result Fed DecodeError) → answer ≡ Err Refused
     → IfErr answer (λ e. IsFault e → P e)
-refusal_is_no_fault P answer is = subst (λ (a : Result Fed DecodeError). IfErr a (λ e. IsFault e → P e)) (sym is) (λ fault. absurd fault)
+refusal_is_no_fault P answer is =
+    subst (λ (a : Result Fed DecodeError). IfErr a (λ e. IsFault e → P e)) (sym is) (λ fault. absurd fault)
 
 -- ---- All of them
 
