@@ -3,7 +3,7 @@
  *   driver DECODER ENCODING COLUMNS ROWS FLAGS FILE
  *   driver DECODERS ENCODING COLUMNS ROWS FLAGS FILE MILLISECONDS
  *
- * DECODER is `rows` or `packed` (this library), `tiff-packed` (with -DWITH_TIFF), `crate-rows` or `crate-packed` (with
+ * DECODER is `rows`, `changes` or `packed` (this library), `tiff-packed` (with -DWITH_TIFF), `crate-rows` or `crate-packed` (with
  * -DWITH_CRATE); DECODERS are several, with commas between them. The first form prints the status, the rows, the changes if they are
  * counted, and a sum over the picture; callgrind is given --toggle-collect=measured. The second prints for each decoder the least
  * processor time of a call, in nanoseconds. */
@@ -19,8 +19,11 @@ uint32_t crate_decode_packed(const uint8_t *, size_t, const hayro_ccitt_settings
 void *tiff_of_strip(const uint8_t *data, size_t length, const hayro_ccitt_settings *settings);
 uint32_t tiff_decode_packed(void *tiff, uint8_t *bitmap, size_t length);
 
+enum { MOST_LISTED = 1 << 22 };
+
 static const char *decoder;
 static uint8_t *data, *bitmap;
+static uint32_t *lists;
 static size_t length, room;
 static hayro_ccitt_settings settings;
 static hayro_ccitt_outcome outcome;
@@ -34,6 +37,8 @@ __attribute__((noinline)) static uint32_t measured(void)
 {
     if (is("rows"))
         return hayro_ccitt_measure(data, length, &settings, &outcome);
+    if (is("changes"))
+        return hayro_ccitt_decode_changes(data, length, &settings, lists, MOST_LISTED, &outcome);
     if (is("packed"))
         return hayro_ccitt_decode_packed(data, length, &settings, bitmap, room, &outcome);
 #ifdef WITH_TIFF
@@ -106,6 +111,7 @@ int main(int count, char **words)
     if (strstr(decoder, "packed"))
         room = ((size_t)settings.columns + 7) / 8 * settings.rows;
     bitmap = calloc(1, room + 1);
+    lists = malloc(MOST_LISTED * sizeof *lists);
 #ifdef WITH_TIFF
     tiff = tiff_of_strip(data, length, &settings);
 #endif
