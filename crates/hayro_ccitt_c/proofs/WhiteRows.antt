@@ -32,6 +32,15 @@ white_row true columns =
     bits_of_plain 255 count true refl ∙ sym (black_of_white (8 * count))
     ∙ ap (map not) (sym (bits_of_plain 0 count false refl) ∙ white_line columns)
 
+-- the same of bytes that were filled
+pub white_bytes : (black_is_0 : Bool) (columns : ℕ) (list row row' : List ℕ) (byte : ℕ) → length list ≡ 0
+    → length row ≡ bytes_of_row columns → byte ≡ white_byte black_is_0 → row' ≡ replicate (length row) byte
+    → bits_of row' ≡ packed_row black_is_0 (pixels columns list)
+white_bytes black_is_0 columns [] row row' byte none room white is =
+    ap bits_of (is ∙ ap (λ (n : ℕ). replicate n byte) room ∙ ap (λ (b : ℕ). replicate (bytes_of_row columns) b) white)
+    ∙ white_row black_is_0 columns
+white_bytes black_is_0 columns (change ∷ list) row row' byte none room white is = absurd (omega (arith, none))
+
 -- no white bytes after others
 no_white : (front : List ℕ) (n byte : ℕ) → front ++ replicate (n - n) byte ≡ front
 no_white front n byte =

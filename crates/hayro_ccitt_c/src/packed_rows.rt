@@ -10,6 +10,12 @@ use crate::change_count::counted;
 use fax_encode::paint_row;
 use hayro_ccitt::{DecodeError, Decoder};
 
+/// The most bytes of white rows that aren't written when one more comes. They are written by one call, which is fastest below 2 KiB.
+const MOST_WAITING: usize = 1792;
+
+/// A white row of fewer bytes is written at once.
+const LEAST_WAITING: usize = 16;
+
 /// Where packed rows begin, and what their bits say.
 #[derive(Copy, Clone)]
 pub struct Layout {
@@ -60,20 +66,6 @@ fn pack_inverted(row: &mut [u8], columns: u32, changes: &[u32])
     invert(row);
 }
 
-/// Packs a row: its pixels from the left, in each byte from the highest bit on, and white ones up to the end of the last byte.
-#[inline(always)]
-pub(crate) fn pack_row(row: &mut [u8], columns: u32, changes: &[u32], black_is_0: bool)
-    requires changes { AreChanges columns changes.now }
-    requires room { length row.old ≡ (columns + 7) / 8 }
-    ensures packed { bits_of row.new ≡ packed_row black_is_0 (pixels columns changes.now) }
-{
-    if black_is_0 {
-        pack_inverted(row, columns, changes);
-    } else {
-        paint_row(row, columns, changes);
-    }
-}
-
 /// Returns the byte of eight white pixels.
 #[inline(always)]
 fn white_byte(black_is_0: bool) -> u8
@@ -82,11 +74,27 @@ fn white_byte(black_is_0: bool) -> u8
     if black_is_0 { 255 } else { 0 }
 }
 
+/// Packs a row: its pixels from the left, in each byte from the highest bit on, and white ones up to the end of the last byte.
+#[inline(always)]
+pub(crate) fn pack_row(row: &mut [u8], columns: u32, changes: &[u32], black_is_0: bool)
+    requires changes { AreChanges columns changes.now }
+    requires room { length row.old ≡ (columns + 7) / 8 }
+    ensures packed { bits_of row.new ≡ packed_row black_is_0 (pixels columns changes.now) }
+{
+    if changes.is_empty() {
+        row.fill(white_byte(black_is_0));
+    } else if black_is_0 {
+        pack_inverted(row, columns, changes);
+    } else {
+        paint_row(row, columns, changes);
+    }
+}
+
 /// Rows as a bitmap in the caller's memory, from the top, as [`pack_row`] packs them. The bytes between them keep their values.
 /// A row that doesn't fit is refused.
 ///
-/// White rows that follow one another without bytes between them are written together, before the next row that isn't white. The
-/// last ones are written by [`PackedRows::write_white`].
+/// White rows that follow one another without bytes between them are written together, at the latest before the next row that isn't
+/// white. The last ones are written by [`PackedRows::write_white`].
 #[derive(Drop)]
 pub(crate) struct PackedRows<'a> {
     bitmap: &'a mut [u8],
@@ -106,7 +114,7 @@ pub(crate) struct PackedRows<'a> {
 }
 
 impl<'a> PackedRows<'a> {
-    ghost use Rattle.std.specs.Prelude.{◌≡◌, ◌<◌, ◌≤◌, ◌+◌, ◌/◌, All, false, length, true};
+    ghost use Rattle.std.specs.Prelude.{◌≡◌, ◌<◌, ◌≤◌, ◌+◌, ◌-◌, ◌/◌, All, false, length, true};
     ghost use Rattle.hayro_ccitt_c.specs.Packing.{packing_up_to};
 
     /// Creates a sink without rows.
@@ -166,13 +174,13 @@ impl<'a> PackedRows<'a> {
         self.written = self.start;
     }
 
-    /// Writes the white rows that aren't written, if there are any. Then all rows are in memory.
+    /// Writes the white rows that aren't written, if they have more than this many bytes. If it is 0, all rows are then in memory.
     #[inline(always)]
-    pub(crate) fn write_white(&mut self)
+    pub(crate) fn write_white(&mut self, most: usize)
         ensures meaning { packing_up_to self.new.layout self.new.start self.new.written self.new.bitmap.now self.new.changes
             self.new.bitmap.ghost_name ≡ packing_up_to self.old.layout self.old.start self.old.written self.old.bitmap.now
             self.old.changes self.old.bitmap.ghost_name }
-        ensures written { self.new.written ≡ self.new.start }
+        ensures few { self.new.start - self.new.written ≤ most }
         ensures layout { self.new.layout ≡ self.old.layout }
         ensures start { self.new.start ≡ self.old.start }
         ensures size { length self.new.bitmap.now ≡ length self.old.bitmap.now }
@@ -180,18 +188,18 @@ impl<'a> PackedRows<'a> {
         ensures changes { self.new.changes ≡ self.old.changes }
         ensures has_refused { self.new.has_refused ≡ self.old.has_refused }
     {
-        if self.written < self.start {
+        if self.start - self.written > most {
             self.fill_white();
         }
     }
 
-    /// Returns whether a row of so many bytes is white, and the next one begins where it ends.
+    /// Returns whether a row of so many bytes is white, and the next one begins where it ends. A short one may not wait.
     #[inline(always)]
     fn may_wait(&self, bytes: usize, changes: &[u32]) -> bool
         ensures white { result ≡ true → length changes.now ≡ 0 }
         ensures together { result ≡ true → bytes ≡ self.now.layout.stride }
     {
-        changes.is_empty() && bytes == self.layout.stride as usize
+        changes.is_empty() && bytes == self.layout.stride as usize && bytes >= LEAST_WAITING
     }
 
     /// Returns whether a row was refused.
@@ -219,16 +227,17 @@ impl Decoder for PackedRows<'_> {
     #[inline(always)]
     fn push_row(&mut self, changes: &[u32]) -> hayro_ccitt::Result<()> {
         let bytes = (self.columns as usize).div_ceil(8);
-        if self.bitmap.len() < self.start || self.bitmap.len() - self.start < bytes {
+        if self.bitmap.len() < self.start + bytes {
             self.has_refused = true;
             return Err(DecodeError::Refused);
         }
         if self.may_wait(bytes, changes) {
+            self.write_white(MOST_WAITING);
             self.start += bytes;
             self.changes = counted(self.changes, changes);
             return Ok(());
         }
-        self.write_white();
+        self.write_white(0);
         let end = self.start + bytes;
         pack_row(
             &mut self.bitmap[self.start..end],
