@@ -1,6 +1,6 @@
 -- Packed rows in the caller's memory.
 use Rattle.std.specs.Prelude.{ℕ, zero, suc, ◌+◌, ◌-◌, ◌*◌, ◌/◌, ◌%◌, ◌==◌, ◌||◌, Bool, false, List, [], ◌∷◌, ◌++◌}
-use Rattle.std.specs.Prelude.{length, map, take, drop, max, min, nat_le, nat_lt, if◌then◌else◌}
+use Rattle.std.specs.Prelude.{length, map, take, drop, replicate, max, min, nat_le, nat_lt, if◌then◌else◌}
 use Rattle.hayro_ccitt.specs.Bits.{Bits, bits_of}
 use Rattle.hayro_ccitt.specs.Rows.{Row, pixels}
 use Rattle.fax_encode.specs.Chosen.{filled_up}
@@ -63,6 +63,10 @@ outside_rows stride columns (suc n) memory =
     take (stride - bytes_of_row columns) (drop (bytes_of_row columns) memory)
     ++ outside_rows stride columns n (drop stride memory)
 
+-- the byte of eight white pixels
+abbrev pub white_byte : Bool → ℕ
+white_byte black_is_0 = if black_is_0 then 255 else 0
+
 -- a sum, saturated at the greatest value of 64 bits
 abbrev pub counted : ℕ → ℕ → ℕ
 counted count more = min (count + more) 18446744073709551615
@@ -77,6 +81,18 @@ pub record Packing : Type 0 where
   pub size : ℕ
   pub changes : ℕ
   pub name : ℕ
+
+-- what memory means with rows up to the byte `start`, of which those from the byte `written` on are white, and not yet in memory
+abbrev pub packing_up_to : Layout → ℕ → ℕ → List ℕ → ℕ → ℕ → Packing
+packing_up_to layout start written memory changes name = record {
+  layout = layout;
+  start = start;
+  bits = bits_of (take written memory ++ replicate (start - written) (white_byte layout.black_is_0));
+  rest = drop start memory;
+  size = length memory;
+  changes = changes;
+  name = name;
+}
 
 -- the bits of a packed row, and of the bytes up to where the next one begins
 abbrev pub row_and_gap : Layout → ℕ → Row → List ℕ → Bits

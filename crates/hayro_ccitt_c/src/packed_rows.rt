@@ -4,11 +4,17 @@ ghost use Rattle.std.specs.Prelude.{◌≡◌, ◌+◌, ◌/◌, ◌<◌, ◌≤
 ghost use Rattle.hayro_ccitt.specs.BitOrder.TheVariants.{HighestFirst};
 ghost use Rattle.hayro_ccitt.specs.Bits.{bits_of, bits_of_byte};
 ghost use Rattle.hayro_ccitt.specs.Rows.{AreChanges, pixels};
-ghost use Rattle.hayro_ccitt_c.specs.Packing.{packed_row, spaced};
+ghost use Rattle.hayro_ccitt_c.specs.Packing.{packed_row, packing_up_to, spaced, white_byte};
 
 use crate::change_count::counted;
 use fax_encode::paint_row;
 use hayro_ccitt::{DecodeError, Decoder};
+
+/// The most bytes of white rows that aren't written when one more comes. They are written by one call, which is fastest below 2 KiB.
+const MOST_WAITING: usize = 1792;
+
+/// A white row of fewer bytes is written at once.
+const LEAST_WAITING: usize = 16;
 
 /// Where packed rows begin, and what their bits say.
 #[derive(Copy, Clone)]
@@ -60,6 +66,14 @@ fn pack_inverted(row: &mut [u8], columns: u32, changes: &[u32])
     invert(row);
 }
 
+/// Returns the byte of eight white pixels.
+#[inline(always)]
+fn white_byte(black_is_0: bool) -> u8
+    ensures { result ≡ white_byte black_is_0 }
+{
+    if black_is_0 { 255 } else { 0 }
+}
+
 /// Packs a row: its pixels from the left, in each byte from the highest bit on, and white ones up to the end of the last byte.
 #[inline(always)]
 pub(crate) fn pack_row(row: &mut [u8], columns: u32, changes: &[u32], black_is_0: bool)
@@ -67,7 +81,9 @@ pub(crate) fn pack_row(row: &mut [u8], columns: u32, changes: &[u32], black_is_0
     requires room { length row.old ≡ (columns + 7) / 8 }
     ensures packed { bits_of row.new ≡ packed_row black_is_0 (pixels columns changes.now) }
 {
-    if black_is_0 {
+    if changes.is_empty() {
+        row.fill(white_byte(black_is_0));
+    } else if black_is_0 {
         pack_inverted(row, columns, changes);
     } else {
         paint_row(row, columns, changes);
@@ -76,22 +92,30 @@ pub(crate) fn pack_row(row: &mut [u8], columns: u32, changes: &[u32], black_is_0
 
 /// Rows as a bitmap in the caller's memory, from the top, as [`pack_row`] packs them. The bytes between them keep their values.
 /// A row that doesn't fit is refused.
+///
+/// White rows that follow one another without bytes between them are written together, at the latest before the next row that isn't
+/// white. The last ones are written by [`PackedRows::write_white`].
 #[derive(Drop)]
 pub(crate) struct PackedRows<'a> {
     bitmap: &'a mut [u8],
     layout: Layout,
     /// The byte at which the next row begins.
     start: usize,
+    /// The byte up to which the rows are written. Those after it are white.
+    written: usize,
     columns: u32,
     changes: u64,
     has_refused: bool,
     ghost reaches: { (columns + 7) / 8 ≤ layout.stride },
     ghost within: { start + (columns + 7) / 8 ≤ length bitmap.now + layout.stride },
+    ghost in_order: { written ≤ start },
+    ghost inside: { written < start → start ≤ length bitmap.now },
     ghost full: { has_refused ≡ true → length bitmap.now < start + (columns + 7) / 8 },
 }
 
 impl<'a> PackedRows<'a> {
-    ghost use Rattle.std.specs.Prelude.{◌≡◌, ◌<◌, ◌≤◌, ◌+◌, ◌/◌, All, false};
+    ghost use Rattle.std.specs.Prelude.{◌≡◌, ◌<◌, ◌≤◌, ◌+◌, ◌-◌, ◌/◌, All, false, length, true};
+    ghost use Rattle.hayro_ccitt_c.specs.Packing.{packing_up_to};
 
     /// Creates a sink without rows.
     pub(crate) fn new(bitmap: &'a mut [u8], columns: u32, layout: Layout) -> PackedRows<'a>
@@ -100,7 +124,7 @@ impl<'a> PackedRows<'a> {
         ensures bytes { result.bitmap.now ≡ bitmap.old }
         ensures are_bytes { All (λ byte. byte < 256) bitmap.old }
         ensures layout { result.layout ≡ layout }
-        ensures start { result.start ≡ 0 }
+        ensures starts { (result.start ≡ 0) × (result.written ≡ 0) }
         ensures columns { result.columns ≡ columns }
         ensures changes { result.changes ≡ 0 }
         ensures has_refused { result.has_refused ≡ false }
@@ -109,6 +133,7 @@ impl<'a> PackedRows<'a> {
             bitmap,
             layout,
             start: 0,
+            written: 0,
             columns,
             changes: 0,
             has_refused: false,
@@ -130,6 +155,53 @@ impl<'a> PackedRows<'a> {
         self.start / self.layout.stride as usize
     }
 
+    /// Writes the white rows that aren't written.
+    #[inline(never)]
+    fn fill_white(&mut self)
+        requires { self.old.start ≤ length self.old.bitmap.now }
+        ensures meaning { packing_up_to self.new.layout self.new.start self.new.written self.new.bitmap.now self.new.changes
+            self.new.bitmap.ghost_name ≡ packing_up_to self.old.layout self.old.start self.old.written self.old.bitmap.now
+            self.old.changes self.old.bitmap.ghost_name }
+        ensures written { self.new.written ≡ self.new.start }
+        ensures layout { self.new.layout ≡ self.old.layout }
+        ensures start { self.new.start ≡ self.old.start }
+        ensures size { length self.new.bitmap.now ≡ length self.old.bitmap.now }
+        ensures columns { self.new.columns ≡ self.old.columns }
+        ensures changes { self.new.changes ≡ self.old.changes }
+        ensures has_refused { self.new.has_refused ≡ self.old.has_refused }
+    {
+        self.bitmap[self.written..self.start].fill(white_byte(self.layout.black_is_0));
+        self.written = self.start;
+    }
+
+    /// Writes the white rows that aren't written, if they have more than this many bytes. If it is 0, all rows are then in memory.
+    #[inline(always)]
+    pub(crate) fn write_white(&mut self, most: usize)
+        ensures meaning { packing_up_to self.new.layout self.new.start self.new.written self.new.bitmap.now self.new.changes
+            self.new.bitmap.ghost_name ≡ packing_up_to self.old.layout self.old.start self.old.written self.old.bitmap.now
+            self.old.changes self.old.bitmap.ghost_name }
+        ensures few { self.new.start - self.new.written ≤ most }
+        ensures layout { self.new.layout ≡ self.old.layout }
+        ensures start { self.new.start ≡ self.old.start }
+        ensures size { length self.new.bitmap.now ≡ length self.old.bitmap.now }
+        ensures columns { self.new.columns ≡ self.old.columns }
+        ensures changes { self.new.changes ≡ self.old.changes }
+        ensures has_refused { self.new.has_refused ≡ self.old.has_refused }
+    {
+        if self.start - self.written > most {
+            self.fill_white();
+        }
+    }
+
+    /// Returns whether a row of so many bytes is white, and the next one begins where it ends. A short one may not wait.
+    #[inline(always)]
+    fn may_wait(&self, bytes: usize, changes: &[u32]) -> bool
+        ensures white { result ≡ true → length changes.now ≡ 0 }
+        ensures together { result ≡ true → bytes ≡ self.now.layout.stride }
+    {
+        changes.is_empty() && bytes == self.layout.stride as usize && bytes >= LEAST_WAITING
+    }
+
     /// Returns whether a row was refused.
     pub(crate) fn has_refused(&self) -> bool
         ensures { result ≡ self.now.has_refused }
@@ -139,21 +211,12 @@ impl<'a> PackedRows<'a> {
 }
 
 impl Decoder for PackedRows<'_> {
-    ghost use Rattle.hayro_ccitt.specs.Bits.{bits_of};
-    ghost use Rattle.std.specs.Prelude.{take, drop, length};
-    ghost use Rattle.hayro_ccitt_c.specs.Packing.{Packing, with_packed};
+    ghost use Rattle.hayro_ccitt_c.specs.Packing.{Packing, packing_up_to, with_packed};
 
     ghost Meaning = { Packing };
 
-    ghost meaning = { λ sink. record {
-      layout = sink.layout;
-      start = sink.start;
-      bits = bits_of (take sink.start sink.bitmap.now);
-      rest = drop sink.start sink.bitmap.now;
-      size = length sink.bitmap.now;
-      changes = sink.changes;
-      name = sink.bitmap.ghost_name;
-    } };
+    ghost meaning = { λ sink. packing_up_to sink.layout sink.start sink.written sink.bitmap.now sink.changes
+        sink.bitmap.ghost_name };
 
     ghost step = { with_packed };
 
@@ -164,10 +227,17 @@ impl Decoder for PackedRows<'_> {
     #[inline(always)]
     fn push_row(&mut self, changes: &[u32]) -> hayro_ccitt::Result<()> {
         let bytes = (self.columns as usize).div_ceil(8);
-        if self.bitmap.len() < self.start || self.bitmap.len() - self.start < bytes {
+        if self.bitmap.len() < self.start + bytes {
             self.has_refused = true;
             return Err(DecodeError::Refused);
         }
+        if self.may_wait(bytes, changes) {
+            self.write_white(MOST_WAITING);
+            self.start += bytes;
+            self.changes = counted(self.changes, changes);
+            return Ok(());
+        }
+        self.write_white(0);
         let end = self.start + bytes;
         pack_row(
             &mut self.bitmap[self.start..end],
@@ -176,6 +246,7 @@ impl Decoder for PackedRows<'_> {
             self.layout.black_is_0,
         );
         self.start += self.layout.stride as usize;
+        self.written = self.start;
         self.changes = counted(self.changes, changes);
         Ok(())
     }

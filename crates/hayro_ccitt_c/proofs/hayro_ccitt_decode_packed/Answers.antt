@@ -10,6 +10,7 @@ use Rattle.hayro_ccitt_c.specs.Settings.{layout_of, order_of, settings_of}
 use Rattle.hayro_ccitt_c.specs.declared.packed_rows.Layout.{Layout}
 use Rattle.hayro_ccitt_c.proofs.PackedMemory.{all_fit, are_packed, changes_are, packing_of, same_meaning, same_name, start_is}
 use Rattle.hayro_ccitt_c.proofs.PackedTogether.{are_together}
+use Rattle.hayro_ccitt_c.proofs.WhiteRows.{all_in_memory}
 use Rattle.hayro_ccitt_c.proofs.Reporting.{on_settings, taken_within}
 use Rattle.hayro_ccitt_c.proofs.hayro_ccitt_decode_packed.Goals.{After-told}
 use Rattle.hayro_ccitt_c.proofs.hayro_ccitt_decode_packed.Goals as goal
@@ -34,59 +35,66 @@ module _ (c : After-told) where
   same_layout = c.new-rows.ensures.layout ∙ c.layout_of.ensures
 
   -- what the sink means after these rows
-  meaning : packing_of c.decoded-report.new.sink.layout c.decoded-report.new.sink.start c.decoded-report.new.sink.bitmap.now
-      c.decoded-report.new.sink.changes c.decoded-report.new.sink.bitmap.ghost_name
+  meaning : packing_of c.write_white.new.self.layout c.write_white.new.self.start c.write_white.new.self.bitmap.now
+      c.write_white.new.self.changes c.write_white.new.self.bitmap.ghost_name
       ≡ meaning_after (with_packed c.new-rows.result.columns)
       (packing_of layout 0 c.args.bitmap.now 0 c.new-rows.result.bitmap.ghost_name) (take c.decoded-report.result.rows
       (plain c.in-Some.meant (bits_in c.order_of.result c.args.«data».now)).rows)
   meaning =
-      c.decoded-report.ensures.meaning ∙ ap (λ (before : Packing). meaning_after (with_packed c.new-rows.result.columns) before
+      sym (all_in_memory c.write_white.new.self.layout c.write_white.new.self.start c.write_white.new.self.written
+      c.write_white.new.self.bitmap.now c.write_white.new.self.changes c.write_white.new.self.bitmap.ghost_name
+      (omega (arith, c.write_white.new.self.in_order, c.write_white.ensures.few)))
+      ∙ c.write_white.ensures.meaning
+      ∙ c.decoded-report.ensures.meaning ∙ ap (λ (before : Packing). meaning_after (with_packed c.new-rows.result.columns) before
       (take c.decoded-report.result.rows (plain c.in-Some.meant (bits_in c.order_of.result c.args.«data».now)).rows))
-      (same_meaning c.new-rows.result.layout layout c.new-rows.result.start 0 c.new-rows.result.bitmap.now c.args.bitmap.now
-      c.new-rows.result.changes 0 c.new-rows.result.bitmap.ghost_name same_layout c.new-rows.ensures.start
+      (all_in_memory c.new-rows.result.layout c.new-rows.result.start c.new-rows.result.written c.new-rows.result.bitmap.now
+      c.new-rows.result.changes c.new-rows.result.bitmap.ghost_name
+      (c.new-rows.ensures.starts.1 ∙ sym c.new-rows.ensures.starts.0)
+      ∙ same_meaning c.new-rows.result.layout layout c.new-rows.result.start 0 c.new-rows.result.bitmap.now c.args.bitmap.now
+      c.new-rows.result.changes 0 c.new-rows.result.bitmap.ghost_name same_layout c.new-rows.ensures.starts.0
       c.new-rows.ensures.bytes c.new-rows.ensures.changes)
 
-  same : c.new-rows.result.bitmap.ghost_name ≡ c.decoded-report.new.sink.bitmap.ghost_name
+  same : c.new-rows.result.bitmap.ghost_name ≡ c.write_white.new.self.bitmap.ghost_name
   same =
-      same_name layout c.decoded-report.new.sink.layout c.in-Some.meant (bits_in c.order_of.result c.args.«data».now)
-      c.decoded-report.result.rows c.new-rows.result.columns c.decoded-report.new.sink.start _ _
-      c.decoded-report.new.sink.changes c.args.bitmap.now c.decoded-report.new.sink.bitmap.now c.new-rows.ensures.columns enough
+      same_name layout c.write_white.new.self.layout c.in-Some.meant (bits_in c.order_of.result c.args.«data».now)
+      c.decoded-report.result.rows c.new-rows.result.columns c.write_white.new.self.start _ _
+      c.write_white.new.self.changes c.args.bitmap.now c.write_white.new.self.bitmap.now c.new-rows.ensures.columns enough
       meaning
 
-  wide : c.decoded-report.new.sink.columns ≡ c.new-rows.result.columns
-  wide = c.decoded-report.ensures.width
+  wide : c.write_white.new.self.columns ≡ c.new-rows.result.columns
+  wide = c.write_white.ensures.columns ∙ c.decoded-report.ensures.width
 
   reaches : bytes_of_row c.new-rows.result.columns ≤ layout.stride
   reaches = subst (λ (l : Layout). bytes_of_row c.new-rows.result.columns ≤ l.stride) same_layout c.new-rows.result.reaches
 
-  room : c.decoded-report.new.sink.start + bytes_of_row c.new-rows.result.columns
-      ≤ length c.decoded-report.new.sink.bitmap.now + c.decoded-report.new.sink.layout.stride
-  room = subst (λ (n : ℕ). c.decoded-report.new.sink.start + bytes_of_row n
-      ≤ length c.decoded-report.new.sink.bitmap.now + c.decoded-report.new.sink.layout.stride) wide
-      c.decoded-report.new.sink.within
+  room : c.write_white.new.self.start + bytes_of_row c.new-rows.result.columns
+      ≤ length c.write_white.new.self.bitmap.now + c.write_white.new.self.layout.stride
+  room = subst (λ (n : ℕ). c.write_white.new.self.start + bytes_of_row n
+      ≤ length c.write_white.new.self.bitmap.now + c.write_white.new.self.layout.stride) wide
+      c.write_white.new.self.within
 
-  packed : All (λ byte. byte < 256) c.decoded-report.new.sink.bitmap.now
+  packed : All (λ byte. byte < 256) c.write_white.new.self.bitmap.now
       → ArePacked layout c.in-Some.meant (bits_in c.order_of.result c.args.«data».now) c.decoded-report.result.rows
-      c.args.bitmap.now c.decoded-report.new.sink.bitmap.now
+      c.args.bitmap.now c.write_white.new.self.bitmap.now
   packed =
-      are_packed layout c.decoded-report.new.sink.layout c.in-Some.meant (bits_in c.order_of.result c.args.«data».now)
-      c.decoded-report.result.rows c.new-rows.result.columns c.decoded-report.new.sink.start _ _
-      c.decoded-report.new.sink.changes c.args.bitmap.now c.decoded-report.new.sink.bitmap.now c.new-rows.ensures.columns enough
+      are_packed layout c.write_white.new.self.layout c.in-Some.meant (bits_in c.order_of.result c.args.«data».now)
+      c.decoded-report.result.rows c.new-rows.result.columns c.write_white.new.self.start _ _
+      c.write_white.new.self.changes c.args.bitmap.now c.write_white.new.self.bitmap.now c.new-rows.ensures.columns enough
       meaning reaches room c.new-rows.ensures.are_bytes
 
-  started : c.decoded-report.new.sink.start ≡ c.decoded-report.result.rows * layout.stride
+  started : c.write_white.new.self.start ≡ c.decoded-report.result.rows * layout.stride
   started =
-      start_is layout c.decoded-report.new.sink.layout c.in-Some.meant (bits_in c.order_of.result c.args.«data».now)
-      c.decoded-report.result.rows c.new-rows.result.columns c.decoded-report.new.sink.start _ _
-      c.decoded-report.new.sink.changes c.args.bitmap.now c.decoded-report.new.sink.bitmap.now c.new-rows.ensures.columns enough
+      start_is layout c.write_white.new.self.layout c.in-Some.meant (bits_in c.order_of.result c.args.«data».now)
+      c.decoded-report.result.rows c.new-rows.result.columns c.write_white.new.self.start _ _
+      c.write_white.new.self.changes c.args.bitmap.now c.write_white.new.self.bitmap.now c.new-rows.ensures.columns enough
       meaning
 
-  counted : c.decoded-report.new.sink.changes
+  counted : c.write_white.new.self.changes
       ≡ changes_taken c.in-Some.meant (bits_in c.order_of.result c.args.«data».now) c.decoded-report.result.rows
   counted =
-      changes_are layout c.decoded-report.new.sink.layout c.in-Some.meant (bits_in c.order_of.result c.args.«data».now)
-      c.decoded-report.result.rows c.new-rows.result.columns c.decoded-report.new.sink.start _ _
-      c.decoded-report.new.sink.changes c.args.bitmap.now c.decoded-report.new.sink.bitmap.now c.new-rows.ensures.columns enough
+      changes_are layout c.write_white.new.self.layout c.in-Some.meant (bits_in c.order_of.result c.args.«data».now)
+      c.decoded-report.result.rows c.new-rows.result.columns c.write_white.new.self.start _ _
+      c.write_white.new.self.changes c.args.bitmap.now c.write_white.new.self.bitmap.now c.new-rows.ensures.columns enough
       meaning
 
 -- a statement about what was decoded, and about the memory afterwards, is one about what C gets
@@ -117,12 +125,12 @@ returns-clause-packed c =
 
 pub returns-clause-together : goal.returns-clause-together
 returns-clause-together c =
-    let are = λ (fits : All (λ byte. byte < 256) c.decoded-report.new.sink.bitmap.now)
+    let are = λ (fits : All (λ byte. byte < 256) c.write_white.new.self.bitmap.now)
     (is : layout_of c.args.settings.now ≡ together c.in-Some.meant.columns). are_together c.in-Some.meant
     (bits_in c.order_of.result c.args.«data».now) c.decoded-report.result.rows c.args.bitmap.now
-    c.decoded-report.new.sink.bitmap.now (subst (λ (l : Layout). ArePacked l c.in-Some.meant
+    c.write_white.new.self.bitmap.now (subst (λ (l : Layout). ArePacked l c.in-Some.meant
     (bits_in c.order_of.result c.args.«data».now) c.decoded-report.result.rows c.args.bitmap.now
-    c.decoded-report.new.sink.bitmap.now) is (packed c fits)) in
+    c.write_white.new.self.bitmap.now) is (packed c fits)) in
     let name = sym c.new-rows.ensures.same_reference ∙ same c in
     rw c.told.ensures.outcome
     (λ fit. on_bytes c (λ s bits memory. layout_of c.args.settings.now ≡ together s.columns
@@ -130,14 +138,15 @@ returns-clause-together c =
 
 pub returns-clause-refused : goal.returns-clause-refused
 returns-clause-refused c = λ full.
-    let few : length c.decoded-report.new.sink.bitmap.now
+    let few : length c.write_white.new.self.bitmap.now
     < c.decoded-report.result.rows * (layout c).stride + bytes_of_row c.in-Some.meant.columns =
     omega (
       arith,
       started c,
       wide c,
       c.new-rows.ensures.columns,
-      c.decoded-report.new.sink.full (c.decoded-report.ensures.flag (sym c.told.ensures.status ∙ full)),
+      c.write_white.new.self.full
+          (c.write_white.ensures.has_refused ∙ c.decoded-report.ensures.flag (sym c.told.ensures.status ∙ full)),
     ) in
     let name = sym c.new-rows.ensures.same_reference ∙ same c in
     rw c.told.ensures.outcome (λ fit. on_packed c (λ s bits memory. length memory
