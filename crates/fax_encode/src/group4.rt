@@ -87,13 +87,14 @@ pub fn above_after_vertical(
     ensures near { IsNear columns reference.now (record { from = a1 + 1; color = opposite (color_after _at.next) }) result }
     ensures onward { above.index ≤ result + 1 }
 {
-    if above.b1 <= a1 {
-        return above.index + 1;
-    }
     if above.index == 0 {
         return 1;
     }
-    above.index - 1
+    let before = above.index - 1;
+    if before < reference.len() && reference[before] <= a1 {
+        return above.index + 1;
+    }
+    before
 }
 
 /// Returns b2, the change after b1, if it is left of a1.
@@ -188,7 +189,7 @@ fn put_horizontal(
 
 /// Writes one mode: pass if b2 is left of a1; else vertical if a1 is at most three positions from b1; else horizontal (T.4,
 /// 4.2.1.3.2). Afterwards all changes of the row that are left of the new position are counted, and the index from which b1
-/// is found is at most one less than before.
+/// is found is at most one less than before. The new position is past the row's end only if no changes are left.
 #[inline(always)]
 fn put_mode(
     writer: &mut BitWriter,
@@ -210,6 +211,7 @@ fn put_mode(
     ensures near { IfOk result (λ after. IsNear columns reference.now (place_of after) after.above) }
     ensures next { IfOk result (λ after. after.from ≤ columns → AreAllLeft changes.now after.from after.next) }
     ensures onward { IfOk result (λ after. at.above ≤ after.above + 1) }
+    ensures inside { IfOk result (λ after. after.next < length changes.now → after.from ≤ columns) }
 {
     let a1 = change_or_end(changes, at.next, columns);
     let above = find_above(columns, reference, at);
@@ -269,6 +271,9 @@ pub fn put_line(
         next: 0,
         above: 0,
     };
+    'changes: while at.next < changes.len() {
+        at = put_mode(writer, columns, reference, changes, at)?;
+    }
     'modes: while at.from <= u64::from(columns) {
         at = put_mode(writer, columns, reference, changes, at)?;
     }
