@@ -22,6 +22,13 @@ module _ (columns : ℕ) (changes : List ℕ) (lawful : AreChanges columns chang
       a1_found ∙ next_change columns changes lawful left
       ∙ ap (λ (n : ℕ). get_or changes n columns) (let s : suc left ≡ left + 1 = omega arith in s)
 
+-- a change is left of the row's end
+pub left_of_end : (first width : ℕ) (places : List ℕ) (i : ℕ) → AscendFrom first width places → i < length places
+    → get_or places i width < width
+left_of_end first width [] i ascend lt = absurd (omega arith)
+left_of_end first width (p ∷ places) zero ascend lt = ascend.1
+left_of_end first width (p ∷ places) (suc i) ascend lt = left_of_end (suc p) width places i ascend.2 (omega arith)
+
 -- a change is not left of the one before it, and the row's end is right of them all
 pub next_is_right : (first width : ℕ) (places : List ℕ) (i j : ℕ) → j ≡ i + 1 → AscendFrom first width places
     → get_or places i width ≤ get_or places j width

@@ -2,7 +2,7 @@
 use Rattle.fax_encode.proofs.Names.{◌≡◌, ℕ, suc, ◌+◌, ◌-◌, ◌*◌, ◌/◌, ◌%◌, ◌<◌, ◌≤◌, true, false, ltb, List, ◌∷◌, ◌++◌, length}
 use Rattle.fax_encode.proofs.Names.{get_or, drop, replicate, refl, sym, ap, subst, ◌∙◌, arith, append_assoc, flat_map, lt-ltb}
 use Rattle.fax_encode.proofs.Names.{le-ltb, slice_get-get_or, drop_some, AscendFrom-wider, opposite, AscendFrom, Color, Bits}
-use Rattle.fax_encode.proofs.Names.{low_bits, Word, IsWord, word_of_length, chosen_rest, chosen_run, chosen_runs}
+use Rattle.fax_encode.proofs.Names.{low_bits, Word, IsWord, word_of_length, chosen_rest, chosen_run, chosen_runs, White, Black}
 
 -- a few pixels are a terminating word
 pub rest_few : (color : Color) (n : ℕ) → n < 64 → chosen_rest color n ≡ word_of_length color n
@@ -48,6 +48,11 @@ pub one_part : (old now rest part left whole : Bits) → now ++ rest ≡ whole �
 one_part old now rest part left whole e split more =
     ap (λ (b : Bits). b ++ left) more ∙ append_assoc now part left ∙ ap (λ (b : Bits). now ++ b) (sym split) ∙ e
 
+-- the bits of words, and of one more after them
+pub more_bits : {all before word front back : Bits} → all ≡ before ++ word → before ≡ front → word ≡ back → all ≡ front ++ back
+more_bits {all} {before} {word} {front} {back} both same more =
+    both ∙ ap (λ (b : Bits). b ++ word) same ∙ ap (λ (b : Bits). front ++ b) more
+
 -- ---- One-dimensional lines.
 module _ (columns place i : ℕ) (color : Color) (changes : List ℕ) (lt : i < length changes)
     (ascend : AscendFrom place columns (drop i changes)) where
@@ -85,3 +90,58 @@ two_runs columns place i color changes first second ascend =
     next_run columns place i color changes first ascend ∙ ap (λ (b : Bits). one ++ b) (next_run columns
     (get_or changes i 0) (i + 1) (opposite color) changes second (next_ascends columns place i color changes first ascend))
     ∙ sym (append_assoc one two rest)
+
+-- four runs, white first
+module _ (columns place i : ℕ) (changes : List ℕ) (fourth : i + 3 < length changes)
+    (ascend : AscendFrom place columns (drop i changes)) where
+  abbrev one : ℕ
+  one = get_or changes i 0
+
+  abbrev two : ℕ
+  two = get_or changes (i + 1) 0
+
+  abbrev three : ℕ
+  three = get_or changes (i + 2) 0
+
+  abbrev four : ℕ
+  four = get_or changes (i + 3) 0
+
+  second_ascends : AscendFrom one columns (drop (i + 1) changes)
+  second_ascends = next_ascends columns place i White changes (omega arith) ascend
+
+  third_ascends : AscendFrom two columns (drop (i + 2) changes)
+  third_ascends = let e : i + 1 + 1 ≡ i + 2 = omega arith in
+      subst (λ (n : ℕ). AscendFrom two columns (drop n changes)) e
+      (next_ascends columns one (i + 1) Black changes (omega arith) second_ascends)
+
+  fourth_ascends : AscendFrom three columns (drop (i + 3) changes)
+  fourth_ascends = let e : i + 2 + 1 ≡ i + 3 = omega arith in
+      subst (λ (n : ℕ). AscendFrom three columns (drop n changes)) e
+      (next_ascends columns two (i + 2) White changes (omega arith) third_ascends)
+
+  pub four_ascend : AscendFrom four columns (drop (i + 4) changes)
+  four_ascend = let e : i + 3 + 1 ≡ i + 4 = omega arith in
+      subst (λ (n : ℕ). AscendFrom four columns (drop n changes)) e
+      (next_ascends columns three (i + 3) Black changes fourth fourth_ascends)
+
+  pub four_within : four ≤ columns
+  four_within = next_within columns three (i + 3) Black changes fourth fourth_ascends
+
+  pub four_runs : chosen_runs columns White place (drop i changes)
+      ≡ ((chosen_run White (one - place) ++ chosen_run Black (two - one))
+      ++ (chosen_run White (three - two) ++ chosen_run Black (four - three))) ++ chosen_runs columns White four (drop (i + 4) changes)
+  four_runs =
+      let front : Bits = chosen_run White (one - place) ++ chosen_run Black (two - one) in
+      let back : Bits = chosen_run White (three - two) ++ chosen_run Black (four - three) in
+      let rest : Bits = chosen_runs columns White four (drop (i + 4) changes) in
+      let last : i + 2 + 1 ≡ i + 3 = omega arith in
+      let after : i + 2 + 1 + 1 ≡ i + 4 = omega arith in
+      let behind : i + 1 + 1 ≡ i + 2 = omega arith in
+      let ahead : chosen_runs columns White two (drop (i + 2) changes) ≡ back ++ rest =
+      two_runs columns two (i + 2) White changes (omega arith) (omega arith) third_ascends
+      ∙ ap (λ (n : ℕ). (chosen_run White (three - two) ++ chosen_run Black (get_or changes n 0 - three))
+      ++ chosen_runs columns White (get_or changes n 0) (drop (i + 2 + 1 + 1) changes)) last
+      ∙ ap (λ (n : ℕ). back ++ chosen_runs columns White four (drop n changes)) after in
+      two_runs columns place i White changes (omega arith) (omega arith) ascend
+      ∙ ap (λ (n : ℕ). front ++ chosen_runs columns White two (drop n changes)) behind
+      ∙ ap (λ (b : Bits). front ++ b) ahead ∙ sym (append_assoc front back rest)

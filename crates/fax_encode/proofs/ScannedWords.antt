@@ -1,8 +1,8 @@
 -- Words of pixels, and where their colour turns.
 use Rattle.fax_encode.proofs.Names.{◌≡◌, ℕ, zero, suc, ◌+◌, ◌-◌, ◌*◌, ◌/◌, ◌%◌, ◌^◌, ◌<◌, ◌≤◌, Bool, true, false, not, eqb, List}
 use Rattle.fax_encode.proofs.Names.{[], ◌∷◌, ◌++◌, get_or, map, take, replicate, refl, sym, ap, ◌∙◌, arith, inl, inr, beq}
-use Rattle.fax_encode.proofs.Names.{count_leading_zeros, range_with_len, bit_at, from_be_bytes, w64, xor_zero_r, bit_or, bit_xor}
-use Rattle.fax_encode.proofs.Names.{cases_lt, get_or_past, get_or-map-range_with_len, be_bytes_8, or_shifted, xor_block}
+use Rattle.fax_encode.proofs.Names.{count_leading_zeros, range_with_len, bit_at, from_be_bytes, w64, bit_and, bit_or, bit_xor}
+use Rattle.fax_encode.proofs.Names.{cases_lt, get_or_past, get_or-map-range_with_len, be_bytes_8, or_shifted, and-not, and_comm, and_pow}
 use Rattle.fax_encode.proofs.Names.{leading_top, leading_length, one_shl, bit_at_xor, bit_at-lt, bit_at-suc, bit_at_above}
 use Rattle.fax_encode.proofs.Names.{bit_at_cat_low, bit_at_cat_high, pow-suc, Bits, bit_of, bits_of, low_bits, Row, last_pixel}
 use Rattle.fax_encode.proofs.Names.{one_times, some_number, changes_from, differences, ones_from, append-nil, low_bits_below}
@@ -176,33 +176,28 @@ module _ (word ahead count : ℕ) (small : word < 2 ^ 64) (is : ahead ≡ count_
       ap (λ (n : ℕ). 1 * 2 ^ n % 2 ^ 64) at ∙ one_shl top.0 64 (omega (arith, top.1)) in
       omega (arith, one, top.2)
 
-  -- and which is turned
-  pub one_turned : ahead < 64 → bit_xor word (1 * 2 ^ (63 - ahead) % 2 ^ 64) ≡ word - 1 * 2 ^ (63 - ahead) % 2 ^ 64
-  one_turned lt =
+  -- and which is cleared
+  pub one_cleared : ahead < 64 → bit_and (2 ^ 64 - 1 - 1 * 2 ^ (63 - ahead) % 2 ^ 64) word ≡ word - 1 * 2 ^ (63 - ahead) % 2 ^ 64
+  one_cleared lt =
       let top = leading_top 64 word (some_number 64 word small (omega (arith, is))) small in
       let j : ℕ = top.0 in
       let at : 63 - ahead ≡ j = omega (arith, top.1) in
       let one : 1 * 2 ^ (63 - ahead) % 2 ^ 64 ≡ 2 ^ j =
       ap (λ (n : ℕ). 1 * 2 ^ n % 2 ^ 64) at ∙ one_shl j 64 (omega (arith, top.1)) in
-      let twice : 2 ^ suc j ≡ 2 ^ j * 2 = pow-suc 2 j in
-      let rest : ℕ = word - 2 ^ j in
-      let low : rest < 2 ^ j = omega (arith, top.2, top.3, twice) in
-      let whole : word ≡ 1 * 2 ^ j + rest = omega (arith, top.2) in
-      let alone : 2 ^ j ≡ 1 * 2 ^ j + 0 = omega arith in
-      let none : 0 < 2 ^ j = power_positive j in
-      let both : bit_xor 1 1 ≡ 0 = refl in
-      let left : bit_xor 1 1 * 2 ^ j + bit_xor rest 0 ≡ rest = omega (arith, ap (λ (n : ℕ). n * 2 ^ j) both, xor_zero_r rest) in
-      ap (bit_xor word) one ∙ ap (λ (n : ℕ). bit_xor word n) alone ∙ ap (λ (n : ℕ). bit_xor n (1 * 2 ^ j + 0)) whole
-      ∙ xor_block j 1 1 rest 0 low none ∙ left ∙ ap (λ (n : ℕ). word - n) (sym one)
+      let set : bit_at word j ≡ 1 = ap (λ (n : ℕ). n % 2) (one_times word j top.2 top.3) in
+      let alone : bit_and (2 ^ j) word ≡ 2 ^ j = and_comm (2 ^ j) word ∙ and_pow word j
+      ∙ ap (λ (n : ℕ). n * 2 ^ j) set ∙ (let e : 1 * 2 ^ j ≡ 2 ^ j = omega arith in e) in
+      let same : bit_and (1 * 2 ^ (63 - ahead) % 2 ^ 64) word ≡ 2 ^ j = ap (λ (n : ℕ). bit_and n word) one ∙ alone in
+      omega (arith, and-not 64 (1 * 2 ^ (63 - ahead) % 2 ^ 64) word (omega arith) small, same, one, top.2)
 
-  pub one_less : ahead < 64 → bit_xor word (1 * 2 ^ (63 - ahead) % 2 ^ 64) < word
+  pub one_less : ahead < 64 → bit_and (2 ^ 64 - 1 - 1 * 2 ^ (63 - ahead) % 2 ^ 64) word < word
   one_less lt =
       let top = leading_top 64 word (some_number 64 word small (omega (arith, is))) small in
       let j : ℕ = top.0 in
       let at : 63 - ahead ≡ j = omega (arith, top.1) in
       let one : 1 * 2 ^ (63 - ahead) % 2 ^ 64 ≡ 2 ^ j =
       ap (λ (n : ℕ). 1 * 2 ^ n % 2 ^ 64) at ∙ one_shl j 64 (omega (arith, top.1)) in
-      omega (arith, one_turned lt, one, power_positive j, top.2)
+      omega (arith, one_cleared lt, one, power_positive j, top.2)
 
 -- ---- changes
 -- the changes of a row are the ones among its differences

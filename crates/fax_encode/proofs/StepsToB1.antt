@@ -105,6 +105,14 @@ module _ (columns : ℕ) (places : List ℕ) (lawful : AreChanges columns places
     left = λ k l. omega (arith, le, rising columns places lawful k index (omega arith));
   }
 
+  -- or where the change before that of b1 isn't right of a1
+  pub near_on : (before a1 : ℕ) → index ≡ before + 1 → get_or places before columns ≤ a1
+      → IsNear columns places (record { from = a1 + 1; color = opposite at.color }) (index + 1)
+  near_on before a1 is le = record {
+    turns = turns_next index at.color near.turns;
+    left = λ k l. omega (arith, le, is, rising columns places lawful k before (omega (arith, is)));
+  }
+
   pub near_first : (a1 : ℕ) → index ≡ 0 → IsNear columns places (record { from = a1 + 1; color = opposite at.color }) 1
   near_first a1 first =
       let one : index + 1 ≡ 1 = omega arith in

@@ -116,13 +116,13 @@ finished old new waiting room left shifted le is few same e =
     ∙ sym (append_assoc (bits_of old) (low_bits (64 - room) waiting) (low_bits (room % 8) 0))
     ∙ ap (λ (b : Bits). (bits_of old ++ low_bits (64 - room) waiting) ++ b) (missing old room waiting le)
 
--- two words one after another, in 32 bits
-pub two_words : (a m b n bits : ℕ) → m + n ≤ 32 → a < 2 ^ m → b < 2 ^ n → bits ≡ bit_or (a * 2 ^ n % 2 ^ 32) b
+-- two words one after another, in 64 bits
+pub two_words : (a m b n bits : ℕ) → m + n ≤ 64 → a < 2 ^ m → b < 2 ^ n → bits ≡ bit_or (a * 2 ^ n % 2 ^ 64) b
     → bits ≡ a * 2 ^ n + b
 two_words a m b n bits short a-fits b-fits is =
-    is ∙ ap (λ (k : ℕ). bit_or k b) (shl_whole a m n 32 a-fits short) ∙ or_shifted a n b b-fits
+    is ∙ ap (λ (k : ℕ). bit_or k b) (shl_whole a m n 64 a-fits short) ∙ or_shifted a n b b-fits
 
-pub two_words_fit : (a m b n bits : ℕ) → m + n ≤ 32 → a < 2 ^ m → b < 2 ^ n → bits ≡ bit_or (a * 2 ^ n % 2 ^ 32) b
+pub two_words_fit : (a m b n bits : ℕ) → m + n ≤ 64 → a < 2 ^ m → b < 2 ^ n → bits ≡ bit_or (a * 2 ^ n % 2 ^ 64) b
     → bits < 2 ^ (m + n)
 two_words_fit a m b n bits short a-fits b-fits is =
     omega (
@@ -133,7 +133,7 @@ two_words_fit a m b n bits short a-fits b-fits is =
       ap (λ (k : ℕ). 2 ^ k) (let e : m + n ≡ n + m = omega arith in e),
     )
 
-pub two_words_bits : (a m b n bits : ℕ) → m + n ≤ 32 → a < 2 ^ m → b < 2 ^ n → bits ≡ bit_or (a * 2 ^ n % 2 ^ 32) b
+pub two_words_bits : (a m b n bits : ℕ) → m + n ≤ 64 → a < 2 ^ m → b < 2 ^ n → bits ≡ bit_or (a * 2 ^ n % 2 ^ 64) b
     → low_bits (m + n) bits ≡ low_bits m a ++ low_bits n b
 two_words_bits a m b n bits short a-fits b-fits is =
     ap (low_bits (m + n)) (two_words a m b n bits short a-fits b-fits is) ∙ low_bits_cat m n a b b-fits

@@ -89,30 +89,30 @@ impl BitWriter {
 
     /// Writes the lowest `count` bits of a number, the highest first.
     #[inline(always)]
-    pub fn put(&mut self, word: u32, count: u32) -> Result<(), AllocError>
-        requires count { count ≤ 32 }
+    pub fn put(&mut self, word: u64, count: u32) -> Result<(), AllocError>
+        requires count { count ≤ 63 }
         requires word { word < 2 ^ count }
         ensures { OnOk result (all_bits self.new ≡ all_bits self.old ++ low_bits count word) }
     {
         if count >= self.room {
             return self.put_over(word, count);
         }
-        self.pending = self.pending << count | u64::from(word);
+        self.pending = self.pending << count | word;
         self.room -= count;
         Ok(())
     }
 
     /// Writes bits that complete the 64 that are pending, and stores these.
     #[inline(never)]
-    fn put_over(&mut self, word: u32, count: u32) -> Result<(), AllocError>
-        requires count { count ≤ 32 }
+    fn put_over(&mut self, word: u64, count: u32) -> Result<(), AllocError>
+        requires count { count ≤ 63 }
         requires word { word < 2 ^ count }
         requires full { 64 ≤ length self.old.rest + count }
         ensures { OnOk result (all_bits self.new ≡ all_bits self.old ++ low_bits count word) }
     {
         let over = count - self.room;
-        let full = self.pending << self.room | u64::from(word >> over);
-        self.pending = u64::from(word);
+        let full = self.pending << self.room | word >> over;
+        self.pending = word;
         self.room = 64 - over;
         store_word(&mut self.bytes, full)?;
         Ok(())

@@ -82,7 +82,7 @@ fn push_ones(list: &mut Vec<u32>, first: u32, count: u32, word: u64) -> Result<(
             return push_ones_growing(list, first, count, ones);
         }
         list.push_reserved((last - u64::from(63 - ahead)) as u32);
-        ones ^= 1 << (63 - ahead);
+        ones = !(1 << (63 - ahead)) & ones;
     }
     Ok(())
 }

@@ -11,8 +11,10 @@ ghost use Rattle.fax_encode.specs.Coding.{AreAllLeft, place_of, IsNear, color_af
 ghost use Rattle.fax_encode.specs.Writing.{all_bits};
 
 use crate::bit_writer::BitWriter;
-use crate::runs::{put_code_word, put_runs};
-use crate::words::{below_word, horizontal_word, pass_word, vertical_word};
+use crate::runs::{put_code_word, put_joined, put_runs};
+use crate::words::{
+    below_word, horizontal_word, one_word, pass_word, terminating_word, vertical_word, with_word,
+};
 use hayro_ccitt::changes::change_or_end;
 use hayro_ccitt::codes::Color;
 use std::alloc::AllocError;
@@ -85,13 +87,14 @@ pub fn above_after_vertical(
     ensures near { IsNear columns reference.now (record { from = a1 + 1; color = opposite (color_after _at.next) }) result }
     ensures onward { above.index ≤ result + 1 }
 {
-    if above.b1 <= a1 {
-        return above.index + 1;
-    }
     if above.index == 0 {
         return 1;
     }
-    above.index - 1
+    let before = above.index - 1;
+    if before < reference.len() && reference[before] <= a1 {
+        return above.index + 1;
+    }
+    before
 }
 
 /// Returns b2, the change after b1, if it is left of a1.
@@ -134,9 +137,27 @@ pub fn put_vertical(writer: &mut BitWriter, b1: u32, a1: u32) -> Result<bool, Al
     Ok(false)
 }
 
-/// Writes horizontal mode and its two runs, the first of this colour (T.4, 4.2.1.3.1).
+/// Writes horizontal mode and two runs of less than 64 pixels, the first of this colour.
+#[inline(always)]
+fn put_short_horizontal(
+    writer: &mut BitWriter,
+    color: Color,
+    first: u32,
+    second: u32,
+) -> Result<(), AllocError>
+    requires { (first < 64) × (second < 64) }
+    ensures { OnOk result (all_bits writer.new ≡ all_bits writer.old
+        ++ (word_of_mode Horizontal ++ (chosen_run color first ++ chosen_run (opposite color) second))) }
+{
+    let mode = one_word(horizontal_word());
+    let one = with_word(mode, terminating_word(color, first));
+    let two = with_word(one, terminating_word(color.opposite(), second));
+    put_joined(writer, two)
+}
+
+/// Writes horizontal mode and two runs of any length, the first of this colour.
 #[inline(never)]
-fn put_horizontal(
+fn put_long_horizontal(
     writer: &mut BitWriter,
     color: Color,
     first: u32,
@@ -149,9 +170,26 @@ fn put_horizontal(
     put_runs(writer, color, first, second)
 }
 
+/// Writes horizontal mode and its two runs, the first of this colour (T.4, 4.2.1.3.1).
+#[inline(always)]
+fn put_horizontal(
+    writer: &mut BitWriter,
+    color: Color,
+    first: u32,
+    second: u32,
+) -> Result<(), AllocError>
+    ensures { OnOk result (all_bits writer.new ≡ all_bits writer.old
+        ++ (word_of_mode Horizontal ++ (chosen_run color first ++ chosen_run (opposite color) second))) }
+{
+    if first < 64 && second < 64 {
+        return put_short_horizontal(writer, color, first, second);
+    }
+    put_long_horizontal(writer, color, first, second)
+}
+
 /// Writes one mode: pass if b2 is left of a1; else vertical if a1 is at most three positions from b1; else horizontal (T.4,
 /// 4.2.1.3.2). Afterwards all changes of the row that are left of the new position are counted, and the index from which b1
-/// is found is at most one less than before.
+/// is found is at most one less than before. The new position is past the row's end only if no changes are left.
 #[inline(always)]
 fn put_mode(
     writer: &mut BitWriter,
@@ -173,6 +211,7 @@ fn put_mode(
     ensures near { IfOk result (λ after. IsNear columns reference.now (place_of after) after.above) }
     ensures next { IfOk result (λ after. after.from ≤ columns → AreAllLeft changes.now after.from after.next) }
     ensures onward { IfOk result (λ after. at.above ≤ after.above + 1) }
+    ensures inside { IfOk result (λ after. after.next < length changes.now → after.from ≤ columns) }
 {
     let a1 = change_or_end(changes, at.next, columns);
     let above = find_above(columns, reference, at);
@@ -232,6 +271,9 @@ pub fn put_line(
         next: 0,
         above: 0,
     };
+    'changes: while at.next < changes.len() {
+        at = put_mode(writer, columns, reference, changes, at)?;
+    }
     'modes: while at.from <= u64::from(columns) {
         at = put_mode(writer, columns, reference, changes, at)?;
     }

@@ -8,7 +8,7 @@ ghost use Rattle.fax_encode.specs.Shortest.{first_makeup, shortest_run, shortest
 ghost use Rattle.fax_encode.specs.Writing.{all_bits};
 
 use crate::bit_writer::BitWriter;
-use crate::words::{Word, makeup_word, terminating_word};
+use crate::words::{Joined, Word, makeup_word, one_word, terminating_word, with_word};
 use hayro_ccitt::codes::Color;
 use std::alloc::AllocError;
 
@@ -19,7 +19,17 @@ pub fn put_code_word(writer: &mut BitWriter, word: Word) -> Result<(), AllocErro
     requires fits { word.bits < 2 ^ word.count }
     ensures { OnOk result (all_bits writer.new ≡ all_bits writer.old ++ low_bits word.count word.bits) }
 {
-    writer.put(u32::from(word.bits), u32::from(word.count))
+    writer.put(u64::from(word.bits), u32::from(word.count))
+}
+
+/// Writes words, one after another.
+#[inline(always)]
+pub fn put_joined(writer: &mut BitWriter, words: Joined) -> Result<(), AllocError>
+    requires few { words.count ≤ 63 }
+    requires fits { words.bits < 2 ^ words.count }
+    ensures { OnOk result (all_bits writer.new ≡ all_bits writer.old ++ low_bits words.count words.bits) }
+{
+    writer.put(words.bits, words.count)
 }
 
 /// Writes two words, one after the other.
@@ -30,8 +40,7 @@ fn put_two_words(writer: &mut BitWriter, first: Word, second: Word) -> Result<()
     ensures { OnOk result (all_bits writer.new
         ≡ all_bits writer.old ++ (low_bits first.count first.bits ++ low_bits second.count second.bits)) }
 {
-    let bits = u32::from(first.bits) << second.count | u32::from(second.bits);
-    writer.put(bits, u32::from(first.count + second.count))
+    put_joined(writer, with_word(one_word(first), second))
 }
 
 /// Writes the words of less than 2624 pixels: a make-up word if there are 64 or more, and a terminating word.
@@ -96,6 +105,30 @@ pub fn put_runs(
     put_run(writer, color.opposite(), second)
 }
 
+/// Writes the words of a white run and of a black one, twice.
+#[inline(always)]
+fn put_four_runs(
+    writer: &mut BitWriter,
+    white: u32,
+    black: u32,
+    next_white: u32,
+    next_black: u32,
+) -> Result<(), AllocError>
+    ensures { OnOk result (all_bits writer.new ≡ all_bits writer.old
+        ++ ((chosen_run Color.White white ++ chosen_run Color.Black black)
+        ++ (chosen_run Color.White next_white ++ chosen_run Color.Black next_black))) }
+{
+    if white | black | next_white | next_black < 64 {
+        let first = one_word(terminating_word(Color::White, white));
+        let two = with_word(first, terminating_word(Color::Black, black));
+        let three = with_word(two, terminating_word(Color::White, next_white));
+        let four = with_word(three, terminating_word(Color::Black, next_black));
+        return put_joined(writer, four);
+    }
+    put_runs(writer, Color::White, white, black)?;
+    put_runs(writer, Color::White, next_white, next_black)
+}
+
 /// Writes the words of a white row.
 #[inline(never)]
 fn put_white_row(writer: &mut BitWriter, columns: u32) -> Result<(), AllocError>
@@ -127,7 +160,22 @@ fn put_changes(writer: &mut BitWriter, columns: u32, changes: &[u32]) -> Result<
 {
     let mut place = 0;
     let mut next = 0;
-    while changes.len() - next >= 2 {
+    'fours: while changes.len() - next >= 4 {
+        let black = changes[next];
+        let white = changes[next + 1];
+        let next_black = changes[next + 2];
+        let next_white = changes[next + 3];
+        put_four_runs(
+            writer,
+            black - place,
+            white - black,
+            next_black - white,
+            next_white - next_black,
+        )?;
+        place = next_white;
+        next += 4;
+    }
+    'twos: while changes.len() - next >= 2 {
         let black = changes[next];
         let white = changes[next + 1];
         put_runs(writer, Color::White, black - place, white - black)?;

@@ -1,6 +1,6 @@
 //! The code words of runs and of modes, as numbers with a number of bits.
 
-ghost use Rattle.std.specs.Prelude.{◌≡◌, ◌-◌, ◌*◌, ◌^◌, ◌<◌, ◌≤◌, MatchOption, true, false, pos, length, get_or};
+ghost use Rattle.std.specs.Prelude.{◌≡◌, ◌+◌, ◌-◌, ◌*◌, ◌^◌, ◌<◌, ◌≤◌, ◌++◌, MatchOption, true, false, pos, length, get_or};
 ghost use Rattle.hayro_ccitt.specs.Bits.{low_bits};
 ghost use Rattle.hayro_ccitt.specs.Mode.TheVariants.{Pass, Horizontal, Vertical};
 ghost use Rattle.fax_encode.specs.Chosen.{word_of_length, word_of_mode, vertical_mode, is_near};
@@ -16,6 +16,40 @@ use hayro_ccitt::tables::{
 pub struct Word {
     pub count: u8,
     pub bits: u16,
+}
+
+/// Code words one after another: the lowest `count` bits of a number.
+#[derive(Clone, Copy)]
+pub struct Joined {
+    pub count: u32,
+    pub bits: u64,
+}
+
+/// Returns a code word alone.
+#[inline(always)]
+pub fn one_word(word: Word) -> Joined
+    ensures count { result.count ≡ word.count }
+    ensures bits { result.bits ≡ word.bits }
+{
+    Joined {
+        count: u32::from(word.count),
+        bits: u64::from(word.bits),
+    }
+}
+
+/// Returns code words with one more after them.
+#[inline(always)]
+pub fn with_word(before: Joined, word: Word) -> Joined
+    requires room { before.count + word.count ≤ 63 }
+    requires fits { (before.bits < 2 ^ before.count) × (word.bits < 2 ^ word.count) }
+    ensures count { result.count ≡ before.count + word.count }
+    ensures fits { result.bits < 2 ^ result.count }
+    ensures spells { low_bits result.count result.bits ≡ low_bits before.count before.bits ++ low_bits word.count word.bits }
+{
+    Joined {
+        count: before.count + u32::from(word.count),
+        bits: before.bits << word.count | u64::from(word.bits),
+    }
 }
 
 /// Returns a code word of a table of (run length, number of bits, code word).

@@ -2,7 +2,7 @@ use Rattle.fax_encode.proofs.Names.{◌≡◌, ◌+◌, ◌-◌, ◌<◌, ◌≤
 use Rattle.fax_encode.proofs.Names.{ap, subst, ◌∙◌, arith, Color, Horizontal, Bits, Row, pixels, opposite, a1, a2, b1, b2}
 use Rattle.fax_encode.proofs.Names.{length-pixels, Place, chosen_run, word_of_mode, vertical_mode, append-nil, IsNear}
 use Rattle.fax_encode.proofs.Names.{color_after, place_of, a1_next, a2_least, all_bits}
-use Rattle.fax_encode.proofs.Elements.{a1_found, a2_found, next_is_right, left_of_next, still_left}
+use Rattle.fax_encode.proofs.Elements.{left_of_end, a1_found, a2_found, next_is_right, left_of_next, still_left}
 use Rattle.fax_encode.proofs.ModesWritten.{pass_bits, vertical_bits, horizontal_bits, pass_place, vertical_place}
 use Rattle.fax_encode.proofs.ModesWritten.{horizontal_place, first_run, near_same, step_right}
 use Rattle.fax_encode.proofs.StepsToB1.{color_next, color_second, near_next, near_pass, near_right}
@@ -269,3 +269,37 @@ returns-clause-next c = λ le.
     let two : c.args.at.next + 2 ≡ c.args.at.next + 1 + 1 = omega arith in
     left_of_next 0 c.args.columns c.args.changes.now (c.args.at.next + 1)
     (c.args.at.next + 2) c.from-2.result two c.requires.changes (c.from-2.ensures ∙ c.change_or_end-a2.ensures) (omega arith)
+
+-- ---- the row's end
+pub returns-then-a1-above-clause-inside : goal.returns-then-a1-above-clause-inside
+returns-then-a1-above-clause-inside c = λ lt. omega (
+  arith,
+  c.from.ensures,
+  c.change_or_end-a1.ensures,
+  left_of_end 0 c.args.columns c.args.changes.now c.args.at.next c.requires.changes (omega (arith, lt)),
+)
+
+pub returns-in-Some-clause-inside : goal.returns-in-Some-clause-inside
+returns-in-Some-clause-inside c = λ lt. omega (
+  arith,
+  c.from-in-Some.ensures,
+  c.in-Some.ensures.1,
+  c.change_or_end-a1.ensures,
+  left_of_end 0 c.args.columns c.args.changes.now c.args.at.next c.requires.changes (omega (arith, lt)),
+)
+
+pub returns-then-is_vertical-clause-inside : goal.returns-then-is_vertical-clause-inside
+returns-then-is_vertical-clause-inside c = λ lt. omega (
+  arith,
+  c.from-then-is_vertical.ensures,
+  c.change_or_end-a1.ensures,
+  left_of_end 0 c.args.columns c.args.changes.now c.args.at.next c.requires.changes (omega (arith, lt)),
+)
+
+pub returns-clause-inside : goal.returns-clause-inside
+returns-clause-inside c = λ lt. omega (
+  arith,
+  c.from-2.ensures,
+  c.change_or_end-a2.ensures,
+  left_of_end 0 c.args.columns c.args.changes.now (c.args.at.next + 1) c.requires.changes (omega (arith, lt)),
+)

@@ -1,4 +1,4 @@
-use Rattle.fax_encode.proofs.Names.{◌-◌, ◌*◌, ◌%◌, ◌^◌, ℕ, length, ap, arith, bit_or, length-low_bits, Written}
+use Rattle.fax_encode.proofs.Names.{◌-◌, refl, length, ap, arith, length-low_bits, Written}
 use Rattle.fax_encode.proofs.WrittenBits.{put_more}
 use Rattle.fax_encode.proofs.bit_writer.BitWriter.put.Goals as goal
 
@@ -13,5 +13,4 @@ put_over-requires-clause-full c = omega (
 
 pub returns : goal.returns
 returns c = rw (← c.self.view_is) (put_more c.self.inside.bytes.items
-    c.self.inside.pending c.self.inside.room c.args.count c.args.word _ c.if-count-self.false c.self.invariant.2 c.requires.word
-    (ap (λ (n : ℕ). bit_or (c.self.inside.pending * 2 ^ c.args.count % 2 ^ 64) n) c.from.ensures))
+    c.self.inside.pending c.self.inside.room c.args.count c.args.word _ c.if-count-self.false c.self.invariant.2 c.requires.word refl)
