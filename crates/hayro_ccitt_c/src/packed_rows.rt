@@ -104,10 +104,13 @@ pub(crate) struct PackedRows<'a> {
     /// The byte up to which the rows are written. Those after it are white.
     written: usize,
     columns: u32,
+    /// The bytes of a row.
+    bytes: usize,
     changes: u64,
     has_refused: bool,
     ghost reaches: { (columns + 7) / 8 ≤ layout.stride },
     ghost within: { start + (columns + 7) / 8 ≤ length bitmap.now + layout.stride },
+    ghost whole: { bytes ≡ (columns + 7) / 8 },
     ghost in_order: { written ≤ start },
     ghost inside: { written < start → start ≤ length bitmap.now },
     ghost full: { has_refused ≡ true → length bitmap.now < start + (columns + 7) / 8 },
@@ -135,6 +138,7 @@ impl<'a> PackedRows<'a> {
             start: 0,
             written: 0,
             columns,
+            bytes: (columns as usize).div_ceil(8),
             changes: 0,
             has_refused: false,
         }
@@ -226,7 +230,7 @@ impl Decoder for PackedRows<'_> {
 
     #[inline(always)]
     fn push_row(&mut self, changes: &[u32]) -> hayro_ccitt::Result<()> {
-        let bytes = (self.columns as usize).div_ceil(8);
+        let bytes = self.bytes;
         if self.bitmap.len() < self.start + bytes {
             self.has_refused = true;
             return Err(DecodeError::Refused);
