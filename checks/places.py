@@ -31,7 +31,7 @@ KEPT = {
     "if self.wants_memory",
     "if let Strip::Rows(encoder) = self",
     "if self.lists.len() - self.end <= changes.len()",
-    "if self.bitmap.len() < self.start || self.bitmap.len() - self.start < bytes",
+    "if self.bitmap.len() < self.start + bytes",
     "if self.rows == self.most",
     "if !bits_fit(encoded)",
     "if lacks_memory(&row)",

@@ -10,7 +10,8 @@ use crate::change_count::counted;
 use fax_encode::paint_row;
 use hayro_ccitt::{DecodeError, Decoder};
 
-/// The most bytes of white rows that aren't written when one more comes. They are written by one call, which is fastest below 2 KiB.
+/// The most bytes of white rows that aren't written when one more comes. Filling fewer than 2 KiB at a time takes the fewest
+/// instructions.
 const MOST_WAITING: usize = 1792;
 
 /// A white row of fewer bytes is written at once.
@@ -93,8 +94,8 @@ pub(crate) fn pack_row(row: &mut [u8], columns: u32, changes: &[u32], black_is_0
 /// Rows as a bitmap in the caller's memory, from the top, as [`pack_row`] packs them. The bytes between them keep their values.
 /// A row that doesn't fit is refused.
 ///
-/// White rows that follow one another without bytes between them are written together, at the latest before the next row that isn't
-/// white. The last ones are written by [`PackedRows::write_white`].
+/// White rows that follow one another without bytes between them are written together, at the latest before the next row that
+/// isn't white. The last ones are written by [`PackedRows::write_white`].
 #[derive(Drop)]
 pub(crate) struct PackedRows<'a> {
     bitmap: &'a mut [u8],
@@ -104,10 +105,13 @@ pub(crate) struct PackedRows<'a> {
     /// The byte up to which the rows are written. Those after it are white.
     written: usize,
     columns: u32,
+    /// The bytes of a row.
+    bytes: usize,
     changes: u64,
     has_refused: bool,
     ghost reaches: { (columns + 7) / 8 ≤ layout.stride },
     ghost within: { start + (columns + 7) / 8 ≤ length bitmap.now + layout.stride },
+    ghost whole: { bytes ≡ (columns + 7) / 8 },
     ghost in_order: { written ≤ start },
     ghost inside: { written < start → start ≤ length bitmap.now },
     ghost full: { has_refused ≡ true → length bitmap.now < start + (columns + 7) / 8 },
@@ -135,6 +139,7 @@ impl<'a> PackedRows<'a> {
             start: 0,
             written: 0,
             columns,
+            bytes: (columns as usize).div_ceil(8),
             changes: 0,
             has_refused: false,
         }
@@ -174,7 +179,8 @@ impl<'a> PackedRows<'a> {
         self.written = self.start;
     }
 
-    /// Writes the white rows that aren't written, if they have more than this many bytes. If it is 0, all rows are then in memory.
+    /// Writes the white rows that aren't written, if they have more than this many bytes. If it is 0, all rows are then in
+    /// memory.
     #[inline(always)]
     pub(crate) fn write_white(&mut self, most: usize)
         ensures meaning { packing_up_to self.new.layout self.new.start self.new.written self.new.bitmap.now self.new.changes
@@ -226,7 +232,7 @@ impl Decoder for PackedRows<'_> {
 
     #[inline(always)]
     fn push_row(&mut self, changes: &[u32]) -> hayro_ccitt::Result<()> {
-        let bytes = (self.columns as usize).div_ceil(8);
+        let bytes = self.bytes;
         if self.bitmap.len() < self.start + bytes {
             self.has_refused = true;
             return Err(DecodeError::Refused);

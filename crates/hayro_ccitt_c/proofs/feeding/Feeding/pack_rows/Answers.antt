@@ -113,7 +113,8 @@ pub returns : goal.returns
 returns c =
     let here = (goal.at.returns c).After-write_white in
     let are = written here in
-    let full = λ (refused : c.push_all-answer.new.sink.has_refused ≡ true). few here (c.write_white.ensures.has_refused ∙ refused) in
+    let full = λ (refused : c.push_all-answer.new.sink.has_refused ≡ true).
+    few here (c.write_white.ensures.has_refused ∙ refused) in
     let name = sym c.new-sink.ensures.same_reference ∙ same here in
     gives_rows ArePackedRows room_of_packed c.push_all-answer.ensures.passes _ refl
     (c.has_refused-self.ensures ∙ c.write_white.ensures.has_refused) refl

@@ -8,11 +8,11 @@ pub returns-then-may_wait-clause-taken : goal.returns-then-may_wait-clause-taken
 returns-then-may_wait-clause-taken c =
     let s = c.write_white.new.self in
     let old = c.args.self.now in
-    let bytes : c.div_ceil-bytes.result ≡ bytes_of_row s.columns =
-    omega (arith, c.div_ceil-bytes.ensures, c.write_white.ensures.columns) in
-    let whole : c.div_ceil-bytes.result ≡ s.layout.stride =
+    let bytes : old.bytes ≡ bytes_of_row s.columns =
+    omega (arith, old.whole, c.write_white.ensures.columns) in
+    let whole : old.bytes ≡ s.layout.stride =
     c.may_wait.ensures.together c.if-may_wait.true ∙ sym (ap (λ (l : Layout). l.stride) c.write_white.ensures.layout) in
-    one_white s.layout s.columns s.start s.written c.div_ceil-bytes.result c.args.changes.now s.bitmap.now s.changes _
+    one_white s.layout s.columns s.start s.written old.bytes c.args.changes.now s.bitmap.now s.changes _
     s.bitmap.ghost_name (c.may_wait.ensures.white c.if-may_wait.true) bytes whole s.in_order c.counted-self.ensures
     ∙ ap (λ (p : Packing). with_packed s.columns p c.args.changes.now) c.write_white.ensures.meaning
     ∙ ap (λ (n : ℕ). with_packed n (packing_up_to old.layout old.start old.written old.bitmap.now old.changes
@@ -22,10 +22,10 @@ pub returns-clause-taken : goal.returns-clause-taken
 returns-clause-taken c =
     let s = c.write_white-2.new.self in
     let old = c.args.self.now in
-    let bytes : c.div_ceil-bytes.result ≡ bytes_of_row s.columns =
-    omega (arith, c.div_ceil-bytes.ensures, c.write_white-2.ensures.columns) in
+    let bytes : old.bytes ≡ bytes_of_row s.columns =
+    omega (arith, old.whole, c.write_white-2.ensures.columns) in
     let all : s.written ≡ s.start = omega (arith, s.in_order, c.write_white-2.ensures.few) in
-    one_packed s.layout s.columns s.start s.written c.div_ceil-bytes.result c.args.changes.now s.bitmap.now c.pack_row.new.row
+    one_packed s.layout s.columns s.start s.written old.bytes c.args.changes.now s.bitmap.now c.pack_row.new.row
     s.changes _ s.bitmap.ghost_name all bytes s.reaches
     (omega (arith, c.if-self-bytes.false, c.write_white-2.ensures.start, c.write_white-2.ensures.size))
     (omega (arith, c.if-self-bytes.false, c.write_white-2.ensures.start, c.write_white-2.ensures.size))
