@@ -88,8 +88,10 @@ pub use Rattle.hayro_ccitt.specs.TableConstants.{BLACK_MAKEUP, BLACK_TERMINATING
 pub use Rattle.hayro_ccitt.specs.TableConstants.{WHITE_TERMINATING}
 pub use Rattle.std.proofs.Common.{Bool, Err, IfOk, List, None, OnOk, Result, Some, [], add-one, ap, append_assoc, arith}
 pub use Rattle.std.proofs.Common.{below_more, cond, drop, eqb, false, get_or, inl, inr, leb, length, ltb, map, nat_eq, not, refl}
+pub use Rattle.std.proofs.Common.{vec_capacity, vec_len}
 pub use Rattle.std.proofs.Common.{replicate, rules, set, subst, suc, sym, take, take_all, true, zero, ℕ, ◌%◌, ◌&&◌, ◌*◌, ◌++◌}
 pub use Rattle.std.proofs.Common.{◌+◌, ◌-◌, ◌/◌, ◌<◌, ◌==◌, ◌^◌, ◌||◌, ◌↔◌, ◌∙◌, ◌∷◌, ◌≡◌, ◌≢◌, ◌≤◌, ◌⊎◌}
+pub use Rattle.std.proofs.Math.Pow.{pow_mono}
 pub use Rattle.std.proofs.Math.Nat.{div-eq-sub-div, div-eq_of_lt, div-mul-le_self, mul-mod_left, pow-suc}
 pub use Rattle.std.proofs.Math.Seq.{drop-append-add}
 pub use Rattle.std.proofs.Math.Seq.{drop-append_seam, take-add, take-append-add, take-append_seam, take-length}
