@@ -2,7 +2,8 @@
 use Rattle.fax_encode.proofs.Names.{◌≡◌, ℕ, zero, suc, ◌+◌, ◌-◌, ◌*◌, ◌/◌, ◌%◌, ◌^◌, ◌<◌, ◌≤◌, Bool, true, false, not, eqb, List}
 use Rattle.fax_encode.proofs.Names.{[], ◌∷◌, ◌++◌, get_or, map, take, replicate, refl, sym, ap, ◌∙◌, arith, inl, inr, beq}
 use Rattle.fax_encode.proofs.Names.{count_leading_zeros, range_with_len, bit_at, from_be_bytes, w64, bit_and, bit_or, bit_xor}
-use Rattle.fax_encode.proofs.Names.{cases_lt, get_or_past, get_or-map-range_with_len, be_bytes_8, or_shifted, pow_mono, and-not, and_comm, and_pow}
+use Rattle.fax_encode.proofs.Names.{cases_lt, get_or_past, get_or-map-range_with_len, be_bytes_8, or_shifted, pow_mono, and-not}
+use Rattle.fax_encode.proofs.Names.{and_comm, and_pow}
 use Rattle.fax_encode.proofs.Names.{leading_top, leading_length, one_shl, bit_at_xor, bit_at-lt, bit_at-suc, bit_at_above}
 use Rattle.fax_encode.proofs.Names.{bit_at_cat_low, bit_at_cat_high, pow-suc, Bits, bit_of, bits_of, low_bits, Row, last_pixel}
 use Rattle.fax_encode.proofs.Names.{one_times, some_number, changes_from, differences, ones_from, append-nil, low_bits_below}

@@ -60,7 +60,25 @@ fn push_ones_reserved(list: &mut Vec<u32>, first: u32, count: u32, word: u64)
     }
 }
 
-/// Appends the positions of the ones among the first bits of a word, counted from a first position on. Room is asked for once.
+/// Appends the positions of the ones among the first bits of a word, counted from a first position on. The list grows.
+#[inline(never)]
+fn push_ones_growing(
+    list: &mut Vec<u32>,
+    first: u32,
+    count: u32,
+    word: u64,
+) -> Result<(), AllocError>
+    requires few { count ≤ 64 }
+    requires within { first + count < 2 ^ 32 }
+    ensures { OnOk result (list.new.items ≡ list.old.items ++ ones_from first (take count (low_bits 64 word))) }
+{
+    list.reserve(64)?;
+    push_ones_reserved(list, first, count, word);
+    Ok(())
+}
+
+/// Appends the positions of the ones among the first bits of a word, counted from a first position on. The list grows if it
+/// has no room for 64 more.
 #[inline(always)]
 fn push_ones(list: &mut Vec<u32>, first: u32, count: u32, word: u64) -> Result<(), AllocError>
     requires few { count ≤ 64 }
@@ -71,7 +89,7 @@ fn push_ones(list: &mut Vec<u32>, first: u32, count: u32, word: u64) -> Result<(
         return Ok(());
     }
     if list.capacity() - list.len() < 64 {
-        list.reserve(64)?;
+        return push_ones_growing(list, first, count, word);
     }
     push_ones_reserved(list, first, count, word);
     Ok(())

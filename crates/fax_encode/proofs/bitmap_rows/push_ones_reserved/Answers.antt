@@ -1,5 +1,6 @@
 use Rattle.fax_encode.proofs.Names.{◌≡◌, ◌+◌, ◌-◌, ◌*◌, ◌%◌, ◌^◌, ◌<◌, ◌++◌, ◌∷◌, [], List, ℕ, take, refl, sym, ap, ◌∙◌, arith}
-use Rattle.fax_encode.proofs.Names.{append_assoc, pow_mono, ◌≤◌, bit_and, count_leading_zeros, subst, vec_capacity, vec_len, low_bits, ones_from}
+use Rattle.fax_encode.proofs.Names.{append_assoc, pow_mono, ◌≤◌, bit_and, count_leading_zeros, subst, vec_capacity, vec_len}
+use Rattle.fax_encode.proofs.Names.{low_bits, ones_from}
 use Rattle.fax_encode.proofs.ScannedWords.{room_left, some_room, one_taken, one_less, one_cleared, no_ones, ones-none, all_found}
 use Rattle.fax_encode.proofs.bitmap_rows.push_ones_reserved.Goals as goal
 
@@ -11,7 +12,8 @@ loop-ones-init c =
 
 pub returns-then-ahead-count : goal.returns-then-ahead-count
 returns-then-ahead-count c =
-    all_found c.loop-ones.list.items _ _ c.loop-ones.invariant.written (no_ones c.loop-ones.ones (count_leading_zeros 64 c.loop-ones.ones)
+    all_found c.loop-ones.list.items _ _ c.loop-ones.invariant.written (no_ones c.loop-ones.ones (count_leading_zeros 64
+    c.loop-ones.ones)
     c.args.count (omega (arith, c.loop-ones.auto.ones-fits)) refl c.args.first c.if-ahead-count.true)
 
 pub loop-ones-preserved : goal.loop-ones-preserved
@@ -33,8 +35,10 @@ loop-ones-preserved c =
     omega (arith, c.push_reserved.ensures.len, c.push_reserved.ensures.capacity) in
     record {
       room = subst (λ (n : ℕ). bit_and (2 ^ 64 - 1 - 1 * 2 ^ (63 - ahead) % 2 ^ 64) c.loop-ones.ones < 2 ^ n) (sym less) fewer;
-      written = ap (λ (n : ℕ). c.push_reserved.new.self.items ++ ones_from c.args.first (take c.args.count (low_bits 64 n))) cleared
-          ∙ ap (λ (l : List ℕ). l ++ rest) (c.push_reserved.ensures.items ∙ ap (λ (n : ℕ). c.loop-ones.list.items ++ n ∷ []) place)
+      written = ap (λ (n : ℕ). c.push_reserved.new.self.items ++ ones_from c.args.first (take
+          c.args.count (low_bits 64 n))) cleared
+          ∙ ap (λ (l : List ℕ). l ++ rest) (c.push_reserved.ensures.items ∙ ap (λ (n : ℕ). c.loop-ones.list.items
+          ++ n ∷ []) place)
           ∙ append_assoc c.loop-ones.list.items ((c.args.first + ahead) ∷ []) rest
           ∙ ap (λ (l : List ℕ). c.loop-ones.list.items ++ l) (sym one) ∙ c.loop-ones.invariant.written;
     }
