@@ -88,8 +88,10 @@ pub use Rattle.hayro_ccitt.specs.TableConstants.{BLACK_MAKEUP, BLACK_TERMINATING
 pub use Rattle.hayro_ccitt.specs.TableConstants.{WHITE_TERMINATING}
 pub use Rattle.std.proofs.Common.{Bool, Err, IfOk, List, None, OnOk, Result, Some, [], add-one, ap, append_assoc, arith}
 pub use Rattle.std.proofs.Common.{below_more, cond, drop, eqb, false, get_or, inl, inr, leb, length, ltb, map, nat_eq, not, refl}
+pub use Rattle.std.proofs.Common.{vec_capacity, vec_len}
 pub use Rattle.std.proofs.Common.{replicate, rules, set, subst, suc, sym, take, take_all, true, zero, ℕ, ◌%◌, ◌&&◌, ◌*◌, ◌++◌}
 pub use Rattle.std.proofs.Common.{◌+◌, ◌-◌, ◌/◌, ◌<◌, ◌==◌, ◌^◌, ◌||◌, ◌↔◌, ◌∙◌, ◌∷◌, ◌≡◌, ◌≢◌, ◌≤◌, ◌⊎◌}
+pub use Rattle.std.proofs.Math.Pow.{pow_mono}
 pub use Rattle.std.proofs.Math.Nat.{div-eq-sub-div, div-eq_of_lt, div-mul-le_self, mul-mod_left, pow-suc}
 pub use Rattle.std.proofs.Math.Seq.{drop-append-add}
 pub use Rattle.std.proofs.Math.Seq.{drop-append_seam, take-add, take-append-add, take-append_seam, take-length}
@@ -105,9 +107,11 @@ pub use Rattle.std.proofs.lemmas.List.{take-append-drop, take-append-le, take-re
 pub use Rattle.std.proofs.lemmas.List.Edits.{fill_by_more}
 pub use Rattle.std.proofs.lemmas.List.Elements.{All-cons, All-head, All-nil, All-push, All-tail}
 pub use Rattle.std.proofs.lemmas.List.FromFn.{fill_by_all, get_or-map-range_with_len}
-pub use Rattle.std.proofs.lemmas.Nat.{be_bytes_8, div_below, le_or_l, le_or_r, leading_length, leading_top, mod-pow-add, mul-add-lt, one_shl}
+pub use Rattle.std.proofs.lemmas.Nat.{be_bytes_8, div_below, le_or_l, le_or_r, leading_length, leading_top, mod-pow-add}
+pub use Rattle.std.proofs.lemmas.Nat.{mul-add-lt, one_shl}
 pub use Rattle.std.proofs.lemmas.Nat.{and-not, or_shifted, pow-add, shl-shr, shl_whole}
-pub use Rattle.std.proofs.lemmas.Nat.Bits.{and_pow, bit_at-lt, bit_at-suc, bit_at_above, bit_at_cat_high, bit_at_cat_low, bit_at_ones}
+pub use Rattle.std.proofs.lemmas.Nat.Bits.{and_pow, bit_at-lt, bit_at-suc, bit_at_above, bit_at_cat_high, bit_at_cat_low}
+pub use Rattle.std.proofs.lemmas.Nat.Bits.{bit_at_ones}
 pub use Rattle.std.proofs.lemmas.Nat.Bits.{bit_at_ones_above, bit_at_xor, ones_shr}
 pub use Rattle.std.proofs.lemmas.Option.{slice_get-get_or}
 pub use Rattle.std.proofs.lemmas.Result.{IfOk-weaker, err_from_is_err_and, on_ok_weaker}

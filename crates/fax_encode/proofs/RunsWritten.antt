@@ -129,7 +129,8 @@ module _ (columns place i : ℕ) (changes : List ℕ) (fourth : i + 3 < length c
 
   pub four_runs : chosen_runs columns White place (drop i changes)
       ≡ ((chosen_run White (one - place) ++ chosen_run Black (two - one))
-      ++ (chosen_run White (three - two) ++ chosen_run Black (four - three))) ++ chosen_runs columns White four (drop (i + 4) changes)
+      ++ (chosen_run White (three - two) ++ chosen_run Black (four - three)))
+      ++ chosen_runs columns White four (drop (i + 4) changes)
   four_runs =
       let front : Bits = chosen_run White (one - place) ++ chosen_run Black (two - one) in
       let back : Bits = chosen_run White (three - two) ++ chosen_run Black (four - three) in

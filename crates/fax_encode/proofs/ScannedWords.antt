@@ -2,7 +2,8 @@
 use Rattle.fax_encode.proofs.Names.{◌≡◌, ℕ, zero, suc, ◌+◌, ◌-◌, ◌*◌, ◌/◌, ◌%◌, ◌^◌, ◌<◌, ◌≤◌, Bool, true, false, not, eqb, List}
 use Rattle.fax_encode.proofs.Names.{[], ◌∷◌, ◌++◌, get_or, map, take, replicate, refl, sym, ap, ◌∙◌, arith, inl, inr, beq}
 use Rattle.fax_encode.proofs.Names.{count_leading_zeros, range_with_len, bit_at, from_be_bytes, w64, bit_and, bit_or, bit_xor}
-use Rattle.fax_encode.proofs.Names.{cases_lt, get_or_past, get_or-map-range_with_len, be_bytes_8, or_shifted, and-not, and_comm, and_pow}
+use Rattle.fax_encode.proofs.Names.{cases_lt, get_or_past, get_or-map-range_with_len, be_bytes_8, or_shifted, pow_mono, and-not}
+use Rattle.fax_encode.proofs.Names.{and_comm, and_pow}
 use Rattle.fax_encode.proofs.Names.{leading_top, leading_length, one_shl, bit_at_xor, bit_at-lt, bit_at-suc, bit_at_above}
 use Rattle.fax_encode.proofs.Names.{bit_at_cat_low, bit_at_cat_high, pow-suc, Bits, bit_of, bits_of, low_bits, Row, last_pixel}
 use Rattle.fax_encode.proofs.Names.{one_times, some_number, changes_from, differences, ones_from, append-nil, low_bits_below}
@@ -167,16 +168,7 @@ module _ (word ahead count : ℕ) (small : word < 2 ^ 64) (is : ahead ≡ count_
       ap (λ (b : Bits). ones_from first (take count b)) before ∙ first_one first count ahead (low_bits j rest) lt
       ∙ ap (λ (b : Bits). (first + ahead) ∷ ones_from first (take count b)) (sym after)
 
-  -- which it has
-  pub one_there : ahead < 64 → 1 * 2 ^ (63 - ahead) % 2 ^ 64 ≤ word
-  one_there lt =
-      let top = leading_top 64 word (some_number 64 word small (omega (arith, is))) small in
-      let at : 63 - ahead ≡ top.0 = omega (arith, top.1) in
-      let one : 1 * 2 ^ (63 - ahead) % 2 ^ 64 ≡ 2 ^ top.0 =
-      ap (λ (n : ℕ). 1 * 2 ^ n % 2 ^ 64) at ∙ one_shl top.0 64 (omega (arith, top.1)) in
-      omega (arith, one, top.2)
-
-  -- and which is cleared
+  -- which is cleared
   pub one_cleared : ahead < 64 → bit_and (2 ^ 64 - 1 - 1 * 2 ^ (63 - ahead) % 2 ^ 64) word ≡ word - 1 * 2 ^ (63 - ahead) % 2 ^ 64
   one_cleared lt =
       let top = leading_top 64 word (some_number 64 word small (omega (arith, is))) small in
@@ -198,6 +190,28 @@ module _ (word ahead count : ℕ) (small : word < 2 ^ 64) (is : ahead ≡ count_
       let one : 1 * 2 ^ (63 - ahead) % 2 ^ 64 ≡ 2 ^ j =
       ap (λ (n : ℕ). 1 * 2 ^ n % 2 ^ 64) at ∙ one_shl j 64 (omega (arith, top.1)) in
       omega (arith, one_cleared lt, one, power_positive j, top.2)
+
+  -- what is left needs one place fewer
+  pub room_left : (room : ℕ) → ahead < 64 → word < 2 ^ room
+      → bit_and (2 ^ 64 - 1 - 1 * 2 ^ (63 - ahead) % 2 ^ 64) word < 2 ^ (room - 1)
+  room_left room lt fits =
+      let top = leading_top 64 word (some_number 64 word small (omega (arith, is))) small in
+      let j : ℕ = top.0 in
+      let at : 63 - ahead ≡ j = omega (arith, top.1) in
+      let one : 1 * 2 ^ (63 - ahead) % 2 ^ 64 ≡ 2 ^ j =
+      ap (λ (n : ℕ). 1 * 2 ^ n % 2 ^ 64) at ∙ one_shl j 64 (omega (arith, top.1)) in
+      let twice : 2 ^ suc j ≡ 2 ^ j * 2 = pow-suc 2 j in
+      let below : bit_and (2 ^ 64 - 1 - 1 * 2 ^ (63 - ahead) % 2 ^ 64) word < 2 ^ j =
+      omega (arith, one_cleared lt, one, top.2, top.3, twice) in
+      elim (cases_lt j room) [
+        | inl under ↦ let le : j ≤ room - 1 = omega arith in omega (arith, below, pow_mono le)
+        | inr over ↦ let le : room ≤ j = omega arith in absurd (omega (arith, fits, top.2, pow_mono le))
+      ]
+
+-- a number that isn't 0 needs room
+pub some_room : (n room : ℕ) → 0 < n → n < 2 ^ room → 0 < room
+some_room n zero some fits = absurd (omega arith)
+some_room n (suc room) some fits = omega arith
 
 -- ---- changes
 -- the changes of a row are the ones among its differences

@@ -1,7 +1,7 @@
 //! The rows of a bitmap, as lists of changes: found 64 pixels at a time.
 
 ghost use Rattle.std.specs.Prelude.{IsTrue, ◌≡◌, ◌+◌, ◌*◌, ◌^◌, ◌<◌, ◌≤◌, ◌++◌, false, map, length, replicate, take};
-ghost use Rattle.std.specs.Prelude.{IfOk, OnOk, slice_index};
+ghost use Rattle.std.specs.Prelude.{IfOk, OnOk, slice_index, vec_capacity, vec_len};
 ghost use Rattle.hayro_ccitt.specs.Bits.{bits_of, bit_of, low_bits};
 ghost use Rattle.hayro_ccitt.specs.Rows.{AreChanges, pixels};
 ghost use Rattle.fax_encode.specs.Chosen.{rows_of};
@@ -39,8 +39,28 @@ fn turns(before: u64, word: u64) -> u64
     word ^ (before << 63 | word >> 1)
 }
 
-/// Appends the positions of the ones among the first bits of a word, counted from a first position on. The list grows where
-/// it is full.
+/// Appends the positions of the ones among the first bits of a word, counted from a first position on. The list has room for 64
+/// more.
+#[inline(always)]
+fn push_ones_reserved(list: &mut Vec<u32>, first: u32, count: u32, word: u64)
+    requires few { count ≤ 64 }
+    requires within { first + count < 2 ^ 32 }
+    requires room { vec_len list.old + 64 ≤ vec_capacity list.old }
+    ensures { list.new.items ≡ list.old.items ++ ones_from first (take count (low_bits 64 word)) }
+{
+    let last = u64::from(first) + 63;
+    let mut ones = word;
+    while ones != 0 {
+        let ahead = ones.leading_zeros();
+        if ahead >= count {
+            return;
+        }
+        list.push_reserved((last - u64::from(63 - ahead)) as u32);
+        ones = !(1 << (63 - ahead)) & ones;
+    }
+}
+
+/// Appends the positions of the ones among the first bits of a word, counted from a first position on. The list grows.
 #[inline(never)]
 fn push_ones_growing(
     list: &mut Vec<u32>,
@@ -52,38 +72,26 @@ fn push_ones_growing(
     requires within { first + count < 2 ^ 32 }
     ensures { OnOk result (list.new.items ≡ list.old.items ++ ones_from first (take count (low_bits 64 word))) }
 {
-    let mut ones = word;
-    while ones != 0 {
-        let ahead = ones.leading_zeros();
-        if ahead >= count {
-            return Ok(());
-        }
-        list.push(first + ahead)?;
-        ones -= 1 << (63 - ahead);
-    }
+    list.reserve(64)?;
+    push_ones_reserved(list, first, count, word);
     Ok(())
 }
 
-/// Appends the positions of the ones among the first bits of a word, counted from a first position on.
+/// Appends the positions of the ones among the first bits of a word, counted from a first position on. The list grows if it
+/// has no room for 64 more.
 #[inline(always)]
 fn push_ones(list: &mut Vec<u32>, first: u32, count: u32, word: u64) -> Result<(), AllocError>
     requires few { count ≤ 64 }
     requires within { first + count < 2 ^ 32 }
     ensures { OnOk result (list.new.items ≡ list.old.items ++ ones_from first (take count (low_bits 64 word))) }
 {
-    let last = u64::from(first) + 63;
-    let mut ones = word;
-    while ones != 0 {
-        let ahead = ones.leading_zeros();
-        if ahead >= count {
-            return Ok(());
-        }
-        if list.len() >= list.capacity() {
-            return push_ones_growing(list, first, count, ones);
-        }
-        list.push_reserved((last - u64::from(63 - ahead)) as u32);
-        ones = !(1 << (63 - ahead)) & ones;
+    if word == 0 {
+        return Ok(());
     }
+    if list.capacity() - list.len() < 64 {
+        return push_ones_growing(list, first, count, word);
+    }
+    push_ones_reserved(list, first, count, word);
     Ok(())
 }
 

@@ -20,7 +20,8 @@ changes-preserved c =
       inside = c.in_ok-at.ensures.inside;
       written = one_part (all_bits c.put_mode.new.writer) (all_bits c.changes.writer) (chosen_from
           (pixels c.args.columns c.args.reference.now) (pixels c.args.columns c.args.changes.now) (place_of c.changes.at))
-          (bits_at (pixels c.args.columns c.args.reference.now) (pixels c.args.columns c.args.changes.now) (place_of c.changes.at))
+          (bits_at (pixels c.args.columns c.args.reference.now) (pixels c.args.columns
+          c.args.changes.now) (place_of c.changes.at))
           (chosen_from (pixels c.args.columns c.args.reference.now)
           (pixels c.args.columns c.args.changes.now) (place_of c.in_ok-at.at)) _ c.changes.invariant.written
           (step_bits c.args.columns c.args.reference.now c.args.changes.now c.requires.reference c.requires.changes
@@ -30,7 +31,8 @@ changes-preserved c =
 pub modes-smaller : goal.modes-smaller
 modes-smaller c =
     let right = step_right c.args.columns c.args.reference.now c.args.changes.now c.requires.reference c.requires.changes
-    (place_of c.modes.at) (place_of c.in_ok-at-2.at) (omega (arith, c.from.ensures, c.modes-test.true)) c.in_ok-at-2.ensures.place in
+    (place_of c.modes.at) (place_of c.in_ok-at-2.at) (omega (arith, c.from.ensures, c.modes-test.true))
+    c.in_ok-at-2.ensures.place in
     omega (arith, right.0, right.1)
 
 pub modes-preserved : goal.modes-preserved

@@ -1,4 +1,5 @@
-use Rattle.fax_encode.proofs.Names.{◌≡◌, ◌+◌, ◌-◌, ◌<◌, ◌≤◌, length, ◌++◌, pixels, chosen_from, chosen_line_2d, AreAllLeft, IsNear, place_of}
+use Rattle.fax_encode.proofs.Names.{◌≡◌, ◌+◌, ◌-◌, ◌<◌, ◌≤◌, length, ◌++◌, pixels, chosen_from, chosen_line_2d, AreAllLeft}
+use Rattle.fax_encode.proofs.Names.{IsNear, place_of}
 use Rattle.fax_encode.proofs.Names.{all_bits}
 use Rattle.fax_encode.proofs.group4.put_line.Given as goal
 

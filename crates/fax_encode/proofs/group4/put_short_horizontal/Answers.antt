@@ -1,4 +1,5 @@
-use Rattle.fax_encode.proofs.Names.{◌≡◌, ◌++◌, ℕ, OnOk, ap, subst, ◌∙◌, arith, append_assoc, Color, Horizontal, Bits, low_bits, opposite}
+use Rattle.fax_encode.proofs.Names.{◌≡◌, ◌++◌, ℕ, OnOk, ap, subst, ◌∙◌, arith, append_assoc, Color, Horizontal, Bits, low_bits}
+use Rattle.fax_encode.proofs.Names.{opposite}
 use Rattle.fax_encode.proofs.Names.{chosen_run, word_of_mode, all_bits}
 use Rattle.fax_encode.proofs.RunsWritten.{more_bits, short_run}
 use Rattle.fax_encode.proofs.group4.put_short_horizontal.Goals as goal

@@ -1,7 +1,8 @@
 use Rattle.fax_encode.proofs.Names.{◌≡◌, ◌+◌, ◌-◌, ◌<◌, ◌++◌, ℕ, List, [], OnOk, length, drop, get_or, sym, ap, subst, ◌∙◌, arith}
 use Rattle.fax_encode.proofs.Names.{nil_from_length, length-drop, White, Black, Bits, AscendFrom, chosen_run, chosen_runs}
 use Rattle.fax_encode.proofs.Names.{all_bits}
-use Rattle.fax_encode.proofs.RunsWritten.{four_ascend, four_runs, four_within, next_within, next_ascends, next_run, two_runs, one_part}
+use Rattle.fax_encode.proofs.RunsWritten.{four_ascend, four_runs, four_within, next_within, next_ascends, next_run, two_runs}
+use Rattle.fax_encode.proofs.RunsWritten.{one_part}
 use Rattle.fax_encode.proofs.runs.put_changes.Goals as goal
 
 pub twos-preserved : goal.twos-preserved
@@ -42,7 +43,8 @@ fours-preserved c =
       counted = omega (arith, fourth);
       within = four_within columns place i changes fourth ascend;
       ascend = four_ascend columns place i changes fourth ascend;
-      written = one_part (all_bits c.put_four_runs.new.writer) (all_bits c.fours.writer) (chosen_runs columns White place (drop i changes)) _
+      written = one_part (all_bits c.put_four_runs.new.writer) (all_bits c.fours.writer)
+          (chosen_runs columns White place (drop i changes)) _
           (chosen_runs columns White (get_or changes (i + 3) 0) (drop (i + 4) changes)) _ c.fours.invariant.written
           (four_runs columns place i changes fourth ascend) c.in_ok-put_four_runs.ensures;
     }

@@ -11,7 +11,8 @@ pub returns-clause-fits : goal.returns-clause-fits
 returns-clause-fits c =
     let fit = two_words_fit c.args.before.bits c.args.before.count c.args.word.bits c.args.word.count _
     (omega (arith, c.requires.room)) c.requires.fits.0 c.requires.fits.1 (number_joined c) in
-    subst (λ (n : ℕ). bit_or (c.args.before.bits * 2 ^ c.args.word.count % 2 ^ 64) c.from-2.result < 2 ^ (c.args.before.count + n))
+    subst (λ (n : ℕ). bit_or (c.args.before.bits * 2 ^ c.args.word.count % 2 ^ 64) c.from-2.result < 2 ^
+    (c.args.before.count + n))
     (sym c.from.ensures) fit
 
 pub returns-clause-spells : goal.returns-clause-spells

@@ -13,4 +13,5 @@ put_over-requires-clause-full c = omega (
 
 pub returns : goal.returns
 returns c = rw (← c.self.view_is) (put_more c.self.inside.bytes.items
-    c.self.inside.pending c.self.inside.room c.args.count c.args.word _ c.if-count-self.false c.self.invariant.2 c.requires.word refl)
+    c.self.inside.pending c.self.inside.room c.args.count c.args.word _
+    c.if-count-self.false c.self.invariant.2 c.requires.word refl)

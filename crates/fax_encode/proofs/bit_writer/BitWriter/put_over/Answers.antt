@@ -24,4 +24,5 @@ returns c =
       c.self.invariant.2,
     ) in
     rw (← c.self.view_is) (stored c.self.inside.bytes.items c.store_word.new.bytes.items c.self.inside.pending room c.args.count
-    c.args.word _ c.self.invariant.2 within (omega (arith, c.requires.count)) c.requires.word refl c.in_ok-store_word.ensures.stored)
+    c.args.word _ c.self.invariant.2 within (omega (arith, c.requires.count)) c.requires.word refl
+    c.in_ok-store_word.ensures.stored)
