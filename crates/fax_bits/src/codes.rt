@@ -237,8 +237,8 @@ impl<'a> BitReader<'a> {
             if run < 64 {
                 return Ok(total);
             }
-            // Longer than the longest make-up word: more of them may follow.
-            if total > 2560 {
+            // Longer than four of the longest make-up words: many more of them may follow.
+            if total > 10240 {
                 total = self.pass_makeup_words(color, tables, ticks, total);
             }
         }

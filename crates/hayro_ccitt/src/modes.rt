@@ -489,6 +489,38 @@ fn draw_short_runs(
     })
 }
 
+/// Draws a run up to the row's end and an empty one. Returns `None`, and draws nothing, if the row doesn't end there.
+#[inline(always)]
+fn draw_last_run(
+    hand: &mut BitsAtHand<'_>,
+    row: &mut Vec<u32>,
+    line: &CodingLine<'_>,
+    stroke: Stroke,
+    runs: TwoRuns,
+    ticks: &mut Ticks,
+) -> Option<Stroke>
+    requires mode { IsNextMode Mode.Horizontal 3 hand.old }
+    requires can { CanDraw line.now stroke hand.old row.old }
+    requires runs { AreTwoRunsHere stroke.color (moved 3 hand.old.at) runs }
+    requires within { 3 + runs.width ≤ hand.old.left }
+    requires none { runs.second ≡ 0 }
+    ensures drawn { IfSome result (λ next. DrawsMode line.now stroke hand.old row.old ticks.old next hand.new row.new ticks.new) }
+    ensures left { IfNone result (DrawsNothing hand.old row.old ticks.old hand.new row.new ticks.new) }
+    ensures kept { KeepsRoom hand.old row.old hand.new row.new }
+{
+    if runs.first != line.columns - stroke.painted {
+        return None;
+    }
+    hand.pass(3);
+    hand.pass(runs.width);
+    ticks.tick();
+    tick_times(ticks, runs.words);
+    Some(Stroke {
+        painted: line.columns,
+        ..stroke
+    })
+}
+
 /// Draws two runs of one or two code words each. Returns `None`, and draws nothing, if they aren't of the usual kind.
 #[inline(always)]
 fn draw_runs_of_words(
@@ -506,10 +538,10 @@ fn draw_runs_of_words(
     ensures kept { KeepsRoom hand.old row.old hand.new row.new }
 {
     let runs = runs_at_hand(hand, row, line, stroke.color)?;
-    if !is_next(row, runs.first) {
-        return None;
-    }
     if runs.second == 0 {
+        return draw_last_run(hand, row, line, stroke, runs, ticks);
+    }
+    if !is_next(row, runs.first) {
         return None;
     }
     let room = line.columns - stroke.painted;

@@ -14,14 +14,14 @@ words-smaller c =
 pub words-preserved : goal.words-preserved
 words-preserved c = grind (arith, common_steps, some_where, run_found_on, run_goes_on)
 
-pub words-smaller-then-total-gt2560 : goal.words-smaller-then-total-gt2560
-words-smaller-then-total-gt2560 c =
+pub words-smaller-then-total-gt10240 : goal.words-smaller-then-total-gt10240
+words-smaller-then-total-gt10240 c =
     let shorter = read_code_shorter (codes_of c.args.color) (here c.words.self) c.in_ok-run.run' (here c.decode_word.new.self)
     (words_not_empty c.args.color) c.in_ok-run.ensures.word in
     omega (arith, shorter, c.pass_makeup_words-total.ensures.on.onward)
 
-pub words-preserved-then-total-gt2560 : goal.words-preserved-then-total-gt2560
-words-preserved-then-total-gt2560 c =
+pub words-preserved-then-total-gt10240 : goal.words-preserved-then-total-gt10240
+words-preserved-then-total-gt10240 c =
     let on = c.pass_makeup_words-total.ensures.on in
     grind (arith, common_steps, some_where, run_found_on, run_goes_on, on.run, on.counted)
 
