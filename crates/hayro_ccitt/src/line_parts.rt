@@ -15,7 +15,7 @@ ghost use Rattle.hayro_ccitt.specs.Rows.{Row, paint};
 use crate::context::DecoderContext;
 use crate::{DecodeError, EncodingMode};
 use fax_bits::DecodeSettings;
-use fax_bits::bit_reader::BitReader;
+use fax_bits::bit_reader::{BitReader, BitScanner};
 use fax_bits::codes::{Color, Mode};
 
 /// A run of which words are read.
@@ -176,14 +176,14 @@ fn add_mode(ctx: &mut DecoderContext, part: &mut KeptPart, mode: Mode) -> Word
 }
 
 /// Goes on behind a mode that is read here.
-fn read_mode(ctx: &mut DecoderContext, reader: &mut BitReader<'_>, part: &mut KeptPart) -> Word
+fn read_mode(ctx: &mut DecoderContext, reader: &mut BitScanner<'_>, part: &mut KeptPart) -> Word
     requires lawful { IsLawfulPart ctx.old.held.settings ctx.old.held.reference part.old }
     requires run { part.old.run ≡ None }
     requires mode { part.old.is_2d ≡ true }
     requires open { part.old.painted < ctx.old.held.settings.columns }
     ensures reads { ReadsWord part.old part.new ctx.old ctx.new reader.old reader.new result }
 {
-    match reader.decode_mode(ctx.ticks()) {
+    match reader.next_mode(ctx.ticks()) {
         Ok(mode) => add_mode(ctx, part, mode),
         Err(error) => word_of_fault(error),
     }
@@ -236,7 +236,7 @@ fn add_word(part: &mut KeptPart, settings: DecodeSettings, run: KeptRun, n: u32)
 /// Goes on behind a word of a run that is read here.
 fn read_run(
     ctx: &mut DecoderContext,
-    reader: &mut BitReader<'_>,
+    reader: &mut BitScanner<'_>,
     part: &mut KeptPart,
     run: KeptRun,
 ) -> Word
@@ -252,7 +252,7 @@ fn read_run(
 
 /// Goes on behind the word that is next, unless the row is full. Behind a run of a one-dimensional line the next one is begun
 /// first, which reads nothing.
-fn read_on(ctx: &mut DecoderContext, reader: &mut BitReader<'_>, part: &mut KeptPart) -> Word
+fn read_on(ctx: &mut DecoderContext, reader: &mut BitScanner<'_>, part: &mut KeptPart) -> Word
     requires lawful { IsLawfulPart ctx.old.held.settings ctx.old.held.reference part.old }
     ensures reads { ReadsWord part.old part.new ctx.old ctx.new reader.old reader.new result }
     ensures smaller { result ≡ Word.GoesOn
@@ -314,7 +314,7 @@ pub(crate) fn begin_part(ctx: &mut DecoderContext, reader: &mut BitReader<'_>) -
 /// reference row that is examined.
 pub(crate) fn continue_line(
     ctx: &mut DecoderContext,
-    reader: &mut BitReader<'_>,
+    reader: &mut BitScanner<'_>,
     part: &mut KeptPart,
 ) -> (bool, usize)
     requires { IsLawfulPart ctx.old.held.settings ctx.old.held.reference part.old }

@@ -27,7 +27,7 @@ use crate::rows::{limit_met, try_row};
 use crate::white_lines::{WhiteLines, pass_line};
 use crate::{DecodeError, Decoder, EncodingMode, Result};
 use fax_bits::DecodeSettings;
-use fax_bits::bit_reader::{BitOrder, BitReader, at_bit, placed_at};
+use fax_bits::bit_reader::{BitOrder, BitReader, at_bit, placed_at, scanner_at};
 use fax_bits::codes::Color;
 use std::alloc::Global;
 use std::marker::Model;
@@ -441,7 +441,7 @@ impl RowFeed {
         ensures scans { ScansLine part.passed read self.old self.new result }
     {
         let mut part = part;
-        let mut reader = placed_at(&self.data, self.order, self.place + read);
+        let mut reader = scanner_at(&self.data, self.order, self.place + read);
         let (is_short, reached) = continue_line(&mut self.ctx, &mut reader, &mut part);
         if is_short {
             self.line_read = reached - self.place;
