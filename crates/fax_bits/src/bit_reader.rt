@@ -718,8 +718,9 @@ impl<'a> BitScanner<'a> {
         ensures end { IsErr result ↔ (length self.old.bits < self.old.place + n) }
         ensures only_end { IsOkUnless result DecodeError.UnexpectedEof }
     {
+        let ended = Err(DecodeError::UnexpectedEof);
         if n > self.left {
-            return Err(DecodeError::UnexpectedEof);
+            return ended;
         }
         let window = self.window << n;
         let left = self.left - n;
@@ -734,7 +735,7 @@ impl<'a> BitScanner<'a> {
 
     /// Returns the number of bits before the offset.
     #[inline(always)]
-    pub fn bit_pos(&self) -> usize
+    pub fn offset(&self) -> usize
         ensures place { result ≡ self.now.place }
         ensures within { result ≤ length self.now.bits }
         ensures fit { length self.now.bits + 64 < 2 ^ 64 }

@@ -638,7 +638,7 @@ impl<'a> BitScanner<'a> {
         ensures same_bits { self.new.bits ≡ self.old.bits }
         ensures ticks { ticks.new ≡ ticks.old + 1 }
     {
-        // A word that isn't here was looked for too.
+        // This is looked for also where no word is.
         ticks.tick();
         let entry = self.entry_here(color, tables);
         // If the data ends inside a word these bits aren't there.
@@ -664,9 +664,9 @@ impl<'a> BitScanner<'a> {
         ensures ticks { ticks.new ≡ ticks.old + 1 }
     {
         ticks.tick();
-        let (mode, width) = mode_of(self.seven());
+        let (mode, bits) = mode_of(self.seven());
         // If the data ends inside a word these bits aren't there.
-        self.consume(width)?;
+        self.consume(bits)?;
         match mode {
             Some(mode) => Ok(mode),
             None => Err(DecodeError::InvalidCode),

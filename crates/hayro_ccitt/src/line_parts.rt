@@ -335,9 +335,9 @@ pub(crate) fn continue_line(
     ensures within { result.1 ≤ length reader.old.bits }
 {
     // An offset is known to be within the data once it is read.
-    let _start = reader.bit_pos();
+    let _start = reader.offset();
     'words: loop {
-        let word_start = reader.bit_pos();
+        let word_start = reader.offset();
         match read_on(ctx, reader, part) {
             Word::GoesOn => {}
             Word::Missing => return (true, word_start),

@@ -451,7 +451,6 @@ impl RowFeed {
     /// the part from which it goes on is kept.
     #[inline(always)]
     fn go_on_from(&mut self, part: KeptPart, read: usize) -> bool
-        requires none_kept { self.old.part ≡ None }
         requires part { LineGoesOn self.old.begun self.old.rows.stand self.old.ctx.held (drop self.old.place self.old.kept) read
             part }
         ensures scans { ScansLine part.passed read self.old self.new result }
@@ -462,8 +461,11 @@ impl RowFeed {
         if is_short {
             self.line_read = reached - self.place;
             self.part = Some(part);
+            return true;
         }
-        is_short
+        self.line_read = 0;
+        self.part = None;
+        false
     }
 
     /// Returns whether the line here is known to be short: whether it goes on from a part that was kept, and still is short.
@@ -474,13 +476,12 @@ impl RowFeed {
         let Some(part) = self.part else {
             return false;
         };
-        let read = self.line_read;
-        self.part = None;
-        self.line_read = 0;
         if self.is_last {
+            self.line_read = 0;
+            self.part = None;
             return false;
         }
-        self.go_on_from(part, read)
+        self.go_on_from(part, self.line_read)
     }
 
     /// Keeps the part from which the line here goes on, which is short, unless it was tried for the first time: mostly it is whole

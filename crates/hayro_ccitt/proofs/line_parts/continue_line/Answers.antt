@@ -20,8 +20,8 @@ word_read c word is =
     (subst (ReadsWord c.words.part c.read_on.new.part c.words.ctx c.read_on.new.ctx c.words.reader c.read_on.new.reader) is
     c.read_on.ensures.reads)
 
-put_back : (c : After-read_on) → (record c.args.reader.now { place = c.bit_pos-word_start.result }) ≡ c.words.reader
-put_back c = ap (λ (n : ℕ). record c.args.reader.now { place = n }) c.bit_pos-word_start.ensures.place
+put_back : (c : After-read_on) → (record c.args.reader.now { place = c.offset-word_start.result }) ≡ c.words.reader
+put_back c = ap (λ (n : ℕ). record c.args.reader.now { place = n }) c.offset-word_start.ensures.place
     ∙ ap (λ (b : Bits). record c.words.reader { bits = b }) (sym (words_so_far c).same_bits)
 
 pub words-preserved : goal.words-preserved
@@ -35,9 +35,9 @@ returns-in-Missing-clause-goes_on c =
     let at = (goal.at.returns-in-Missing-clause-goes_on c).After-read_on in
     lacks_word c.args.part.now c.words.part c.read_on.new.part c.args.ctx.now c.words.ctx.ticks c.read_on.new.ctx
     c.args.reader.now c.words.reader c.read_on.new.reader (words_so_far at)
-    (record c.args.reader.now { place = c.bit_pos-word_start.result }) (put_back at)
-    (omega (arith, c.bit_pos-start.ensures.place, c.bit_pos-start.ensures.within))
-    (omega (arith, c.bit_pos-word_start.ensures.place, c.bit_pos-word_start.ensures.within))
+    (record c.args.reader.now { place = c.offset-word_start.result }) (put_back at)
+    (omega (arith, c.offset-start.ensures.place, c.offset-start.ensures.within))
+    (omega (arith, c.offset-word_start.ensures.place, c.offset-word_start.ensures.within))
     (word_read at Word.Missing c.in-Missing.is)
 
 pub returns-in-Ends-clause-goes_on : goal.returns-in-Ends-clause-goes_on
@@ -45,7 +45,7 @@ returns-in-Ends-clause-goes_on c =
     let at = (goal.at.returns-in-Ends-clause-goes_on c).After-read_on in
     ends_with_word c.args.part.now c.words.part c.read_on.new.part c.args.ctx.now c.words.ctx.ticks c.read_on.new.ctx
     c.args.reader.now c.words.reader c.read_on.new.reader (words_so_far at)
-    (record c.args.reader.now { place = c.bit_pos-word_start.result }) (put_back at)
-    (omega (arith, c.bit_pos-start.ensures.place, c.bit_pos-start.ensures.within))
-    (omega (arith, c.bit_pos-word_start.ensures.place, c.bit_pos-word_start.ensures.within))
+    (record c.args.reader.now { place = c.offset-word_start.result }) (put_back at)
+    (omega (arith, c.offset-start.ensures.place, c.offset-start.ensures.within))
+    (omega (arith, c.offset-word_start.ensures.place, c.offset-word_start.ensures.within))
     (word_read at Word.Ends c.in-Ends.is)

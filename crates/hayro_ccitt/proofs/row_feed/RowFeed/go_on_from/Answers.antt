@@ -1,6 +1,6 @@
 use Rattle.hayro_ccitt.proofs.Names.{refl}
 use Rattle.hayro_ccitt.proofs.Names.{◌≡◌, ◌∙◌, ◌+◌, ◌-◌, ◌*◌, ap, sym, subst, arith, length, length-drop, drop, false≢true}
-use Rattle.hayro_ccitt.proofs.Names.{bits_in, changes, List, ℕ, Some, Context, Held, BitsAt}
+use Rattle.hayro_ccitt.proofs.Names.{bits_in, changes, List, ℕ, None, Some, Context, Held, BitsAt}
 use Rattle.hayro_ccitt.specs.GapsSeen.{IsSeen, rules_for}
 use Rattle.hayro_ccitt.proofs.BitReading.BitLists.{length-bits_in}
 use Rattle.hayro_ccitt.proofs.Readings.PartsFed.{part_reached, said_short, scan_most, scan_paid, scan_work}
@@ -76,6 +76,23 @@ invariant_of-self c =
           c.continue_line-is_short.ensures.goes_on was c.continue_line-is_short.ensures.within c.if-is_short.true;
     }
 
+pub invariant_of-self-2 : goal.invariant_of-self-2
+invariant_of-self-2 c =
+    let was = kept (goal.at.invariant_of-self-2 c).After-deref in
+    record {
+      within = c.self.invariant.within;
+      fit = c.self.invariant.fit;
+      fresh = λ e. absurd (false≢true (sym e ∙ was.is_begun));
+      start = λ e. absurd (false≢true (sym e ∙ was.is_begun));
+      unended = λ e. absurd (false≢true (sym e ∙ was.is_begun));
+      rows = λ e. absurd (false≢true (sym e ∙ was.is_begun));
+      seen = subst (λ (h : Held). IsSeen (rules_for c.self.inside.begun h) c.self.inside.look
+          (drop c.self.inside.place (bits_in c.self.inside.order c.self.inside.«data».items)))
+          (sym (ap (λ (x : Context). x.held) c.continue_line-is_short.ensures.goes_on.frame)) c.self.invariant.seen;
+      line = c.self.invariant.line;
+      part = refl;
+    }
+
 pub returns-then-is_short : goal.returns-then-is_short
 returns-then-is_short c =
     let at = (goal.at.returns-then-is_short c).After-continue_line-is_short in
@@ -97,8 +114,8 @@ returns-then-is_short c =
         };
         tried = refl;
         said = said_short (feeding_of inside) (scanned at) c.args.part part c.args.read c.scanner_at-reader.result (reached at)
-            on.result.0 (starts_at at) within on.ensures.goes_on was;
-        none = λ e. absurd (false≢true (sym e ∙ c.if-is_short.true));
+            on.result.0 (starts_at at) within on.ensures.goes_on was ∙ c.if-is_short.true;
+        none = λ e. absurd (false≢true (sym e));
         some = λ e kept. cc;
         kept = λ e. (
           omega (arith, within),
@@ -115,10 +132,10 @@ returns-then-is_short c =
       };
     })
 
-pub returns-else-is_short : goal.returns-else-is_short
-returns-else-is_short c =
-    let at = (goal.at.returns-else-is_short c).After-continue_line-is_short in
-    let was = kept (goal.at.returns-else-is_short c).After-deref in
+pub returns : goal.returns
+returns c =
+    let at = (goal.at.returns c).After-continue_line-is_short in
+    let was = kept (goal.at.returns c).After-deref in
     let inside = c.self.inside in
     let on = c.continue_line-is_short in
     let within : inside.place ≤ length (bits_in inside.order inside.«data».items)
@@ -127,16 +144,17 @@ returns-else-is_short c =
     rw (← c.self.view_is) (record {
       scans = record {
         scans = record {
-          frame = ap (λ (x : Context). record (feeding_of inside) { ctx = x }) on.ensures.goes_on.frame;
+          frame = ap (λ (x : Context). record (feeding_of inside) { ctx = x; part = None; line_read = 0 })
+              on.ensures.goes_on.frame;
           counts = on.ensures.goes_on.counts;
         };
         tried = refl;
         said = said_short (feeding_of inside) (scanned at) c.args.part part c.args.read c.scanner_at-reader.result (reached at)
-            on.result.0 (starts_at at) within on.ensures.goes_on was;
-        none = λ e. ap (λ (f : Feeding). f.part) c.self.view_is ∙ c.requires.none_kept;
-        some = λ e. absurd (false≢true (sym c.if-is_short.false ∙ e));
-        kept = λ e. absurd (false≢true (sym c.if-is_short.false ∙ e));
-        work = λ e. absurd (false≢true (sym c.if-is_short.false ∙ e));
+            on.result.0 (starts_at at) within on.ensures.goes_on was ∙ c.if-is_short.false;
+        none = λ e. refl;
+        some = λ e. absurd (false≢true e);
+        kept = λ e. absurd (false≢true e);
+        work = λ e. absurd (false≢true e);
         most = scan_most (feeding_of inside) (scanned at) c.args.part part c.args.read c.scanner_at-reader.result (reached at)
             on.result.0 (starts_at at) within on.ensures.goes_on was;
       };
