@@ -6,7 +6,7 @@ ghost use Rattle.hayro_ccitt.specs.Bits.{Bits, here};
 ghost use Rattle.hayro_ccitt.specs.Context.{right_of_painted};
 ghost use Rattle.hayro_ccitt.specs.Continuations.{is_short, misses_end};
 ghost use Rattle.hayro_ccitt.specs.LineParts.{ContinuesLine, GoesOnBy, IsLawfulPart, IsPartOf, Leads, PaintsTo};
-ghost use Rattle.hayro_ccitt.specs.LineParts.{ReadsWord, is_missing, left_to_read, pen_of_part};
+ghost use Rattle.hayro_ccitt.specs.LineParts.{ReadsNextWord, ReadsWord, is_missing, left_to_read, pen_of_part};
 ghost use Rattle.hayro_ccitt.specs.Lines.{place_from};
 ghost use Rattle.hayro_ccitt.specs.LinesGoOn.{OpenRun, mode_added, word_added};
 ghost use Rattle.hayro_ccitt.specs.PlainReading.{line_here};
@@ -260,12 +260,28 @@ fn read_run(
     }
 }
 
+/// Begins a run of a one-dimensional line, which reads nothing.
+#[inline(always)]
+fn begin_run(_ctx: &DecoderContext, _reader: &BitScanner<'_>, part: &mut KeptPart)
+    requires lawful { IsLawfulPart _ctx.now.held.settings _ctx.now.held.reference part.old }
+    requires run { part.old.run ≡ None }
+    requires line { part.old.is_2d ≡ false }
+    requires open { part.old.painted ≢ _ctx.now.held.settings.columns }
+    ensures reads { ReadsWord part.old part.new _ctx.now _ctx.now _reader.now _reader.now Word.GoesOn }
+    ensures run { part.new.run ≡ Some (record { another = false; total = 0 }) }
+{
+    part.run = Some(KeptRun {
+        another: false,
+        total: 0,
+    });
+}
+
 /// Goes on behind the word that is next, unless the row is full. Behind a run of a one-dimensional line the next one is begun
 /// first, which reads nothing.
 #[inline(always)]
 fn read_on(ctx: &mut DecoderContext, reader: &mut BitScanner<'_>, part: &mut KeptPart) -> Word
     requires lawful { IsLawfulPart ctx.old.held.settings ctx.old.held.reference part.old }
-    ensures reads { ReadsWord part.old part.new ctx.old ctx.new reader.old reader.new result }
+    ensures reads { ReadsNextWord part.old part.new ctx.old ctx.new reader.old reader.new result }
     ensures smaller { result ≡ Word.GoesOn
         → left_to_read part.new.run (here reader.new) < left_to_read part.old.run (here reader.old) }
 {
@@ -278,11 +294,12 @@ fn read_on(ctx: &mut DecoderContext, reader: &mut BitScanner<'_>, part: &mut Kep
     if part.is_2d {
         return read_mode(ctx, reader, part);
     }
-    part.run = Some(KeptRun {
+    begin_run(ctx, reader, part);
+    let run = KeptRun {
         another: false,
         total: 0,
-    });
-    Word::GoesOn
+    };
+    read_run(ctx, reader, part, run)
 }
 
 /// Returns the part with which the words of a line begin.

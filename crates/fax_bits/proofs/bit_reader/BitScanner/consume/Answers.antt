@@ -9,7 +9,8 @@ invariant_of-self-2 c =
     let r = c.self.inside in
     elim c.else-left-lt16.branch [
       | else-left-lt16-via-then-left-lt16+else-self w ↦
-          scanned_on r c.args.n c.self.invariant (omega (arith, c.if-n-self.false)) (λ h. absurd (omega (arith, h, w.if-self.false)))
+          scanned_on r c.args.n c.self.invariant (omega (arith, c.if-n-self.false))
+          (λ h. absurd (omega (arith, h, w.if-self.false)))
       | else-left-lt16-via-else-left-lt16 w ↦
           scanned_on r c.args.n c.self.invariant (omega (arith, c.if-n-self.false)) (λ h. omega (arith, w.if-left-lt16.false))
     ]

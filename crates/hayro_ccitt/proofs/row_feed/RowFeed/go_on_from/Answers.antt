@@ -125,7 +125,8 @@ returns-then-is_short c =
               (scan_paid (feeding_of inside) (scanned at) c.args.part part c.args.read c.scanner_at-reader.result (reached at)
               on.result.0 (starts_at at) within on.ensures.goes_on was on.ensures.within),
         );
-        work = λ e. scan_work (feeding_of inside) (scanned at) c.args.part part c.args.read c.scanner_at-reader.result (reached at)
+        work = λ e.
+            scan_work (feeding_of inside) (scanned at) c.args.part part c.args.read c.scanner_at-reader.result (reached at)
             on.result.0 (starts_at at) within on.ensures.goes_on was on.ensures.within;
         most = scan_most (feeding_of inside) (scanned at) c.args.part part c.args.read c.scanner_at-reader.result (reached at)
             on.result.0 (starts_at at) within on.ensures.goes_on was;
