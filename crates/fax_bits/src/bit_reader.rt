@@ -132,7 +132,7 @@ fn near_end(data: &[u8], order: BitOrder, byte: usize) -> u64
     ensures { (k : ℕ) → k < 64 → bit_of result (63 - k) ≡ get_or (bits_in order «data».now) (8 * byte + k) false }
 {
     let start = data.len() - 8;
-    // They are all but so many bytes of the last eight, one at least.
+    // How many of the last eight bytes come before them: one at least.
     let before = byte - start;
     whole_word(&data[start..], order) << (8 * (before - 1)) << 8
 }

@@ -638,7 +638,7 @@ impl<'a> BitScanner<'a> {
         ensures same_bits { self.new.bits ≡ self.old.bits }
         ensures ticks { ticks.new ≡ ticks.old + 1 }
     {
-        // This is looked for also where no word is.
+        // The look-up counts even if no word is here.
         ticks.tick();
         let entry = self.entry_here(color, tables);
         // If the data ends inside a word these bits aren't there.

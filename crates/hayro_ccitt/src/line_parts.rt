@@ -260,7 +260,7 @@ fn read_run(
     }
 }
 
-/// Begins a run of a one-dimensional line, which reads nothing.
+/// Begins a run of a one-dimensional line, which reads nothing. Only contracts read the context and the reader.
 #[inline(always)]
 fn begin_run(_ctx: &DecoderContext, _reader: &BitScanner<'_>, part: &mut KeptPart)
     requires lawful { IsLawfulPart _ctx.now.held.settings _ctx.now.held.reference part.old }
