@@ -122,6 +122,21 @@ fn last_word(bytes: &[u8], order: BitOrder) -> u64
     in_order(last, order)
 }
 
+/// Returns the 64 bits from one of the last eight bytes on, or from the end, the first in the highest position, with zeros past the
+/// end.
+#[inline(always)]
+fn near_end(data: &[u8], order: BitOrder, byte: usize) -> u64
+    requires whole { 8 ≤ length «data».now }
+    requires within { byte ≤ length «data».now }
+    requires near { length «data».now < byte + 8 }
+    ensures { (k : ℕ) → k < 64 → bit_of result (63 - k) ≡ get_or (bits_in order «data».now) (8 * byte + k) false }
+{
+    let start = data.len() - 8;
+    // How many of the last eight bytes come before them: one at least.
+    let before = byte - start;
+    whole_word(&data[start..], order) << (8 * (before - 1)) << 8
+}
+
 /// Returns the 64 bits from a byte on, the first in the highest position, with zeros past the end.
 fn word_at(data: &[u8], order: BitOrder, byte: usize) -> u64
     requires { byte ≤ length «data».now }
@@ -129,10 +144,12 @@ fn word_at(data: &[u8], order: BitOrder, byte: usize) -> u64
 {
     let rest = &data[byte..];
     if rest.len() >= 8 {
-        whole_word(rest, order)
-    } else {
-        last_word(rest, order)
+        return whole_word(rest, order);
     }
+    if data.len() >= 8 {
+        return near_end(data, order, byte);
+    }
+    last_word(rest, order)
 }
 
 impl<'a> BitReader<'a> {
@@ -608,6 +625,120 @@ impl<'a> BitsAtHand<'a> {
     pub(crate) fn bit_pos(&self) -> usize
         ensures place { result ≡ self.now.at.place }
         ensures within { result ≤ length self.now.at.bits }
+    {
+        self.limit - self.left
+    }
+}
+
+/// The bits of some bytes and an offset among them, from which words are read that aren't drawn. At least the next sixteen bits are
+/// in a window, or all that are left.
+#[derive(Drop)]
+pub struct BitScanner<'a> {
+    data: &'a [u8],
+    /// The next bits, the first in the highest position, and zeros after them if all that are left are there.
+    window: u64,
+    /// How many of them there are.
+    left: usize,
+    /// The offset where they end.
+    limit: usize,
+    order: BitOrder,
+}
+
+impl<'a> Model for BitScanner<'a> {
+    ghost use Rattle.fax_bits.specs.Window.{IsScanned};
+    ghost use Rattle.fax_bits.specs.Bits.{BitsAt, bits_in};
+    ghost use Rattle.std.specs.Prelude.{◌-◌};
+
+    ghost Value = { BitsAt };
+
+    ghost view = { λ r. record { bits = bits_in r.order r.«data».now; place = r.limit - r.left } };
+
+    ghost invariant = { IsScanned };
+}
+
+/// Creates a scanner at a bit offset.
+#[inline(always)]
+pub fn scanner_at<'a>(data: &'a [u8], order: BitOrder, place: usize) -> BitScanner<'a>
+    requires fit { BitsFit «data».now }
+    requires within { place ≤ 8 * length «data».now }
+    ensures { result ≡ record { bits = bits_in order «data».now; place = place } }
+{
+    let byte = place / 8;
+    let word = word_at(data, order, byte);
+    let limit = (byte * 8 + 64).min(data.len() * 8);
+    BitScanner {
+        data,
+        window: word << (place % 8),
+        left: limit - place,
+        limit,
+        order,
+    }
+}
+
+/// Creates a scanner at a bit offset, as `scanner_at` does, by a call.
+#[cold]
+#[inline(never)]
+fn later_scanner<'a>(data: &'a [u8], order: BitOrder, place: usize) -> BitScanner<'a>
+    requires fit { BitsFit «data».now }
+    requires within { place ≤ 8 * length «data».now }
+    ensures { result ≡ record { bits = bits_in order «data».now; place = place } }
+{
+    scanner_at(data, order, place)
+}
+
+impl<'a> BitScanner<'a> {
+    /// Returns the next thirteen bits, padded with zeros, as a number.
+    #[inline(always)]
+    pub(crate) fn thirteen(&self) -> usize
+        ensures few { result < 8192 }
+        ensures bits { thirteen_bits result ≡ padded 13 (here self.now) }
+    {
+        (self.window >> 51) as usize
+    }
+
+    /// Returns the next seven bits, padded with zeros, as a number.
+    #[inline(always)]
+    pub(crate) fn seven(&self) -> u32
+        ensures few { result < 128 }
+        ensures bits { seven_bits result ≡ padded 7 (here self.now) }
+    {
+        (self.window >> 57) as u32
+    }
+
+    /// Consumes `n` bits, at most sixteen.
+    ///
+    /// # Errors
+    ///
+    /// `UnexpectedEof` if fewer are left; then nothing changes.
+    #[inline(always)]
+    pub(crate) fn consume(&mut self, n: usize) -> Result<()>
+        requires { n ≤ 16 }
+        ensures moved { OnOk result (self.new ≡ record self.old { place = self.old.place + n }) }
+        ensures unchanged { OnErr result (self.new ≡ self.old) }
+        ensures end { IsErr result ↔ (length self.old.bits < self.old.place + n) }
+        ensures only_end { IsOkUnless result DecodeError.UnexpectedEof }
+    {
+        let ended = Err(DecodeError::UnexpectedEof);
+        if n > self.left {
+            return ended;
+        }
+        let window = self.window << n;
+        let left = self.left - n;
+        if left < 16 && self.limit < self.data.len() * 8 {
+            *self = later_scanner(self.data, self.order, self.limit - left);
+            return Ok(());
+        }
+        self.window = window;
+        self.left = left;
+        Ok(())
+    }
+
+    /// Returns the number of bits before the offset.
+    #[inline(always)]
+    pub fn offset(&self) -> usize
+        ensures place { result ≡ self.now.place }
+        ensures within { result ≤ length self.now.bits }
+        ensures fit { length self.now.bits + 64 < 2 ^ 64 }
     {
         self.limit - self.left
     }

@@ -17,7 +17,7 @@ ghost use Rattle.fax_bits.specs.WordsHere.{RunGoesOn};
 ghost use Rattle.fax_bits.specs.Window.{moved};
 ghost use Rattle.fax_bits.specs.Ticks.{run_found, missed, looked, looked_at_tag};
 
-use crate::bit_reader::{BitReader, copy, go_to, none_at_hand};
+use crate::bit_reader::{BitReader, BitScanner, copy, go_to, none_at_hand};
 use crate::tables::{LOOKUP_BITS, LOOKUP_INVALID, Tables};
 use crate::words_at_hand::pass_makeup_words;
 use crate::{DecodeError, Result};
@@ -634,24 +634,62 @@ impl<'a> BitReader<'a> {
     }
 }
 
-/// Reads a word of a run of a colour, a make-up word or a terminating one (T.4, 4.1.1), which is one tick.
-///
-/// # Errors
-///
-/// `UnexpectedEof` if the data ends inside a word, and `InvalidCode` if there is none. The offset is then unspecified.
-pub fn read_word(
-    reader: &mut BitReader<'_>,
-    color: Color,
-    tables: &Tables,
-    ticks: &mut Ticks,
-) -> Result<u16>
-    ensures word { MatchResult result
-        (λ n. read_code (codes_of color) (here reader.old) ≡ Ok (n, here reader.new))
-        (λ e. read_code (codes_of color) (here reader.old) ≡ Err e) }
-    ensures same_bits { reader.new.bits ≡ reader.old.bits }
-    ensures ticks { ticks.new ≡ ticks.old + 1 }
-{
-    reader.decode_word(color, tables, ticks)
+impl<'a> BitScanner<'a> {
+    /// Returns the entry of the next thirteen bits, padded with zeros, in the lookup table of a colour.
+    #[inline(always)]
+    fn entry_here(&self, color: Color, tables: &Tables) -> u16
+        ensures { result ≡ entry_of (codes_of color) (padded 13 (here self.now)) }
+    {
+        tables.lookup(color)[self.thirteen()]
+    }
+
+    /// Reads a word of a run of a colour, a make-up word or a terminating one (T.4, 4.1.1), which is one tick.
+    ///
+    /// # Errors
+    ///
+    /// `UnexpectedEof` if the data ends inside a word, and `InvalidCode` if there is none. The offset is then unspecified.
+    #[inline(always)]
+    pub fn read_word(&mut self, color: Color, tables: &Tables, ticks: &mut Ticks) -> Result<u16>
+        ensures word { MatchResult result
+            (λ n. read_code (codes_of color) (here self.old) ≡ Ok (n, here self.new))
+            (λ e. read_code (codes_of color) (here self.old) ≡ Err e) }
+        ensures same_bits { self.new.bits ≡ self.old.bits }
+        ensures ticks { ticks.new ≡ ticks.old + 1 }
+    {
+        // The look-up counts even if no word is here.
+        ticks.tick();
+        let entry = self.entry_here(color, tables);
+        // If the data ends inside a word these bits aren't there.
+        self.consume(usize::from(entry >> 12))?;
+        let run = entry & LOOKUP_INVALID;
+        if run == LOOKUP_INVALID {
+            return Err(DecodeError::InvalidCode);
+        }
+        Ok(run)
+    }
+
+    /// Reads a mode of a two-dimensional line (T.4 table 4, T.6 table 1), which is one tick.
+    ///
+    /// # Errors
+    ///
+    /// `UnexpectedEof` if the data ends inside a word, and `InvalidCode` if there is none.
+    #[inline(always)]
+    pub fn next_mode(&mut self, ticks: &mut Ticks) -> Result<Mode>
+        ensures mode { MatchResult result
+            (λ m. read_code mode_codes (here self.old) ≡ Ok (m, here self.new))
+            (λ e. read_code mode_codes (here self.old) ≡ Err e) }
+        ensures same_bits { self.new.bits ≡ self.old.bits }
+        ensures ticks { ticks.new ≡ ticks.old + 1 }
+    {
+        ticks.tick();
+        let (mode, bits) = mode_of(self.seven());
+        // If the data ends inside a word these bits aren't there.
+        self.consume(bits)?;
+        match mode {
+            Some(mode) => Ok(mode),
+            None => Err(DecodeError::InvalidCode),
+        }
+    }
 }
 
 /// Consumes V0 if it is here, and returns whether it is; otherwise nothing changes.

@@ -29,9 +29,9 @@ use crate::usual::{draw_runs, draw_two_runs, lay_down, pass_white_row, take_up};
 use crate::white_lines::{WhiteLines, none_known, white_lines};
 use crate::{DecodeError, Decoder, Result};
 use fax_bits::bit_reader::{
-    BitOrder, BitReader, BitsAtHand, at_hand, go_to, none_at_hand, window_at_hand,
+    BitOrder, BitReader, BitScanner, BitsAtHand, at_hand, go_to, none_at_hand, window_at_hand,
 };
-use fax_bits::codes::{Color, Mode, Ticks, pass_v0, read_word};
+use fax_bits::codes::{Color, Mode, Ticks, pass_v0};
 use fax_bits::tables::Tables;
 use fax_bits::{DecodeSettings, EncodingMode};
 use std::alloc::Global;
@@ -625,15 +625,16 @@ impl DecoderContext {
         self.cut_rows = cut_rows;
     }
 
-    /// Reads a word of a run of a colour without drawing it, as [`read_word`] does.
-    pub(crate) fn read_word(&mut self, color: Color, reader: &mut BitReader<'_>) -> Result<u16>
+    /// Reads a word of a run of a colour without drawing it.
+    #[inline(always)]
+    pub(crate) fn read_word(&mut self, color: Color, reader: &mut BitScanner<'_>) -> Result<u16>
         ensures word { MatchResult result
             (λ n. read_code (codes_of color) (here reader.old) ≡ Ok (n, here reader.new))
             (λ e. read_code (codes_of color) (here reader.old) ≡ Err e) }
         ensures same_bits { reader.new.bits ≡ reader.old.bits }
         ensures frame { self.new ≡ record self.old { ticks = self.old.ticks + 1 } }
     {
-        read_word(reader, color, &self.tables, &mut self.ticks)
+        reader.read_word(color, &self.tables, &mut self.ticks)
     }
 
     /// Returns b1 and b2 of a row of which this many pixels are painted, and whose next ones have this colour (T.4, 4.2.1.1).

@@ -6,7 +6,7 @@ ghost use Rattle.hayro_ccitt.specs.Bits.{Bits, here};
 ghost use Rattle.hayro_ccitt.specs.Context.{right_of_painted};
 ghost use Rattle.hayro_ccitt.specs.Continuations.{is_short, misses_end};
 ghost use Rattle.hayro_ccitt.specs.LineParts.{ContinuesLine, GoesOnBy, IsLawfulPart, IsPartOf, Leads, PaintsTo};
-ghost use Rattle.hayro_ccitt.specs.LineParts.{ReadsWord, is_missing, left_to_read, pen_of_part};
+ghost use Rattle.hayro_ccitt.specs.LineParts.{ReadsNextWord, ReadsWord, is_missing, left_to_read, pen_of_part};
 ghost use Rattle.hayro_ccitt.specs.Lines.{place_from};
 ghost use Rattle.hayro_ccitt.specs.LinesGoOn.{OpenRun, mode_added, word_added};
 ghost use Rattle.hayro_ccitt.specs.PlainReading.{line_here};
@@ -15,7 +15,7 @@ ghost use Rattle.hayro_ccitt.specs.Rows.{Row, paint};
 use crate::context::DecoderContext;
 use crate::{DecodeError, EncodingMode};
 use fax_bits::DecodeSettings;
-use fax_bits::bit_reader::BitReader;
+use fax_bits::bit_reader::{BitReader, BitScanner};
 use fax_bits::codes::{Color, Mode};
 
 /// A run of which words are read.
@@ -51,6 +51,7 @@ pub(crate) enum Word {
 }
 
 /// Counts pixels as painted, as many as the row has room for. Returns false if strict data has more.
+#[inline(always)]
 fn paint(part: &mut KeptPart, settings: DecodeSettings, count: u32) -> bool
     requires { part.old.painted ≤ settings.columns }
     ensures painted { result ≡ true → (front : Row) → length front ≡ part.old.painted
@@ -75,6 +76,7 @@ fn paint(part: &mut KeptPart, settings: DecodeSettings, count: u32) -> bool
 
 /// Returns the position that a vertical mode names, this far from b1, unless it is left of the pixels painted or has more than 32
 /// bits (T.4, 4.2.1.3).
+#[inline(always)]
 fn vertical_place(b1: u32, painted: u32, offset: i8) -> Option<u32>
     ensures place { IfSome result (λ place. place_from painted (pos b1 +ℤ offset) ≡ Ok place) }
     ensures none { IfNone result (place_from painted (pos b1 +ℤ offset) ≡ Err DecodeError.Overflow) }
@@ -92,6 +94,7 @@ fn vertical_place(b1: u32, painted: u32, offset: i8) -> Option<u32>
 }
 
 /// Returns what a word leads to that is read with this error.
+#[inline(always)]
 fn word_of_fault(error: DecodeError) -> Word
     ensures missing { is_missing result ≡ misses_end error }
     ensures ends { result ≢ Word.GoesOn }
@@ -106,6 +109,7 @@ fn word_of_fault(error: DecodeError) -> Word
 }
 
 /// Goes on behind a pass: the colour continues to below b2 (T.4, 4.2.1.3).
+#[inline(always)]
 fn pass(ctx: &mut DecoderContext, part: &mut KeptPart) -> Word
     requires lawful { IsLawfulPart ctx.old.held.settings ctx.old.held.reference part.old }
     requires run { part.old.run ≡ None }
@@ -126,6 +130,7 @@ fn pass(ctx: &mut DecoderContext, part: &mut KeptPart) -> Word
 }
 
 /// Goes on behind a vertical mode: the colour turns this far from b1 (T.4, 4.2.1.3).
+#[inline(always)]
 fn turn(ctx: &mut DecoderContext, part: &mut KeptPart, offset: i8) -> Word
     requires lawful { IsLawfulPart ctx.old.held.settings ctx.old.held.reference part.old }
     requires run { part.old.run ≡ None }
@@ -150,6 +155,7 @@ fn turn(ctx: &mut DecoderContext, part: &mut KeptPart, offset: i8) -> Word
 }
 
 /// Goes on behind a mode (T.4, 4.2.1.3).
+#[inline(always)]
 fn add_mode(ctx: &mut DecoderContext, part: &mut KeptPart, mode: Mode) -> Word
     requires lawful { IsLawfulPart ctx.old.held.settings ctx.old.held.reference part.old }
     requires run { part.old.run ≡ None }
@@ -176,20 +182,22 @@ fn add_mode(ctx: &mut DecoderContext, part: &mut KeptPart, mode: Mode) -> Word
 }
 
 /// Goes on behind a mode that is read here.
-fn read_mode(ctx: &mut DecoderContext, reader: &mut BitReader<'_>, part: &mut KeptPart) -> Word
+#[inline(always)]
+fn read_mode(ctx: &mut DecoderContext, reader: &mut BitScanner<'_>, part: &mut KeptPart) -> Word
     requires lawful { IsLawfulPart ctx.old.held.settings ctx.old.held.reference part.old }
     requires run { part.old.run ≡ None }
     requires mode { part.old.is_2d ≡ true }
     requires open { part.old.painted < ctx.old.held.settings.columns }
     ensures reads { ReadsWord part.old part.new ctx.old ctx.new reader.old reader.new result }
 {
-    match reader.decode_mode(ctx.ticks()) {
+    match reader.next_mode(ctx.ticks()) {
         Ok(mode) => add_mode(ctx, part, mode),
         Err(error) => word_of_fault(error),
     }
 }
 
 /// Returns the run that follows a run in its horizontal mode, if one does.
+#[inline(always)]
 fn run_behind(run: KeptRun) -> Option<KeptRun>
     ensures another { run.another ≡ true → result ≡ Some (record { another = false; total = 0 }) }
     ensures none { run.another ≡ false → result ≡ None }
@@ -204,6 +212,7 @@ fn run_behind(run: KeptRun) -> Option<KeptRun>
 }
 
 /// Goes on behind a word of a run (T.4, 4.1.1).
+#[inline(always)]
 fn add_word(part: &mut KeptPart, settings: DecodeSettings, run: KeptRun, n: u32) -> Word
     requires within { part.old.painted ≤ settings.columns }
     requires run { part.old.run ≡ Some run }
@@ -234,9 +243,10 @@ fn add_word(part: &mut KeptPart, settings: DecodeSettings, run: KeptRun, n: u32)
 }
 
 /// Goes on behind a word of a run that is read here.
+#[inline(always)]
 fn read_run(
     ctx: &mut DecoderContext,
-    reader: &mut BitReader<'_>,
+    reader: &mut BitScanner<'_>,
     part: &mut KeptPart,
     run: KeptRun,
 ) -> Word
@@ -250,11 +260,28 @@ fn read_run(
     }
 }
 
+/// Begins a run of a one-dimensional line, which reads nothing. Only contracts read the context and the reader.
+#[inline(always)]
+fn begin_run(_ctx: &DecoderContext, _reader: &BitScanner<'_>, part: &mut KeptPart)
+    requires lawful { IsLawfulPart _ctx.now.held.settings _ctx.now.held.reference part.old }
+    requires run { part.old.run ≡ None }
+    requires line { part.old.is_2d ≡ false }
+    requires open { part.old.painted ≢ _ctx.now.held.settings.columns }
+    ensures reads { ReadsWord part.old part.new _ctx.now _ctx.now _reader.now _reader.now Word.GoesOn }
+    ensures run { part.new.run ≡ Some (record { another = false; total = 0 }) }
+{
+    part.run = Some(KeptRun {
+        another: false,
+        total: 0,
+    });
+}
+
 /// Goes on behind the word that is next, unless the row is full. Behind a run of a one-dimensional line the next one is begun
 /// first, which reads nothing.
-fn read_on(ctx: &mut DecoderContext, reader: &mut BitReader<'_>, part: &mut KeptPart) -> Word
+#[inline(always)]
+fn read_on(ctx: &mut DecoderContext, reader: &mut BitScanner<'_>, part: &mut KeptPart) -> Word
     requires lawful { IsLawfulPart ctx.old.held.settings ctx.old.held.reference part.old }
-    ensures reads { ReadsWord part.old part.new ctx.old ctx.new reader.old reader.new result }
+    ensures reads { ReadsNextWord part.old part.new ctx.old ctx.new reader.old reader.new result }
     ensures smaller { result ≡ Word.GoesOn
         → left_to_read part.new.run (here reader.new) < left_to_read part.old.run (here reader.old) }
 {
@@ -267,11 +294,12 @@ fn read_on(ctx: &mut DecoderContext, reader: &mut BitReader<'_>, part: &mut Kept
     if part.is_2d {
         return read_mode(ctx, reader, part);
     }
-    part.run = Some(KeptRun {
+    begin_run(ctx, reader, part);
+    let run = KeptRun {
         another: false,
         total: 0,
-    });
-    Word::GoesOn
+    };
+    read_run(ctx, reader, part, run)
 }
 
 /// Returns the part with which the words of a line begin.
@@ -312,9 +340,10 @@ pub(crate) fn begin_part(ctx: &mut DecoderContext, reader: &mut BitReader<'_>) -
 /// from which the line goes on, and the second number is the offset there. Otherwise it is the offset of the word with which the
 /// line ends. The reader's offset is then unspecified. Each word that is looked for is a tick, and so is each change of the
 /// reference row that is examined.
+#[inline(always)]
 pub(crate) fn continue_line(
     ctx: &mut DecoderContext,
-    reader: &mut BitReader<'_>,
+    reader: &mut BitScanner<'_>,
     part: &mut KeptPart,
 ) -> (bool, usize)
     requires { IsLawfulPart ctx.old.held.settings ctx.old.held.reference part.old }
@@ -323,9 +352,9 @@ pub(crate) fn continue_line(
     ensures within { result.1 ≤ length reader.old.bits }
 {
     // An offset is known to be within the data once it is read.
-    let _start = reader.bit_pos();
+    let _start = reader.offset();
     'words: loop {
-        let word_start = reader.bit_pos();
+        let word_start = reader.offset();
         match read_on(ctx, reader, part) {
             Word::GoesOn => {}
             Word::Missing => return (true, word_start),

@@ -2,7 +2,7 @@
 
 ghost use Rattle.std.specs.Prelude.{◌≡◌, ◌≢◌, ◌≤◌, ◌<◌, ◌+◌, ◌*◌, ◌/◌, ◌^◌, ◌&&◌, not, ℕ, Bool, true, false, [], ◌++◌, None};
 ghost use Rattle.std.specs.Prelude.{Some, Ok, Err, ◌⊎◌, ◌↔◌, ◌-◌};
-ghost use Rattle.std.specs.Prelude.{IfOk, IfErr, OnErr, OnOk, IsOkUnless, Result, length, max, drop};
+ghost use Rattle.std.specs.Prelude.{IfOk, IfErr, OnErr, OnOk, IsOkUnless, Result, is_ok, if◌then◌else◌, length, max, drop};
 ghost use Rattle.hayro_ccitt.specs.Bits.{AreWholeBytes, Bits, bits_in, here};
 ghost use Rattle.hayro_ccitt.specs.Context.{fresh, redrawn};
 ghost use Rattle.hayro_ccitt.specs.GapsContinued.{first_gap_is_settled, gap_is_settled};
@@ -27,7 +27,7 @@ use crate::rows::{limit_met, try_row};
 use crate::white_lines::{WhiteLines, pass_line};
 use crate::{DecodeError, Decoder, EncodingMode, Result};
 use fax_bits::DecodeSettings;
-use fax_bits::bit_reader::{BitOrder, BitReader, at_bit, placed_at};
+use fax_bits::bit_reader::{BitOrder, BitReader, at_bit, placed_at, scanner_at};
 use fax_bits::codes::Color;
 use std::alloc::Global;
 use std::marker::Model;
@@ -193,6 +193,20 @@ fn is_row(fed: &Result<Fed>) -> bool
     ensures other { result ≡ false → fed.now ≢ Ok Fed.Row }
 {
     matches!(fed, Ok(Fed::Row))
+}
+
+/// Appends bytes. A single one is stored without a call.
+#[inline(always)]
+fn append(data: &mut Vec<u8>, bytes: &[u8]) -> Result<()>
+    ensures items { «data».new.items ≡ (if is_ok result then «data».old.items ++ bytes.now else «data».old.items) }
+    ensures only { IsOkUnless result DecodeError.OutOfMemory }
+{
+    if bytes.len() == 1 {
+        data.push(bytes[0])?;
+        return Ok(());
+    }
+    data.extend_from_slice(bytes)?;
+    Ok(())
 }
 
 /// Returns whether one more row can be counted.
@@ -410,6 +424,7 @@ impl RowFeed {
     }
 
     /// Reads the line here from its start, if no data that follows can change it, and returns whether it was read.
+    #[inline(never)]
     fn read_whole_line(&mut self) -> Result<bool>
         requires begun { self.old.begun ≡ true }
         requires rows { self.old.ctx.held.taken + 1 < 2 ^ 64 }
@@ -434,36 +449,39 @@ impl RowFeed {
 
     /// Reads on from a part of the line here, of which so many bits were read, and returns whether the line is short. If it is,
     /// the part from which it goes on is kept.
+    #[inline(always)]
     fn go_on_from(&mut self, part: KeptPart, read: usize) -> bool
-        requires none_kept { self.old.part ≡ None }
         requires part { LineGoesOn self.old.begun self.old.rows.stand self.old.ctx.held (drop self.old.place self.old.kept) read
             part }
         ensures scans { ScansLine part.passed read self.old self.new result }
     {
         let mut part = part;
-        let mut reader = placed_at(&self.data, self.order, self.place + read);
+        let mut reader = scanner_at(&self.data, self.order, self.place + read);
         let (is_short, reached) = continue_line(&mut self.ctx, &mut reader, &mut part);
         if is_short {
             self.line_read = reached - self.place;
             self.part = Some(part);
+            return true;
         }
-        is_short
+        self.line_read = 0;
+        self.part = None;
+        false
     }
 
     /// Returns whether the line here is known to be short: whether it goes on from a part that was kept, and still is short.
+    #[inline(always)]
     fn is_still_short(&mut self) -> bool
         ensures { StaysShort self.old self.new result }
     {
         let Some(part) = self.part else {
             return false;
         };
-        let read = self.line_read;
-        self.part = None;
-        self.line_read = 0;
         if self.is_last {
+            self.line_read = 0;
+            self.part = None;
             return false;
         }
-        self.go_on_from(part, read)
+        self.go_on_from(part, self.line_read)
     }
 
     /// Keeps the part from which the line here goes on, which is short, unless it was tried for the first time: mostly it is whole
@@ -491,6 +509,7 @@ impl RowFeed {
 
     /// Reads the line here, if no data that follows can change it, and returns whether it was read. A line that is short goes on
     /// from where it was short in the call before.
+    #[inline(always)]
     fn read_line(&mut self) -> Result<bool>
         requires begun { self.old.begun ≡ true }
         requires rows { self.old.ctx.held.taken + 1 < 2 ^ 64 }
@@ -530,7 +549,7 @@ impl RowFeed {
 
     /// Passes the gap before the next line, if there is one here, and reads the line, both from where no data that follows can change
     /// them.
-    #[inline(always)]
+    #[inline(never)]
     fn read_from_gap(&mut self) -> Result<Fed>
         requires begun { self.old.begun ≡ true }
         requires unended { ended self.old.rows.stand ≡ None }
@@ -569,6 +588,7 @@ impl RowFeed {
     }
 
     /// Reads the next row behind the first line's start.
+    #[inline(always)]
     fn read_on(&mut self) -> Result<Fed>
         requires begun { self.old.begun ≡ true }
         requires unended { ended self.old.rows.stand ≡ None }
@@ -584,6 +604,8 @@ impl RowFeed {
     }
 
     /// Reads the first row, behind what is before it.
+    #[cold]
+    #[inline(never)]
     fn read_first(&mut self) -> Result<Fed>
         requires unbegun { self.old.begun ≡ false }
         ensures reads { (whole : Bits) (tried : ℕ) → IsFeedOf whole tried self.old
@@ -773,7 +795,7 @@ impl RowFeed {
         if bytes.len() > MOST_BYTES - kept || self.dropped > (MOST_BYTES - kept - bytes.len()) * 8 {
             return Err(DecodeError::Overflow);
         }
-        self.data.extend_from_slice(bytes)?;
+        append(&mut self.data, bytes)?;
         Ok(())
     }
 

@@ -12,7 +12,7 @@ returns-in-Ok c =
     let part = c.args.part.now in
     let new = c.add_mode.new.part in
     let before = here c.args.reader.now in
-    let after = here c.decode_mode.new.self in
+    let after = here c.next_mode.new.self in
     let reads = c.in-Ok.ensures.mode in
     let goes = c.add_mode.ensures.goes after in
     let shorter = read_code_shorter mode_codes before c.in-Ok.mode after modes_not_empty reads in
@@ -27,10 +27,10 @@ returns-in-Ok c =
           lawful = record { within = goes.lawful.within; passed = goes.lawful.passed };
         };
         frame = c.add_mode.ensures.frame;
-        same_bits = c.decode_mode.ensures.same_bits;
+        same_bits = c.next_mode.ensures.same_bits;
         missing = λ e. absurd (c.add_mode.ensures.known e);
-        counts = omega (arith, c.add_mode.ensures.counts, c.decode_mode.ensures.ticks, c.ticks.ensures.value);
-        work = omega (arith, c.add_mode.ensures.work, c.decode_mode.ensures.ticks, c.ticks.ensures.value);
-        paid = λ e. omega (arith, c.add_mode.ensures.work, c.decode_mode.ensures.ticks, c.ticks.ensures.value, shorter);
+        counts = omega (arith, c.add_mode.ensures.counts, c.next_mode.ensures.ticks, c.ticks.ensures.value);
+        work = omega (arith, c.add_mode.ensures.work, c.next_mode.ensures.ticks, c.ticks.ensures.value);
+        paid = λ e. omega (arith, c.add_mode.ensures.work, c.next_mode.ensures.ticks, c.ticks.ensures.value, shorter);
       };
     }

@@ -1,6 +1,6 @@
-use Rattle.hayro_ccitt.proofs.Names.{ap, sym, subst, refl, arith, here, Option, DecodeSettings, false}
+use Rattle.hayro_ccitt.proofs.Names.{inl, ap, sym, subst, refl, arith, here, Option, DecodeSettings, false}
 use Rattle.hayro_ccitt.specs.declared.line_parts.KeptRun.{KeptRun}
-use Rattle.hayro_ccitt.specs.LineParts.{EndsLine, GoesOnBy, part_at, part_by, pen_of_part}
+use Rattle.hayro_ccitt.specs.LineParts.{EndsLine, GoesOnBy, left_to_read, part_at, part_by, pen_of_part}
 use Rattle.hayro_ccitt.specs.LinesGoOn.{read_on}
 use Rattle.hayro_ccitt.proofs.DrawingLines.PartsOfLines.{full_ends, reads_some}
 use Rattle.hayro_ccitt.proofs.line_parts.read_on.Goals as goal
@@ -19,23 +19,27 @@ returns-then-part-settings-clause-reads c =
     let part = c.args.part.now in
     let before = here c.args.reader.now in
     record {
-      goes = record {
-        leads = λ front is. subst (λ (r : Option KeptRun). EndsLine false (read_on held.settings held.reference
-            (part_by r part.is_2d (pen_of_part part front before))).turn) (sym c.in_default.is)
-            (full_ends held.settings held.reference front part.color before part.is_2d (omega (
-              arith,
-              is,
-              c.if-part-settings.true,
-              ap (λ (s : DecodeSettings). s.columns) c.settings.ensures.value,
-            )));
-        lawful = record { within = c.requires.lawful.within; passed = c.requires.lawful.passed };
+      begun = part;
+      begins = inl refl;
+      reads = record {
+        goes = record {
+          leads = λ front is. subst (λ (r : Option KeptRun). EndsLine false (read_on held.settings held.reference
+              (part_by r part.is_2d (pen_of_part part front before))).turn) (sym c.in_default.is)
+              (full_ends held.settings held.reference front part.color before part.is_2d (omega (
+                arith,
+                is,
+                c.if-part-settings.true,
+                ap (λ (s : DecodeSettings). s.columns) c.settings.ensures.value,
+              )));
+          lawful = record { within = c.requires.lawful.within; passed = c.requires.lawful.passed };
+        };
+        frame = refl;
+        same_bits = refl;
+        missing = λ e. cc;
+        counts = omega arith;
+        work = omega arith;
+        paid = λ e. cc;
       };
-      frame = refl;
-      same_bits = refl;
-      missing = λ e. cc;
-      counts = omega arith;
-      work = omega arith;
-      paid = λ e. cc;
     }
 
 pub returns-then-part-clause-smaller : goal.returns-then-part-clause-smaller
@@ -45,3 +49,19 @@ returns-then-part-clause-smaller c = λ e.
     (here c.read_mode.new.reader) (subst (GoesOnBy held.settings held.reference (λ front. (read_on held.settings held.reference
     (part_at c.args.part.now front (here c.args.reader.now))).turn) c.args.part.now c.read_mode.new.part
     (here c.read_mode.new.reader)) e c.read_mode.ensures.reads.goes)
+
+pub returns-clause-smaller : goal.returns-clause-smaller
+returns-clause-smaller c = λ e.
+    let held = c.args.ctx.now.held in
+    let begun = c.begin_run.new.part in
+    let before = here c.args.reader.now in
+    let less = reads_some held.settings held.reference begun c.read_run-2.new.part before (here c.read_run-2.new.reader)
+    (subst (GoesOnBy held.settings held.reference (λ front. (read_on held.settings held.reference
+    (part_at begun front before)).turn) begun c.read_run-2.new.part (here c.read_run-2.new.reader)) e
+    c.read_run-2.ensures.reads.goes) in
+    omega (
+      arith,
+      less,
+      ap (λ (r : Option KeptRun). left_to_read r before) c.in_default.is,
+      ap (λ (r : Option KeptRun). left_to_read r before) c.begin_run.ensures.run,
+    )

@@ -16,20 +16,20 @@ use Rattle.hayro_ccitt.specs.RowFeeds.{Feeding, IsFeedOf, PartIsKept, fed_bits, 
 use Rattle.hayro_ccitt.proofs.BitReading.BitLists.{length-bits_in}
 use Rattle.hayro_ccitt.proofs.row_feed.RowFeed.feed.Goals.{then-bytes-kept-via-then-bytes-kept}
 use Rattle.hayro_ccitt.proofs.row_feed.RowFeed.feed.Goals.{then-bytes-kept-via-else-bytes-kept+then-self-kept}
-use Rattle.hayro_ccitt.proofs.row_feed.RowFeed.feed.Goals.{After-extend_from_slice}
+use Rattle.hayro_ccitt.proofs.row_feed.RowFeed.feed.Goals.{After-append}
 use Rattle.hayro_ccitt.proofs.row_feed.RowFeed.feed.Goals as goal
 
 pub returns-then-bytes-kept-clause-refused : goal.returns-then-bytes-kept-clause-refused
 returns-then-bytes-kept-clause-refused c whole tried feed = drops_read c.drop_read.ensures feed
 
-pub returns-in_err-extend_from_slice-clause-refused :
-    goal.returns-in_err-extend_from_slice-clause-refused
-returns-in_err-extend_from_slice-clause-refused c =
+pub returns-in_err-append-clause-refused :
+    goal.returns-in_err-append-clause-refused
+returns-in_err-append-clause-refused c =
     let answer = err_from_is_err_and c.from_residual.result c.from_residual.ensures.1 in
     let inside = c.self.inside in
     let view = feeding_of inside in
     let same = ap (λ (items : List ℕ). record view { kept = bits_in inside.order items })
-    c.in_err-extend_from_slice.ensures.items
+    c.in_err-append.ensures.items
     ∙ c.self.view_is in
     rw answer.1 (λ whole tried feed. subst (IsFeedOf whole tried) (sym same) (drops_read c.drop_read.ensures feed))
 
@@ -41,7 +41,7 @@ returns-clause-fed c whole tried feed come =
     let order : c.args.self.now.order ≡ inside.order
     = sym c.drop_read.ensures.order ∙ ap (λ (f : Feeding). f.order) (sym c.self.view_is) in
     let next = bits_in c.args.self.now.order c.args.bytes.now in
-    let longer = ap (bits_in inside.order) c.in_ok-extend_from_slice.ensures.items
+    let longer = ap (bits_in inside.order) c.in_ok-append.ensures.items
     ∙ flat_map-append (bits_of_byte inside.order) inside.«data».items c.args.bytes.now
     ∙ ap (λ (o : BitOrder). bits_in inside.order inside.«data».items ++ bits_in o c.args.bytes.now) (sym order) in
     let is = ap (λ (b : Bits). record view { kept = b }) longer
@@ -60,13 +60,13 @@ returns-then-bytes-kept-clause-kept c =
     holds_none (length c.self.inside.«data».items) c.drop_read.ensures
     (are_whole c.drop_read.new.self c.self.inside.order c.self.inside.«data».items kept) refl
 
-pub returns-in_err-extend_from_slice-clause-kept : goal.returns-in_err-extend_from_slice-clause-kept
-returns-in_err-extend_from_slice-clause-kept c =
+pub returns-in_err-append-clause-kept : goal.returns-in_err-append-clause-kept
+returns-in_err-append-clause-kept c =
     let answer = err_from_is_err_and c.from_residual.result c.from_residual.ensures.1 in
     let inside = c.self.inside in
     let view = feeding_of inside in
     let same = ap (λ (items : List ℕ). record view { kept = bits_in inside.order items })
-    c.in_err-extend_from_slice.ensures.items
+    c.in_err-append.ensures.items
     ∙ c.self.view_is in
     let kept = ap (λ (f : Feeding). f.kept) (sym c.self.view_is) in
     rw answer.1 (holds_none (length inside.«data».items) c.drop_read.ensures
@@ -79,7 +79,7 @@ returns-clause-held c =
     let order : c.args.self.now.order ≡ inside.order
     = sym c.drop_read.ensures.order ∙ ap (λ (f : Feeding). f.order) (sym c.self.view_is) in
     let next = bits_in c.args.self.now.order c.args.bytes.now in
-    let longer = ap (bits_in inside.order) c.in_ok-extend_from_slice.ensures.items
+    let longer = ap (bits_in inside.order) c.in_ok-append.ensures.items
     ∙ flat_map-append (bits_of_byte inside.order) inside.«data».items c.args.bytes.now
     ∙ ap (λ (o : BitOrder). bits_in inside.order inside.«data».items ++ bits_in o c.args.bytes.now) (sym order) in
     let is = ap (λ (b : Bits). record view { kept = b }) longer
@@ -131,8 +131,8 @@ not_long : (answer : Result (Unit {0}) DecodeError) (error : DecodeError) → an
     → answer ≡ Err Overflow → ⊥
 not_long answer error is memory e = cc
 
-pub returns-in_err-extend_from_slice-clause-too_long : goal.returns-in_err-extend_from_slice-clause-too_long
-returns-in_err-extend_from_slice-clause-too_long c =
+pub returns-in_err-append-clause-too_long : goal.returns-in_err-append-clause-too_long
+returns-in_err-append-clause-too_long c =
     let answer = err_from_is_err_and c.from_residual.result c.from_residual.ensures.1 in
     let inside = c.self.inside in
     let drops = c.drop_read.ensures in
@@ -141,7 +141,7 @@ returns-in_err-extend_from_slice-clause-too_long c =
     ∙ length-drop (8 * drops.bytes) c.args.self.now.kept in
     let dropped = ap (λ (f : Feeding). f.dropped) c.self.view_is in
     rw answer.1 (
-      λ e. absurd (not_long c.from_residual.result answer.0 answer.1 answer.2 (answer.1 ∙ e)),
+      λ e. absurd (not_long c.from_residual.result answer.0 answer.1 (answer.2 ∙ c.in_err-append.ensures.only) (answer.1 ∙ e)),
       λ more. absurd (omega (
         arith,
         more,
@@ -187,7 +187,7 @@ pub invariant_of-self-2 : goal.invariant_of-self-2
 invariant_of-self-2 c =
     let inside = c.self.inside in
     let old = c.self.invariant in
-    let items = c.in_ok-extend_from_slice.ensures.items in
+    let items = c.in_ok-append.ensures.items in
     let longer = ap length items ∙ length-append inside.«data».items c.args.bytes.now in
     record {
       within = omega (arith, longer, old.within);
@@ -226,13 +226,13 @@ returns-clause-counts c =
       drops_none_fed c.drop_read.ensures,
       ap fed_bits c.self.view_is,
       length-bits_in inside.order inside.«data».items,
-      length-bits_in inside.order c.extend_from_slice.new.self.items,
-      ap length c.in_ok-extend_from_slice.ensures.items,
+      length-bits_in inside.order c.append.new.«data».items,
+      ap length c.in_ok-append.ensures.items,
       length-append inside.«data».items c.args.bytes.now,
     )
 
 -- the bits fit, where the bytes are no more than there is room for
-fits : (c : After-extend_from_slice) → fed_bits c.args.self.now + 8 * length c.args.bytes.now + 64 < 2 ^ 64
+fits : (c : After-append) → fed_bits c.args.self.now + 8 * length c.args.bytes.now + 64 < 2 ^ 64
 fits c = omega (
   arith,
   drops_none_fed c.drop_read.ensures,
@@ -243,9 +243,9 @@ fits c = omega (
   c.if-self-kept.false,
 )
 
-pub returns-in_err-extend_from_slice-clause-fit : goal.returns-in_err-extend_from_slice-clause-fit
-returns-in_err-extend_from_slice-clause-fit c = λ e.
-    fits (goal.at.returns-in_err-extend_from_slice-clause-fit c).After-extend_from_slice
+pub returns-in_err-append-clause-fit : goal.returns-in_err-append-clause-fit
+returns-in_err-append-clause-fit c = λ e.
+    fits (goal.at.returns-in_err-append-clause-fit c).After-append
 
 pub returns-clause-fit : goal.returns-clause-fit
-returns-clause-fit c = λ e. fits (goal.at.returns-clause-fit c).After-extend_from_slice
+returns-clause-fit c = λ e. fits (goal.at.returns-clause-fit c).After-append

@@ -1,6 +1,6 @@
 use Rattle.hayro_ccitt.proofs.Names.{refl}
 use Rattle.hayro_ccitt.proofs.Names.{◌≡◌, ◌∙◌, ◌+◌, ◌-◌, ◌*◌, ap, sym, subst, arith, length, length-drop, drop, false≢true}
-use Rattle.hayro_ccitt.proofs.Names.{bits_in, changes, List, ℕ, Some, Context, Held, BitsAt}
+use Rattle.hayro_ccitt.proofs.Names.{bits_in, changes, List, ℕ, None, Some, Context, Held, BitsAt}
 use Rattle.hayro_ccitt.specs.GapsSeen.{IsSeen, rules_for}
 use Rattle.hayro_ccitt.proofs.BitReading.BitLists.{length-bits_in}
 use Rattle.hayro_ccitt.proofs.Readings.PartsFed.{part_reached, said_short, scan_most, scan_paid, scan_work}
@@ -27,9 +27,9 @@ overflow_add-self-inside c =
       length-drop c.self.inside.place (bits_in c.self.inside.order c.self.inside.«data».items),
     )
 
-pub placed_at-reader-requires-clause-within : goal.placed_at-reader-requires-clause-within
-placed_at-reader-requires-clause-within c =
-    let at = (goal.at.placed_at-reader-requires-clause-within c).After-deref in
+pub scanner_at-reader-requires-clause-within : goal.scanner_at-reader-requires-clause-within
+scanner_at-reader-requires-clause-within c =
+    let at = (goal.at.scanner_at-reader-requires-clause-within c).After-deref in
     omega (
       arith,
       c.self.invariant.within,
@@ -40,16 +40,16 @@ placed_at-reader-requires-clause-within c =
       ap length c.deref.ensures.value,
     )
 
-starts_at : (c : After-continue_line-is_short) → c.placed_at-reader.result
+starts_at : (c : After-continue_line-is_short) → c.scanner_at-reader.result
     ≡ record { bits = bits_in c.self.inside.order c.self.inside.«data».items; place = c.self.inside.place + c.args.read }
-starts_at c = c.placed_at-reader.ensures ∙ ap (λ (items : List ℕ). record {
+starts_at c = c.scanner_at-reader.ensures ∙ ap (λ (items : List ℕ). record {
   bits = bits_in c.self.inside.order items;
   place = c.self.inside.place + c.args.read;
 }) c.deref.ensures.value
 
 -- where the scan ended
 abbrev reached : (c : After-continue_line-is_short) → BitsAt
-reached c = record c.placed_at-reader.result { place = c.continue_line-is_short.result.1 }
+reached c = record c.scanner_at-reader.result { place = c.continue_line-is_short.result.1 }
 
 -- what is seen afterwards
 abbrev scanned : (c : After-continue_line-is_short) → Feeding
@@ -71,9 +71,26 @@ invariant_of-self c =
           (sym (ap (λ (x : Context). x.held) c.continue_line-is_short.ensures.goes_on.frame)) c.self.invariant.seen;
       line = c.self.invariant.line;
       part = part_reached (feeding_of c.self.inside) (scanned at) c.args.part c.continue_line-is_short.new.part c.args.read
-          c.placed_at-reader.result (reached at) c.continue_line-is_short.result.0 (starts_at at)
+          c.scanner_at-reader.result (reached at) c.continue_line-is_short.result.0 (starts_at at)
           (omega (arith, c.self.invariant.within, length-bits_in c.self.inside.order c.self.inside.«data».items))
           c.continue_line-is_short.ensures.goes_on was c.continue_line-is_short.ensures.within c.if-is_short.true;
+    }
+
+pub invariant_of-self-2 : goal.invariant_of-self-2
+invariant_of-self-2 c =
+    let was = kept (goal.at.invariant_of-self-2 c).After-deref in
+    record {
+      within = c.self.invariant.within;
+      fit = c.self.invariant.fit;
+      fresh = λ e. absurd (false≢true (sym e ∙ was.is_begun));
+      start = λ e. absurd (false≢true (sym e ∙ was.is_begun));
+      unended = λ e. absurd (false≢true (sym e ∙ was.is_begun));
+      rows = λ e. absurd (false≢true (sym e ∙ was.is_begun));
+      seen = subst (λ (h : Held). IsSeen (rules_for c.self.inside.begun h) c.self.inside.look
+          (drop c.self.inside.place (bits_in c.self.inside.order c.self.inside.«data».items)))
+          (sym (ap (λ (x : Context). x.held) c.continue_line-is_short.ensures.goes_on.frame)) c.self.invariant.seen;
+      line = c.self.invariant.line;
+      part = refl;
     }
 
 pub returns-then-is_short : goal.returns-then-is_short
@@ -96,29 +113,30 @@ returns-then-is_short c =
           counts = on.ensures.goes_on.counts;
         };
         tried = refl;
-        said = said_short (feeding_of inside) (scanned at) c.args.part part c.args.read c.placed_at-reader.result (reached at)
-            on.result.0 (starts_at at) within on.ensures.goes_on was;
-        none = λ e. absurd (false≢true (sym e ∙ c.if-is_short.true));
+        said = said_short (feeding_of inside) (scanned at) c.args.part part c.args.read c.scanner_at-reader.result (reached at)
+            on.result.0 (starts_at at) within on.ensures.goes_on was ∙ c.if-is_short.true;
+        none = λ e. absurd (false≢true (sym e));
         some = λ e kept. cc;
         kept = λ e. (
           omega (arith, within),
           subst (λ (h : Held). part.passed + 2 * (on.result.1 - inside.place) + 2
               ≤ length (changes h.reference) + 2 * length (drop inside.place (bits_in inside.order inside.«data».items)) + 2)
               (sym (ap (λ (x : Context). x.held) on.ensures.goes_on.frame))
-              (scan_paid (feeding_of inside) (scanned at) c.args.part part c.args.read c.placed_at-reader.result (reached at)
+              (scan_paid (feeding_of inside) (scanned at) c.args.part part c.args.read c.scanner_at-reader.result (reached at)
               on.result.0 (starts_at at) within on.ensures.goes_on was on.ensures.within),
         );
-        work = λ e. scan_work (feeding_of inside) (scanned at) c.args.part part c.args.read c.placed_at-reader.result (reached at)
+        work = λ e.
+            scan_work (feeding_of inside) (scanned at) c.args.part part c.args.read c.scanner_at-reader.result (reached at)
             on.result.0 (starts_at at) within on.ensures.goes_on was on.ensures.within;
-        most = scan_most (feeding_of inside) (scanned at) c.args.part part c.args.read c.placed_at-reader.result (reached at)
+        most = scan_most (feeding_of inside) (scanned at) c.args.part part c.args.read c.scanner_at-reader.result (reached at)
             on.result.0 (starts_at at) within on.ensures.goes_on was;
       };
     })
 
-pub returns-else-is_short : goal.returns-else-is_short
-returns-else-is_short c =
-    let at = (goal.at.returns-else-is_short c).After-continue_line-is_short in
-    let was = kept (goal.at.returns-else-is_short c).After-deref in
+pub returns : goal.returns
+returns c =
+    let at = (goal.at.returns c).After-continue_line-is_short in
+    let was = kept (goal.at.returns c).After-deref in
     let inside = c.self.inside in
     let on = c.continue_line-is_short in
     let within : inside.place ≤ length (bits_in inside.order inside.«data».items)
@@ -127,17 +145,18 @@ returns-else-is_short c =
     rw (← c.self.view_is) (record {
       scans = record {
         scans = record {
-          frame = ap (λ (x : Context). record (feeding_of inside) { ctx = x }) on.ensures.goes_on.frame;
+          frame = ap (λ (x : Context). record (feeding_of inside) { ctx = x; part = None; line_read = 0 })
+              on.ensures.goes_on.frame;
           counts = on.ensures.goes_on.counts;
         };
         tried = refl;
-        said = said_short (feeding_of inside) (scanned at) c.args.part part c.args.read c.placed_at-reader.result (reached at)
-            on.result.0 (starts_at at) within on.ensures.goes_on was;
-        none = λ e. ap (λ (f : Feeding). f.part) c.self.view_is ∙ c.requires.none_kept;
-        some = λ e. absurd (false≢true (sym c.if-is_short.false ∙ e));
-        kept = λ e. absurd (false≢true (sym c.if-is_short.false ∙ e));
-        work = λ e. absurd (false≢true (sym c.if-is_short.false ∙ e));
-        most = scan_most (feeding_of inside) (scanned at) c.args.part part c.args.read c.placed_at-reader.result (reached at)
+        said = said_short (feeding_of inside) (scanned at) c.args.part part c.args.read c.scanner_at-reader.result (reached at)
+            on.result.0 (starts_at at) within on.ensures.goes_on was ∙ c.if-is_short.false;
+        none = λ e. refl;
+        some = λ e. absurd (false≢true e);
+        kept = λ e. absurd (false≢true e);
+        work = λ e. absurd (false≢true e);
+        most = scan_most (feeding_of inside) (scanned at) c.args.part part c.args.read c.scanner_at-reader.result (reached at)
             on.result.0 (starts_at at) within on.ensures.goes_on was;
       };
     })

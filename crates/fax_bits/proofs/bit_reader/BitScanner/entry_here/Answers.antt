@@ -1,0 +1,7 @@
+use Rattle.fax_bits.proofs.Names.{ap, ◌∙◌, entry_of, codes_of}
+use Rattle.fax_bits.proofs.bit_reader.BitScanner.entry_here.Goals as goal
+
+pub returns : goal.returns
+returns c =
+    c.lookup.ensures.entries.each c.thirteen.result c.thirteen.ensures.few
+    ∙ ap (entry_of (codes_of c.args.color)) c.thirteen.ensures.bits

@@ -1,0 +1,53 @@
+use Rattle.fax_bits.proofs.Names.{rules, ◌≡◌, ◌<◌, length, bit_and, Err, refl, sym, ap, ◌∙◌, err_from_is_err_and, false≢true}
+use Rattle.fax_bits.proofs.Names.{and_mask, here, padded, telling_bits, run_or_none, codes_of}
+use Rattle.fax_bits.proofs.BitReading.BitPlaces.{passed_on, bits_enough, bits_missing}
+use Rattle.fax_bits.proofs.CodeWords.LookedUp.{high_bits, low_twelve, looked_up_cut, looked_up_wrong, looked_up_found}
+use Rattle.fax_bits.proofs.CodeWords.LookedUp.{some_bits_tell}
+use Rattle.fax_bits.proofs.bit_reader.BitScanner.read_word.Goals as goal
+
+pub returns-in_err-consume-clause-word : goal.returns-in_err-consume-clause-word
+returns-in_err-consume-clause-word c =
+    let color = c.args.color in
+    let at = c.args.self.now in
+    let seen = padded 13 (here at) in
+    let width = high_bits color seen c.entry_here-entry.result c.entry_here-entry.ensures in
+    let missing : length (here at) < telling_bits (codes_of color) seen = bits_missing at c.from.result (telling_bits
+    (codes_of color) seen) (c.from.ensures ∙ width) (some_bits_tell color (here at)) (c.in_err-consume.ensures.end.0 refl) in
+    let answer = err_from_is_err_and c.from_residual.result c.from_residual.ensures.1 in
+    rw (answer.1, answer.2) (looked_up_cut color (here at) missing ∙ ap Err (sym c.in_err-consume.ensures.only_end))
+
+pub returns-then-run-eq-LOOKUP_INVALID-clause-word : goal.returns-then-run-eq-LOOKUP_INVALID-clause-word
+returns-then-run-eq-LOOKUP_INVALID-clause-word c =
+    let color = c.args.color in
+    let at = c.args.self.now in
+    let seen = padded 13 (here at) in
+    let entry = c.entry_here-entry.result in
+    let width = high_bits color seen entry c.entry_here-entry.ensures in
+    let run = low_twelve color seen entry c.entry_here-entry.ensures in
+    let enough = bits_enough at c.from.result (telling_bits (codes_of color) seen) (c.from.ensures ∙ width)
+    (λ lt. false≢true (c.in_ok-consume.ensures.end.1 lt)) in
+    looked_up_wrong color (here at) (sym run ∙ sym (and_mask entry 12) ∙ c.if-run-eq-LOOKUP_INVALID.true) enough
+
+pub returns-clause-word : goal.returns-clause-word
+returns-clause-word c =
+    let color = c.args.color in
+    let at = c.args.self.now in
+    let seen = padded 13 (here at) in
+    let entry = c.entry_here-entry.result in
+    let width = high_bits color seen entry c.entry_here-entry.ensures in
+    let run : bit_and entry 4095 ≡ run_or_none (codes_of color) seen =
+    and_mask entry 12 ∙ low_twelve color seen entry c.entry_here-entry.ensures in
+    let enough = bits_enough at c.from.result (telling_bits (codes_of color) seen) (c.from.ensures ∙ width)
+    (λ lt. false≢true (c.in_ok-consume.ensures.end.1 lt)) in
+    let moved = passed_on at c.consume.new.self c.from.result (telling_bits (codes_of color) seen)
+    (c.from.ensures ∙ width) c.in_ok-consume.ensures.moved in
+    looked_up_found color (here at) (λ e. c.if-run-eq-LOOKUP_INVALID.false (run ∙ e)) enough ∙ cc
+
+pub returns-clause-ticks : goal.returns-clause-ticks
+returns-clause-ticks c = search rules
+
+pub returns-in_err-consume-clause-ticks : goal.returns-in_err-consume-clause-ticks
+returns-in_err-consume-clause-ticks c = search rules
+
+pub returns-then-run-eq-LOOKUP_INVALID-clause-ticks : goal.returns-then-run-eq-LOOKUP_INVALID-clause-ticks
+returns-then-run-eq-LOOKUP_INVALID-clause-ticks c = search rules
