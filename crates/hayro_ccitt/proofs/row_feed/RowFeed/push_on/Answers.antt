@@ -5,6 +5,8 @@ use Rattle.hayro_ccitt.proofs.PixelRows.ChangesAndPixels.{AreChanges-wider}
 use Rattle.hayro_ccitt.proofs.Readings.FeedTurns.{IsReadBy, past_gap, past_line, full_row}
 use Rattle.hayro_ccitt.proofs.Readings.FeedTurns.{gap_read_by, gap_row, line_read_by}
 use Rattle.hayro_ccitt.proofs.Readings.FeedTurns.{line_row, none_row, seen_by, turn_reads, unread_row}
+use Rattle.hayro_ccitt.proofs.Names.{changes}
+use Rattle.hayro_ccitt.proofs.Readings.RowsAgain.{white_unchanging}
 use Rattle.hayro_ccitt.proofs.Readings.FeedWhite.{white_read_by, white_row}
 use Rattle.hayro_ccitt.proofs.Readings.PartsFed.{scanned_after, unread_line}
 use Rattle.hayro_ccitt.proofs.Readings.RowsPassed.{keeps_on, passes_more, pushed_to_end, pushed_to_refusal}
@@ -180,6 +182,11 @@ reads_white g c =
     (inv.follow (c.take_white_row.ensures.repeats c.white-test.true))
     (c.take_white_row.ensures.taken c.white-test.true)
 
+no_changes : (g : Over) (c : After-bit_pos-self-inside-in-white g) → [] ≡ changes c.take_white_row.new.ctx.held.reference
+no_changes g c =
+    white_unchanging (c.white.invariant.follow (c.take_white_row.ensures.repeats c.white-test.true))
+    ∙ ap (λ (x : Context). changes x.held.reference) (sym (c.take_white_row.ensures.taken c.white-test.true).new_is)
+
 white_by : (g : Over) (c : After-bit_pos-self-inside-in-white g) → IsReadBy (behind_white g c) c.take_white_row.new.reader
 white_by g c =
     let inv = c.white.invariant in
@@ -197,8 +204,7 @@ white-preserved g c =
     let meaning = g.D.Decoder.meaning c.white.decoder in
     record {
       passes = passes_more inv.passes row (c.in_default-push_row.ensures.taken
-          ∙ ap (λ (w : ℕ). g.D.Decoder.step w meaning c.reference_row-in-white.result.now) inv.width
-          ∙ ap (step meaning) c.reference_row-in-white.ensures.changes);
+          ∙ ap (λ (w : ℕ). g.D.Decoder.step w meaning []) inv.width ∙ ap (step meaning) (no_changes g here));
       keeps = keeps_on inv.keeps row.keeps;
       settings = row.counts.settings ∙ inv.settings;
       width = c.push_row-in-white.ensures.same_width ∙ inv.width;
@@ -212,15 +218,6 @@ white-preserved g c =
       more = omega (arith, inv.more, ap (λ (x : Context). x.held.taken) takes.new_is);
     }
 
-pub push_row-requires-in-white : goal.push_row-requires-in-white
-push_row-requires-in-white g c =
-    let row = reads_white g (goal.at.push_row-requires-in-white g c).After-bit_pos-self-inside-in-white in
-    let settings = row.counts.settings ∙ c.white.invariant.settings in
-    AreChanges-wider c.take_white_row.new.ctx.held.settings.columns (g.D.Decoder.width c.white.decoder)
-    c.reference_row-in-white.result.now
-    (omega (arith, c.requires.width, c.white.invariant.width, ap (λ (s : DecodeSettings). s.columns) settings))
-    c.reference_row-in-white.ensures.lawful
-
 pub invariant_of-self-in-Err-push_row : goal.invariant_of-self-in-Err-push_row
 invariant_of-self-in-Err-push_row g c =
     (white_by g (goal.at.invariant_of-self-in-Err-push_row g c).After-bit_pos-self-inside-in-white).kept
@@ -233,8 +230,7 @@ returns-in-Err-push_row-clause-pushes g c =
     pushed_to_refusal (subst (λ (m : g.D.Decoder.Meaning). PassesRows step (g.D.Decoder.meaning c.args.decoder.now) m
     c.args.self.now (feeding_of (at_white g here))) (sym c.in-Err-push_row.ensures.kept) inv.passes) inv.keeps inv.settings
     (reads_white g here) (ap Err c.in-Err-push_row.ensures.only_refused) c.in-Err-push_row.ensures.refused
-    (subst (g.D.Decoder.refuses c.push_row-in-white.new.self) c.reference_row-in-white.ensures.changes
-    c.in-Err-push_row.ensures.refused_row)
+    (subst (g.D.Decoder.refuses c.push_row-in-white.new.self) (no_changes g here) c.in-Err-push_row.ensures.refused_row)
 
 pub rows-smaller : goal.rows-smaller
 rows-smaller g c =
