@@ -1,7 +1,7 @@
 //! Rows one at a time.
 
-ghost use Rattle.std.specs.Prelude.{sum_by, take, length, ◌≡◌, ◌≢◌, ◌≤◌, ◌+◌, ◌-◌, ◌/◌, ◌<◌, ◌^◌, ℕ, [], true, false, None, Some, Err};
-ghost use Rattle.std.specs.Prelude.{IfOk, OnOk};
+ghost use Rattle.std.specs.Prelude.{sum_by, take, length, ◌≡◌, ◌≢◌, ◌≤◌, ◌+◌, ◌-◌, ◌/◌, ◌<◌, ◌^◌, ℕ, [], true, false, None};
+ghost use Rattle.std.specs.Prelude.{Some, Err, IfOk, OnOk};
 ghost use Rattle.std.specs.Prelude.{OnErr, IsOkUnless, Result, is_some, max, ◌*◌};
 ghost use Rattle.hayro_ccitt.specs.Bits.{BitsFit, bits_in, here};
 ghost use Rattle.hayro_ccitt.specs.Context.{fresh};

@@ -290,7 +290,8 @@ white-preserved g c =
       width = c.push_row-in-white.ensures.same_width ∙ inv.width;
       meaning = means_pushed g.D.Decoder.step _ _ (g.D.Decoder.meaning c.args.decoder.now) _ _ rows c.white.ctx.held.taken
           new.taken new.reference [] inv.width inv.meaning pushed
-          (white_unchanging follows ∙ ap (λ (x : Context). changes x.held.reference) (sym takes.new_is)) (of_same (λ s b. new.reference
+          (white_unchanging follows ∙ ap (λ (x : Context). changes x.held.reference) (sym takes.new_is))
+          (of_same (λ s b. new.reference
           ≡ get_or (plain s b).rows c.white.ctx.held.taken []) inv.settings inv.bits (came.row refl)) (came.more refl).1 within;
       unrefused = flag ∙ inv.unrefused;
       space = rw (ap (λ (x : Context). x.space) takes.new_is) inv.space;
@@ -304,15 +305,23 @@ pub white-smaller : goal.white-smaller
 white-smaller g c =
     let came = row_comes g (goal.at.white-smaller g c).After-take_white_row c.white-test.true in
     let inv = c.white.invariant in
-    omega (arith, (came.more refl).1, of_same (λ s b. c.take_white_row.new.ctx.held.taken ≤ length (plain s b).rows) inv.settings
-    inv.bits (came.more refl).2)
+    omega (
+      arith,
+      (came.more refl).1,
+      of_same (λ s b. c.take_white_row.new.ctx.held.taken ≤ length (plain s b).rows) inv.settings
+          inv.bits (came.more refl).2,
+    )
 
 pub at_bit-requires-in-Err-push_row : goal.at_bit-requires-in-Err-push_row
 at_bit-requires-in-Err-push_row g c =
     let here = (goal.at.at_bit-requires-in-Err-push_row g c).After-take_white_row in
-    omega (arith, ap length (row_bits g here c.white-test.true), taken_within {from = c.args.ctx.now.ticks}
-    c.white.invariant.stands c.white.invariant.behind_row (row_follows g here c.white-test.true) c.bit_pos.ensures.place
-    (row_taken g here c.white-test.true))
+    omega (
+      arith,
+      ap length (row_bits g here c.white-test.true),
+      taken_within {from = c.args.ctx.now.ticks}
+          c.white.invariant.stands c.white.invariant.behind_row (row_follows g here c.white-test.true) c.bit_pos.ensures.place
+          (row_taken g here c.white-test.true),
+    )
 
 pub returns-in-Err-push_row-clause-rows : goal.returns-in-Err-push_row-clause-rows
 returns-in-Err-push_row-clause-rows g c =
@@ -342,7 +351,8 @@ returns-in-Err-push_row-clause-rows g c =
     (ap (λ (x : Context). x.held) frame ∙ ap (λ (n : ℕ). record read.ctx.held {
       taken = read.ctx.held.taken - 1;
       repairs = record read.ctx.held.repairs { rows = n; cut = c.cut_rows-cuts.result };
-    }) (c.damaged_rows-damage.ensures ∙ ap (λ (x : Context). x.held.repairs.rows) takes.new_is) ∙ ap (λ (n : ℕ). record read.ctx.held {
+    }) (c.damaged_rows-damage.ensures ∙ ap (λ (x : Context). x.held.repairs.rows) takes.new_is)
+    ∙ ap (λ (n : ℕ). record read.ctx.held {
       taken = read.ctx.held.taken - 1;
       repairs = record read.ctx.held.repairs { rows = c.white.ctx.held.repairs.rows; cut = n };
     }) (c.cut_rows-cuts.ensures ∙ ap (λ (x : Context). x.held.repairs.cut) takes.new_is))
@@ -354,7 +364,8 @@ returns-in-Err-push_row-clause-rows g c =
     subst (λ (e : DecodeError). DecodesRows c.args.reader.now.bits step before after c.args.ctx.now last (Err e))
     (sym c.in-Err-push_row.ensures.only_refused) (decodes_rows c.args.reader.now.bits step before after c.args.ctx.now last
     (Err Refused) c.requires.columns (ap (λ (x : Context). x.held.settings) frame
-    ∙ ap (λ (x : Context). x.held.settings) takes.new_is ∙ inv.settings) (subst (λ (n : ℕ). HasRun c.args.ctx.now.held.settings c.args.reader.now.bits from step before after
+    ∙ ap (λ (x : Context). x.held.settings) takes.new_is ∙ inv.settings) (subst (λ (n : ℕ). HasRun c.args.ctx.now.held.settings
+    c.args.reader.now.bits from step before after
     last.held n (Err Refused)) (sym (ap (λ (x : Context). x.ticks) frame))
     (of_same (λ s b. HasRun s b from step before after last.held read.ctx.ticks (Err Refused)) inv.settings inv.bits run)))
 
@@ -408,7 +419,8 @@ returns-in_err-come_to_line-clause-rows g c =
     let same = c.come_to_line.ensures.settings ∙ ap (λ (x : Context). x.held.settings) none.1 ∙ inv.settings in
     rw (answer.1, answer.2) (decodes_rows c.args.reader.now.bits step _ _ c.args.ctx.now ctx (Err e) c.requires.columns same
     (run_is_over c.come_to_line.new.self ctx reader (c.come_to_line.ensures.stands from stands) same
-    (c.come_to_line.ensures.same_bits ∙ ap (λ (b : BitsAt). b.bits) none.2 ∙ inv.bits) c.requires.columns (omega (arith, taken, inv.within))
+    (c.come_to_line.ensures.same_bits ∙ ap (λ (b : BitsAt). b.bits) none.2 ∙ inv.bits)
+    c.requires.columns (omega (arith, taken, inv.within))
     (inv.meaning ∙ ap (λ (n : ℕ). meaning_after step (g.D.Decoder.meaning c.args.decoder.now) (take n rows)) (sym taken))
     inv.unrefused (Err e) is.error.0))
 
@@ -422,7 +434,8 @@ rows-preserved g c =
     let line : c.come_to_line.result ≡ Ok true = c.in_ok-come_to_line.was ∙ ap (λ (b : Bool). Ok b) c.if-not-branch.false in
     let step = g.D.Decoder.step (g.D.Decoder.width c.args.decoder.now) in
     let rows = (plain c.args.ctx.now.held.settings c.args.reader.now.bits).rows in
-    let taken : c.come_to_line.new.ctx.held.taken ≡ c.white.ctx.held.taken = comes.taken ∙ ap (λ (x : Context). x.held.taken) none.1 in
+    let taken : c.come_to_line.new.ctx.held.taken ≡ c.white.ctx.held.taken
+    = comes.taken ∙ ap (λ (x : Context). x.held.taken) none.1 in
     record {
       stands = c.come_to_line.ensures.stands from stands;
       at_line = comes.line line;
@@ -454,7 +467,8 @@ returns-then-not-branch-clause-rows g c =
     let same = c.come_to_line.ensures.settings ∙ ap (λ (x : Context). x.held.settings) unread.1 ∙ inv.settings in
     decodes_rows c.args.reader.now.bits step _ _ c.args.ctx.now ctx (Ok (here reader)) c.requires.columns same
     (run_is_over c.come_to_line.new.self ctx reader (c.come_to_line.ensures.stands from stands) same
-    (c.come_to_line.ensures.same_bits ∙ ap (λ (b : BitsAt). b.bits) unread.2 ∙ inv.bits) c.requires.columns (omega (arith, taken, inv.within))
+    (c.come_to_line.ensures.same_bits ∙ ap (λ (b : BitsAt). b.bits) unread.2 ∙ inv.bits)
+    c.requires.columns (omega (arith, taken, inv.within))
     (inv.meaning ∙ ap (λ (n : ℕ). meaning_after step (g.D.Decoder.meaning c.args.decoder.now) (take n rows)) (sym taken))
     inv.unrefused (Ok tt) (comes.end none).0)
 

@@ -1,5 +1,5 @@
 use Rattle.hayro_ccitt.proofs.Names.{◌≡◌, ◌∙◌, ap, sym, subst, arith, refl, Ok, Err, true}
-use Rattle.hayro_ccitt.proofs.Names.{is_at_line, ℕ, DecodeSettings, Result, Bool}
+use Rattle.hayro_ccitt.proofs.Names.{ended, is_at_line, ℕ, DecodeSettings, Result, Bool}
 use Rattle.hayro_ccitt.proofs.Names.{BitsAt, Context, DecodeError, Held, White, [], drop, false, false≢true, redrawn}
 use Rattle.hayro_ccitt.proofs.PixelRows.ChangesAndPixels.{AreChanges-wider}
 use Rattle.hayro_ccitt.proofs.Readings.FeedTurns.{IsReadBy, past_gap, past_line, full_row}
@@ -51,7 +51,7 @@ returns-then-not-is_some_line-clause-pushes g c =
     let here = (goal.at.returns-then-not-is_some_line-clause-pushes g c).After-is_some_line in
     let inv = c.rows.invariant in
     rw c.fed_none.ensures (pushed_to_end inv.passes inv.keeps inv.settings
-    (gap_row (rows_by g here) c.bit_pos-self-inside.ensures.place c.come_to_settled_line-line.ensures inv.behind
+    (gap_row (rows_by g here) c.bit_pos-self-inside.ensures.place c.come_to_settled_line-line.ensures (ap ended inv.behind)
     (c.is_some_line.ensures.none c.if-not-is_some_line.true)) (none_row c.come_to_settled_line-line.result) inv.unrefused)
 
 pub invariant_of-self-then-not-can_take_row : goal.invariant_of-self-then-not-can_take_row
@@ -63,7 +63,7 @@ returns-then-not-can_take_row-clause-pushes g c =
     let here = (goal.at.returns-then-not-can_take_row-clause-pushes g c).After-is_some_line in
     let inv = c.rows.invariant in
     pushed_to_end inv.passes inv.keeps inv.settings
-    (full_row (rows_by g here) c.bit_pos-self-inside.ensures.place c.come_to_settled_line-line.ensures inv.behind
+    (full_row (rows_by g here) c.bit_pos-self-inside.ensures.place c.come_to_settled_line-line.ensures (ap ended inv.behind)
     (c.is_some_line.ensures.here c.if-not-is_some_line.false)
     (λ fits few. false≢true (sym c.if-not-can_take_row.true ∙ c.can_take_row.ensures.room fits few)) _) (λ e. cc) inv.unrefused
 
@@ -101,7 +101,7 @@ reads_next_row g c is =
     subst (λ (r : Result Bool DecodeError). FeedsRow (feeding_of (at_rows g (gap_here g c))) (feeding_of (at_row g c))
     (fed_row r)) is
     (line_row (rows_by g (gap_here g c)) c.bit_pos-self-inside.ensures.place c.come_to_settled_line-line.ensures
-    c.rows.invariant.behind (c.is_some_line.ensures.here c.if-not-is_some_line.false)
+    (ap ended c.rows.invariant.behind) (c.is_some_line.ensures.here c.if-not-is_some_line.false)
     (c.can_take_row.ensures.rows c.if-not-can_take_row.false) (reads_line g c)
     (λ left none. let never = sym is ∙ left in absurd cc))
 
@@ -288,13 +288,13 @@ returns-clause-pushes g c =
           let short = subst (ReadsInFeed (feeding_of (at_gap g gap)) (feeding_of (at_row g here))) is reads in
           let kept = subst (ReadsInFeed (feeding_of (at_gap g gap)) w.keep_part.new.self) (sym is)
           (scanned_after short (gap_by g gap).none (row_by g here).none w.keep_part.ensures) in
-          rw w.self-is (line_row (rows_by g gap) c.bit_pos-self-inside.ensures.place on inv.behind some room kept
+          rw w.self-is (line_row (rows_by g gap) c.bit_pos-self-inside.ensures.place on (ap ended inv.behind) some room kept
           (λ e still. unread_line short refl
           (λ tagged end. c.try_line-row.ensures.no_tag
           (ap (λ (x : Context). x.held.settings.encoding) c.begin_line.ensures.frame ∙ tagged)
           (ap (λ (b : BitsAt). drop b.place b.bits) (gap_by g gap).is ∙ end) is
           ∙ ap (λ (x : Context). x.ticks) c.begin_line.ensures.frame) w.keep_part.ensures still))
       | else-is_unsettled w ↦
-          rw w.self-is (line_row (rows_by g gap) c.bit_pos-self-inside.ensures.place on inv.behind some room reads
+          rw w.self-is (line_row (rows_by g gap) c.bit_pos-self-inside.ensures.place on (ap ended inv.behind) some room reads
           (λ e none. absurd (c.is_unsettled.ensures.other w.if-is_unsettled.false e)))
     ]) (unread_row c.try_line-row.result (c.is_read.ensures.other c.if-not-is_read.true)) inv.unrefused)

@@ -1,12 +1,12 @@
 use Rattle.hayro_ccitt.proofs.Names.{◌+◌, ◌<◌, arith, refl}
 use Rattle.std.specs.Prelude.{◌^◌}
 use Rattle.hayro_ccitt.proofs.Readings.RowsAgain.{not_at_limit}
-use Rattle.hayro_ccitt.proofs.row_reader.RowState.take_white_row.{Goals.After-pass_line}
 use Rattle.hayro_ccitt.proofs.row_reader.RowState.take_white_row.Goals as goal
 
 pub take_row_again-requires : goal.take_row_again-requires
 take_row_again-requires c =
-    omega (arith, (c.requires.follow c.if-not-repeats.false).known.limit_fits, c.decoded_rows.ensures, c.if-decoded_rows-lines.false)
+    let known = (c.requires.follow c.if-not-repeats.false).known in
+    omega (arith, known.limit_fits, c.decoded_rows.ensures, c.if-decoded_rows-lines.false)
 
 pub returns-clause-taken : goal.returns-clause-taken
 returns-clause-taken c e = record {
