@@ -64,6 +64,7 @@ pub record IsWhiteLine (encoding : EncodingMode) (columns : ℕ) (has_eols : Boo
 pub record AreKnown (settings : DecodeSettings) (lines : WhiteLines) : Type 0 where
   pub gap : 0 < lines.first.count → lines.gap ≡ length (eol_before lines.has_eols)
   pub limit : 0 < lines.first.count → (settings.rows ≡ 0) ⊎ (lines.limit ≡ settings.rows)
+  pub limit_fits : lines.limit < 2 ^ 64
   pub first : IsWhiteLine settings.encoding settings.columns lines.has_eols 32 lines.first
   pub second : IsWhiteLine settings.encoding settings.columns lines.has_eols 33 lines.second
 

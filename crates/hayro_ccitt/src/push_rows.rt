@@ -49,8 +49,8 @@ pub(crate) fn push_rows<D: Decoder>(
             return Err(refusal);
         }
         let repeats = ctx.repeats_white(&mut lines);
-        'white: while rows.read_white_row(repeats, lines, ctx, reader) {
-            if let Err(refusal) = decoder.push_row(ctx.reference_row()) {
+        'white: while rows.take_white_row(repeats, lines, reader.bit_pos(), ctx, reader) {
+            if let Err(refusal) = decoder.push_row(&[]) {
                 let damage = ctx.damaged_rows();
                 let cuts = ctx.cut_rows();
                 ctx.take_back_row(damage, cuts);

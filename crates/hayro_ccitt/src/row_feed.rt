@@ -14,8 +14,6 @@ ghost use Rattle.hayro_ccitt.specs.RowFeeds.{IsFeedOf, KeepsBits, TriesLine, fed
 ghost use Rattle.hayro_ccitt.specs.RowFeeds.{HoldsMore, KeepsPart, LineGoesOn, ScansLine, StaysShort, line_answer, some_line};
 ghost use Rattle.hayro_ccitt.specs.RowFeeds.{CountsRow, PushesRows, unused};
 ghost use Rattle.hayro_ccitt.specs.Rows.{AreChanges, changes};
-ghost use Rattle.hayro_ccitt.specs.RowFeeds.{TakesWhite};
-ghost use Rattle.hayro_ccitt.specs.WhiteLines.{MayFollow};
 
 use crate::context::DecoderContext;
 use crate::gap_look::{
@@ -23,8 +21,7 @@ use crate::gap_look::{
 };
 use crate::line_parts::{KeptPart, begin_part, continue_line};
 use crate::row_reader::{RowState, Stand, first_stand, has_ended, is_at_line};
-use crate::rows::{limit_met, try_row};
-use crate::white_lines::{WhiteLines, pass_line};
+use crate::rows::try_row;
 use crate::{DecodeError, Decoder, EncodingMode, Result};
 use fax_bits::DecodeSettings;
 use fax_bits::bit_reader::{BitOrder, BitReader, at_bit, placed_at, scanner_at};
@@ -247,43 +244,6 @@ impl RowState {
         }
         *look = GapLook::new();
         some_line(self.pass_gap_here(ctx, reader, gap_start))
-    }
-
-    /// Reads a white row at this offset of the data, if the bits of one of these lines are next, and returns whether they are;
-    /// otherwise nothing is read. No data that follows can change such a row.
-    #[inline(always)]
-    fn take_white_row(
-        &mut self,
-        repeats: bool,
-        lines: WhiteLines,
-        ctx: &mut DecoderContext,
-        reader: &mut BitReader<'_>,
-        start: usize,
-    ) -> bool
-        requires follow { repeats ≡ true
-            → MayFollow ctx.old.held.settings ctx.old.held.has_eols ctx.old.held.reference lines }
-        requires fits { start + 64 < 2 ^ 64 }
-        ensures repeats { result ≡ true → repeats ≡ true }
-        ensures taken { result ≡ true
-            → TakesWhite lines start self.old self.new ctx.old ctx.new reader.old reader.new }
-        ensures none { result ≡ false → (self.new ≡ self.old) × (ctx.new ≡ ctx.old) × (reader.new ≡ reader.old) }
-    {
-        if !repeats {
-            return false;
-        }
-        if limit_met(ctx) || !can_take_row(ctx) {
-            return false;
-        }
-        if !pass_line(lines, reader) {
-            return false;
-        }
-        ctx.take_row_again();
-        self.started_at = start + lines.gap;
-        self.damage = None;
-        self.cut = false;
-        self.missed = None;
-        self.stand = Stand::BehindRow;
-        true
     }
 
     /// Reads the line here, which begins at this offset of the data, and returns true, if no data that follows can change it;
@@ -699,12 +659,12 @@ impl RowFeed {
             'white: while self.rows.take_white_row(
                 repeats,
                 lines,
+                self.dropped + self.place,
                 &mut self.ctx,
                 &mut reader,
-                self.dropped + self.place,
             ) {
                 self.place = reader.bit_pos();
-                if let Err(refused) = decoder.push_row(self.ctx.reference_row()) {
+                if let Err(refused) = decoder.push_row(&[]) {
                     return Err(refused);
                 }
             }

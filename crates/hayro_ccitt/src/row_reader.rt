@@ -1,7 +1,7 @@
 //! Rows one at a time.
 
-ghost use Rattle.std.specs.Prelude.{sum_by, take, length, ◌≡◌, ◌≢◌, ◌≤◌, ◌+◌, ◌-◌, ◌/◌, ℕ, [], true, false, None, Some, Err};
-ghost use Rattle.std.specs.Prelude.{IfOk, OnOk};
+ghost use Rattle.std.specs.Prelude.{sum_by, take, length, ◌≡◌, ◌≢◌, ◌≤◌, ◌+◌, ◌-◌, ◌/◌, ◌<◌, ◌^◌, ℕ, [], true, false, None};
+ghost use Rattle.std.specs.Prelude.{Some, Err, IfOk, OnOk};
 ghost use Rattle.std.specs.Prelude.{OnErr, IsOkUnless, Result, is_some, max, ◌*◌};
 ghost use Rattle.hayro_ccitt.specs.Bits.{BitsFit, bits_in, here};
 ghost use Rattle.hayro_ccitt.specs.Context.{fresh};
@@ -16,8 +16,8 @@ ghost use Rattle.hayro_ccitt.specs.RowsRead.{ReachesNextLine};
 ghost use Rattle.hayro_ccitt.specs.RowsRead.{stand_after, line_after, is_at_line, at_end_of_rows, ended, seen, IsStanding};
 ghost use Rattle.hayro_ccitt.specs.PlainReading.{failed_at};
 ghost use Rattle.hayro_ccitt.specs.RowsTried.{PassesGapHere, StandsFirst, rows_behind_line};
+ghost use Rattle.hayro_ccitt.specs.RowFeeds.{TakesWhite};
 ghost use Rattle.hayro_ccitt.specs.WhiteLines.{MayFollow};
-ghost use Rattle.std.specs.Prelude.{drop, Ok};
 ghost use Rattle.hayro_ccitt.specs.RowsRead.{IsStandingAtLine, DamageIsCounted, ReadsNext, gaps_passed, row_came};
 
 use crate::context::DecoderContext;
@@ -293,40 +293,31 @@ impl RowState {
         row
     }
 
-    /// If a white row repeats, reads one of these lines with its EOL, and returns whether one is next; otherwise nothing is read.
+    /// If a white row repeats, reads one of these lines with its EOL, which are at this offset of the data, and returns whether one is
+    /// next; otherwise nothing is read. No data that follows can change such a row.
     #[inline(always)]
-    pub(crate) fn read_white_row(
+    pub(crate) fn take_white_row(
         &mut self,
         repeats: bool,
         lines: WhiteLines,
+        start: usize,
         ctx: &mut DecoderContext,
         reader: &mut BitReader<'_>,
     ) -> bool
-        requires behind_row { self.old.stand ≡ Stand.BehindRow }
         requires follow { repeats ≡ true
             → MayFollow ctx.old.held.settings ctx.old.held.has_eols ctx.old.held.reference lines }
-        requires rows { ctx.old.held.taken ≤ length reader.old.bits + 2 }
-        ensures reads { (from : ℕ) → IsStanding from self.old ctx.old reader.old → result ≡ true
-            → ReadsNext (seen self.old ctx.old reader.old) (seen self.new ctx.new reader.new) (Ok true) }
-        ensures stands { (from : ℕ) → IsStanding from self.old ctx.old reader.old
-            → IsStanding from self.new ctx.new reader.new }
-        ensures starts { (from : ℕ) → IsStanding from self.old ctx.old reader.old → result ≡ true
-            → length reader.old.bits - length (drop self.new.started_at reader.old.bits)
-            ≡ failed_at ctx.old.held.settings reader.old.bits ctx.old.held.taken }
-        ensures behind_row { self.new.stand ≡ Stand.BehindRow }
-        ensures space { ctx.new.space ≡ ctx.old.space }
-        ensures kept { ctx.new.held ≡ record ctx.old.held { taken = ctx.new.held.taken } }
-        ensures same_bits { reader.new.bits ≡ reader.old.bits }
-        ensures within { result ≡ true → self.new.started_at ≤ length reader.old.bits }
-        ensures none { result ≡ false → ctx.new.held.taken ≡ ctx.old.held.taken }
+        requires fits { start + 64 < 2 ^ 64 }
+        ensures repeats { result ≡ true → repeats ≡ true }
+        ensures taken { result ≡ true
+            → TakesWhite lines start self.old self.new ctx.old ctx.new reader.old reader.new }
+        ensures none { result ≡ false → (self.new ≡ self.old) × (ctx.new ≡ ctx.old) × (reader.new ≡ reader.old) }
     {
         if !repeats {
             return false;
         }
-        if ctx.decoded_rows() == lines.limit {
+        if ctx.decoded_rows() >= lines.limit {
             return false;
         }
-        let start = reader.bit_pos();
         if !pass_line(lines, reader) {
             return false;
         }

@@ -2,14 +2,14 @@
 use Rattle.hayro_ccitt.proofs.Names.{◌≡◌, ◌≢◌, ◌∙◌, ◌+◌, ◌<◌, ◌≤◌, ◌⊎◌, [], ap, sym, refl, arith, length, false≢true}
 use Rattle.hayro_ccitt.proofs.Names.{Bool, true, false, Option, None, Some, Result, Ok, Err, ℕ}
 use Rattle.hayro_ccitt.proofs.Names.{Bits, BitsAt, Context, Held, White}
-use Rattle.hayro_ccitt.proofs.Names.{DecodeError, bits_in, here, is_at_line, ended, redrawn, BehindRow}
+use Rattle.hayro_ccitt.proofs.Names.{DecodeError, bits_in, here, is_at_line, ended, redrawn}
 use Rattle.std.specs.Prelude.{◌^◌}
 use Rattle.hayro_ccitt.proofs.BitReading.BitLists.{length-bits_in}
 use Rattle.hayro_ccitt.proofs.Readings.FeedsOn.{feed_comes, feed_reads, gap_feeds, line_feeds, reached_here, row_fits}
 use Rattle.hayro_ccitt.proofs.Readings.LooksKept.{fresh_look, kept_line, kept_seen, seen_begun, seen_there}
 use Rattle.hayro_ccitt.proofs.Readings.PartsFed.{none_kept}
 use Rattle.hayro_ccitt.proofs.Readings.RowsPassed.{counts_row}
-use Rattle.hayro_ccitt.specs.GapsSeen.{IsSeen, rules_for}
+use Rattle.hayro_ccitt.specs.GapsSeen.{IsSeen, nothing_seen, rules_for}
 use Rattle.hayro_ccitt.specs.declared.gap_look.GapLook.{GapLook}
 use Rattle.hayro_ccitt.specs.declared.row_feed.Fed.{Fed}
 use Rattle.hayro_ccitt.specs.declared.row_feed.RowFeed.TheInside.{Inside}
@@ -36,6 +36,41 @@ same_bits_at {reader} {bits} {from} {place} after is same there =
     ap (λ (b : Bits). record { bits = b; place = after.place }) (same ∙ ap (λ (r : BitsAt). r.bits) is)
     ∙ ap (λ (n : ℕ). record { bits = bits; place = n }) (sym there)
 
+-- ---- Where it goes on
+
+-- the feed where a gap was passed
+abbrev pub past_gap : Inside → Context → RowState → ℕ → GapLook → Inside
+past_gap f ctx rows place look = record f { ctx = ctx; rows = rows; place = place; look = look }
+
+-- it is read by the reader of the same bits at another place
+pub read_on_by : {f : Inside} {before after : BitsAt} {ctx : Context} {rows : RowState} {place : ℕ} {look : GapLook}
+    → IsReadBy f before → place ≡ after.place → after.bits ≡ before.bits → place ≤ length after.bits
+    → IsSeen (rules_for true ctx.held) look (here after) → (is_at_line rows.stand ≡ true → look ≡ nothing_seen)
+    → IsReadBy (past_gap f ctx rows place look) after
+read_on_by {f} {before} {after} {ctx} by there same within seen line =
+    let is = same_bits_at after by.is same there in
+    record {
+      kept = record {
+        within = omega (
+          arith,
+          within,
+          ap (λ (b : BitsAt). length b.bits) is,
+          length-bits_in f.order f.«data».items,
+        );
+        fit = by.kept.fit;
+        fresh = λ e. absurd (false≢true (sym e ∙ by.begun));
+        start = λ e. absurd (false≢true (sym e ∙ by.begun));
+        unended = λ e. absurd (false≢true (sym e ∙ by.begun));
+        rows = λ e. absurd (false≢true (sym e ∙ by.begun));
+        seen = seen_begun ctx.held (sym by.begun) (seen_there (ap here is) seen);
+        line = line;
+        part = none_kept f.part _ _ _ _ _ _ _ _ _ by.none by.kept.part;
+      };
+      begun = by.begun;
+      none = by.none;
+      is = is;
+    }
+
 -- ---- The gap
 
 -- no row is read where no line is reached, nor where a line isn't read
@@ -49,10 +84,6 @@ unread_row (Ok true) other e = other refl
 unread_row (Ok false) other e = cc
 unread_row (Err error) other e = cc
 
--- the feed where the gap was passed
-abbrev pub past_gap : Inside → Context → RowState → ℕ → GapLook → Inside
-past_gap f ctx rows place look = record f { ctx = ctx; rows = rows; place = place; look = look }
-
 module _ {f : Inside} {before after : BitsAt} {rows : RowState} {ctx : Context} {look : GapLook} {place : ℕ}
     {line : Result (Option Bool) DecodeError} (by : IsReadBy f before) (there : place ≡ after.place)
     (on : ComesOn f.is_last (f.dropped + f.place) f.rows rows f.look look f.ctx ctx before after line) where
@@ -61,45 +92,19 @@ module _ {f : Inside} {before after : BitsAt} {rows : RowState} {ctx : Context} 
       feed_comes _ _ before after by.is (record { order = refl; finished = refl; kept = refl; dropped = refl }) there
       by.begun by.begun refl f.look look refl refl line on
 
-  -- the reader is there
-  gap_is : after ≡ record { bits = bits_in f.order f.«data».items; place = place }
-  gap_is = same_bits_at after by.is on.same_bits there
-
   pub gap_read_by : IsReadBy (past_gap f ctx rows place look) after
-  gap_read_by = record {
-    kept = record {
-      within = omega (
-        arith,
-        there,
-        on.within,
-        ap length on.same_bits,
-        ap (λ (b : BitsAt). length b.bits) by.is,
-        length-bits_in f.order f.«data».items,
-      );
-      fit = by.kept.fit;
-      fresh = λ e. absurd (false≢true (sym e ∙ by.begun));
-      start = λ e. absurd (false≢true (sym e ∙ by.begun));
-      unended = λ e. absurd (false≢true (sym e ∙ by.begun));
-      rows = λ e. absurd (false≢true (sym e ∙ by.begun));
-      seen = seen_begun ctx.held (sym by.begun) (seen_there (ap here gap_is) (kept_seen line on));
-      line = kept_line line on;
-      part = none_kept f.part _ _ _ _ _ _ _ _ _ by.none by.kept.part;
-    };
-    begun = by.begun;
-    none = by.none;
-    is = gap_is;
-  }
+  gap_read_by = read_on_by by there on.same_bits (omega (arith, there, on.within)) (kept_seen line on) (kept_line line on)
 
   keeps_gap : KeepsBits (feeding_of f) (feeding_of (past_gap f ctx rows place look))
   keeps_gap = record { order = refl; finished = refl; kept = refl; dropped = refl }
 
   -- no line is reached
-  pub gap_row : f.rows.stand ≡ BehindRow → line ≢ Ok (Some true)
+  pub gap_row : ended f.rows.stand ≡ None → line ≢ Ok (Some true)
       → FeedsRow (feeding_of f) (feeding_of (past_gap f ctx rows place look)) (fed_none line)
-  gap_row behind other = record {
-    reads = λ whole tried unended feed. gap_feeds line turn_comes other by.begun unended by.none by.none feed;
+  gap_row unended other = record {
+    reads = λ whole tried _ feed. gap_feeds line turn_comes other by.begun unended by.none by.none feed;
     keeps = keeps_gap;
-    over = λ end e. let never = sym (ap ended behind) ∙ e in absurd cc;
+    over = λ end e. let never = sym unended ∙ e in absurd cc;
     counts = record {
       settings = ap (λ (h : Held). h.settings) on.frame;
       taken = λ e. absurd (none_row line e);
@@ -109,26 +114,26 @@ module _ {f : Inside} {before after : BitsAt} {rows : RowState} {ctx : Context} 
   }
 
   -- one is, and no more rows can be counted: these are rows of no data
-  pub full_row : f.rows.stand ≡ BehindRow → line ≡ Ok (Some true)
+  pub full_row : ended f.rows.stand ≡ None → line ≡ Ok (Some true)
       → (ctx.held.taken + 1 < 2 ^ 64 → ctx.held.repairs.rows ≤ ctx.held.taken → ⊥) → (error : DecodeError)
       → FeedsRow (feeding_of f) (feeding_of (past_gap f ctx rows place look)) (Err error)
-  full_row behind is full error = record {
-    reads = λ whole tried unended feed.
+  full_row unended is full error = record {
+    reads = λ whole tried _ feed.
         let fits = row_fits turn_comes.begun (turn_comes.line is) (turn_comes.stands whole tried
         (λ none. let never = sym is ∙ none in absurd cc) feed) in absurd (full fits.0 fits.1);
     keeps = keeps_gap;
-    over = λ end e. let never = sym (ap ended behind) ∙ e in absurd cc;
+    over = λ end e. let never = sym unended ∙ e in absurd cc;
     counts = record { settings = ap (λ (h : Held). h.settings) on.frame; taken = λ e. cc; stands = λ e. cc; width = λ e. cc };
   }
 
   -- its row is read, or it is left
-  pub line_row : {new : Feeding} {answer : Result Bool DecodeError} → f.rows.stand ≡ BehindRow → line ≡ Ok (Some true)
+  pub line_row : {new : Feeding} {answer : Result Bool DecodeError} → ended f.rows.stand ≡ None → line ≡ Ok (Some true)
       → ctx.held.taken + 1 < 2 ^ 64 → ReadsInFeed (feeding_of (past_gap f ctx rows place look)) new answer
       → (answer ≡ Ok false → new.part ≡ None → (new.ctx.ticks ≡ ctx.ticks)
       ⊎ ((f.tried ≢ new.dropped + new.place) × (new.tried_at ≡ new.dropped + new.place)))
       → FeedsRow (feeding_of f) new (fed_row answer)
-  line_row {new} {answer} behind is room reads unread = record {
-    reads = λ whole tried unended feed. reached_here line turn_comes is by.none by.none
+  line_row {new} {answer} unended is room reads unread = record {
+    reads = λ whole tried _ feed. reached_here line turn_comes is by.none by.none
         (λ tried mid. line_feeds answer reads (λ e none. unread e) by.begun (turn_comes.line is) mid) by.begun feed;
     keeps = record {
       order = reads.keeps.order;
@@ -136,7 +141,7 @@ module _ {f : Inside} {before after : BitsAt} {rows : RowState} {ctx : Context} 
       kept = reads.keeps.kept;
       dropped = reads.keeps.dropped;
     };
-    over = λ end e. let never = sym (ap ended behind) ∙ e in absurd cc;
+    over = λ end e. let never = sym unended ∙ e in absurd cc;
     counts = counts_row answer (ap (λ (h : Held). h.settings) on.frame) (ap (λ (h : Held). h.taken) on.frame) room reads;
   }
 
@@ -159,26 +164,5 @@ module _ {f : Inside} {before after : BitsAt} {begin ctx : Context} {rows : RowS
       (omega (arith, by.kept.within, length-bits_in f.order f.«data».items)) answer tries
 
   pub line_read_by : IsReadBy (past_line f ctx rows place) after
-  line_read_by = record {
-    kept = record {
-      within = omega (
-        arith,
-        there,
-        tries.within,
-        ap length tries.same_bits,
-        ap (λ (b : BitsAt). length b.bits) by.is,
-        length-bits_in f.order f.«data».items,
-      );
-      fit = by.kept.fit;
-      fresh = λ e. absurd (false≢true (sym e ∙ by.begun));
-      start = λ e. absurd (false≢true (sym e ∙ by.begun));
-      unended = λ e. absurd (false≢true (sym e ∙ by.begun));
-      rows = λ e. absurd (false≢true (sym e ∙ by.begun));
-      seen = fresh_look _ _ (by.kept.line line);
-      line = λ e. by.kept.line line;
-      part = none_kept f.part _ _ _ _ _ _ _ _ _ by.none by.kept.part;
-    };
-    begun = by.begun;
-    none = by.none;
-    is = same_bits_at after by.is tries.same_bits there;
-  }
+  line_read_by = read_on_by by there tries.same_bits (omega (arith, there, tries.within))
+      (fresh_look _ _ (by.kept.line line)) (λ e. by.kept.line line)

@@ -8,7 +8,7 @@ use Rattle.hayro_ccitt.proofs.Names.{seen, changes, pixels, length-append}
 use Rattle.hayro_ccitt.proofs.Names.{◌&&◌}
 use Rattle.hayro_ccitt.proofs.BitReading.BitLists.{length-bits_in, length-low_bits}
 use Rattle.hayro_ccitt.proofs.PixelRows.ChangesAndPixels.{changes-pixels, length-pixels}
-use Rattle.hayro_ccitt.proofs.Readings.FeedTurns.{IsReadBy, past_line, same_bits_at}
+use Rattle.hayro_ccitt.proofs.Readings.FeedTurns.{IsReadBy, past_line, read_on_by}
 use Rattle.hayro_ccitt.proofs.Readings.FeedsOn.{no_line_paid, none_looked, none_paid}
 use Rattle.hayro_ccitt.proofs.Readings.LooksKept.{fresh_look}
 use Rattle.hayro_ccitt.proofs.Readings.PartsFed.{none_kept}
@@ -218,19 +218,8 @@ module _ {f : Inside} {before after : BitsAt} {rows : RowState} {ctx : Context} 
   }
 
   pub white_read_by : IsReadBy (past_line f ctx rows place) after
-  white_read_by = record {
-    kept = record {
-      within = omega (arith, within_kept, length-bits_in f.order f.«data».items);
-      fit = by.kept.fit;
-      fresh = λ e. absurd (false≢true (sym e ∙ by.begun));
-      start = λ e. absurd (false≢true (sym e ∙ by.begun));
-      unended = λ e. absurd (false≢true (sym e ∙ by.begun));
-      rows = λ e. absurd (false≢true (sym e ∙ by.begun));
-      seen = fresh_look _ _ fresh;
-      line = λ e. fresh;
-      part = none_kept f.part _ _ _ _ _ _ _ _ _ by.none by.kept.part;
-    };
-    begun = by.begun;
-    none = by.none;
-    is = same_bits_at after by.is (ap (λ (b : BitsAt). b.bits) takes.passes.moved_on) there;
-  }
+  white_read_by = read_on_by by there (ap (λ (b : BitsAt). b.bits) takes.passes.moved_on)
+      (omega (arith, within_kept, after_bits)) (fresh_look _ _ fresh) (λ e. fresh)
+    where
+      after_bits : length after.bits ≡ length kept_bits
+      after_bits = ap (λ (b : BitsAt). length b.bits) kept_passes.moved_on

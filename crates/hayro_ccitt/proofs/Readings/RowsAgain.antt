@@ -17,6 +17,7 @@ use Rattle.hayro_ccitt.specs.declared.row_reader.RowState.{RowState}
 use Rattle.hayro_ccitt.proofs.Names.{Group3_1D, Group3_2D, at_end, ne_eqb, ◌<◌, ◌≢◌}
 use Rattle.hayro_ccitt.proofs.Names.{after_eol, append_assoc, drop-drop, eol, inl, inr, length-append, tagged_eols}
 use Rattle.hayro_ccitt.specs.EndOfLine.{one_more, pass_last_tag}
+use Rattle.hayro_ccitt.specs.RowFeeds.{TakesWhite}
 use Rattle.hayro_ccitt.specs.WhiteLines.{AreWhiteLine, IsWhiteLine, MayFollow, PassesLine, eol_before}
 use Rattle.fax_bits.specs.declared.tables.CodeWord.{CodeWord}
 use Rattle.hayro_ccitt.specs.declared.white_lines.WhiteLines.{WhiteLines}
@@ -464,3 +465,48 @@ module _ (from : ℕ) (rows : RowState) (ctx : Context) (at : BitsAt) (stands : 
   pub white_starts : length at.bits - length (drop place at.bits) ≡ failed_at settings_now at.bits ctx.held.taken
   white_starts = again_starts from rows ctx at stands behind_row place ctx.ticks within_place gap_said kept_repairs (omega arith)
       gap_work
+
+-- ---- A white row that is taken
+
+module _ {from start : ℕ} {rows kept : RowState} {old new : Context} {before after : BitsAt} {lines : WhiteLines}
+    (stands : IsStanding from rows old before) (behind_row : rows.stand ≡ BehindRow)
+    (follow : MayFollow old.held.settings old.held.has_eols old.held.reference lines) (there : start ≡ before.place)
+    (takes : TakesWhite lines start rows kept old new before after) where
+  abbrev rows_behind : RowState
+  rows_behind = record { started_at = before.place + lines.gap; damage = None; cut = false; missed = None; stand = BehindRow }
+
+  rows_are : kept ≡ rows_behind
+  rows_are = takes.kept_is ∙ ap (λ (n : ℕ). record rows_behind { started_at = n + lines.gap }) there
+
+  -- it is the next one
+  pub taken_reads : ReadsNext (seen rows old before) (seen kept new after) (Ok true)
+  taken_reads =
+      subst (λ (r : RowState). ReadsNext (seen rows old before) (seen r new after) (Ok true)) (sym rows_are)
+      (subst (λ (x : Context). ReadsNext (seen rows old before) (seen rows_behind x after) (Ok true)) (sym takes.new_is)
+      (white_reads from rows old before stands behind_row lines follow takes.unmet after takes.passes))
+
+  -- the reading is behind it
+  pub taken_stands : IsStanding from kept new after
+  taken_stands =
+      subst (λ (r : RowState). IsStanding from r new after) (sym rows_are)
+      (subst (λ (x : Context). IsStanding from rows_behind x after) (sym takes.new_is)
+      (white_stands from rows old before stands behind_row lines follow takes.unmet after takes.passes))
+
+  -- its line begins there
+  pub taken_starts : length before.bits - length (drop kept.started_at before.bits)
+      ≡ failed_at old.held.settings before.bits old.held.taken
+  taken_starts =
+      ap (λ (r : RowState). length before.bits - length (drop r.started_at before.bits)) rows_are
+      ∙ white_starts from rows old before stands behind_row lines follow takes.unmet after takes.passes
+
+  pub taken_within : kept.started_at ≤ length before.bits
+  taken_within = omega (
+    arith,
+    ap (λ (r : RowState). r.started_at) rows_are,
+    line_within old.held.settings old.held.has_eols old.held.reference lines before after follow takes.passes,
+  )
+
+-- a white row has no changes
+pub white_unchanging : {settings : DecodeSettings} {has_eols : Bool} {reference : Row} {lines : WhiteLines}
+    → MayFollow settings has_eols reference lines → [] ≡ changes reference
+white_unchanging {settings} follow = sym (ap changes follow.white ∙ changes-pixels settings.columns [] tt)

@@ -9,11 +9,14 @@ use Rattle.hayro_ccitt.proofs.PixelRows.ChangesAndPixels.{AreChanges-wider}
 use Rattle.hayro_ccitt.proofs.Readings.RowByRow.{at_line_stands, few, reader_fails_at_line}
 use Rattle.hayro_ccitt.proofs.Readings.RowsPushed.{HasRun, decodes_rows, ends_unfailed, means_pushed, none_missed, of_same}
 use Rattle.hayro_ccitt.proofs.Readings.RowsPushed.{few_rows_behind, run_is_over, run_refused}
+use Rattle.hayro_ccitt.proofs.Readings.RowsAgain.{taken_reads, taken_stands, taken_starts, taken_within, white_unchanging}
+use Rattle.hayro_ccitt.proofs.Names.{changes}
+use Rattle.hayro_ccitt.specs.RowFeeds.{TakesWhite}
 use Rattle.hayro_ccitt.specs.WhiteLines.{AreKnown, MayFollow}
 use Rattle.hayro_ccitt.proofs.Names.{max, line_here, most_room, most_stored, room_for}
 use Rattle.hayro_ccitt.proofs.Work.RoomTaken.{grown_more, line_enough}
 use Rattle.hayro_ccitt.proofs.push_rows.push_rows.{Given.Over}
-use Rattle.hayro_ccitt.proofs.push_rows.push_rows.Goals.{After-read_line, After-push_row}
+use Rattle.hayro_ccitt.proofs.push_rows.push_rows.Goals.{After-read_line, After-push_row, After-take_white_row}
 use Rattle.hayro_ccitt.proofs.push_rows.push_rows.Goals as goal
 
 -- the reading is at a line
@@ -234,61 +237,103 @@ white-init g c =
       follow = c.repeats_white-repeats.ensures.follow;
     }
 
-pub read_white_row-requires-clause-rows : goal.read_white_row-requires-clause-rows
-read_white_row-requires-clause-rows g c =
-    let held = c.white.ctx.held in
-    few_rows_behind c.white.rows.stand held.settings c.white.reader.bits held c.white.reader.place c.white.invariant.behind_row
-    c.white.invariant.stands.0
+-- a white row that is taken is the next one
+module _ (g : Over) (c : After-take_white_row g) (is : c.take_white_row.result ≡ true) where
+  row_follows : MayFollow c.white.ctx.held.settings c.white.ctx.held.has_eols c.white.ctx.held.reference
+      c.repeats_white-repeats.new.lines
+  row_follows = c.white.invariant.follow (c.take_white_row.ensures.repeats is)
 
-pub push_row-requires-in-white : goal.push_row-requires-in-white
-push_row-requires-in-white g c =
-    let settings = ap (λ (h : Held). h.settings) c.read_white_row.ensures.kept ∙ c.white.invariant.settings in
-    AreChanges-wider c.read_white_row.new.ctx.held.settings.columns (g.D.Decoder.width c.white.decoder)
-    c.reference_row-in-white.result.now
-    (omega (arith, c.requires.width, c.white.invariant.width, ap (λ (s : DecodeSettings). s.columns) settings))
-    c.reference_row-in-white.ensures.lawful
+  row_taken : TakesWhite c.repeats_white-repeats.new.lines c.bit_pos.result c.white.rows c.take_white_row.new.self c.white.ctx
+      c.take_white_row.new.ctx c.white.reader c.take_white_row.new.reader
+  row_taken = c.take_white_row.ensures.taken is
+
+  row_comes : ReadsNext (seen c.white.rows c.white.ctx c.white.reader)
+      (seen c.take_white_row.new.self c.take_white_row.new.ctx c.take_white_row.new.reader) (Ok true)
+  row_comes = taken_reads {from = c.args.ctx.now.ticks} c.white.invariant.stands c.white.invariant.behind_row row_follows
+      c.bit_pos.ensures.place row_taken
+
+  row_stands : IsStanding c.args.ctx.now.ticks c.take_white_row.new.self c.take_white_row.new.ctx c.take_white_row.new.reader
+  row_stands = taken_stands {from = c.args.ctx.now.ticks} c.white.invariant.stands c.white.invariant.behind_row row_follows
+      c.bit_pos.ensures.place row_taken
+
+  row_bits : c.take_white_row.new.reader.bits ≡ c.white.reader.bits
+  row_bits = ap (λ (b : BitsAt). b.bits) row_taken.passes.moved_on
+
+-- otherwise nothing is read
+still_stands : (g : Over) (c : After-take_white_row g) → c.take_white_row.result ≡ false
+    → IsStanding c.args.ctx.now.ticks c.take_white_row.new.self c.take_white_row.new.ctx c.take_white_row.new.reader
+still_stands g c is =
+    let none = c.take_white_row.ensures.none is in
+    rw (none.0, none.1, none.2) c.white.invariant.stands
 
 pub white-preserved : goal.white-preserved
 white-preserved g c =
+    let here = (goal.at.white-preserved g c).After-take_white_row in
     let inv = c.white.invariant in
-    let read = c.read_white_row.ensures in
-    let came = read.reads c.args.ctx.now.ticks inv.stands c.white-test.true in
+    let takes = row_taken g here c.white-test.true in
+    let came = row_comes g here c.white-test.true in
+    let follows = row_follows g here c.white-test.true in
     let rows = (plain c.args.ctx.now.held.settings c.args.reader.now.bits).rows in
-    let new = c.read_white_row.new.ctx.held in
+    let new = c.take_white_row.new.ctx.held in
     let within : new.taken ≤ length rows = of_same (λ s b. new.taken ≤ length (plain s b).rows) inv.settings inv.bits
     (came.more refl).2 in
     let pushed : g.D.Decoder.meaning c.push_row-in-white.new.self ≡ g.D.Decoder.step (g.D.Decoder.width c.white.decoder)
-    (g.D.Decoder.meaning c.white.decoder) c.reference_row-in-white.result.now = search rules in
+    (g.D.Decoder.meaning c.white.decoder) [] = search rules in
     let flag : g.D.Decoder.has_refused c.push_row-in-white.new.self ≡ g.D.Decoder.has_refused c.white.decoder = search rules in
     record {
-      stands = read.stands c.args.ctx.now.ticks inv.stands;
-      behind_row = read.behind_row;
-      settings = ap (λ (h : Held). h.settings) read.kept ∙ inv.settings;
-      bits = read.same_bits ∙ inv.bits;
+      stands = row_stands g here c.white-test.true;
+      behind_row = ap (λ (r : RowState). r.stand) takes.kept_is;
+      settings = ap (λ (x : Context). x.held.settings) takes.new_is ∙ inv.settings;
+      bits = row_bits g here c.white-test.true ∙ inv.bits;
       more = omega (arith, inv.more, (came.more refl).1);
       within = within;
       width = c.push_row-in-white.ensures.same_width ∙ inv.width;
       meaning = means_pushed g.D.Decoder.step _ _ (g.D.Decoder.meaning c.args.decoder.now) _ _ rows c.white.ctx.held.taken
-          new.taken new.reference c.reference_row-in-white.result.now inv.width inv.meaning pushed
-          c.reference_row-in-white.ensures.changes (of_same (λ s b. new.reference
+          new.taken new.reference [] inv.width inv.meaning pushed
+          (white_unchanging follows ∙ ap (λ (x : Context). changes x.held.reference) (sym takes.new_is))
+          (of_same (λ s b. new.reference
           ≡ get_or (plain s b).rows c.white.ctx.held.taken []) inv.settings inv.bits (came.row refl)) (came.more refl).1 within;
       unrefused = flag ∙ inv.unrefused;
-      space = rw read.space inv.space;
-      unsought = λ is. ap (λ (h : Held). h.has_eols) read.kept ∙ inv.unsought is;
+      space = rw (ap (λ (x : Context). x.space) takes.new_is) inv.space;
+      unsought = λ is. ap (λ (x : Context). x.held.has_eols) takes.new_is ∙ inv.unsought is;
       known = inv.known;
-      follow = λ is. subst (λ (h : Held). MayFollow h.settings h.has_eols h.reference c.repeats_white-repeats.new.lines)
-          (sym read.kept) (inv.follow is);
+      follow = λ is. subst (λ (x : Context). MayFollow x.held.settings x.held.has_eols x.held.reference
+          c.repeats_white-repeats.new.lines) (sym takes.new_is) (inv.follow is);
     }
+
+pub white-smaller : goal.white-smaller
+white-smaller g c =
+    let came = row_comes g (goal.at.white-smaller g c).After-take_white_row c.white-test.true in
+    let inv = c.white.invariant in
+    omega (
+      arith,
+      (came.more refl).1,
+      of_same (λ s b. c.take_white_row.new.ctx.held.taken ≤ length (plain s b).rows) inv.settings
+          inv.bits (came.more refl).2,
+    )
+
+pub at_bit-requires-in-Err-push_row : goal.at_bit-requires-in-Err-push_row
+at_bit-requires-in-Err-push_row g c =
+    let here = (goal.at.at_bit-requires-in-Err-push_row g c).After-take_white_row in
+    omega (
+      arith,
+      ap length (row_bits g here c.white-test.true),
+      taken_within {from = c.args.ctx.now.ticks}
+          c.white.invariant.stands c.white.invariant.behind_row (row_follows g here c.white-test.true) c.bit_pos.ensures.place
+          (row_taken g here c.white-test.true),
+    )
 
 pub returns-in-Err-push_row-clause-rows : goal.returns-in-Err-push_row-clause-rows
 returns-in-Err-push_row-clause-rows g c =
     let from = c.args.ctx.now.ticks in
     let inv = c.white.invariant in
-    let read = c.read_white_row.new in
-    let came = c.read_white_row.ensures.reads from inv.stands c.white-test.true in
+    let here = (goal.at.returns-in-Err-push_row-clause-rows g c).After-take_white_row in
+    let read = c.take_white_row.new in
+    let takes = row_taken g here c.white-test.true in
+    let came = row_comes g here c.white-test.true in
+    let follows = row_follows g here c.white-test.true in
     let last = c.take_back_row-in-Err-push_row.new.self in
     let frame = c.take_back_row-in-Err-push_row.ensures.frame in
-    let kept = c.read_white_row.ensures.kept in
     let step = g.D.Decoder.step (g.D.Decoder.width c.args.decoder.now) in
     let before : SinkState g.D.Decoder.Meaning = record {
       meaning = g.D.Decoder.meaning c.args.decoder.now;
@@ -301,23 +346,26 @@ returns-in-Err-push_row-clause-rows g c =
       refuses = g.D.Decoder.refuses c.push_row-in-white.new.self;
     } in
     let run = run_refused {step = step} {before = before} {after = after} c.white.rows read.self c.white.ctx read.ctx
-    c.white.reader read.reader inv.stands (c.read_white_row.ensures.stands from inv.stands)
-    c.read_white_row.ensures.behind_row came last.held
+    c.white.reader read.reader inv.stands (row_stands g here c.white-test.true)
+    (ap (λ (r : RowState). r.stand) takes.kept_is) came last.held
     (ap (λ (x : Context). x.held) frame ∙ ap (λ (n : ℕ). record read.ctx.held {
       taken = read.ctx.held.taken - 1;
       repairs = record read.ctx.held.repairs { rows = n; cut = c.cut_rows-cuts.result };
-    }) (c.damaged_rows-damage.ensures ∙ ap (λ (h : Held). h.repairs.rows) kept) ∙ ap (λ (n : ℕ). record read.ctx.held {
+    }) (c.damaged_rows-damage.ensures ∙ ap (λ (x : Context). x.held.repairs.rows) takes.new_is)
+    ∙ ap (λ (n : ℕ). record read.ctx.held {
       taken = read.ctx.held.taken - 1;
       repairs = record read.ctx.held.repairs { rows = c.white.ctx.held.repairs.rows; cut = n };
-    }) (c.cut_rows-cuts.ensures ∙ ap (λ (h : Held). h.repairs.cut) kept))
+    }) (c.cut_rows-cuts.ensures ∙ ap (λ (x : Context). x.held.repairs.cut) takes.new_is))
     (c.in-Err-push_row.ensures.kept ∙ of_same (λ s b. g.D.Decoder.meaning c.white.decoder
     ≡ meaning_after step before.meaning (take c.white.ctx.held.taken (plain s b).rows)) (sym inv.settings) (sym inv.bits)
     inv.meaning) c.in-Err-push_row.ensures.refused (subst (g.D.Decoder.refuses c.push_row-in-white.new.self)
-    c.reference_row-in-white.ensures.changes c.in-Err-push_row.ensures.refused_row) in
+    (white_unchanging follows ∙ ap (λ (x : Context). changes x.held.reference) (sym takes.new_is))
+    c.in-Err-push_row.ensures.refused_row) in
     subst (λ (e : DecodeError). DecodesRows c.args.reader.now.bits step before after c.args.ctx.now last (Err e))
     (sym c.in-Err-push_row.ensures.only_refused) (decodes_rows c.args.reader.now.bits step before after c.args.ctx.now last
-    (Err Refused) c.requires.columns (ap (λ (x : Context). x.held.settings) frame ∙ ap (λ (h : Held). h.settings) kept
-    ∙ inv.settings) (subst (λ (n : ℕ). HasRun c.args.ctx.now.held.settings c.args.reader.now.bits from step before after
+    (Err Refused) c.requires.columns (ap (λ (x : Context). x.held.settings) frame
+    ∙ ap (λ (x : Context). x.held.settings) takes.new_is ∙ inv.settings) (subst (λ (n : ℕ). HasRun c.args.ctx.now.held.settings
+    c.args.reader.now.bits from step before after
     last.held n (Err Refused)) (sym (ap (λ (x : Context). x.ticks) frame))
     (of_same (λ s b. HasRun s b from step before after last.held read.ctx.ticks (Err Refused)) inv.settings inv.bits run)))
 
@@ -325,17 +373,19 @@ pub returns-in-Err-push_row-clause-fails : goal.returns-in-Err-push_row-clause-f
 returns-in-Err-push_row-clause-fails g c =
     let inv = c.white.invariant in
     let held = c.white.ctx.held in
-    let read = c.read_white_row.ensures in
-    let came = read.reads c.args.ctx.now.ticks inv.stands c.white-test.true in
+    let at = (goal.at.returns-in-Err-push_row-clause-fails g c).After-take_white_row in
+    let came = row_comes g at c.white-test.true in
     let last = c.take_back_row-in-Err-push_row.new.self in
     let taken : last.held.taken ≡ held.taken
     = omega (arith, ap (λ (x : Context). x.held.taken) c.take_back_row-in-Err-push_row.ensures.frame, (came.more refl).1) in
-    let back : here c.at_bit-in-Err-push_row.result ≡ drop c.read_white_row.new.self.started_at c.white.reader.bits
-    = ap here c.at_bit-in-Err-push_row.ensures ∙ ap (drop c.read_white_row.new.self.started_at) read.same_bits in
+    let back : here c.at_bit-in-Err-push_row.result ≡ drop c.take_white_row.new.self.started_at c.white.reader.bits
+    = ap here c.at_bit-in-Err-push_row.ensures ∙ ap (drop c.take_white_row.new.self.started_at)
+    (row_bits g at c.white-test.true) in
     of_same (λ s b. length b - length (here c.at_bit-in-Err-push_row.result) ≡ failed_at s b last.held.taken)
     inv.settings inv.bits
     (ap (λ (x : Bits). length c.white.reader.bits - length x) back
-    ∙ read.starts c.args.ctx.now.ticks inv.stands c.white-test.true
+    ∙ taken_starts {from = c.args.ctx.now.ticks} inv.stands inv.behind_row (row_follows g at c.white-test.true)
+    c.bit_pos.ensures.place (row_taken g at c.white-test.true)
     ∙ ap (failed_at held.settings c.white.reader.bits) (sym taken))
 
 -- ---- The gap after them
@@ -345,30 +395,32 @@ rows-smaller g c =
     let came = row_came_here g (goal.at.rows-smaller g c).After-push_row in
     let from = c.args.ctx.now.ticks in
     let inv = c.white.invariant in
-    let read = c.read_white_row.ensures in
-    let comes = c.come_to_line.ensures.comes from (read.stands from inv.stands) in
-    omega (arith, (came.more refl).1, inv.more, inv.within, read.none c.white-test.false, comes.taken)
+    let none = c.take_white_row.ensures.none c.white-test.false in
+    let stands = still_stands g (goal.at.rows-smaller g c).After-take_white_row c.white-test.false in
+    let comes = c.come_to_line.ensures.comes from stands in
+    omega (arith, (came.more refl).1, inv.more, inv.within, ap (λ (x : Context). x.held.taken) none.1, comes.taken)
 
 pub returns-in_err-come_to_line-clause-rows : goal.returns-in_err-come_to_line-clause-rows
 returns-in_err-come_to_line-clause-rows g c =
     let e = c.in_err-come_to_line.field-0.0 in
     let from = c.args.ctx.now.ticks in
     let inv = c.white.invariant in
-    let read = c.read_white_row.ensures in
+    let none = c.take_white_row.ensures.none c.white-test.false in
+    let stands = still_stands g (goal.at.returns-in_err-come_to_line-clause-rows g c).After-take_white_row c.white-test.false in
     let ctx = c.come_to_line.new.ctx in
     let reader = c.come_to_line.new.reader in
     let answer = err_from_is_err_and c.from_residual-in_err-come_to_line.result c.from_residual-in_err-come_to_line.ensures.1 in
-    let stands = read.stands from inv.stands in
-    let is = subst (λ (r : Result Bool DecodeError). ReachesNextLine (seen c.read_white_row.new.self c.read_white_row.new.ctx
-    c.read_white_row.new.reader) (seen c.come_to_line.new.self ctx reader) r) c.in_err-come_to_line.was
+    let is = subst (λ (r : Result Bool DecodeError). ReachesNextLine (seen c.take_white_row.new.self c.take_white_row.new.ctx
+    c.take_white_row.new.reader) (seen c.come_to_line.new.self ctx reader) r) c.in_err-come_to_line.was
     (c.come_to_line.ensures.comes from stands) in
     let step = g.D.Decoder.step (g.D.Decoder.width c.args.decoder.now) in
     let rows = (plain c.args.ctx.now.held.settings c.args.reader.now.bits).rows in
-    let taken : ctx.held.taken ≡ c.white.ctx.held.taken = is.taken ∙ read.none c.white-test.false in
-    let same = c.come_to_line.ensures.settings ∙ ap (λ (h : Held). h.settings) read.kept ∙ inv.settings in
+    let taken : ctx.held.taken ≡ c.white.ctx.held.taken = is.taken ∙ ap (λ (x : Context). x.held.taken) none.1 in
+    let same = c.come_to_line.ensures.settings ∙ ap (λ (x : Context). x.held.settings) none.1 ∙ inv.settings in
     rw (answer.1, answer.2) (decodes_rows c.args.reader.now.bits step _ _ c.args.ctx.now ctx (Err e) c.requires.columns same
     (run_is_over c.come_to_line.new.self ctx reader (c.come_to_line.ensures.stands from stands) same
-    (c.come_to_line.ensures.same_bits ∙ read.same_bits ∙ inv.bits) c.requires.columns (omega (arith, taken, inv.within))
+    (c.come_to_line.ensures.same_bits ∙ ap (λ (b : BitsAt). b.bits) none.2 ∙ inv.bits)
+    c.requires.columns (omega (arith, taken, inv.within))
     (inv.meaning ∙ ap (λ (n : ℕ). meaning_after step (g.D.Decoder.meaning c.args.decoder.now) (take n rows)) (sym taken))
     inv.unrefused (Err e) is.error.0))
 
@@ -376,25 +428,26 @@ pub rows-preserved : goal.rows-preserved
 rows-preserved g c =
     let from = c.args.ctx.now.ticks in
     let inv = c.white.invariant in
-    let read = c.read_white_row.ensures in
-    let stands = read.stands from inv.stands in
+    let none = c.take_white_row.ensures.none c.white-test.false in
+    let stands = still_stands g (goal.at.rows-preserved g c).After-take_white_row c.white-test.false in
     let comes = c.come_to_line.ensures.comes from stands in
     let line : c.come_to_line.result ≡ Ok true = c.in_ok-come_to_line.was ∙ ap (λ (b : Bool). Ok b) c.if-not-branch.false in
     let step = g.D.Decoder.step (g.D.Decoder.width c.args.decoder.now) in
     let rows = (plain c.args.ctx.now.held.settings c.args.reader.now.bits).rows in
-    let taken : c.come_to_line.new.ctx.held.taken ≡ c.white.ctx.held.taken = comes.taken ∙ read.none c.white-test.false in
+    let taken : c.come_to_line.new.ctx.held.taken ≡ c.white.ctx.held.taken
+    = comes.taken ∙ ap (λ (x : Context). x.held.taken) none.1 in
     record {
       stands = c.come_to_line.ensures.stands from stands;
       at_line = comes.line line;
-      settings = c.come_to_line.ensures.settings ∙ ap (λ (h : Held). h.settings) read.kept ∙ inv.settings;
-      bits = c.come_to_line.ensures.same_bits ∙ read.same_bits ∙ inv.bits;
+      settings = c.come_to_line.ensures.settings ∙ ap (λ (x : Context). x.held.settings) none.1 ∙ inv.settings;
+      bits = c.come_to_line.ensures.same_bits ∙ ap (λ (b : BitsAt). b.bits) none.2 ∙ inv.bits;
       within = omega (arith, taken, inv.within);
       width = inv.width;
       meaning = inv.meaning ∙ ap (λ (n : ℕ). meaning_after step (g.D.Decoder.meaning c.args.decoder.now) (take n rows))
           (sym taken);
       unrefused = inv.unrefused;
-      space = rw (c.come_to_line.ensures.space, read.space) inv.space;
-      unsought = λ is. c.come_to_line.ensures.unsought (ap (λ (h : Held). h.has_eols) read.kept ∙ inv.unsought is);
+      space = rw (c.come_to_line.ensures.space, ap (λ (x : Context). x.space) none.1) inv.space;
+      unsought = λ is. c.come_to_line.ensures.unsought (ap (λ (x : Context). x.held.has_eols) none.1 ∙ inv.unsought is);
       known = inv.known;
     }
 
@@ -402,19 +455,20 @@ pub returns-then-not-branch-clause-rows : goal.returns-then-not-branch-clause-ro
 returns-then-not-branch-clause-rows g c =
     let from = c.args.ctx.now.ticks in
     let inv = c.white.invariant in
-    let read = c.read_white_row.ensures in
+    let unread = c.take_white_row.ensures.none c.white-test.false in
+    let stands = still_stands g (goal.at.returns-then-not-branch-clause-rows g c).After-take_white_row c.white-test.false in
     let ctx = c.come_to_line.new.ctx in
     let reader = c.come_to_line.new.reader in
-    let stands = read.stands from inv.stands in
     let comes = c.come_to_line.ensures.comes from stands in
     let none : c.come_to_line.result ≡ Ok false = c.in_ok-come_to_line.was ∙ ap (λ (b : Bool). Ok b) c.if-not-branch.true in
     let step = g.D.Decoder.step (g.D.Decoder.width c.args.decoder.now) in
     let rows = (plain c.args.ctx.now.held.settings c.args.reader.now.bits).rows in
-    let taken : ctx.held.taken ≡ c.white.ctx.held.taken = comes.taken ∙ read.none c.white-test.false in
-    let same = c.come_to_line.ensures.settings ∙ ap (λ (h : Held). h.settings) read.kept ∙ inv.settings in
+    let taken : ctx.held.taken ≡ c.white.ctx.held.taken = comes.taken ∙ ap (λ (x : Context). x.held.taken) unread.1 in
+    let same = c.come_to_line.ensures.settings ∙ ap (λ (x : Context). x.held.settings) unread.1 ∙ inv.settings in
     decodes_rows c.args.reader.now.bits step _ _ c.args.ctx.now ctx (Ok (here reader)) c.requires.columns same
     (run_is_over c.come_to_line.new.self ctx reader (c.come_to_line.ensures.stands from stands) same
-    (c.come_to_line.ensures.same_bits ∙ read.same_bits ∙ inv.bits) c.requires.columns (omega (arith, taken, inv.within))
+    (c.come_to_line.ensures.same_bits ∙ ap (λ (b : BitsAt). b.bits) unread.2 ∙ inv.bits)
+    c.requires.columns (omega (arith, taken, inv.within))
     (inv.meaning ∙ ap (λ (n : ℕ). meaning_after step (g.D.Decoder.meaning c.args.decoder.now) (take n rows)) (sym taken))
     inv.unrefused (Ok tt) (comes.end none).0)
 
@@ -422,12 +476,15 @@ returns-then-not-branch-clause-rows g c =
 
 pub returns-in-Err-push_row-clause-space : goal.returns-in-Err-push_row-clause-space
 returns-in-Err-push_row-clause-space g c =
-    rw (c.take_back_row-in-Err-push_row.ensures.frame, c.read_white_row.ensures.space) c.white.invariant.space
+    let takes = row_taken g (goal.at.returns-in-Err-push_row-clause-space g c).After-take_white_row c.white-test.true in
+    rw (c.take_back_row-in-Err-push_row.ensures.frame, ap (λ (x : Context). x.space) takes.new_is) c.white.invariant.space
 
 pub returns-in_err-come_to_line-clause-space : goal.returns-in_err-come_to_line-clause-space
 returns-in_err-come_to_line-clause-space g c =
-    rw (c.come_to_line.ensures.space, c.read_white_row.ensures.space) c.white.invariant.space
+    rw (c.come_to_line.ensures.space, ap (λ (x : Context). x.space) (c.take_white_row.ensures.none c.white-test.false).1)
+    c.white.invariant.space
 
 pub returns-then-not-branch-clause-space : goal.returns-then-not-branch-clause-space
 returns-then-not-branch-clause-space g c =
-    rw (c.come_to_line.ensures.space, c.read_white_row.ensures.space) c.white.invariant.space
+    rw (c.come_to_line.ensures.space, ap (λ (x : Context). x.space) (c.take_white_row.ensures.none c.white-test.false).1)
+    c.white.invariant.space

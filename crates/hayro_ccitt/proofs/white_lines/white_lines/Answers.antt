@@ -8,6 +8,7 @@ returns-clause-known c = record {
     | then-has_eols w ↦ rw (w.result-is, w.if-has_eols.true) refl
     | else-has_eols w ↦ rw (w.result-is, w.if-has_eols.false) refl
   ];
+  limit_fits = c.row_limit.type_inv;
   limit = λ some. c.row_limit.ensures;
   first = c.behind_eol.ensures c.args.settings.encoding c.args.settings.columns 20 c.first_line-first.ensures;
   second = c.behind_eol-2.ensures c.args.settings.encoding c.args.settings.columns 21 c.second_line-second.ensures;

@@ -1,10 +1,12 @@
 use Rattle.hayro_ccitt.proofs.Names.{◌≡◌, ◌∙◌, ap, sym, subst, arith, refl, Ok, Err, true}
-use Rattle.hayro_ccitt.proofs.Names.{is_at_line, ℕ, DecodeSettings, Result, Bool}
+use Rattle.hayro_ccitt.proofs.Names.{ended, is_at_line, ℕ, DecodeSettings, Result, Bool}
 use Rattle.hayro_ccitt.proofs.Names.{BitsAt, Context, DecodeError, Held, White, [], drop, false, false≢true, redrawn}
 use Rattle.hayro_ccitt.proofs.PixelRows.ChangesAndPixels.{AreChanges-wider}
 use Rattle.hayro_ccitt.proofs.Readings.FeedTurns.{IsReadBy, past_gap, past_line, full_row}
 use Rattle.hayro_ccitt.proofs.Readings.FeedTurns.{gap_read_by, gap_row, line_read_by}
 use Rattle.hayro_ccitt.proofs.Readings.FeedTurns.{line_row, none_row, seen_by, turn_reads, unread_row}
+use Rattle.hayro_ccitt.proofs.Names.{changes}
+use Rattle.hayro_ccitt.proofs.Readings.RowsAgain.{white_unchanging}
 use Rattle.hayro_ccitt.proofs.Readings.FeedWhite.{white_read_by, white_row}
 use Rattle.hayro_ccitt.proofs.Readings.PartsFed.{scanned_after, unread_line}
 use Rattle.hayro_ccitt.proofs.Readings.RowsPassed.{keeps_on, passes_more, pushed_to_end, pushed_to_refusal}
@@ -49,7 +51,7 @@ returns-then-not-is_some_line-clause-pushes g c =
     let here = (goal.at.returns-then-not-is_some_line-clause-pushes g c).After-is_some_line in
     let inv = c.rows.invariant in
     rw c.fed_none.ensures (pushed_to_end inv.passes inv.keeps inv.settings
-    (gap_row (rows_by g here) c.bit_pos-self-inside.ensures.place c.come_to_settled_line-line.ensures inv.behind
+    (gap_row (rows_by g here) c.bit_pos-self-inside.ensures.place c.come_to_settled_line-line.ensures (ap ended inv.behind)
     (c.is_some_line.ensures.none c.if-not-is_some_line.true)) (none_row c.come_to_settled_line-line.result) inv.unrefused)
 
 pub invariant_of-self-then-not-can_take_row : goal.invariant_of-self-then-not-can_take_row
@@ -61,7 +63,7 @@ returns-then-not-can_take_row-clause-pushes g c =
     let here = (goal.at.returns-then-not-can_take_row-clause-pushes g c).After-is_some_line in
     let inv = c.rows.invariant in
     pushed_to_end inv.passes inv.keeps inv.settings
-    (full_row (rows_by g here) c.bit_pos-self-inside.ensures.place c.come_to_settled_line-line.ensures inv.behind
+    (full_row (rows_by g here) c.bit_pos-self-inside.ensures.place c.come_to_settled_line-line.ensures (ap ended inv.behind)
     (c.is_some_line.ensures.here c.if-not-is_some_line.false)
     (λ fits few. false≢true (sym c.if-not-can_take_row.true ∙ c.can_take_row.ensures.room fits few)) _) (λ e. cc) inv.unrefused
 
@@ -99,7 +101,7 @@ reads_next_row g c is =
     subst (λ (r : Result Bool DecodeError). FeedsRow (feeding_of (at_rows g (gap_here g c))) (feeding_of (at_row g c))
     (fed_row r)) is
     (line_row (rows_by g (gap_here g c)) c.bit_pos-self-inside.ensures.place c.come_to_settled_line-line.ensures
-    c.rows.invariant.behind (c.is_some_line.ensures.here c.if-not-is_some_line.false)
+    (ap ended c.rows.invariant.behind) (c.is_some_line.ensures.here c.if-not-is_some_line.false)
     (c.can_take_row.ensures.rows c.if-not-can_take_row.false) (reads_line g c)
     (λ left none. let never = sym is ∙ left in absurd cc))
 
@@ -180,6 +182,11 @@ reads_white g c =
     (inv.follow (c.take_white_row.ensures.repeats c.white-test.true))
     (c.take_white_row.ensures.taken c.white-test.true)
 
+no_changes : (g : Over) (c : After-bit_pos-self-inside-in-white g) → [] ≡ changes c.take_white_row.new.ctx.held.reference
+no_changes g c =
+    white_unchanging (c.white.invariant.follow (c.take_white_row.ensures.repeats c.white-test.true))
+    ∙ ap (λ (x : Context). changes x.held.reference) (sym (c.take_white_row.ensures.taken c.white-test.true).new_is)
+
 white_by : (g : Over) (c : After-bit_pos-self-inside-in-white g) → IsReadBy (behind_white g c) c.take_white_row.new.reader
 white_by g c =
     let inv = c.white.invariant in
@@ -197,8 +204,7 @@ white-preserved g c =
     let meaning = g.D.Decoder.meaning c.white.decoder in
     record {
       passes = passes_more inv.passes row (c.in_default-push_row.ensures.taken
-          ∙ ap (λ (w : ℕ). g.D.Decoder.step w meaning c.reference_row-in-white.result.now) inv.width
-          ∙ ap (step meaning) c.reference_row-in-white.ensures.changes);
+          ∙ ap (λ (w : ℕ). g.D.Decoder.step w meaning []) inv.width ∙ ap (step meaning) (no_changes g here));
       keeps = keeps_on inv.keeps row.keeps;
       settings = row.counts.settings ∙ inv.settings;
       width = c.push_row-in-white.ensures.same_width ∙ inv.width;
@@ -212,15 +218,6 @@ white-preserved g c =
       more = omega (arith, inv.more, ap (λ (x : Context). x.held.taken) takes.new_is);
     }
 
-pub push_row-requires-in-white : goal.push_row-requires-in-white
-push_row-requires-in-white g c =
-    let row = reads_white g (goal.at.push_row-requires-in-white g c).After-bit_pos-self-inside-in-white in
-    let settings = row.counts.settings ∙ c.white.invariant.settings in
-    AreChanges-wider c.take_white_row.new.ctx.held.settings.columns (g.D.Decoder.width c.white.decoder)
-    c.reference_row-in-white.result.now
-    (omega (arith, c.requires.width, c.white.invariant.width, ap (λ (s : DecodeSettings). s.columns) settings))
-    c.reference_row-in-white.ensures.lawful
-
 pub invariant_of-self-in-Err-push_row : goal.invariant_of-self-in-Err-push_row
 invariant_of-self-in-Err-push_row g c =
     (white_by g (goal.at.invariant_of-self-in-Err-push_row g c).After-bit_pos-self-inside-in-white).kept
@@ -233,8 +230,7 @@ returns-in-Err-push_row-clause-pushes g c =
     pushed_to_refusal (subst (λ (m : g.D.Decoder.Meaning). PassesRows step (g.D.Decoder.meaning c.args.decoder.now) m
     c.args.self.now (feeding_of (at_white g here))) (sym c.in-Err-push_row.ensures.kept) inv.passes) inv.keeps inv.settings
     (reads_white g here) (ap Err c.in-Err-push_row.ensures.only_refused) c.in-Err-push_row.ensures.refused
-    (subst (g.D.Decoder.refuses c.push_row-in-white.new.self) c.reference_row-in-white.ensures.changes
-    c.in-Err-push_row.ensures.refused_row)
+    (subst (g.D.Decoder.refuses c.push_row-in-white.new.self) (no_changes g here) c.in-Err-push_row.ensures.refused_row)
 
 pub rows-smaller : goal.rows-smaller
 rows-smaller g c =
@@ -292,13 +288,13 @@ returns-clause-pushes g c =
           let short = subst (ReadsInFeed (feeding_of (at_gap g gap)) (feeding_of (at_row g here))) is reads in
           let kept = subst (ReadsInFeed (feeding_of (at_gap g gap)) w.keep_part.new.self) (sym is)
           (scanned_after short (gap_by g gap).none (row_by g here).none w.keep_part.ensures) in
-          rw w.self-is (line_row (rows_by g gap) c.bit_pos-self-inside.ensures.place on inv.behind some room kept
+          rw w.self-is (line_row (rows_by g gap) c.bit_pos-self-inside.ensures.place on (ap ended inv.behind) some room kept
           (λ e still. unread_line short refl
           (λ tagged end. c.try_line-row.ensures.no_tag
           (ap (λ (x : Context). x.held.settings.encoding) c.begin_line.ensures.frame ∙ tagged)
           (ap (λ (b : BitsAt). drop b.place b.bits) (gap_by g gap).is ∙ end) is
           ∙ ap (λ (x : Context). x.ticks) c.begin_line.ensures.frame) w.keep_part.ensures still))
       | else-is_unsettled w ↦
-          rw w.self-is (line_row (rows_by g gap) c.bit_pos-self-inside.ensures.place on inv.behind some room reads
+          rw w.self-is (line_row (rows_by g gap) c.bit_pos-self-inside.ensures.place on (ap ended inv.behind) some room reads
           (λ e none. absurd (c.is_unsettled.ensures.other w.if-is_unsettled.false e)))
     ]) (unread_row c.try_line-row.result (c.is_read.ensures.other c.if-not-is_read.true)) inv.unrefused)
