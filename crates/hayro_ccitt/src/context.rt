@@ -818,26 +818,16 @@ impl DecoderContext {
         }
     }
 
-    /// Returns whether a run of the row may have more than two code words: more pixels than the longest make-up word and the longest
-    /// terminating word together.
-    #[inline(always)]
-    fn is_wide(&self) -> bool
-        ensures { result ≡ true → 2623 < self.now.held.settings.columns }
-    {
-        self.settings.columns > 2623
-    }
-
-    /// Returns whether this row is likely to have few runs more, some of two words or more: it is wide, and neither the row before
-    /// nor this one so far has many changes. Plain calls draw such runs at less cost.
+    /// Returns whether this row is likely to have few runs more, some of two words: it is wide, and neither the row before nor
+    /// this one so far has many changes. Plain calls draw such runs at less cost.
     #[inline(always)]
     fn has_few_runs(&self) -> bool
         ensures wide { result ≡ true → 64 < self.now.held.settings.columns }
-        ensures few { result ≡ true → length (changes self.now.held.reference) < 8 }
+        ensures few { result ≡ true → length (changes self.now.held.reference) < 4 }
     {
-        let few = if self.is_wide() { 8 } else { 4 };
         self.settings.columns > 64
-            && self.reference_row().len() < few
-            && self.coding_changes.len() <= few
+            && self.reference_row().len() < 4
+            && self.coding_changes.len() < 5
     }
 
     /// The same, without a call where the row is full or black is next.
@@ -1116,16 +1106,6 @@ impl DecoderContext {
         true
     }
 
-    /// Returns whether this row is likely to have few modes, some with runs of more than two words: it is wide, the row before has few
-    /// changes, and its first mode is a horizontal one. Plain calls draw such modes at less cost.
-    #[inline(always)]
-    fn has_few_modes(&self, reader: &BitReader<'_>) -> bool
-        ensures wide { result ≡ true → 2623 < self.now.held.settings.columns }
-        ensures few { result ≡ true → length (changes self.now.held.reference) < 8 }
-    {
-        self.is_wide() && self.reference_row().len() < 8 && reader.peek_u32() >> 29 == 1
-    }
-
     /// Draws modes from the start of a line as long as they are usual: a white line at once.
     #[inline(always)]
     fn draw_usual_modes(&mut self, reader: &mut BitReader<'_>)
@@ -1147,9 +1127,6 @@ impl DecoderContext {
         }
         // The first row with changes is drawn by calls that ask for the room that it needs.
         if is_white_row(&self.ref_changes) && has_no_room(&self.coding_changes) {
-            return;
-        }
-        if self.has_few_modes(reader) {
             return;
         }
         self.draw_modes_of(reader);
