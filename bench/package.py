@@ -1,5 +1,5 @@
-"""python3 bench/package.py: the instructions of the Cargo package by those of the call for C that gives the same, for each page of
-bench/strips.py: `decode` by `hayro_ccitt_decode_changes`, `decode_packed` by `hayro_ccitt_decode_packed`.
+"""python3 bench/package.py: the instructions of the Cargo package by those of the call for C, for each page of
+bench/strips.py: `decode`, whose sink counts, by `hayro_ccitt_decode_changes`, and `decode_packed` by `hayro_ccitt_decode_packed`.
 
 It needs gcc, valgrind, cargo, and libhayro_ccitt_c.a as `rt lib` builds it."""
 import os

@@ -2,23 +2,23 @@
 
 use hayro_ccitt::{DecodeSettings, Decoder, DecoderContext, EncodingMode, decode, decode_packed};
 
-/// Keeps the rows as C lists them.
-struct Lists(Vec<u32>);
+/// Counts the rows and their changes.
+struct Count(usize);
 
-impl Decoder for Lists {
+impl Decoder for Count {
     fn push_row(&mut self, changes: &[u32]) {
-        self.0.push(changes.len() as u32);
-        self.0.extend_from_slice(changes);
+        self.0 += 1 + changes.len();
     }
 }
 
 #[unsafe(no_mangle)]
 #[inline(never)]
-fn measured(decoder: &str, data: &[u8], context: &mut DecoderContext, lists: &mut Lists) -> usize {
+fn measured(decoder: &str, data: &[u8], context: &mut DecoderContext) -> usize {
     match decoder {
         "changes" => {
-            decode(data, lists, context).unwrap();
-            lists.0.len()
+            let mut count = Count(0);
+            decode(data, &mut count, context).unwrap();
+            count.0
         }
         _ => decode_packed(data, context).bytes.len(),
     }
@@ -42,6 +42,5 @@ fn main() {
         strict: false,
     });
     let data = std::fs::read(&words[6]).unwrap();
-    let mut lists = Lists(Vec::with_capacity(1 << 22));
-    println!("{}", measured(&words[1], &data, &mut context, &mut lists));
+    println!("{}", measured(&words[1], &data, &mut context));
 }

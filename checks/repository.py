@@ -158,7 +158,7 @@ def rust_is_unsafe_in_one_file_only():
     with open(name, encoding="utf-8") as file:
         text = file.read()
     blocks = len(re.findall(r"\bunsafe\b", re.sub(r"//.*", "", text)))
-    assert blocks == text.count("// SAFETY: ") == 18, blocks
+    assert blocks == text.count("// SAFETY: ") == 19, blocks
 
 
 # Public functions with a contract that no edit of a body can break.

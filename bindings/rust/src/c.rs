@@ -213,6 +213,14 @@ unsafe extern "C" {
         bitmap_length: usize,
         outcome: *mut Outcome,
     ) -> u32;
+    fn hayro_ccitt_decode_changes(
+        data: *const u8,
+        data_length: usize,
+        settings: *const Settings,
+        lists: *mut u32,
+        lists_length: usize,
+        outcome: *mut Outcome,
+    ) -> u32;
     fn hayro_ccitt_open(
         data: *const u8,
         data_length: usize,
@@ -294,6 +302,27 @@ pub(crate) fn decode_packed(data: &[u8], settings: &Settings, bitmap: &mut [u8])
             settings,
             bitmap.as_mut_ptr(),
             bitmap.len(),
+            &mut outcome,
+        )
+    };
+    (status, outcome)
+}
+
+/// Lists the rows, of each the number of its changes and then the changes; and returns the status and the outcome.
+pub(crate) fn decode_changes(
+    data: &[u8],
+    settings: &Settings,
+    lists: &mut [u32],
+) -> (u32, Outcome) {
+    let mut outcome = Outcome::default();
+    // SAFETY: as above, for `lists` in place of `bitmap`.
+    let status = unsafe {
+        hayro_ccitt_decode_changes(
+            data.as_ptr(),
+            data.len(),
+            settings,
+            lists.as_mut_ptr(),
+            lists.len(),
             &mut outcome,
         )
     };

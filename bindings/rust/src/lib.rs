@@ -138,6 +138,9 @@ pub fn decode_packed_low_first(data: &[u8], ctx: &mut DecoderContext) -> PackedR
     pack_rows(data, ctx, c::Settings::from(&ctx.settings).low_first())
 }
 
+/// How many bytes data may have whose rows are listed at once.
+const SHORT: usize = 1 << 12;
+
 /// How many bytes of the data are fed at a time, where not all rows are decoded at once.
 const PIECE: usize = 1 << 16;
 
@@ -154,7 +157,45 @@ fn push_rows(
     ctx.missed_eols = 0;
     ctx.cut_rows = 0;
     ctx.fault_start = None;
-    let mut feed = open_feed(&settings);
+    match push_at_once(data, decoder, ctx, &settings) {
+        Some(result) => result,
+        None => push_as_they_come(data, decoder, ctx, &settings),
+    }
+}
+
+/// Lists all rows of short data, and passes them to the decoder. Returns `None`, and passes none, if the data isn't short, or there
+/// isn't room for them: there is for as many numbers as the data has bits, and one more.
+fn push_at_once(
+    data: &[u8],
+    decoder: &mut impl Decoder,
+    ctx: &mut DecoderContext,
+    settings: &c::Settings,
+) -> Option<Result<usize>> {
+    if data.len() > SHORT {
+        return None;
+    }
+    let mut lists = zeros(data.len() * 8 + 1);
+    let (status, outcome) = c::decode_changes(data, settings, &mut lists);
+    if status == c::REFUSED {
+        return None;
+    }
+    push_listed(&lists, usize_of(outcome.rows), decoder);
+    ctx.tell(&outcome, status != c::OK);
+    Some(match status {
+        // It is at most the length of the data.
+        c::OK => Ok(outcome.bytes_read as usize),
+        _ => Err(error_of(status)),
+    })
+}
+
+/// Lists as many rows at a time as there is room for, and passes them to the decoder.
+fn push_as_they_come(
+    data: &[u8],
+    decoder: &mut impl Decoder,
+    ctx: &mut DecoderContext,
+    settings: &c::Settings,
+) -> Result<usize> {
+    let mut feed = open_feed(settings);
     let mut pieces = data.chunks(PIECE);
     let mut lists = zeros(LISTED);
     let status = loop {
@@ -174,7 +215,13 @@ fn push_rows(
 fn push_listed(lists: &[u32], count: usize, decoder: &mut impl Decoder) {
     let mut rest = lists;
     for _ in 0..count {
-        let (changes, after) = rest[1..].split_at(rest[0] as usize);
+        // Each number and its changes are there.
+        let Some((&length, after)) = rest.split_first() else {
+            return;
+        };
+        let Some((changes, after)) = after.split_at_checked(length as usize) else {
+            return;
+        };
         decoder.push_row(changes);
         rest = after;
     }
