@@ -2,6 +2,9 @@
 #include <stdlib.h>
 #include <string.h>
 
+/* How many numbers there is room for in the lists of the strict reading. */
+enum { LISTED = 4096 };
+
 static int has_ended(const reading *it)
 {
     return it->status != HAYRO_CCITT_OK && it->status != HAYRO_CCITT_NEEDS_MORE;
@@ -30,7 +33,8 @@ int open_piped(piped *it, const raw_form *form, row_taker to)
     it->found = none;
     it->width = bytes_of_row(form->settings.columns);
     it->packed = malloc(it->width + 1);
-    return it->packed && open_reading(&it->lenient, form, 0) && open_reading(&it->strict, form, HAYRO_CCITT_STRICT);
+    it->lists = malloc(LISTED * sizeof *it->lists);
+    return it->packed && it->lists && open_reading(&it->lenient, form, 0) && open_reading(&it->strict, form, HAYRO_CCITT_STRICT);
 }
 
 static void feed_reading(reading *it, span bytes)
@@ -40,12 +44,30 @@ static void feed_reading(reading *it, span bytes)
         it->status = status;
 }
 
+static void pack_row(piped *it, reading *from)
+{
+    from->status = hayro_ccitt_feed_next_packed(&from->feed, it->packed, it->width, &from->row);
+}
+
 /* Reads the next row, if it is known. Returns 0 if it isn't, or there is none. */
 static int read_row(piped *it, reading *from)
 {
     if (!has_ended(from))
-        from->status = hayro_ccitt_feed_next_packed(&from->feed, it->packed, it->width, &from->row);
+        pack_row(it, from);
     return from->status == HAYRO_CCITT_OK;
+}
+
+/* Reads all rows that are known, many a call. One that the lists have no room for is packed. */
+static void pass_rows(piped *it, reading *from)
+{
+    size_t count;
+    while (!has_ended(from)) {
+        from->status = hayro_ccitt_feed_rows_changes(&from->feed, it->lists, LISTED, &count, &from->row);
+        if (from->status == HAYRO_CCITT_REFUSED)
+            pack_row(it, from);
+        if (from->status == HAYRO_CCITT_NEEDS_MORE)
+            return;
+    }
 }
 
 /* Notes what is damaged in the last row, and before it. */
@@ -63,8 +85,7 @@ static int take_rows(piped *it)
 {
     uint64_t missed = it->lenient.row.missed_eols;
     int is_taken = 1;
-    while (read_row(it, &it->strict))
-        continue;
+    pass_rows(it, &it->strict);
     while (is_taken && read_row(it, &it->lenient)) {
         note_row(&it->found, &it->lenient.row, missed);
         missed = it->lenient.row.missed_eols;
@@ -116,4 +137,5 @@ void close_piped(piped *it)
     hayro_ccitt_feed_close(&it->lenient.feed);
     hayro_ccitt_feed_close(&it->strict.feed);
     free(it->packed);
+    free(it->lists);
 }

@@ -23,6 +23,7 @@ typedef struct {
     row_taker to;
     damage found;
     uint8_t *packed;      /* a row */
+    uint32_t *lists;      /* room for rows of the strict reading, which aren't kept */
     size_t width;
     uint64_t bytes;       /* of the data so far */
 } piped;
