@@ -10,9 +10,8 @@ use crate::change_count::counted;
 use fax_encode::paint_row;
 use hayro_ccitt::{DecodeError, Decoder};
 
-/// The most bytes of white rows that aren't written when one more comes. Filling fewer than 2 KiB at a time takes the fewest
-/// instructions.
-const MOST_WAITING: usize = 1792;
+/// The most bytes of white rows that are written together: below 2 KiB one call is fastest.
+const MOST_WAITING: usize = 2047;
 
 /// A white row of fewer bytes is written at once.
 const LEAST_WAITING: usize = 16;
@@ -238,7 +237,7 @@ impl Decoder for PackedRows<'_> {
             return Err(DecodeError::Refused);
         }
         if self.may_wait(bytes, changes) {
-            self.write_white(MOST_WAITING);
+            self.write_white(MOST_WAITING.saturating_sub(bytes));
             self.start += bytes;
             self.changes = counted(self.changes, changes);
             return Ok(());
