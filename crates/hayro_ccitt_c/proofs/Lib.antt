@@ -9,4 +9,5 @@ pub mod Reporting
 pub mod SpreadRows
 pub mod StandingRows
 pub mod TakenRows
+pub mod FilledBytes
 pub mod WhiteRows

@@ -81,19 +81,21 @@ one_white layout columns start written bytes [] memory changes more name none is
     ∙ ap (λ (b : Bits). bits_of (front ++ before) ++ b) (white_row layout.black_is_0 columns ∙ sym ends))
     (ap (λ (n : ℕ). drop (start + n) memory) whole ∙ sym (drop-drop layout.stride start memory)) refl count
 
--- a row more that is in memory, as all before it
-pub one_packed : (layout : Layout) (columns start written bytes : ℕ) (list memory row : List ℕ) (changes more name : ℕ)
+-- A row more that is in memory, as all before it: with it the memory means more than what it meant before they were.
+pub packed_behind : (layout : Layout) (columns start written bytes : ℕ) (list memory row : List ℕ) (changes more name : ℕ)
     → written ≡ start → bytes ≡ bytes_of_row columns → bytes_of_row columns ≤ layout.stride → start ≤ length memory
     → bytes ≤ length memory - start → length row ≡ length (take (start + bytes - start) (drop start memory))
     → bits_of row ≡ packed_row layout.black_is_0 (pixels columns list) → more ≡ counted changes (length list)
+    → (width : ℕ) (before : Packing) → packing_up_to layout start written memory changes name ≡ before → columns ≡ width
     → packing_up_to layout (start + layout.stride) (start + layout.stride) (put_mid start (start + bytes - start) memory row)
-    more name
-    ≡ with_packed columns (packing_up_to layout start written memory changes name) list
-one_packed layout columns start written bytes list memory row changes more name all is reaches within room same packs count =
+    more name ≡ with_packed width before list
+packed_behind layout columns start written bytes list memory row changes more name all is reaches within room same packs count
+    width before means wide =
     all_in_memory layout (start + layout.stride) (start + layout.stride) (put_mid start (start + bytes - start) memory row)
     more name refl
     ∙ same_packing layout _ _ _ _ _ _ _ _ _ _ name refl
     (bits_more layout columns start bytes list memory row is reaches within room same packs)
     (rest_more layout columns start bytes list memory row is reaches within room same packs)
     (size_more layout columns start bytes list memory row is reaches within room same packs) count
-    ∙ ap (λ (p : Packing). with_packed columns p list) (sym (all_in_memory layout start written memory changes name all))
+    ∙ ap (λ (p : Packing). with_packed columns p list) (sym (all_in_memory layout start written memory changes name all) ∙ means)
+    ∙ ap (λ (n : ℕ). with_packed n before list) wide

@@ -180,7 +180,7 @@ impl Feeding {
         let columns = self.rows.settings().columns;
         let mut sink = PackedRows::new(bytes, columns, spaced(self.layout));
         let answer = self.push_all(&mut sink);
-        sink.write_white(0);
+        sink.write_white();
         *count = sink.rows();
         self.is_kept = sink.has_refused();
         status_behind(answer, *count, self.is_kept)

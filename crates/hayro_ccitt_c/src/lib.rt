@@ -141,7 +141,7 @@ pub extern "C" fn hayro_ccitt_decode_packed(
     };
     let mut rows = PackedRows::new(bitmap, meant.columns, layout_of(settings));
     let report = decoded(alloc, data, order_of(settings), meant, &mut rows);
-    rows.write_white(0);
+    rows.write_white();
     told(&report, rows.changes(), outcome)
 }
 

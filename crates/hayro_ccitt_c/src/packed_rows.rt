@@ -1,6 +1,6 @@
 //! A sink that packs rows into the caller's memory.
 
-ghost use Rattle.std.specs.Prelude.{◌≡◌, ◌+◌, ◌/◌, ◌<◌, ◌≤◌, true, length, map, not};
+ghost use Rattle.std.specs.Prelude.{◌≡◌, ◌+◌, ◌/◌, ◌<◌, ◌≤◌, true, length, map, not, replicate};
 ghost use Rattle.hayro_ccitt.specs.BitOrder.TheVariants.{HighestFirst};
 ghost use Rattle.hayro_ccitt.specs.Bits.{bits_of, bits_of_byte};
 ghost use Rattle.hayro_ccitt.specs.Rows.{AreChanges, pixels};
@@ -10,8 +10,8 @@ use crate::change_count::counted;
 use fax_encode::paint_row;
 use hayro_ccitt::{DecodeError, Decoder};
 
-/// The most bytes of white rows that are written together: below 2 KiB one call is fastest.
-const MOST_WAITING: usize = 2047;
+/// The most bytes that one call fills: it is fastest below 2 KiB.
+const PIECE: usize = 2047;
 
 /// A white row of fewer bytes is written at once.
 const LEAST_WAITING: usize = 16;
@@ -74,6 +74,42 @@ fn white_byte(black_is_0: bool) -> u8
     if black_is_0 { 255 } else { 0 }
 }
 
+/// Fills a piece by one call: inlined into a loop, all its calls would become one.
+#[inline(never)]
+fn fill_piece(bytes: &mut [u8], byte: u8)
+    ensures { bytes.new ≡ replicate (length bytes.old) byte }
+{
+    bytes.fill(byte);
+}
+
+/// Fills all bytes.
+fn fill(bytes: &mut [u8], byte: u8)
+    ensures { bytes.new ≡ replicate (length bytes.old) byte }
+{
+    let mut from = 0;
+    'pieces: while bytes.len() - from > PIECE {
+        fill_piece(&mut bytes[from..from + PIECE], byte);
+        from += PIECE;
+    }
+    fill_piece(&mut bytes[from..], byte);
+}
+
+/// Returns the byte before which a white row of so many bytes begins that need not be written when it comes: it fits, and no bytes
+/// are between it and the next one. It is 0 if there is none, or a row is so short that it is written at once.
+#[inline(always)]
+fn last_waiting(bitmap: &[u8], bytes: usize, layout: Layout) -> usize
+    ensures together { 0 < result → bytes ≡ layout.stride }
+    ensures ready { 0 < result → result + bytes ≤ length bitmap.now + 1 }
+{
+    if bytes != layout.stride as usize || bytes < LEAST_WAITING {
+        return 0;
+    }
+    if bitmap.len() < bytes {
+        return 0;
+    }
+    bitmap.len() - bytes + 1
+}
+
 /// Packs a row: its pixels from the left, in each byte from the highest bit on, and white ones up to the end of the last byte.
 #[inline(always)]
 pub(crate) fn pack_row(row: &mut [u8], columns: u32, changes: &[u32], black_is_0: bool)
@@ -103,6 +139,8 @@ pub(crate) struct PackedRows<'a> {
     start: usize,
     /// The byte up to which the rows are written. Those after it are white.
     written: usize,
+    /// A white row that begins before this byte isn't written when it comes.
+    waits_until: usize,
     columns: u32,
     /// The bytes of a row.
     bytes: usize,
@@ -113,6 +151,8 @@ pub(crate) struct PackedRows<'a> {
     ghost whole: { bytes ≡ (columns + 7) / 8 },
     ghost in_order: { written ≤ start },
     ghost inside: { written < start → start ≤ length bitmap.now },
+    ghost together: { 0 < waits_until → (columns + 7) / 8 ≡ layout.stride },
+    ghost ready: { 0 < waits_until → waits_until + (columns + 7) / 8 ≤ length bitmap.now + 1 },
     ghost full: { has_refused ≡ true → length bitmap.now < start + (columns + 7) / 8 },
 }
 
@@ -132,13 +172,16 @@ impl<'a> PackedRows<'a> {
         ensures changes { result.changes ≡ 0 }
         ensures has_refused { result.has_refused ≡ false }
     {
+        let bytes = (columns as usize).div_ceil(8);
+        let waits_until = last_waiting(bitmap, bytes, layout);
         PackedRows {
             bitmap,
             layout,
             start: 0,
             written: 0,
+            waits_until,
             columns,
-            bytes: (columns as usize).div_ceil(8),
+            bytes,
             changes: 0,
             has_refused: false,
         }
@@ -174,18 +217,20 @@ impl<'a> PackedRows<'a> {
         ensures changes { self.new.changes ≡ self.old.changes }
         ensures has_refused { self.new.has_refused ≡ self.old.has_refused }
     {
-        self.bitmap[self.written..self.start].fill(white_byte(self.layout.black_is_0));
+        fill(
+            &mut self.bitmap[self.written..self.start],
+            white_byte(self.layout.black_is_0),
+        );
         self.written = self.start;
     }
 
-    /// Writes the white rows that aren't written, if they have more than this many bytes. If it is 0, all rows are then in
-    /// memory.
+    /// Writes the white rows that aren't written. All rows are then in memory.
     #[inline(always)]
-    pub(crate) fn write_white(&mut self, most: usize)
+    pub(crate) fn write_white(&mut self)
         ensures meaning { packing_up_to self.new.layout self.new.start self.new.written self.new.bitmap.now self.new.changes
             self.new.bitmap.ghost_name ≡ packing_up_to self.old.layout self.old.start self.old.written self.old.bitmap.now
             self.old.changes self.old.bitmap.ghost_name }
-        ensures few { self.new.start - self.new.written ≤ most }
+        ensures written { self.new.written ≡ self.new.start }
         ensures layout { self.new.layout ≡ self.old.layout }
         ensures start { self.new.start ≡ self.old.start }
         ensures size { length self.new.bitmap.now ≡ length self.old.bitmap.now }
@@ -193,18 +238,9 @@ impl<'a> PackedRows<'a> {
         ensures changes { self.new.changes ≡ self.old.changes }
         ensures has_refused { self.new.has_refused ≡ self.old.has_refused }
     {
-        if self.start - self.written > most {
+        if self.written < self.start {
             self.fill_white();
         }
-    }
-
-    /// Returns whether a row of so many bytes is white, and the next one begins where it ends. A short one may not wait.
-    #[inline(always)]
-    fn may_wait(&self, bytes: usize, changes: &[u32]) -> bool
-        ensures white { result ≡ true → length changes.now ≡ 0 }
-        ensures together { result ≡ true → bytes ≡ self.now.layout.stride }
-    {
-        changes.is_empty() && bytes == self.layout.stride as usize && bytes >= LEAST_WAITING
     }
 
     /// Returns whether a row was refused.
@@ -231,18 +267,17 @@ impl Decoder for PackedRows<'_> {
 
     #[inline(always)]
     fn push_row(&mut self, changes: &[u32]) -> hayro_ccitt::Result<()> {
+        if changes.is_empty() && self.start < self.waits_until {
+            self.start += self.bytes;
+            self.changes = counted(self.changes, changes);
+            return Ok(());
+        }
         let bytes = self.bytes;
         if self.bitmap.len() < self.start + bytes {
             self.has_refused = true;
             return Err(DecodeError::Refused);
         }
-        if self.may_wait(bytes, changes) {
-            self.write_white(MOST_WAITING.saturating_sub(bytes));
-            self.start += bytes;
-            self.changes = counted(self.changes, changes);
-            return Ok(());
-        }
-        self.write_white(0);
+        self.write_white();
         let end = self.start + bytes;
         pack_row(
             &mut self.bitmap[self.start..end],

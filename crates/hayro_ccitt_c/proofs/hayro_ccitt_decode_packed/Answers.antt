@@ -43,7 +43,7 @@ module _ (c : After-told) where
   meaning =
       sym (all_in_memory c.write_white.new.self.layout c.write_white.new.self.start c.write_white.new.self.written
       c.write_white.new.self.bitmap.now c.write_white.new.self.changes c.write_white.new.self.bitmap.ghost_name
-      (omega (arith, c.write_white.new.self.in_order, c.write_white.ensures.few)))
+      c.write_white.ensures.written)
       ∙ c.write_white.ensures.meaning
       ∙ c.decoded-report.ensures.meaning ∙ ap (λ (before : Packing). meaning_after (with_packed c.new-rows.result.columns) before
       (take c.decoded-report.result.rows (plain c.in-Some.meant (bits_in c.order_of.result c.args.«data».now)).rows))

@@ -37,7 +37,7 @@ module _ (c : After-write_white) where
   meaning =
       sym (all_in_memory c.write_white.new.self.layout c.write_white.new.self.start c.write_white.new.self.written
       c.write_white.new.self.bitmap.now c.write_white.new.self.changes c.write_white.new.self.bitmap.ghost_name
-      (omega (arith, c.write_white.new.self.in_order, c.write_white.ensures.few)))
+      c.write_white.ensures.written)
       ∙ c.write_white.ensures.meaning
       ∙ c.push_all-answer.ensures.passes.meaning ∙ ap (λ (before : Packing). meaning_after
       (with_packed c.new-sink.result.columns) before rows)
