@@ -10,6 +10,7 @@ pub mod RowFeeds
 pub mod RowsOfFeeds
 pub mod RowsRead
 pub mod RowsTried
+pub mod TakenRows
 pub mod TwoRunsHere
 pub mod WhiteLines
 pub use Rattle.fax_bits.specs.Bits

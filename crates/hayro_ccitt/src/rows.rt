@@ -13,6 +13,7 @@ ghost use Rattle.hayro_ccitt.specs.Rows.{changes};
 ghost use Rattle.hayro_ccitt.specs.RowsRead.{row_came};
 ghost use Rattle.hayro_ccitt.specs.RowsTried.{ReadsRow, TriesRow, lacks_memory, needs_more};
 ghost use Rattle.hayro_ccitt.specs.Space.{room_for, most_stored};
+ghost use Rattle.hayro_ccitt.specs.TakenRows.{MovesBehindRow};
 ghost use Rattle.hayro_ccitt.specs.Ticks.{looked, looked_ahead, tag_tests};
 ghost use Rattle.hayro_ccitt.specs.Work.{found_here};
 
@@ -46,11 +47,7 @@ fn take_row(ctx: &mut DecoderContext, reader: &mut BitReader<'_>)
     requires full { ctx.old.held.settings.columns ≤ length ctx.old.held.front }
     requires rows { ctx.old.held.taken + 1 < 2 ^ 64 }
     ensures taken { ctx.new.held ≡ with_row_taken ctx.old.held ctx.old.held.front }
-    ensures rest { here reader.new ≡ behind_row ctx.old.held.settings ctx.old.held.has_eols (here reader.old) }
-    ensures same_bits { reader.new.bits ≡ reader.old.bits }
-    ensures count { ctx.new.ticks ≡ ctx.old.ticks }
-    ensures space { ctx.new.space ≡ ctx.old.space }
-    ensures width { length ctx.new.held.reference ≡ ctx.old.held.settings.columns }
+    ensures moves { MovesBehindRow ctx.old ctx.new reader.old reader.new }
 {
     ctx.end_line();
     align_row(ctx, reader);
@@ -64,11 +61,7 @@ fn take_whole_row(ctx: &mut DecoderContext, reader: &mut BitReader<'_>)
     ensures taken { ctx.new.held ≡ record (with_row_taken ctx.old.held ctx.old.held.front) {
       repairs = cuts_with ctx.old.cut ctx.old.held.taken ctx.old.held.repairs;
     } }
-    ensures rest { here reader.new ≡ behind_row ctx.old.held.settings ctx.old.held.has_eols (here reader.old) }
-    ensures width { length ctx.new.held.reference ≡ ctx.old.held.settings.columns }
-    ensures space { ctx.new.space ≡ ctx.old.space }
-    ensures same_bits { reader.new.bits ≡ reader.old.bits }
-    ensures count { ctx.new.ticks ≡ ctx.old.ticks }
+    ensures moves { MovesBehindRow ctx.old ctx.new reader.old reader.new }
 {
     if ctx.is_cut() {
         ctx.count_cut_row();
@@ -89,11 +82,7 @@ fn take_damaged_row(ctx: &mut DecoderContext, reader: &mut BitReader<'_>, fault:
         last = ctx.old.held.taken + 1;
       };
     } }
-    ensures rest { here reader.new ≡ behind_row ctx.old.held.settings ctx.old.held.has_eols (here reader.old) }
-    ensures same_bits { reader.new.bits ≡ reader.old.bits }
-    ensures count { ctx.new.ticks ≡ ctx.old.ticks }
-    ensures space { ctx.new.space ≡ ctx.old.space }
-    ensures width { length ctx.new.held.reference ≡ ctx.old.held.settings.columns }
+    ensures moves { MovesBehindRow ctx.old ctx.new reader.old reader.new }
 {
     take_row(ctx, reader);
     ctx.count_damaged_row(fault);

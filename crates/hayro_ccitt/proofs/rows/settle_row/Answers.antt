@@ -60,9 +60,9 @@ returns-in-Err-clause-row c before start is read =
         memory = λ e. cc;
         not_refused = λ e. cc;
       };
-      counts = omega (arith, c.take_damaged_row.ensures.count, ap (λ (x : Context). x.ticks) frame, read.counts);
-      at_least = omega (arith, c.take_damaged_row.ensures.count, ap (λ (x : Context). x.ticks) frame, counted);
-      at_most = omega (arith, c.take_damaged_row.ensures.count, ap (λ (x : Context). x.ticks) frame, read.at_most);
+      counts = omega (arith, c.take_damaged_row.ensures.moves.count, ap (λ (x : Context). x.ticks) frame, read.counts);
+      at_least = omega (arith, c.take_damaged_row.ensures.moves.count, ap (λ (x : Context). x.ticks) frame, counted);
+      at_most = omega (arith, c.take_damaged_row.ensures.moves.count, ap (λ (x : Context). x.ticks) frame, read.at_most);
       stored = omega (
         arith,
         found,
@@ -71,7 +71,7 @@ returns-in-Err-clause-row c before start is read =
         ap (λ (h : Held). length (changes h.reference)) c.take_damaged_row.ensures.taken,
       );
       width = search rules;
-      space = rw c.take_damaged_row.ensures.space (grown_again before.space c.args.ctx.now.space _
+      space = rw c.take_damaged_row.ensures.moves.space (grown_again before.space c.args.ctx.now.space _
           (most_stored held.reference line) (length (changes left.front)) read.space
           c.recover_from.ensures.space (omega (arith, ap (λ (l : Line). length (changes (front_of l))) breaks)));
     }
@@ -108,12 +108,12 @@ returns-clause-row c before start is read =
         memory = λ e. cc;
         not_refused = λ e. cc;
       };
-      counts = omega (arith, c.take_whole_row.ensures.count, read.counts);
-      at_least = omega (arith, c.take_whole_row.ensures.count, counted);
-      at_most = omega (arith, c.take_whole_row.ensures.count, read.at_most);
+      counts = omega (arith, c.take_whole_row.ensures.moves.count, read.counts);
+      at_least = omega (arith, c.take_whole_row.ensures.moves.count, counted);
+      at_most = omega (arith, c.take_whole_row.ensures.moves.count, read.at_most);
       stored = omega (arith, found, ap (λ (h : Held). length (changes h.reference)) c.take_whole_row.ensures.taken);
       width = search rules;
-      space = rw c.take_whole_row.ensures.space read.space;
+      space = rw c.take_whole_row.ensures.moves.space read.space;
     }
 
 pub take_whole_row-requires-clause-rows : goal.take_whole_row-requires-clause-rows
