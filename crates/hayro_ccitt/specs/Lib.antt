@@ -1,5 +1,6 @@
 pub mod ContextView
 pub mod Contract
+pub mod Counting
 pub mod DrawnModes
 pub mod FeedsPaid
 pub mod GapsSeen

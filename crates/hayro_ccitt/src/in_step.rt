@@ -1,6 +1,7 @@
 //! From where on damaged data have the same rows again.
 
 ghost use Rattle.std.specs.Prelude.{◌≡◌, ◌+◌, ◌*◌, ◌<◌, ◌≤◌, ◌⊎◌, ◌↔◌, ℕ, Some, None, IfSome, IsTrue, true, false, length, drop};
+ghost use Rattle.hayro_ccitt.specs.Counting.{OnlyCounts};
 ghost use Rattle.hayro_ccitt.specs.Bits.{Bits, BitsFit, bits_of, here};
 ghost use Rattle.hayro_ccitt.specs.EndOfLine.{after_eol, next_eol};
 ghost use Rattle.hayro_ccitt.specs.Lines.{Line, line_1d};
@@ -26,10 +27,8 @@ fn pass_runs(ctx: &mut DecoderContext, reader: &mut BitReader<'_>) -> bool
     ensures broken { result ≡ false → (row : Row) (rest : Bits)
         → line_1d false ctx.old.held.settings.columns (here reader.old) ≡ Line.whole row rest → ⊥ }
     ensures same_bits { reader.new.bits ≡ reader.old.bits }
-    ensures held { ctx.new.held ≡ ctx.old.held }
-    ensures counts { ctx.old.ticks ≤ ctx.new.ticks }
+    ensures only_ticks { OnlyCounts ctx.old ctx.new }
     ensures at_most { ctx.new.ticks ≤ ctx.old.ticks + length (here reader.old) + 1 }
-    ensures space { ctx.new.space ≡ ctx.old.space }
 {
     let columns = ctx.settings().columns;
     let mut passed: u32 = 0;
@@ -50,10 +49,8 @@ fn pass_runs(ctx: &mut DecoderContext, reader: &mut BitReader<'_>) -> bool
 fn runs_end_before(ctx: &mut DecoderContext, line: &BitReader<'_>, end: &BitReader<'_>) -> bool
     requires { end.now.bits ≡ line.now.bits }
     ensures before { IsTrue result ↔ EndsBefore ctx.old.held.settings.columns (here end.now) (here line.now) }
-    ensures held { ctx.new.held ≡ ctx.old.held }
-    ensures counts { ctx.old.ticks ≤ ctx.new.ticks }
+    ensures only_ticks { OnlyCounts ctx.old ctx.new }
     ensures at_most { ctx.new.ticks ≤ ctx.old.ticks + length (here line.now) + 1 }
-    ensures space { ctx.new.space ≡ ctx.old.space }
 {
     let mut runs = copy(line);
     if !pass_runs(ctx, &mut runs) {
@@ -66,11 +63,9 @@ fn runs_end_before(ctx: &mut DecoderContext, line: &BitReader<'_>, end: &BitRead
 fn modes_end_before(ctx: &mut DecoderContext, line: &BitReader<'_>, end: &BitReader<'_>) -> bool
     requires { end.now.bits ≡ line.now.bits }
     ensures before { IsTrue result ↔ ModesEndBefore (here end.now) (here line.now) }
-    ensures held { ctx.new.held ≡ ctx.old.held }
-    ensures counts { ctx.old.ticks ≤ ctx.new.ticks }
+    ensures only_ticks { OnlyCounts ctx.old ctx.new }
     ensures at_most { (next after : Bits) → next_eol (here line.now) ≡ Some next → after_eol 0 next ≡ Some after
         → ctx.new.ticks + length after ≤ ctx.old.ticks + length (here line.now) }
-    ensures space { ctx.new.space ≡ ctx.old.space }
 {
     let mut modes = copy(line);
     pass_modes(ctx, &mut modes);
@@ -87,11 +82,9 @@ fn tagged_line_ends_before(
     requires { end.now.bits ≡ line.now.bits }
     ensures before { IsTrue result
         ↔ EndsByWords EncodingMode.Group3_2D ctx.old.held.settings.columns (here end.now) (here line.now) }
-    ensures held { ctx.new.held ≡ ctx.old.held }
-    ensures counts { ctx.old.ticks ≤ ctx.new.ticks }
+    ensures only_ticks { OnlyCounts ctx.old ctx.new }
     ensures at_most { (next after : Bits) → after_eol 0 (here line.now) ≡ None → next_eol (here line.now) ≡ Some next
         → after_eol 0 next ≡ Some after → ctx.new.ticks ≤ ctx.old.ticks + length (here line.now) + 1 }
-    ensures space { ctx.new.space ≡ ctx.old.space }
 {
     let mut words = copy(line);
     match words.read_bit() {
@@ -106,11 +99,9 @@ fn line_ends_before(ctx: &mut DecoderContext, line: &BitReader<'_>, end: &BitRea
     requires { end.now.bits ≡ line.now.bits }
     ensures before { IsTrue result ↔ EndsByWords ctx.old.held.settings.encoding ctx.old.held.settings.columns
         (here end.now) (here line.now) }
-    ensures held { ctx.new.held ≡ ctx.old.held }
-    ensures counts { ctx.old.ticks ≤ ctx.new.ticks }
+    ensures only_ticks { OnlyCounts ctx.old ctx.new }
     ensures at_most { (next after : Bits) → after_eol 0 (here line.now) ≡ None → next_eol (here line.now) ≡ Some next
         → after_eol 0 next ≡ Some after → ctx.new.ticks ≤ ctx.old.ticks + length (here line.now) + 1 }
-    ensures space { ctx.new.space ≡ ctx.old.space }
 {
     match ctx.settings().encoding {
         EncodingMode::Group3_1D => runs_end_before(ctx, line, end),
@@ -149,10 +140,8 @@ fn pass_to_step(ctx: &mut DecoderContext, reader: &mut BitReader<'_>) -> bool
     ensures no_step { result ≡ false → (line behind : Bits) → TellsStep ctx.old.held.settings (here reader.old) line behind
         → ⊥ }
     ensures same_bits { reader.new.bits ≡ reader.old.bits }
-    ensures held { ctx.new.held ≡ ctx.old.held }
-    ensures counts { ctx.old.ticks ≤ ctx.new.ticks }
+    ensures only_ticks { OnlyCounts ctx.old ctx.new }
     ensures at_most { ctx.new.ticks ≤ ctx.old.ticks + most_for_lines (length (here reader.old)) }
-    ensures space { ctx.new.space ≡ ctx.old.space }
 {
     if !is_alone(read_eols(ctx, reader)) {
         return false;
@@ -201,10 +190,8 @@ pub fn in_step_from(data: &[u8], ctx: &mut DecoderContext, to: usize) -> Option<
         × PutsInStep ctx.old.held.settings (drop to (bits_of «data».now)) line (drop place (bits_of «data».now))) }
     ensures rows { IfSome result (λ place. RowsFollow ctx.old.held.settings (bits_of «data».now) to place) }
     ensures within { IfSome result (λ place. place ≤ 8 * length «data».now) }
-    ensures held { ctx.new.held ≡ ctx.old.held }
-    ensures counts { ctx.old.ticks ≤ ctx.new.ticks }
+    ensures only_ticks { OnlyCounts ctx.old ctx.new }
     ensures at_most { ctx.new.ticks ≤ ctx.old.ticks + most_for_lines (length (drop to (bits_of «data».now))) }
-    ensures space { ctx.new.space ≡ ctx.old.space }
 {
     if !are_unlimited(ctx.settings()) {
         return None;

@@ -2,6 +2,7 @@
 
 ghost use Rattle.std.specs.Prelude.{◌≡◌, ◌+◌, ◌*◌, ◌<◌, ◌≤◌, ◌⊎◌, ◌↔◌, [], ◌∷◌, ℕ, suc, Some, IfSome, IsTrue, true, false};
 ghost use Rattle.std.specs.Prelude.{length, drop};
+ghost use Rattle.hayro_ccitt.specs.Counting.{OnlyCounts};
 ghost use Rattle.hayro_ccitt.specs.Bits.{Bits, BitsFit, bits_of, here};
 ghost use Rattle.hayro_ccitt.specs.EndOfLine.{after_eol, next_eol};
 ghost use Rattle.hayro_ccitt.specs.LocalityByK.{ComeBefore1D, IsFollowedBy, IsLine2D, ReadsModes};
@@ -17,11 +18,9 @@ pub(crate) fn pass_modes(ctx: &mut DecoderContext, reader: &mut BitReader<'_>)
     ensures read { ReadsModes Color.White (here reader.old) (here reader.new) }
     ensures last { (last : Bits) → ReadsModes Color.White (here reader.old) last → length (here reader.new) ≤ length last }
     ensures same_bits { reader.new.bits ≡ reader.old.bits }
-    ensures held { ctx.new.held ≡ ctx.old.held }
-    ensures counts { ctx.old.ticks ≤ ctx.new.ticks }
+    ensures only_ticks { OnlyCounts ctx.old ctx.new }
     ensures at_most { (next after : Bits) → next_eol (here reader.old) ≡ Some next → after_eol 0 next ≡ Some after
         → ctx.new.ticks + length after ≤ ctx.old.ticks + length (here reader.old) }
-    ensures space { ctx.new.space ≡ ctx.old.space }
 {
     let mut color = Color::White;
     'modes: loop {
@@ -43,12 +42,10 @@ fn pass_line(ctx: &mut DecoderContext, reader: &mut BitReader<'_>) -> bool
     ensures no_line { result ≡ false → (line next : Bits) → here reader.old ≡ false ∷ line → IsLine2D line next → ⊥ }
     ensures onward { length (here reader.new) ≤ length (here reader.old) }
     ensures same_bits { reader.new.bits ≡ reader.old.bits }
-    ensures held { ctx.new.held ≡ ctx.old.held }
-    ensures counts { ctx.old.ticks ≤ ctx.new.ticks }
+    ensures only_ticks { OnlyCounts ctx.old ctx.new }
     ensures at_most { ctx.new.ticks ≤ ctx.old.ticks + 3 * length (here reader.old) }
     ensures to_eol { result ≡ true → ctx.new.ticks + 3 * length (here reader.new)
         ≤ ctx.old.ticks + 3 * length (here reader.old) + 3 * looked (here reader.new) }
-    ensures space { ctx.new.space ≡ ctx.old.space }
 {
     let mut modes = copy(reader);
     match modes.read_bit() {
@@ -97,10 +94,8 @@ fn rows_before_1d(ctx: &mut DecoderContext, reader: &mut BitReader<'_>) -> Optio
     ensures rows { (lines : ℕ) → (result ≡ Some (suc lines))
         ↔ ComeBefore1D ctx.old.held.settings lines (here reader.old) }
     ensures some { IfSome result (λ rows. 0 < rows) }
-    ensures held { ctx.new.held ≡ ctx.old.held }
-    ensures counts { ctx.old.ticks ≤ ctx.new.ticks }
+    ensures only_ticks { OnlyCounts ctx.old ctx.new }
     ensures at_most { ctx.new.ticks ≤ ctx.old.ticks + most_for_lines (length (here reader.old)) }
-    ensures space { ctx.new.space ≡ ctx.old.space }
 {
     let mut rows: u64 = 1;
     'lines: loop {
@@ -144,10 +139,8 @@ pub fn rows_reached(data: &[u8], ctx: &mut DecoderContext, to: usize) -> Option<
     ensures rows { (lines : ℕ) → (result ≡ Some (suc lines))
         ↔ IsFollowedBy ctx.old.held.settings (bits_of «data».now) to lines }
     ensures some { IfSome result (λ rows. 0 < rows) }
-    ensures held { ctx.new.held ≡ ctx.old.held }
-    ensures counts { ctx.old.ticks ≤ ctx.new.ticks }
+    ensures only_ticks { OnlyCounts ctx.old ctx.new }
     ensures at_most { ctx.new.ticks ≤ ctx.old.ticks + most_for_lines (length (drop to (bits_of «data».now))) }
-    ensures space { ctx.new.space ≡ ctx.old.space }
 {
     if !is_lenient_2d(ctx.settings()) {
         return None;

@@ -3,6 +3,7 @@
 ghost use Rattle.std.specs.Prelude.{false, ◌≡◌, ◌≢◌, ◌<◌, ◌≤◌, ◌+◌, ◌*◌, Err, OnOk, OnErr, IfOk, IfErr, IsOkUnless, true, ◌||◌};
 ghost use Rattle.std.specs.Prelude.{Ok};
 ghost use Rattle.std.specs.Prelude.{[], length, ◌^◌, max};
+ghost use Rattle.hayro_ccitt.specs.Counting.{OnlyCounts};
 ghost use Rattle.hayro_ccitt.specs.Answers.{IsFault, IsRepairable, RepairStoresChange};
 ghost use Rattle.hayro_ccitt.specs.Bits.{BitsAt, here};
 ghost use Rattle.hayro_ccitt.specs.Context.{Context, after_repair, redrawn};
@@ -95,15 +96,13 @@ fn read_eols_of_t6(ctx: &mut DecoderContext, reader: &mut BitReader<'_>) -> usiz
     ensures eols { eols_by EncodingMode.Group4 ctx.old.held.settings.end_of_block (here reader.old) ≡
         (result, here reader.new) }
     ensures same_bits { reader.new.bits ≡ reader.old.bits }
-    ensures held { ctx.new.held ≡ ctx.old.held }
-    ensures counts { ctx.old.ticks ≤ ctx.new.ticks }
+    ensures only_ticks { OnlyCounts ctx.old ctx.new }
     ensures at_least { ctx.old.ticks + length (here reader.old) ≤ ctx.new.ticks + length (here reader.new) }
     ensures work_none { result ≡ 0 → ctx.new.ticks + length (here reader.new)
         ≡ ctx.old.ticks + length (here reader.old) + looked (here reader.new) }
     ensures work { ctx.new.ticks + length (here reader.new)
         ≤ ctx.old.ticks + length (here reader.old) + looked (here reader.new) }
     ensures forward { length (here reader.new) ≤ length (here reader.old) }
-    ensures space { ctx.new.space ≡ ctx.old.space }
 {
     if ctx.settings().end_of_block {
         reader.read_eols(2, ctx.ticks())
@@ -118,13 +117,11 @@ fn read_eols_of_t6(ctx: &mut DecoderContext, reader: &mut BitReader<'_>) -> usiz
 pub(crate) fn read_eols(ctx: &mut DecoderContext, reader: &mut BitReader<'_>) -> usize
     ensures eols { eols_here ctx.old.held.settings (here reader.old) ≡ (result, here reader.new) }
     ensures same_bits { reader.new.bits ≡ reader.old.bits }
-    ensures held { ctx.new.held ≡ ctx.old.held }
-    ensures counts { ctx.old.ticks ≤ ctx.new.ticks }
+    ensures only_ticks { OnlyCounts ctx.old ctx.new }
     ensures at_least { ctx.old.ticks + length (here reader.old) ≤ ctx.new.ticks + length (here reader.new) }
     ensures work { ctx.new.ticks + 2 * length (here reader.new) ≤ ctx.old.ticks + 2 * length (here reader.old)
         + tag_tests ctx.old.held.settings.encoding + looked_ahead ctx.old.held.settings.encoding (here reader.new) }
     ensures work_none { result ≡ 0 → ctx.new.ticks ≡ ctx.old.ticks + looked (here reader.old) }
-    ensures space { ctx.new.space ≡ ctx.old.space }
 {
     match ctx.settings().encoding {
         EncodingMode::Group3_2D => reader.read_tagged_eols(ctx.ticks()),

@@ -1,4 +1,4 @@
-use Rattle.hayro_ccitt.proofs.Names.{◌≡◌, ℕ, ◌+◌, ◌*◌, ◌≤◌, length, Some, sym, ap, subst, ◌∙◌, arith, IsTrue, ◌↔◌, DecodeSettings}
+use Rattle.hayro_ccitt.proofs.Names.{rules, ◌≡◌, ℕ, ◌+◌, ◌*◌, ◌≤◌, length, Some, sym, ap, subst, ◌∙◌, arith, IsTrue, ◌↔◌, DecodeSettings}
 use Rattle.hayro_ccitt.proofs.Names.{Bits, BitsAt, here, Held, after_eol, next_eol, eols_here, EndsByWords, looked}
 use Rattle.hayro_ccitt.proofs.Names.{most_for_lines, Group3_2D, ComesBefore1D, false≢true}
 use Rattle.hayro_ccitt.proofs.DamagedLines.LinesPassed.{eol_passed}
@@ -32,7 +32,7 @@ ends : (c : After-line_ends_before) → IsTrue c.line_ends_before.result
     (here c.copy-line.result)
 ends c =
     subst (λ (h : Held). IsTrue c.line_ends_before.result ↔ EndsByWords h.settings.encoding h.settings.columns
-    (here c.pass_eol.new.reader) (here c.copy-line.result)) c.read_eols.ensures.held c.line_ends_before.ensures.before
+    (here c.pass_eol.new.reader) (here c.copy-line.result)) c.read_eols.ensures.only_ticks.held c.line_ends_before.ensures.before
 
 -- what was counted so far
 counted : (c : After-line_ends_before) → (c.args.ctx.now.ticks ≤ c.line_ends_before.new.ctx.ticks)
@@ -53,13 +53,13 @@ counted c =
     c.read_eols.ensures.work in (
       omega (
         arith,
-        c.read_eols.ensures.counts,
+        c.read_eols.ensures.only_ticks.counts,
         c.ticks.ensures.value,
         skipped,
         (next_eol_found (here c.read_eols.new.reader) found c.if-not-skip_to_eol.ensures.next).0,
         c.ticks-2.ensures.value,
         c.pass_eol.ensures.ticks,
-        c.line_ends_before.ensures.counts,
+        c.line_ends_before.ensures.only_ticks.counts,
       ),
       line_test_work settings begun line found after c.args.ctx.now.ticks c.read_eols.new.ctx.ticks c.skip_to_eol.new.ticks
           c.pass_eol.new.ticks c.line_ends_before.new.ctx.ticks c.requires.group3 (alone c) (next c).0 (next c).1
@@ -99,9 +99,13 @@ returns-then-not-line_ends_before-clause-no_step c = λ e.
     (here c.skip_to_eol.new.self) (here c.pass_eol.new.reader) c.requires.group3 c.requires.lenient (alone at) (next at).0
     (next at).1 (λ words. false≢true (sym c.if-not-line_ends_before.true ∙ (ends at).1 words))
 
-pub returns-then-not-line_ends_before-clause-counts : goal.returns-then-not-line_ends_before-clause-counts
-returns-then-not-line_ends_before-clause-counts c =
-    (counted (goal.at.returns-then-not-line_ends_before-clause-counts c).After-line_ends_before).0
+pub returns-then-not-line_ends_before-clause-only_ticks : goal.returns-then-not-line_ends_before-clause-only_ticks
+returns-then-not-line_ends_before-clause-only_ticks c = record {
+  held = search rules;
+  counts =
+        (counted (goal.at.returns-then-not-line_ends_before-clause-only_ticks c).After-line_ends_before).0;
+  space = search rules;
+}
 
 pub returns-then-not-line_ends_before-clause-at_most : goal.returns-then-not-line_ends_before-clause-at_most
 returns-then-not-line_ends_before-clause-at_most c =
@@ -113,7 +117,7 @@ behind : (c : After-needs_no_reference) → eols_here c.args.ctx.now.held.settin
 behind c =
     subst (λ (h : Held). eols_here h.settings (here c.skip_to_eol.new.self)
     ≡ (c.read_eols-count.result, here c.read_eols-count.new.reader))
-    (c.line_ends_before.ensures.held ∙ c.read_eols.ensures.held) c.read_eols-count.ensures.eols
+    (c.line_ends_before.ensures.only_ticks.held ∙ c.read_eols.ensures.only_ticks.held) c.read_eols-count.ensures.eols
 
 -- whether what follows them needs no reference row
 unreferred : (c : After-needs_no_reference)
@@ -124,7 +128,7 @@ unreferred c eol =
     let found = here c.skip_to_eol.new.self in
     let same : c.settings.result ≡ c.args.ctx.now.held.settings
     = c.settings.ensures.value ∙ ap (λ (h : Held). h.settings)
-    (c.read_eols-count.ensures.held ∙ c.line_ends_before.ensures.held ∙ c.read_eols.ensures.held) in
+    (c.read_eols-count.ensures.only_ticks.held ∙ c.line_ends_before.ensures.only_ticks.held ∙ c.read_eols.ensures.only_ticks.held) in
     subst (λ (s : DecodeSettings). eols_here s found ≡ (c.read_eols-count.result, here c.read_eols-count.new.reader)
     → IsTrue c.needs_no_reference.result ↔ (s.encoding ≡ Group3_2D → ComesBefore1D s found)) same
     (c.needs_no_reference.ensures.tag found (here c.pass_eol.new.reader, eol)) (behind c)
@@ -149,13 +153,17 @@ returns-clause-no_step c = λ e line rest told.
     (step_next settings (here c.args.reader.now) (here c.copy-line.result) (here c.skip_to_eol.new.self) line rest (alone at)
     (next at).0 told) (told.tag two)))
 
-pub returns-clause-counts : goal.returns-clause-counts
-returns-clause-counts c =
-    omega (
-      arith,
-      (counted (goal.at.returns-clause-counts c).After-line_ends_before).0,
-      c.read_eols-count.ensures.counts,
-    )
+pub returns-clause-only_ticks : goal.returns-clause-only_ticks
+returns-clause-only_ticks c = record {
+  held = search rules;
+  counts =
+        omega (
+          arith,
+          (counted (goal.at.returns-clause-only_ticks c).After-line_ends_before).0,
+          c.read_eols-count.ensures.only_ticks.counts,
+        );
+  space = search rules;
+}
 
 pub returns-clause-at_most : goal.returns-clause-at_most
 returns-clause-at_most c =

@@ -1,4 +1,4 @@
-use Rattle.hayro_ccitt.proofs.Names.{◌≡◌, ◌+◌, ◌*◌, ◌≤◌, false, ◌∷◌, length, Some, None, sym, ap, ◌∙◌, arith, leb-true}
+use Rattle.hayro_ccitt.proofs.Names.{rules, ◌≡◌, ◌+◌, ◌*◌, ◌≤◌, false, ◌∷◌, length, Some, None, sym, ap, ◌∙◌, arith, leb-true}
 use Rattle.hayro_ccitt.proofs.Names.{length-drop, BitsAt, here, after_eol, next_eol, looked, common_steps}
 use Rattle.hayro_ccitt.proofs.DamagedLines.LinesPassed.{line_passed, eol_passed}
 use Rattle.fax_bits.proofs.BitReading.ConsecutiveEols.{next_eol_found}
@@ -39,18 +39,22 @@ pub returns-clause-onward : goal.returns-clause-onward
 returns-clause-onward c =
     (next_eol_found (here c.args.reader.now) (here c.skip_to_eol.new.self) c.if-not-skip_to_eol.ensures.next).0
 
-pub returns-clause-counts : goal.returns-clause-counts
-returns-clause-counts c = omega (
-  arith,
-  c.ticks.ensures.value,
-  c.pass_eol.ensures.ticks,
-  c.ticks-2.ensures.value,
-  c.if-not-skip_to_eol.ensures.ticks,
-  (next_eol_found (here c.args.reader.now) (here c.skip_to_eol.new.self) c.if-not-skip_to_eol.ensures.next).0,
-  c.ticks-3.ensures.value,
-  c.pass_eol-2.ensures.ticks,
-  c.pass_modes.ensures.counts,
-)
+pub returns-clause-only_ticks : goal.returns-clause-only_ticks
+returns-clause-only_ticks c = record {
+  held = search rules;
+  counts = omega (
+    arith,
+    c.ticks.ensures.value,
+    c.pass_eol.ensures.ticks,
+    c.ticks-2.ensures.value,
+    c.if-not-skip_to_eol.ensures.ticks,
+    (next_eol_found (here c.args.reader.now) (here c.skip_to_eol.new.self) c.if-not-skip_to_eol.ensures.next).0,
+    c.ticks-3.ensures.value,
+    c.pass_eol-2.ensures.ticks,
+    c.pass_modes.ensures.only_ticks.counts,
+  );
+  space = search rules;
+}
 
 -- what is counted until all modes are passed
 worked : (c : After-bit_pos-2) → c.pass_modes.new.ctx.ticks + 3 * length (here c.skip_to_eol.new.self)

@@ -1,4 +1,4 @@
-use Rattle.hayro_ccitt.proofs.Names.{◌≡◌, ℕ, ◌+◌, ◌*◌, ◌≤◌, ◌⊎◌, true, [], ◌∷◌, length, drop, Some, None, sym, ap, subst, ◌∙◌}
+use Rattle.hayro_ccitt.proofs.Names.{rules, ◌≡◌, ℕ, ◌+◌, ◌*◌, ◌≤◌, ◌⊎◌, true, [], ◌∷◌, length, drop, Some, None, sym, ap, subst, ◌∙◌}
 use Rattle.hayro_ccitt.proofs.Names.{arith, DecodeSettings, Bits, BitsAt, here, Held, after_eol, tagged_eols, looked}
 use Rattle.hayro_ccitt.proofs.Names.{most_for_lines}
 use Rattle.hayro_ccitt.proofs.{EncodedPictures.PicturesT4.eols_here_two, reach.rows_before_1d.Goals.After-read_tagged_eols-count}
@@ -70,17 +70,25 @@ counted_to_tag c =
       ap (λ (e : ℕ × Bits). length e.1) (eols_here_two settings now c.requires.encoding ∙ same),
     )
 
-pub returns-then-is_before_1d-clause-counts : goal.returns-then-is_before_1d-clause-counts
-returns-then-is_before_1d-clause-counts c =
-    counted_to_tag (goal.at.returns-then-is_before_1d-clause-counts c).After-read_tagged_eols-count
+pub returns-then-is_before_1d-clause-only_ticks : goal.returns-then-is_before_1d-clause-only_ticks
+returns-then-is_before_1d-clause-only_ticks c = record {
+  held = search rules;
+  counts =
+        counted_to_tag (goal.at.returns-then-is_before_1d-clause-only_ticks c).After-read_tagged_eols-count;
+  space = search rules;
+}
 
-pub returns-then-not-pass_line-clause-counts : goal.returns-then-not-pass_line-clause-counts
-returns-then-not-pass_line-clause-counts c =
-    omega (
-      arith,
-      counted_to_tag (goal.at.returns-then-not-pass_line-clause-counts c).After-read_tagged_eols-count,
-      c.pass_line.ensures.counts,
-    )
+pub returns-then-not-pass_line-clause-only_ticks : goal.returns-then-not-pass_line-clause-only_ticks
+returns-then-not-pass_line-clause-only_ticks c = record {
+  held = search rules;
+  counts =
+        omega (
+          arith,
+          counted_to_tag (goal.at.returns-then-not-pass_line-clause-only_ticks c).After-read_tagged_eols-count,
+          c.pass_line.ensures.only_ticks.counts,
+        );
+  space = search rules;
+}
 
 -- the EOL is examined, and then it and those that follow with their tags
 read : (c : After-read_tagged_eols-count) → c.pass_eol.new.ticks ≡ c.lines.ctx.ticks + looked (here c.lines.reader)
@@ -152,8 +160,8 @@ lines-preserved c =
     let line = c.pass_line.ensures.line c.if-not-pass_line.false in (
       c.pass_line.ensures.same_bits ∙ c.pass_eol.ensures.same_bits ∙ ap (λ (at : BitsAt). at.bits) c.copy-line.ensures.value
           ∙ c.lines.invariant.0,
-      c.pass_line.ensures.held ∙ c.lines.invariant.1,
-      omega (arith, counted_to_tag (goal.at.lines-preserved c).After-read_tagged_eols-count, c.pass_line.ensures.counts),
+      c.pass_line.ensures.only_ticks.held ∙ c.lines.invariant.1,
+      omega (arith, counted_to_tag (goal.at.lines-preserved c).After-read_tagged_eols-count, c.pass_line.ensures.only_ticks.counts),
       omega (
         arith,
         c.lines.invariant.3,
@@ -170,5 +178,5 @@ lines-preserved c =
           (read (goal.at.lines-preserved c).After-read_tagged_eols-count)
           (ahead (goal.at.lines-preserved c).After-read_tagged_eols-count)
           (omega (arith, c.pass_line.ensures.to_eol c.if-not-pass_line.false, ap length line.1)),
-      c.pass_line.ensures.space ∙ c.lines.invariant.6,
+      c.pass_line.ensures.only_ticks.space ∙ c.lines.invariant.6,
     )

@@ -19,7 +19,7 @@ pub returns-then-settings-clause-unchanged : goal.returns-then-settings-clause-u
 returns-then-settings-clause-unchanged c =
     let none : c.read_eols-count.result ≡ 0 = omega (arith, c.if-count-gt0.false) in
     let now = here c.read_eols-count.new.reader in (
-      c.read_eols-count.ensures.held,
+      c.read_eols-count.ensures.only_ticks.held,
       eols_here_stay c.args.ctx.now.held.settings (here c.args.reader.now) now
           (c.read_eols-count.ensures.eols ∙ ap (λ (n : ℕ). (n, now)) none),
     )
@@ -70,8 +70,8 @@ returns-clause-work c = λ kept.
       ap (λ (x : Context). looked_ahead x.held.settings.encoding rest) c.count_missed_eol.ensures.frame,
       ap (λ (x : Context). tag_tests x.held.settings.encoding) c.count_missed_eol.ensures.frame,
       ap (λ (x : Context). length (eols_here x.held.settings found).1) c.count_missed_eol.ensures.frame,
-      ap (λ (held : Held). looked_ahead held.settings.encoding rest) c.read_eols-count.ensures.held,
-      ap (λ (held : Held). tag_tests held.settings.encoding) c.read_eols-count.ensures.held,
+      ap (λ (held : Held). looked_ahead held.settings.encoding rest) c.read_eols-count.ensures.only_ticks.held,
+      ap (λ (held : Held). tag_tests held.settings.encoding) c.read_eols-count.ensures.only_ticks.held,
     )
 
 -- what follows the EOLs that were found, as a choice
@@ -97,14 +97,14 @@ returns-clause-gap c =
     let sought : held.has_eols ≡ true = search rules in
     let eols : ℕ × Bits = (c.read_eols-count-2.result, rest) in
     let same : c.count_missed_eol.new.self.held.settings ≡ settings = ap (λ (x : Context). x.held.settings)
-    c.count_missed_eol.ensures.frame ∙ ap (λ (h : Held). h.settings) c.read_eols-count.ensures.held in
+    c.count_missed_eol.ensures.frame ∙ ap (λ (h : Held). h.settings) c.read_eols-count.ensures.only_ticks.held in
     let over : is_over settings held.taken eols ≡ c.is_over-2.result
-    = sym (c.is_over-2.ensures.over ∙ ap (λ (h : Held). is_over h.settings h.taken eols) c.read_eols-count-2.ensures.held
+    = sym (c.is_over-2.ensures.over ∙ ap (λ (h : Held). is_over h.settings h.taken eols) c.read_eols-count-2.ensures.only_ticks.held
     ∙ ap (λ (x : Context). is_over x.held.settings x.held.taken eols) c.count_missed_eol.ensures.frame
-    ∙ ap (λ (h : Held). is_over h.settings h.taken eols) c.read_eols-count.ensures.held) in
-    let on : c.read_eols-count-2.new.ctx.held.has_eols ≡ true = ap (λ (h : Held). h.has_eols) c.read_eols-count-2.ensures.held
+    ∙ ap (λ (h : Held). is_over h.settings h.taken eols) c.read_eols-count.ensures.only_ticks.held) in
+    let on : c.read_eols-count-2.new.ctx.held.has_eols ≡ true = ap (λ (h : Held). h.has_eols) c.read_eols-count-2.ensures.only_ticks.held
     ∙ ap (λ (x : Context). x.held.has_eols) c.count_missed_eol.ensures.frame
-    ∙ ap (λ (h : Held). h.has_eols) c.read_eols-count.ensures.held ∙ sought in
+    ∙ ap (λ (h : Held). h.has_eols) c.read_eols-count.ensures.only_ticks.held ∙ sought in
     cond-true (misses_eol settings held.taken held.has_eols start) _ _ misses ∙ cond-false settings.strict _ _ lenient
     ∙ ap (from_next_eol settings held.taken start) (ap next_eol (sym stays) ∙ next) ∙ ap (behind_eols settings held.taken true)
     (ap (λ (s : DecodeSettings). eols_here s found) (sym same) ∙ c.read_eols-count-2.ensures.eols)
@@ -117,9 +117,9 @@ returns-clause-counts c =
     ∙ ap (λ (b : Bool). cond {A = Option Bits} b (Some (here c.skip_to_eol.new.self)) None) c.if-not-skip_to_eol.false)).0 in
     omega (
       arith,
-      c.read_eols-count.ensures.counts,
+      c.read_eols-count.ensures.only_ticks.counts,
       ap (λ (x : Context). x.ticks) c.count_missed_eol.ensures.frame,
-      c.read_eols-count-2.ensures.counts,
+      c.read_eols-count-2.ensures.only_ticks.counts,
       c.ticks.ensures.value,
       c.skip_to_eol.ensures.ticks,
       left,

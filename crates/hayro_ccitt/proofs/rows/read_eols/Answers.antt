@@ -1,19 +1,23 @@
-use Rattle.hayro_ccitt.proofs.Names.{◌≡◌, ℕ, refl, ap, sym, ◌∙◌, length, arith, EncodingMode, DecodeSettings, Bits, here, eols_by}
+use Rattle.hayro_ccitt.proofs.Names.{rules, ◌≡◌, ℕ, refl, ap, sym, ◌∙◌, length, arith, EncodingMode, DecodeSettings, Bits, here, eols_by}
 use Rattle.hayro_ccitt.proofs.Names.{eols_here, looked, looked_ahead, tag_tests}
 use Rattle.hayro_ccitt.proofs.{BitReading.EolCounts.all_eols_leave, Work.EolsPassed.eols_here_stay}
 use Rattle.fax_bits.proofs.BitReading.ConsecutiveEols.{tagged_eols_counted}
 use Rattle.hayro_ccitt.proofs.rows.read_eols.Goals as goal
 
-pub returns-in-Group3_2D-clause-counts : goal.returns-in-Group3_2D-clause-counts
-returns-in-Group3_2D-clause-counts c =
-    let left = (tagged_eols_counted (here c.args.reader.now)).0 in
-    omega (
-      arith,
-      c.ticks.ensures.value,
-      c.read_tagged_eols.ensures.at_least,
-      left,
-      ap (λ (f : ℕ × Bits). length f.1) c.read_tagged_eols.ensures.eols,
-    )
+pub returns-in-Group3_2D-clause-only_ticks : goal.returns-in-Group3_2D-clause-only_ticks
+returns-in-Group3_2D-clause-only_ticks c = record {
+  held = search rules;
+  counts =
+        let left = (tagged_eols_counted (here c.args.reader.now)).0 in
+        omega (
+          arith,
+          c.ticks.ensures.value,
+          c.read_tagged_eols.ensures.at_least,
+          left,
+          ap (λ (f : ℕ × Bits). length f.1) c.read_tagged_eols.ensures.eols,
+        );
+  space = search rules;
+}
 
 pub returns-in-Group3_1D : goal.returns-in-Group3_1D
 returns-in-Group3_1D c =
@@ -32,9 +36,7 @@ returns-in-Group3_1D c =
     record {
       eols = eols;
       same_bits = c.read_eol_if_available.ensures.same_bits;
-      held = refl;
-      space = refl;
-      counts = omega (arith, counted, from, left);
+      only_ticks = record { held = refl; counts = omega (arith, counted, from, left); space = refl };
       at_least = omega (arith, counted, from);
       work = omega (arith, counted, from, left, ahead, tags);
       work_none = λ none.
@@ -56,9 +58,7 @@ returns-in-Group4 c =
     record {
       eols = eols;
       same_bits = c.read_eols_of_t6.ensures.same_bits;
-      held = c.read_eols_of_t6.ensures.held;
-      space = c.read_eols_of_t6.ensures.space;
-      counts = c.read_eols_of_t6.ensures.counts;
+      only_ticks = c.read_eols_of_t6.ensures.only_ticks;
       at_least = c.read_eols_of_t6.ensures.at_least;
       work = omega (arith, counted, c.read_eols_of_t6.ensures.forward, ahead, tags);
       work_none = λ none.
