@@ -14,7 +14,7 @@ ghost use Rattle.hayro_ccitt.specs.Rows.{changes};
 ghost use Rattle.hayro_ccitt.specs.RowsRead.{row_came};
 ghost use Rattle.hayro_ccitt.specs.RowsTried.{ReadsRow, TriesRow, lacks_memory, needs_more};
 ghost use Rattle.hayro_ccitt.specs.Space.{room_for, most_stored};
-ghost use Rattle.hayro_ccitt.specs.TakenRows.{MovesBehindRow};
+ghost use Rattle.hayro_ccitt.specs.TakenRows.{MovesBehindRow, FailsToRepair, CanTakeRow};
 ghost use Rattle.hayro_ccitt.specs.Ticks.{looked, looked_ahead, tag_tests};
 ghost use Rattle.hayro_ccitt.specs.Work.{found_here};
 
@@ -74,8 +74,7 @@ fn take_whole_row(ctx: &mut DecoderContext, reader: &mut BitReader<'_>)
 #[inline(never)]
 fn take_damaged_row(ctx: &mut DecoderContext, reader: &mut BitReader<'_>, fault: DecodeError)
     requires full { ctx.old.held.settings.columns ≤ length ctx.old.held.front }
-    requires rows { ctx.old.held.taken + 1 < 2 ^ 64 }
-    requires damaged { ctx.old.held.repairs.rows ≤ ctx.old.held.taken }
+    requires room { CanTakeRow ctx.old.held }
     ensures taken { ctx.new.held ≡ record (with_row_taken ctx.old.held ctx.old.held.front) {
       repairs = record ctx.old.held.repairs {
         rows = ctx.old.held.repairs.rows + 1;
@@ -250,10 +249,7 @@ fn recover_from(
     ensures only_damage { OnOk result (IsRepairable ctx.old.held error) }
     ensures frame { OnOk result (ctx.new ≡ record ctx.old { held = after_repair ctx.old.held; space = ctx.new.space }) }
     ensures put_back { reader.new ≡ record reader.old { place = line_start } }
-    ensures only_memory { IsRepairable ctx.old.held error → IsOkUnless result DecodeError.OutOfMemory }
-    ensures memory { IsRepairable ctx.old.held error → result ≡ Err DecodeError.OutOfMemory
-        → RepairStoresChange ctx.old.held }
-    ensures otherwise { (IsRepairable ctx.old.held error → ⊥) → result ≡ Err error }
+    ensures fails { FailsToRepair ctx.old.held error result }
     ensures unchanged { OnErr result (ctx.new ≡ ctx.old) }
     ensures space { ctx.new.space ≤ max ctx.old.space (room_for (length (changes ctx.old.held.front))) }
 {
@@ -271,8 +267,7 @@ fn settle_row(
     line_start: usize,
     line: Result<()>,
 ) -> Result<()>
-    requires rows { ctx.old.held.taken + 1 < 2 ^ 64 }
-    requires damaged { ctx.old.held.repairs.rows ≤ ctx.old.held.taken }
+    requires room { CanTakeRow ctx.old.held }
     requires within { line_start ≤ length reader.old.bits }
     requires full { OnOk line (ctx.old.held.settings.columns ≤ length ctx.old.held.front) }
     ensures row { (before : Context) (start : BitsAt) → start ≡ record reader.old { place = line_start }
@@ -299,24 +294,9 @@ pub(crate) fn read_row(ctx: &mut DecoderContext, reader: &mut BitReader<'_>) -> 
     requires rows { ctx.old.held.taken ≤ length reader.old.bits + 1 }
     requires damaged { ctx.old.held.repairs.rows ≤ ctx.old.held.taken }
     requires begun { ctx.old.held.front ≡ [] }
-    ensures row { TakesOneRow (line_here ctx.old.held.settings ctx.old.held.reference (here reader.old))
-        (line_here (record ctx.old.held.settings { strict = true }) ctx.old.held.reference (here reader.old))
-        (row_of_line ctx.old.held.settings ctx.old.held.has_eols (here reader.old)
-        (line_here ctx.old.held.settings ctx.old.held.reference (here reader.old)))
-        ctx.old.held ctx.new.held result (here reader.new) }
+    ensures row { ReadsRow ctx.old ctx.new result (here reader.old) (here reader.new) }
     ensures put_back { OnErr result (reader.new ≡ reader.old) }
     ensures same_bits { reader.new.bits ≡ reader.old.bits }
-    ensures counts { ctx.old.ticks ≤ ctx.new.ticks }
-    ensures at_least { OnOk result (ctx.old.ticks
-        + length (found_here ctx.old.held.settings ctx.old.held.reference (here reader.old)) ≤ ctx.new.ticks) }
-    ensures at_most { ctx.new.ticks ≤ ctx.old.ticks
-        + 4 * length (found_here ctx.old.held.settings ctx.old.held.reference (here reader.old)) + 2
-        + length (changes ctx.old.held.reference) }
-    ensures stored { OnOk result (length (changes ctx.new.held.reference)
-        ≤ length (found_here ctx.old.held.settings ctx.old.held.reference (here reader.old)) + 1) }
-    ensures width { OnOk result (length ctx.new.held.reference ≡ ctx.old.held.settings.columns) }
-    ensures space { ctx.new.space ≤ max ctx.old.space (room_for (most_stored ctx.old.held.reference
-        (line_here ctx.old.held.settings ctx.old.held.reference (here reader.old)))) }
 {
     let line_start = reader.bit_pos();
     let line = decode_line(ctx, reader);
@@ -370,8 +350,7 @@ pub(crate) fn try_row(
     reader: &mut BitReader<'_>,
     is_last: bool,
 ) -> Result<bool>
-    requires rows { ctx.old.held.taken + 1 < 2 ^ 64 }
-    requires damaged { ctx.old.held.repairs.rows ≤ ctx.old.held.taken }
+    requires room { CanTakeRow ctx.old.held }
     requires begun { ctx.old.held.front ≡ [] }
     ensures row { TriesRow is_last ctx.old ctx.new result reader.old reader.new }
     ensures put_back { result ≢ Ok true → reader.new ≡ reader.old }

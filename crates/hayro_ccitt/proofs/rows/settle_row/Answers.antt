@@ -19,8 +19,8 @@ returns-in_err-recover_from-clause-row c before start is read =
     let draws = draws_anywhere line c.in-Err.error c.args.ctx.now.held.front (here c.args.reader.now) left drawn in
     let strict = line_here (record held.settings { strict = true }) held.reference (here start) in
     let ends = isnt_repaired line strict (here start) held c.args.ctx.now.held read.held left
-    c.in-Err.error c.in_err-recover_from.field-0.0 draws c.in_err-recover_from.ensures.only_memory
-    c.in_err-recover_from.ensures.memory c.in_err-recover_from.ensures.otherwise in
+    c.in-Err.error c.in_err-recover_from.field-0.0 draws c.in_err-recover_from.ensures.fails.only_memory
+    c.in_err-recover_from.ensures.fails.memory c.in_err-recover_from.ensures.fails.otherwise in
     let kept = c.in_err-recover_from.ensures.unchanged in
     record {
       row = rw (answer.1, answer.2, kept) ends;
@@ -117,4 +117,4 @@ returns-clause-row c before start is read =
     }
 
 pub take_whole_row-requires-clause-rows : goal.take_whole_row-requires-clause-rows
-take_whole_row-requires-clause-rows c = c.requires.rows
+take_whole_row-requires-clause-rows c = c.requires.room.rows

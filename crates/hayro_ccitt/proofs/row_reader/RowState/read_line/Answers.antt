@@ -13,15 +13,7 @@ read_here : (c : After-note_line) → ReadsRow c.args.ctx.now c.read_row-row.new
 read_here c =
     let row = c.read_row-row.ensures in
     subst (λ (b : Bits). ReadsRow c.args.ctx.now c.read_row-row.new.ctx c.read_row-row.result (here c.args.reader.now)
-    (drop c.read_row-row.new.reader.place b)) row.same_bits (record {
-      row = row.row;
-      counts = row.counts;
-      at_least = row.at_least;
-      at_most = row.at_most;
-      stored = row.stored;
-      width = row.width;
-      space = row.space;
-    })
+    (drop c.read_row-row.new.reader.place b)) row.same_bits row.row
 
 at_line_end : (c : After-note_line)
     → record { bits = c.args.reader.now.bits; place = c.read_row-row.new.reader.place } ≡ c.read_row-row.new.reader
