@@ -12,7 +12,7 @@ ghost use Rattle.hayro_ccitt.specs.PlainReading.{eols_by, eols_here, is_end_of_b
 ghost use Rattle.hayro_ccitt.specs.PlainReading.{behind_row, limit_met, line_here};
 ghost use Rattle.hayro_ccitt.specs.Rows.{changes};
 ghost use Rattle.hayro_ccitt.specs.RowsRead.{row_came};
-ghost use Rattle.hayro_ccitt.specs.RowsTried.{ReadsRow, TriesRow, lacks_memory, needs_more};
+ghost use Rattle.hayro_ccitt.specs.RowsTried.{PassesGap, ReadsRow, TriesRow, lacks_memory, needs_more};
 ghost use Rattle.hayro_ccitt.specs.Space.{room_for, most_stored};
 ghost use Rattle.hayro_ccitt.specs.TakenRows.{MovesBehindRow, FailsToRepair, CanTakeRow};
 ghost use Rattle.hayro_ccitt.specs.Ticks.{looked, looked_ahead, tag_tests};
@@ -161,22 +161,12 @@ fn is_over(ctx: &DecoderContext, reader: &BitReader<'_>, count: usize) -> bool
 /// Each bit that is looked at is a tick: a bit that is passed counts at most four times.
 #[inline(always)]
 pub(crate) fn pass_gap(ctx: &mut DecoderContext, reader: &mut BitReader<'_>) -> Result<bool>
-    ensures gap { gap_behind_row ctx.old.held.settings ctx.old.held.taken ctx.old.held.has_eols (here reader.old)
-        ≡ gap_said result ctx.new.held.has_eols (here reader.new) }
-    ensures held { ctx.new.held ≡ record ctx.old.held { has_eols = ctx.new.held.has_eols; repairs = ctx.new.held.repairs } }
-    ensures missed { ctx.new.held.repairs ≡ repairs_behind ctx.old.held (here reader.old) }
-    ensures given_up { IfOk result (λ over. over ≡ true → ctx.new.held.has_eols ≡ ctx.old.held.has_eols) }
-    ensures only_code { IfErr result (λ e. (e ≡ DecodeError.InvalidCode) × (ctx.old.held.settings.strict ≡ true)) }
-    ensures unchanged { OnErr result ((ctx.new.held ≡ ctx.old.held) × (here reader.new ≡ here reader.old)) }
-    ensures same_bits { reader.new.bits ≡ reader.old.bits }
-    ensures counts { ctx.old.ticks ≤ ctx.new.ticks }
+    ensures passes { PassesGap ctx.old ctx.new result (here reader.old) (here reader.new) }
+    ensures strict { OnErr result (ctx.old.held.settings.strict ≡ true) }
+    ensures put_back { OnErr result (here reader.new ≡ here reader.old) }
     ensures at_least { OnOk result (ctx.old.ticks + length (here reader.old) ≤ ctx.new.ticks + length (here reader.new)) }
-    ensures work { OnOk result (ctx.new.held.has_eols ≡ ctx.old.held.has_eols
-        → ctx.new.ticks + 4 * length (here reader.new) ≤ ctx.old.ticks + 4 * length (here reader.old)
-        + tag_tests ctx.old.held.settings.encoding + looked_ahead ctx.old.held.settings.encoding (here reader.new)) }
-    ensures work_given_up { OnOk result (ctx.new.held.has_eols ≢ ctx.old.held.has_eols
-        → ctx.new.ticks ≤ ctx.old.ticks + 2 * length (here reader.old)) }
-    ensures work_refused { OnErr result (ctx.new.ticks ≡ ctx.old.ticks + looked (here reader.old)) }
+    ensures refused { OnErr result (ctx.new.ticks ≡ ctx.old.ticks + looked (here reader.old)) }
+    ensures same_bits { reader.new.bits ≡ reader.old.bits }
     ensures space { ctx.new.space ≡ ctx.old.space }
 {
     let count = read_eols(ctx, reader);

@@ -5,7 +5,7 @@ use Rattle.hayro_ccitt.proofs.Names.{length-drop, IfOk-weaker, on_err_weaker, on
 use Rattle.hayro_ccitt.proofs.Names.{append-nil}
 use Rattle.hayro_ccitt.proofs.Names.{Group4, Bits, Held, Context, fresh, gap_said, all_eols, gap_behind_row, first_line}
 use Rattle.hayro_ccitt.proofs.Names.{changes, refl, length-append}
-use Rattle.hayro_ccitt.proofs.Names.{IsPaid, ReaderStands, stand_after, AtLine, looked, EncodingMode, Group3_1D}
+use Rattle.hayro_ccitt.proofs.Names.{DamageIsCounted, Stand, IsPaid, ReaderStands, stand_after, AtLine, looked, EncodingMode, Group3_1D}
 use Rattle.hayro_ccitt.proofs.Names.{Group3_2D, BitsAt}
 use Rattle.std.proofs.lemmas.List.{drop-append-le}
 use Rattle.std.specs.Prelude.{nat_lt, ◌||◌}
@@ -149,3 +149,17 @@ eols_go_on old new bits next within other wide begins frame rest work counts aft
     first_rest : (more : Bits) → (more ≡ []) ⊎ (first_gap_is_settled old.held.settings.encoding old.held.settings bits ≡ true)
         → (first_line old.held.settings (bits ++ more)).rest ≡ (all_eols bits).1 ++ more
     first_rest more settled = ap (λ (found : ℕ × Bits). found.1) (same_eols more settled)
+
+-- and if nothing follows
+module _ {stand : Stand} {old new : Context} {before after : BitsAt} (first : StandsFirst stand old new before after) where
+  pub first_stands : ReaderStands stand old.held.settings before.bits new.held after.place
+  first_stands = subst (λ (b : Bits). ReaderStands stand old.held.settings b new.held after.place) (append-nil before.bits)
+      (first.stands [] (inl refl))
+
+  pub first_damage : DamageIsCounted stand old.held.settings before.bits new.held
+  first_damage = subst (λ (b : Bits). DamageIsCounted stand old.held.settings b new.held) (append-nil before.bits)
+      (first.damage [])
+
+  pub first_paid : IsPaid old.ticks stand old.held.settings before.bits new.held after.place new.ticks
+  first_paid = subst (λ (b : Bits). IsPaid old.ticks stand old.held.settings b new.held after.place new.ticks)
+      (append-nil before.bits) (first.paid [] (inl refl))

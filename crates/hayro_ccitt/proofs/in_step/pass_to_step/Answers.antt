@@ -103,7 +103,7 @@ pub returns-then-not-line_ends_before-clause-only_ticks : goal.returns-then-not-
 returns-then-not-line_ends_before-clause-only_ticks c = record {
   held = search rules;
   counts =
-        (counted (goal.at.returns-then-not-line_ends_before-clause-only_ticks c).After-line_ends_before).0;
+      (counted (goal.at.returns-then-not-line_ends_before-clause-only_ticks c).After-line_ends_before).0;
   space = search rules;
 }
 
@@ -157,11 +157,11 @@ pub returns-clause-only_ticks : goal.returns-clause-only_ticks
 returns-clause-only_ticks c = record {
   held = search rules;
   counts =
-        omega (
-          arith,
-          (counted (goal.at.returns-clause-only_ticks c).After-line_ends_before).0,
-          c.read_eols-count.ensures.only_ticks.counts,
-        );
+      omega (
+        arith,
+        (counted (goal.at.returns-clause-only_ticks c).After-line_ends_before).0,
+        c.read_eols-count.ensures.only_ticks.counts,
+      );
   space = search rules;
 }
 

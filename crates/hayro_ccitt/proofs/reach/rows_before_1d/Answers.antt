@@ -74,7 +74,7 @@ pub returns-then-is_before_1d-clause-only_ticks : goal.returns-then-is_before_1d
 returns-then-is_before_1d-clause-only_ticks c = record {
   held = search rules;
   counts =
-        counted_to_tag (goal.at.returns-then-is_before_1d-clause-only_ticks c).After-read_tagged_eols-count;
+      counted_to_tag (goal.at.returns-then-is_before_1d-clause-only_ticks c).After-read_tagged_eols-count;
   space = search rules;
 }
 
@@ -82,11 +82,11 @@ pub returns-then-not-pass_line-clause-only_ticks : goal.returns-then-not-pass_li
 returns-then-not-pass_line-clause-only_ticks c = record {
   held = search rules;
   counts =
-        omega (
-          arith,
-          counted_to_tag (goal.at.returns-then-not-pass_line-clause-only_ticks c).After-read_tagged_eols-count,
-          c.pass_line.ensures.only_ticks.counts,
-        );
+      omega (
+        arith,
+        counted_to_tag (goal.at.returns-then-not-pass_line-clause-only_ticks c).After-read_tagged_eols-count,
+        c.pass_line.ensures.only_ticks.counts,
+      );
   space = search rules;
 }
 

@@ -1,14 +1,11 @@
 use Rattle.hayro_ccitt.proofs.Names.{◌≡◌, ◌≢◌, ◌∙◌, ◌<◌, ℕ, Bool, false, inl, inr, length, drop, ap, sym, subst, arith}
-use Rattle.hayro_ccitt.proofs.Names.{length-drop, IfErr-weaker, IfOk-weaker, on_err_weaker, on_ok_weaker, Stand, DecodeSettings}
+use Rattle.hayro_ccitt.proofs.Names.{on_err_weaker, Stand, DecodeSettings}
 use Rattle.hayro_ccitt.proofs.Names.{refl}
-use Rattle.hayro_ccitt.proofs.Names.{Group4, Bits, here, Held, gap_said, all_eols, gap_behind_row, first_line, changes}
-use Rattle.hayro_ccitt.proofs.Names.{DamageIsCounted, IsPaid, ReaderStands, ended, stand_after, AtLine, looked}
-use Rattle.hayro_ccitt.proofs.Names.{looked_ahead}
-use Rattle.hayro_ccitt.proofs.{Readings.DamageCounted.first_gap_left, Work.ChangesStored.changes_white}
-use Rattle.hayro_ccitt.proofs.Readings.RowByRow.{none_damaged, misses_after, first_gap_stands, first_line_stands, no_fault}
-use Rattle.hayro_ccitt.proofs.Work.CallsPaid.{first_gap_paid, first_line_paid}
+use Rattle.hayro_ccitt.proofs.Names.{Group4, Bits, here, Held, gap_said, all_eols, gap_behind_row, first_line}
+use Rattle.hayro_ccitt.proofs.Names.{IsPaid, ended, stand_after, AtLine, looked}
+use Rattle.hayro_ccitt.proofs.Readings.RowByRow.{no_fault}
 use Rattle.hayro_ccitt.proofs.Work.EolsPassed.{unsought_after}
-use Rattle.hayro_ccitt.proofs.Readings.FirstGaps.{eols_go_on, front_goes_on}
+use Rattle.hayro_ccitt.proofs.Readings.FirstGaps.{eols_go_on, first_damage, first_paid, first_stands, front_goes_on}
 use Rattle.hayro_ccitt.specs.RowsTried.{PassesGap, StandsFirst}
 use Rattle.hayro_ccitt.proofs.row_reader.first_stand.Goals as goal
 
@@ -22,7 +19,7 @@ first_gap_said c =
     ap (λ (h : Held). gap_behind_row held.settings h.taken h.has_eols c.args.reader.now.bits) (sym c.requires.fresh)
     ∙ ap (λ (n : ℕ). gap_behind_row held.settings held.taken held.has_eols (drop n c.args.reader.now.bits))
     (sym c.requires.start)
-    ∙ c.pass_gap-over.ensures.gap ∙ ap (λ (b : Bits). gap_said c.pass_gap-over.result last.has_eols
+    ∙ c.pass_gap-over.ensures.passes.gap ∙ ap (λ (b : Bits). gap_said c.pass_gap-over.result last.has_eols
     (drop c.pass_gap-over.new.reader.place b)) c.pass_gap-over.ensures.same_bits
 
 -- no EOLs are sought then
@@ -31,39 +28,11 @@ unsought_there c =
     let held = c.args.ctx.now.held in
     unsought_after held.settings held.taken held.has_eols c.pass_gap-over.new.ctx.held.has_eols (here c.args.reader.now)
     (here c.pass_gap-over.new.reader) c.pass_gap-over.result (ap (λ (h : Held). h.has_eols) c.requires.fresh)
-    c.pass_gap-over.ensures.gap c.pass_gap-over.ensures.given_up (on_err_weaker c.pass_gap-over.result
-    (λ kept. ap (λ (h : Held). h.has_eols) kept.0) c.pass_gap-over.ensures.unchanged)
-
-pub returns-in-Group4-clause-stands : goal.returns-in-Group4-clause-stands
-returns-in-Group4-clause-stands c =
-    let held = c.args.ctx.now.held in
-    let settings = held.settings in
-    let bits = c.args.reader.now.bits in
-    let last = c.pass_gap-over.new.ctx.held in
-    let at = c.pass_gap-over.new.reader in
-    let wide : 0 < settings.columns =
-    omega (arith, c.if-settings-eq0.false, ap (λ (s : DecodeSettings). s.columns) c.settings.ensures.value) in
-    let frame = first_gap_left held last
-    (here c.args.reader.now) c.requires.fresh c.pass_gap-over.ensures.held c.pass_gap-over.ensures.missed in
-    subst (λ (s : Stand). ReaderStands s settings bits last at.place) (sym c.stand_after_gap.ensures) (first_gap_stands
-    settings wide bits (ap (λ (s : DecodeSettings). s.encoding) (sym c.settings-2.ensures.value) ∙ c.in-Group4.is) last at.place
-    (omega (arith, c.bit_pos-place.ensures.place, c.bit_pos-place.ensures.within, ap length c.pass_gap-over.ensures.same_bits))
-    frame c.pass_gap-over.result (first_gap_said c)
-    (IfErr-weaker c.pass_gap-over.result _ _ (λ error code. code.0) c.pass_gap-over.ensures.only_code) (unsought_there c))
+    c.pass_gap-over.ensures.passes.gap c.pass_gap-over.ensures.passes.given_up (on_err_weaker c.pass_gap-over.result
+    (λ kept. ap (λ (h : Held). h.has_eols) kept) c.pass_gap-over.ensures.passes.unchanged)
 
 pub returns-in-Group4-clause-no_eols : goal.returns-in-Group4-clause-no_eols
 returns-in-Group4-clause-no_eols c = λ is. unsought_there c
-
-pub returns-in-Group4-clause-damage : goal.returns-in-Group4-clause-damage
-returns-in-Group4-clause-damage c =
-    let held = c.args.ctx.now.held in
-    let bits = c.args.reader.now.bits in
-    let last = c.pass_gap-over.new.ctx.held in
-    let left = first_gap_left held last
-    (here c.args.reader.now) c.requires.fresh c.pass_gap-over.ensures.held c.pass_gap-over.ensures.missed in
-    subst (λ (s : Stand). DamageIsCounted s held.settings bits last) (sym c.stand_after_gap.ensures) (none_damaged
-    (stand_after c.pass_gap-over.result) held.settings bits last (misses_after c.pass_gap-over.result held.settings bits last)
-    (ap (λ (h : Held). h.taken) left) (ap (λ (h : Held). h.repairs) left))
 
 pub returns-in-Group4-clause-unfailed : goal.returns-in-Group4-clause-unfailed
 returns-in-Group4-clause-unfailed c error is =
@@ -74,35 +43,9 @@ returns-in-Group4-clause-unfailed c error is =
     let said : gap_behind_row held.settings held.taken false (here c.args.reader.now)
     ≡ gap_said c.pass_gap-over.result last.has_eols rest
     = ap (λ (b : Bool). gap_behind_row held.settings held.taken b (here c.args.reader.now)) (sym unsought)
-    ∙ c.pass_gap-over.ensures.gap in
+    ∙ c.pass_gap-over.ensures.passes.gap in
     no_fault held.settings held.taken (here c.args.reader.now) c.pass_gap-over.result last.has_eols rest said error
     (ap ended (sym c.stand_after_gap.ensures) ∙ is)
-
-pub returns-in-Group4-clause-paid : goal.returns-in-Group4-clause-paid
-returns-in-Group4-clause-paid c from begun =
-    let held = c.args.ctx.now.held in
-    let settings = held.settings in
-    let bits = c.args.reader.now.bits in
-    let last = c.pass_gap-over.new.ctx.held in
-    let at = c.pass_gap-over.new.reader in
-    let now = c.pass_gap-over.new.ctx.ticks in
-    let begins : here c.args.reader.now ≡ bits = ap (λ (n : ℕ). drop n bits) c.requires.start in
-    let unsought : held.has_eols ≡ false = ap (λ (h : Held). h.has_eols) c.requires.fresh in
-    let frame = first_gap_left held last
-    (here c.args.reader.now) c.requires.fresh c.pass_gap-over.ensures.held c.pass_gap-over.ensures.missed in
-    subst (λ (s : Stand). IsPaid from s settings bits last at.place now) (sym c.stand_after_gap.ensures)
-    (first_gap_paid from settings (ap (λ (s : DecodeSettings). s.encoding) (sym c.settings-2.ensures.value) ∙ c.in-Group4.is)
-    bits last at.place now frame c.pass_gap-over.result (first_gap_said c) (IfOk-weaker c.pass_gap-over.result _ _ (λ over kept
-    is. kept is ∙ unsought) c.pass_gap-over.ensures.given_up) (on_ok_weaker c.pass_gap-over.result (λ work unsought_on. omega (
-      arith,
-      begun,
-      work (unsought_on ∙ sym unsought),
-      ap length begins,
-      ap (λ (b : Bits). length (drop at.place b)) c.pass_gap-over.ensures.same_bits,
-      ap (λ (b : Bits). looked_ahead settings.encoding (drop at.place b)) c.pass_gap-over.ensures.same_bits,
-    )) c.pass_gap-over.ensures.work)
-    (on_err_weaker c.pass_gap-over.result (λ refused. omega (arith, begun, refused, ap looked begins))
-    c.pass_gap-over.ensures.work_refused))
 
 pub returns-in-Group3_1D : goal.returns-in-Group3_1D
 returns-in-Group3_1D c =
@@ -125,44 +68,36 @@ returns-in-Group3_1D c =
     ∙ ap (λ (h : Held). record h { has_eols = (first_line settings bits).has_eols }) c.requires.fresh in
     let rest : drop at.place bits ≡ (first_line settings bits).rest = ap (λ (b : Bits). drop at.place b)
     (sym c.read_leading_eols.ensures.same_bits) ∙ c.read_leading_eols.ensures.rest ∙ ap (λ (x : Bits). (all_eols x).1) begins in
+    let first : StandsFirst AtLine c.args.ctx.now c.read_leading_eols.new.ctx c.args.reader.now at =
+    subst (λ (n : ℕ). StandsFirst AtLine c.args.ctx.now c.read_leading_eols.new.ctx
+    (record { bits = bits; place = n }) at)
+    (sym c.requires.start) (eols_go_on c.args.ctx.now c.read_leading_eols.new.ctx bits at.place
+    (omega (
+      arith,
+      c.bit_pos-place-in-Group3_1D.ensures.place,
+      c.bit_pos-place-in-Group3_1D.ensures.within,
+      ap length c.read_leading_eols.ensures.same_bits,
+    )) other wide c.requires.fresh frame rest (omega (
+      arith,
+      c.read_leading_eols.ensures.work,
+      ap length begins,
+      ap (λ (b : Bits). length (drop at.place b)) c.read_leading_eols.ensures.same_bits,
+      ap (λ (b : Bits). looked (drop at.place b)) c.read_leading_eols.ensures.same_bits,
+    )) c.read_leading_eols.ensures.counts at (ap (λ
+    (b : Bits). record { bits = b; place = at.place }) c.read_leading_eols.ensures.same_bits)) in
     record {
       none_taken = ap (λ (h : Held). h.taken) frame;
-      damage = none_damaged AtLine settings bits last (λ misses. misses) (ap (λ (h : Held). h.taken) frame)
-          (ap (λ (h : Held). h.repairs) frame);
+      damage = first_damage first;
       settings = ap (λ (h : Held). h.settings) frame;
       same_bits = c.read_leading_eols.ensures.same_bits;
-      stands = first_line_stands settings wide bits other last (drop at.place bits) frame rest
-          (omega (arith, length-drop at.place bits));
+      stands = first_stands first;
       unfailed = λ error is. cc;
       at_line = λ unended. refl;
-      paid = λ from begun. first_line_paid from settings other bits last (drop at.place bits) c.read_leading_eols.new.ctx.ticks
-          (ap (λ (h : Held). length (changes h.reference)) frame ∙ changes_white settings.columns)
-          (omega (arith, length-drop at.place bits)) (omega (
-            arith,
-            begun,
-            c.read_leading_eols.ensures.work,
-            ap length begins,
-            ap (λ (b : Bits). length (drop at.place b)) c.read_leading_eols.ensures.same_bits,
-            ap (λ (b : Bits). looked (drop at.place b)) c.read_leading_eols.ensures.same_bits,
-          ));
+      paid = λ from begun. subst (λ (n : ℕ). IsPaid n AtLine settings bits last at.place c.read_leading_eols.new.ctx.ticks) begun
+          (first_paid first);
       no_eols = λ is. absurd (other is);
       space = c.read_leading_eols.ensures.space;
-      first = subst (λ (n : ℕ). StandsFirst AtLine c.args.ctx.now c.read_leading_eols.new.ctx
-          (record { bits = bits; place = n }) at)
-          (sym c.requires.start) (eols_go_on c.args.ctx.now c.read_leading_eols.new.ctx bits at.place
-          (omega (
-            arith,
-            c.bit_pos-place-in-Group3_1D.ensures.place,
-            c.bit_pos-place-in-Group3_1D.ensures.within,
-            ap length c.read_leading_eols.ensures.same_bits,
-          )) other wide c.requires.fresh frame rest (omega (
-            arith,
-            c.read_leading_eols.ensures.work,
-            ap length begins,
-            ap (λ (b : Bits). length (drop at.place b)) c.read_leading_eols.ensures.same_bits,
-            ap (λ (b : Bits). looked (drop at.place b)) c.read_leading_eols.ensures.same_bits,
-          )) c.read_leading_eols.ensures.counts at (ap (λ
-          (b : Bits). record { bits = b; place = at.place }) c.read_leading_eols.ensures.same_bits));
+      first = first;
     }
 
 -- what comes before the first line, whatever follows
@@ -175,21 +110,8 @@ returns-in-Group4-clause-first c =
     let at = c.pass_gap-over.new.reader in
     let wide : 0 < held.settings.columns =
     omega (arith, c.if-settings-eq0.false, ap (λ (s : DecodeSettings). s.columns) c.settings.ensures.value) in
-    let passes : PassesGap c.args.ctx.now c.pass_gap-over.new.ctx over (here c.args.reader.now) (here at) =
-    record {
-      gap = gap.gap;
-      held = gap.held;
-      missed = gap.missed;
-      given_up = gap.given_up;
-      only_code = IfErr-weaker over _ _ (λ error code. code.0) gap.only_code;
-      unchanged = on_err_weaker over (λ same. same.0) gap.unchanged;
-      counts = gap.counts;
-      work = gap.work;
-      work_given_up = gap.work_given_up;
-      work_refused = on_err_weaker over (λ same. omega (arith, same)) gap.work_refused;
-    } in
     let there = subst (λ (b : Bits). PassesGap c.args.ctx.now c.pass_gap-over.new.ctx over (here c.args.reader.now)
-    (drop at.place b)) gap.same_bits passes in
+    (drop at.place b)) gap.same_bits gap.passes in
     let front = subst (λ (n : ℕ). PassesGap c.args.ctx.now c.pass_gap-over.new.ctx over (drop n bits)
     (drop at.place bits)) c.requires.start there in
     let known = front_goes_on c.args.ctx.now c.pass_gap-over.new.ctx bits at.place over
@@ -201,3 +123,16 @@ returns-in-Group4-clause-first c =
     (subst (λ (n : ℕ). StandsFirst (stand_after over) c.args.ctx.now c.pass_gap-over.new.ctx
     (record { bits = bits; place = n }) at)
     (sym c.requires.start) known)
+
+-- and so if nothing does
+pub returns-in-Group4-clause-stands : goal.returns-in-Group4-clause-stands
+returns-in-Group4-clause-stands c = first_stands (returns-in-Group4-clause-first c)
+
+pub returns-in-Group4-clause-damage : goal.returns-in-Group4-clause-damage
+returns-in-Group4-clause-damage c = first_damage (returns-in-Group4-clause-first c)
+
+pub returns-in-Group4-clause-paid : goal.returns-in-Group4-clause-paid
+returns-in-Group4-clause-paid c from begun =
+    subst (λ (n : ℕ). IsPaid n c.stand_after_gap.result c.args.ctx.now.held.settings c.args.reader.now.bits
+    c.pass_gap-over.new.ctx.held c.pass_gap-over.new.reader.place c.pass_gap-over.new.ctx.ticks) begun
+    (first_paid (returns-in-Group4-clause-first c))

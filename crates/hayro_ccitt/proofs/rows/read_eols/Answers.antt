@@ -8,14 +8,14 @@ pub returns-in-Group3_2D-clause-only_ticks : goal.returns-in-Group3_2D-clause-on
 returns-in-Group3_2D-clause-only_ticks c = record {
   held = search rules;
   counts =
-        let left = (tagged_eols_counted (here c.args.reader.now)).0 in
-        omega (
-          arith,
-          c.ticks.ensures.value,
-          c.read_tagged_eols.ensures.at_least,
-          left,
-          ap (λ (f : ℕ × Bits). length f.1) c.read_tagged_eols.ensures.eols,
-        );
+      let left = (tagged_eols_counted (here c.args.reader.now)).0 in
+      omega (
+        arith,
+        c.ticks.ensures.value,
+        c.read_tagged_eols.ensures.at_least,
+        left,
+        ap (λ (f : ℕ × Bits). length f.1) c.read_tagged_eols.ensures.eols,
+      );
   space = search rules;
 }
 

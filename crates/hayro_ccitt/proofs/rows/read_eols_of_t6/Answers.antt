@@ -6,12 +6,12 @@ pub returns-then-settings-clause-only_ticks : goal.returns-then-settings-clause-
 returns-then-settings-clause-only_ticks c = record {
   held = search rules;
   counts =
-        omega (
-          arith,
-          c.read_eols.ensures.ticks,
-          c.ticks.ensures.value,
-          eols_leave 2 c.read_eols.result (here c.args.reader.now) (here c.read_eols.new.self) c.read_eols.ensures.eols,
-        );
+      omega (
+        arith,
+        c.read_eols.ensures.ticks,
+        c.ticks.ensures.value,
+        eols_leave 2 c.read_eols.result (here c.args.reader.now) (here c.read_eols.new.self) c.read_eols.ensures.eols,
+      );
   space = search rules;
 }
 
@@ -19,13 +19,13 @@ pub returns-else-settings-clause-only_ticks : goal.returns-else-settings-clause-
 returns-else-settings-clause-only_ticks c = record {
   held = search rules;
   counts =
-        omega (
-          arith,
-          c.read_eol_if_available.ensures.ticks,
-          c.ticks-else-settings.ensures.value,
-          all_eols_leave c.read_eol_if_available.result (here c.args.reader.now)
-              (here c.read_eol_if_available.new.self) c.read_eol_if_available.ensures.eols,
-        );
+      omega (
+        arith,
+        c.read_eol_if_available.ensures.ticks,
+        c.ticks-else-settings.ensures.value,
+        all_eols_leave c.read_eol_if_available.result (here c.args.reader.now)
+            (here c.read_eol_if_available.new.self) c.read_eol_if_available.ensures.eols,
+      );
   space = search rules;
 }
 
