@@ -2,11 +2,14 @@
  *
  *   driver DECODER ENCODING COLUMNS ROWS FLAGS FILE
  *   driver DECODERS ENCODING COLUMNS ROWS FLAGS FILE MILLISECONDS
+ *   driver DECODERS LIST
  *
  * DECODER is `rows`, `changes` or `packed` (this library), `tiff-packed` (with -DWITH_TIFF), `crate-rows` or `crate-packed` (with
  * -DWITH_CRATE); DECODERS are several, with commas between them. The first form prints the status, the rows, the changes if they are
  * counted, and a sum over the picture; callgrind is given --toggle-collect=measured. The second prints for each decoder the least
- * processor time of a call, in nanoseconds. */
+ * processor time of a call, in nanoseconds. The third prints what the first does for each strip of a list and each decoder in turn:
+ * each line of the file LIST has ENCODING COLUMNS ROWS FLAGS FILE. The first strip is decoded twice, so that no call is linked
+ * while the others are counted; callgrind is given --dump-after=measured too. */
 #define _POSIX_C_SOURCE 199309L
 #include "../c/hayro_ccitt.h"
 #include <stdio.h>
@@ -100,27 +103,72 @@ static int race(char *names, double limit)
     return 0;
 }
 
-int main(int count, char **words)
+/* Takes up a strip: ENCODING COLUMNS ROWS FLAGS FILE. */
+static void take_strip(char **words)
 {
-    if (count != 7 && count != 8)
-        return 2;
-    decoder = words[1];
-    settings = (hayro_ccitt_settings){strtoul(words[3], NULL, 10), strtoul(words[4], NULL, 10), strtoul(words[2], NULL, 10),
-                                      strtoul(words[5], NULL, 10), 0};
-    data = contents(words[6]);
-    if (strstr(decoder, "packed"))
-        room = ((size_t)settings.columns + 7) / 8 * settings.rows;
+    settings = (hayro_ccitt_settings){strtoul(words[1], NULL, 10), strtoul(words[2], NULL, 10), strtoul(words[0], NULL, 10),
+                                      strtoul(words[3], NULL, 10), 0};
+    free(data);
+    data = contents(words[4]);
+}
+
+/* Makes room for the bitmap, if the decoder writes one. */
+static void take_decoder(const char *name)
+{
+    decoder = name;
+    room = strstr(name, "packed") ? ((size_t)settings.columns + 7) / 8 * settings.rows : 0;
+    free(bitmap);
     bitmap = calloc(1, room + 1);
-    lists = malloc(MOST_LISTED * sizeof *lists);
-#ifdef WITH_TIFF
-    tiff = tiff_of_strip(data, length, &settings);
-#endif
-    if (count == 8)
-        return race(words[1], strtod(words[7], NULL) * 1e6);
+}
+
+static void decode_and_print(void)
+{
     uint32_t status = measured();
     uint64_t sum = 0;
     for (size_t at = 0; at < room; at++)
         sum = sum * 31 + bitmap[at];
     printf("%u %lu %lu %016lx\n", status, (unsigned long)outcome.rows, (unsigned long)outcome.changes, (unsigned long)sum);
+}
+
+/* Decodes each strip of a list by each decoder in turn. */
+static int decode_list(char *names, const char *list)
+{
+    char *decoders[MOST], line[4096], *words[5];
+    int count = 0;
+    for (char *name = strtok(names, ","); name && count < MOST; name = strtok(NULL, ","))
+        decoders[count++] = name;
+    FILE *file = fopen(list, "r");
+    if (!file)
+        return 3;
+    for (int strip = 0; fgets(line, sizeof line, file); strip++) {
+        for (int at = 0; at < 5; at++)
+            if (!(words[at] = strtok(at ? NULL : line, " \n")))
+                return 2;
+        take_strip(words);
+        for (int times = strip ? 1 : 2; times > 0; times--)
+            for (int at = 0; at < count; at++) {
+                take_decoder(decoders[at]);
+                decode_and_print();
+            }
+    }
+    fclose(file);
+    return 0;
+}
+
+int main(int count, char **words)
+{
+    if (count != 3 && count != 7 && count != 8)
+        return 2;
+    lists = malloc(MOST_LISTED * sizeof *lists);
+    if (count == 3)
+        return decode_list(words[1], words[2]);
+    take_strip(words + 2);
+    take_decoder(words[1]);
+#ifdef WITH_TIFF
+    tiff = tiff_of_strip(data, length, &settings);
+#endif
+    if (count == 8)
+        return race(words[1], strtod(words[7], NULL) * 1e6);
+    decode_and_print();
     return 0;
 }
