@@ -8,8 +8,69 @@ ghost use Rattle.hayro_ccitt.specs.Space.{most_room};
 
 use crate::context::DecoderContext;
 use crate::row_reader::{RowState, first_stand, has_ended};
+use crate::white_lines::{WhiteLines, may_follow};
 use crate::{Decoder, EncodingMode, Result};
-use fax_bits::bit_reader::{BitReader, at_bit};
+use fax_bits::bit_reader::{BitOrder, BitReader, WordsAhead, at_bit, go_on_at, words_ahead};
+
+/// Reads white rows again and again.
+#[inline(always)]
+fn push_words<D: Decoder>(
+    mut words: WordsAhead<'_>,
+    lines: &WhiteLines,
+    offset: usize,
+    rows: &mut RowState,
+    ctx: &mut DecoderContext,
+    reader: &mut BitReader<'_>,
+    decoder: &mut D,
+) -> Result<()> {
+    let first = words.placed(lines.first.bits, lines.first.count);
+    let second = words.placed(lines.second.bits, lines.second.count);
+    let before = ctx.decoded_rows();
+    let most = lines.limit.saturating_sub(before);
+    let mut left = most;
+    let mut start = words.bit_pos();
+    'many: while left > 0 {
+        let place = words.bit_pos();
+        if !words.pass_placed(&first) && !(lines.second.count > 1 && words.pass_placed(&second)) {
+            break;
+        }
+        start = place;
+        left -= 1;
+        if let Err(refusal) = decoder.push_row(&[]) {
+            rows.take_white_rows(most - left, offset + start + lines.gap, ctx);
+            go_on_at(reader, &words);
+            return Err(refusal);
+        }
+    }
+    if left < most {
+        rows.take_white_rows(most - left, offset + start + lines.gap, ctx);
+        go_on_at(reader, &words);
+    }
+    Ok(())
+}
+
+/// Reads white rows again and again.
+#[inline(always)]
+pub(crate) fn push_white_rows<D: Decoder>(
+    repeats: bool,
+    lines: &WhiteLines,
+    offset: usize,
+    rows: &mut RowState,
+    ctx: &mut DecoderContext,
+    reader: &mut BitReader<'_>,
+    decoder: &mut D,
+) -> Result<()> {
+    if !repeats || !may_follow(lines, reader) {
+        return Ok(());
+    }
+    if let Some(words) = words_ahead(reader, BitOrder::HighestFirst) {
+        return push_words(words, lines, offset, rows, ctx, reader, decoder);
+    }
+    if let Some(words) = words_ahead(reader, BitOrder::LowestFirst) {
+        return push_words(words, lines, offset, rows, ctx, reader, decoder);
+    }
+    Ok(())
+}
 
 /// Reads the rows of an image and passes each to the sink, in every encoding, until EOFB or RTC (with `end_of_block`), the row
 /// limit or the end of the data. The errors are those of a line that isn't repaired, `InvalidCode` if strict data misses an
@@ -49,6 +110,14 @@ pub(crate) fn push_rows<D: Decoder>(
             return Err(refusal);
         }
         let repeats = ctx.repeats_white(&mut lines);
+        if let Err(refusal) = push_white_rows(repeats, &lines, 0, &mut rows, ctx, reader, decoder) {
+            let damage = ctx.damaged_rows();
+            let cuts = ctx.cut_rows();
+            ctx.take_back_row(damage, cuts);
+            let start = rows.started_at;
+            *reader = at_bit(reader, start);
+            return Err(refusal);
+        }
         'white: while rows.take_white_row(repeats, lines, reader.bit_pos(), ctx, reader) {
             if let Err(refusal) = decoder.push_row(&[]) {
                 let damage = ctx.damaged_rows();

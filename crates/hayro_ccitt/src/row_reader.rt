@@ -330,6 +330,17 @@ impl RowState {
         true
     }
 
+    /// Notes that white rows were read, so many, of which the last one's line begins at this offset.
+    #[inline(always)]
+    pub(crate) fn take_white_rows(&mut self, count: u64, start: usize, ctx: &mut DecoderContext) {
+        ctx.take_rows_again(count);
+        self.started_at = start;
+        self.damage = None;
+        self.cut = false;
+        self.missed = None;
+        self.stand = Stand::BehindRow;
+    }
+
     /// Reads the next row, and returns whether there was one. It is `UnexpectedEof` if more rows were read than these bits
     /// have room for.
     pub(crate) fn next_row(

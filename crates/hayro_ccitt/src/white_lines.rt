@@ -4,7 +4,7 @@ ghost use Rattle.std.specs.Prelude.{◌≡◌, ◌+◌, ◌<◌, ◌≤◌, ◌+
 ghost use Rattle.hayro_ccitt.specs.WhiteLines.{AreKnown, IsLine, FitsIn, IsWhiteLine, IsWhiteRun, PassesLine, bits_of_word};
 
 use crate::{DecodeSettings, EncodingMode};
-use fax_bits::bit_reader::{BitReader, pass_bits, pass_more_bits};
+use fax_bits::bit_reader::{BitReader, PlacedBits, WordsAhead, may_be_next, pass_bits, pass_more_bits};
 use fax_bits::tables::{CodeWord, white_makeup_word, white_terminating_word};
 
 /// The bits of the white lines that may be next below a white row, each with the EOL before it. No bits mean no line.
@@ -156,4 +156,19 @@ pub(crate) fn pass_line(lines: WhiteLines, reader: &mut BitReader<'_>) -> bool
         return false;
     }
     pass_more_bits(reader, second.bits, second.count)
+}
+
+/// Returns whether one of these lines may be next: one is, if it isn't cut by the end of the data.
+#[inline(always)]
+pub(crate) fn may_follow(lines: &WhiteLines, reader: &BitReader<'_>) -> bool
+    requires some { 0 < lines.now.first.count }
+    requires first { lines.now.first.count ≤ 32 }
+    requires second { lines.now.second.count ≤ 33 }
+{
+    let first = lines.first;
+    if may_be_next(reader, first.bits, first.count) {
+        return true;
+    }
+    let second = lines.second;
+    second.count > 1 && may_be_next(reader, second.bits, second.count)
 }
