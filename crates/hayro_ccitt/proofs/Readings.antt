@@ -20,6 +20,7 @@ pub mod RowsOfFeeds
 pub mod RowsPassed
 pub mod RowsPushed
 pub mod RowsTried
+pub mod WhiteRowsPushed
 pub use Rattle.fax_bits.proofs.Repetition.Gathered
 pub use Rattle.fax_bits.proofs.Repetition.Repeated
 pub use Rattle.fax_reading.proofs.Readings.DamageCounted

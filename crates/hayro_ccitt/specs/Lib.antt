@@ -12,6 +12,7 @@ pub mod RowsRead
 pub mod RowsTried
 pub mod TwoRunsHere
 pub mod WhiteLines
+pub mod WhiteRows
 pub use Rattle.fax_bits.specs.Bits
 pub use Rattle.fax_bits.specs.CodeLists
 pub use Rattle.fax_bits.specs.CodeReading

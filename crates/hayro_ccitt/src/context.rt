@@ -607,9 +607,15 @@ impl DecoderContext {
         self.ticks.tick();
     }
 
-    /// Counts more rows that are the reference row again, each with two ticks, as `take_row_again` does.
+    /// Counts so many more rows, each as `take_row_again` does.
     #[inline(always)]
-    pub(crate) fn take_rows_again(&mut self, count: u64) {
+    pub(crate) fn take_rows_again(&mut self, count: u64)
+        requires { self.old.held.taken + count < 2 ^ 64 }
+        ensures frame { self.new ≡ record self.old {
+          held = record self.old.held { taken = self.old.held.taken + count };
+          ticks = self.old.ticks + count + count;
+        } }
+    {
         self.decoded_rows += count;
         tick_times(&mut self.ticks, count as usize);
         tick_times(&mut self.ticks, count as usize);

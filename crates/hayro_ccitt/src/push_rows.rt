@@ -1,73 +1,103 @@
 //! Decoding into a sink: the rows of a reading one at a time, each passed to the sink.
 
-ghost use Rattle.std.specs.Prelude.{◌≡◌, ◌<◌, ◌≤◌, OnErr, false, max};
+ghost use Rattle.std.specs.Prelude.{◌≡◌, ◌<◌, ◌≤◌, ◌+◌, ◌-◌, ◌^◌, OnErr, false, true, length, max};
 ghost use Rattle.hayro_ccitt.specs.Bits.{here};
 ghost use Rattle.hayro_ccitt.specs.Context.{fresh};
 ghost use Rattle.hayro_ccitt.specs.Decoding.{DecodesRows, FailsHere, leaving};
 ghost use Rattle.hayro_ccitt.specs.Space.{most_room};
+ghost use Rattle.hayro_ccitt.specs.WhiteLines.{MayFollow};
+ghost use Rattle.hayro_ccitt.specs.WhiteRows.{PushesWhite};
 
 use crate::context::DecoderContext;
 use crate::row_reader::{RowState, first_stand, has_ended};
-use crate::white_lines::{WhiteLines, may_follow};
+use crate::white_lines::{WhiteLines, may_follow, pass_placed_line, placed_lines};
 use crate::{Decoder, EncodingMode, Result};
 use fax_bits::bit_reader::{BitOrder, BitReader, WordsAhead, at_bit, go_on_at, words_ahead};
 
-/// Reads white rows again and again.
+/// Returns how many more rows come before the row limit.
 #[inline(always)]
-fn push_words<D: Decoder>(
+fn rows_left(limit: u64, rows: u64) -> u64
+    ensures { result ≡ limit - rows }
+{
+    limit.saturating_sub(rows)
+}
+
+/// Reads each line that is one of these white lines, from words of eight bytes as they stand, and passes its row to the sink, up to
+/// the row limit and the last eight bytes. After `Refused` that row was read.
+#[inline(always)]
+fn push_white_words<D: Decoder>(
     mut words: WordsAhead<'_>,
     lines: &WhiteLines,
-    offset: usize,
+    dropped: usize,
     rows: &mut RowState,
     ctx: &mut DecoderContext,
     reader: &mut BitReader<'_>,
     decoder: &mut D,
-) -> Result<()> {
-    let first = words.placed(lines.first.bits, lines.first.count);
-    let second = words.placed(lines.second.bits, lines.second.count);
-    let before = ctx.decoded_rows();
-    let most = lines.limit.saturating_sub(before);
+) -> Result<()>
+    requires here { words.at ≡ reader.old }
+    requires follow { MayFollow ctx.old.held.settings ctx.old.held.has_eols ctx.old.held.reference lines.now }
+    requires fits { dropped + length reader.old.bits + 64 < 2 ^ 64 }
+    ensures width { D.width decoder.new ≡ D.width decoder.old }
+    ensures pushes { PushesWhite (D.step (D.width decoder.old)) lines.now dropped
+        (record { meaning = D.meaning decoder.old; refused = D.has_refused decoder.old; refuses = D.refuses decoder.old })
+        (record { meaning = D.meaning decoder.new; refused = D.has_refused decoder.new; refuses = D.refuses decoder.new })
+        rows.old rows.new ctx.old ctx.new reader.old reader.new result }
+{
+    let placed = placed_lines(lines, &words);
+    let most = rows_left(lines.limit, ctx.decoded_rows());
     let mut left = most;
     let mut start = words.bit_pos();
     'many: while left > 0 {
         let place = words.bit_pos();
-        if !words.pass_placed(&first) && !(lines.second.count > 1 && words.pass_placed(&second)) {
-            break;
+        if !pass_placed_line(&placed, &mut words) {
+            break 'many;
         }
         start = place;
         left -= 1;
         if let Err(refusal) = decoder.push_row(&[]) {
-            rows.take_white_rows(most - left, offset + start + lines.gap, ctx);
+            rows.take_white_rows(most - left, dropped + start + lines.gap, ctx);
             go_on_at(reader, &words);
             return Err(refusal);
         }
     }
     if left < most {
-        rows.take_white_rows(most - left, offset + start + lines.gap, ctx);
+        rows.take_white_rows(most - left, dropped + start + lines.gap, ctx);
         go_on_at(reader, &words);
     }
     Ok(())
 }
 
-/// Reads white rows again and again.
+/// If a white row repeats, reads lines and passes their rows as `push_white_words` does. So many bits of the data come before these.
 #[inline(always)]
 pub(crate) fn push_white_rows<D: Decoder>(
     repeats: bool,
     lines: &WhiteLines,
-    offset: usize,
+    dropped: usize,
     rows: &mut RowState,
     ctx: &mut DecoderContext,
     reader: &mut BitReader<'_>,
     decoder: &mut D,
-) -> Result<()> {
-    if !repeats || !may_follow(lines, reader) {
+) -> Result<()>
+    requires follow { repeats ≡ true
+        → MayFollow ctx.old.held.settings ctx.old.held.has_eols ctx.old.held.reference lines.now }
+    requires fits { dropped + length reader.old.bits + 64 < 2 ^ 64 }
+    ensures width { D.width decoder.new ≡ D.width decoder.old }
+    ensures pushes { PushesWhite (D.step (D.width decoder.old)) lines.now dropped
+        (record { meaning = D.meaning decoder.old; refused = D.has_refused decoder.old; refuses = D.refuses decoder.old })
+        (record { meaning = D.meaning decoder.new; refused = D.has_refused decoder.new; refuses = D.refuses decoder.new })
+        rows.old rows.new ctx.old ctx.new reader.old reader.new result }
+{
+    if !repeats {
+        return Ok(());
+    }
+    if !may_follow(lines, reader) {
         return Ok(());
     }
     if let Some(words) = words_ahead(reader, BitOrder::HighestFirst) {
-        return push_words(words, lines, offset, rows, ctx, reader, decoder);
+        return push_white_words(words, lines, dropped, rows, ctx, reader, decoder);
     }
     if let Some(words) = words_ahead(reader, BitOrder::LowestFirst) {
-        return push_words(words, lines, offset, rows, ctx, reader, decoder);
+        return push_white_words(words, lines, dropped, rows, ctx, reader, decoder);
     }
     Ok(())
 }

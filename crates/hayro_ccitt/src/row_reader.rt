@@ -330,9 +330,17 @@ impl RowState {
         true
     }
 
-    /// Notes that white rows were read, so many, of which the last one's line begins at this offset.
+    /// Counts white rows that were read again and again, one at least. The line of the last one begins at this offset.
     #[inline(always)]
-    pub(crate) fn take_white_rows(&mut self, count: u64, start: usize, ctx: &mut DecoderContext) {
+    pub(crate) fn take_white_rows(&mut self, count: u64, start: usize, ctx: &mut DecoderContext)
+        requires { ctx.old.held.taken + count < 2 ^ 64 }
+        ensures kept { self.new
+            ≡ record { started_at = start; damage = None; cut = false; missed = None; stand = Stand.BehindRow } }
+        ensures frame { ctx.new ≡ record ctx.old {
+          held = record ctx.old.held { taken = ctx.old.held.taken + count };
+          ticks = ctx.old.ticks + count + count;
+        } }
+    {
         ctx.take_rows_again(count);
         self.started_at = start;
         self.damage = None;
