@@ -21,6 +21,7 @@ pub mod RowsPassed
 pub mod RowsPushed
 pub mod RowsTried
 pub mod WhiteRowsPushed
+pub mod WhiteRowsRead
 pub use Rattle.fax_bits.proofs.Repetition.Gathered
 pub use Rattle.fax_bits.proofs.Repetition.Repeated
 pub use Rattle.fax_reading.proofs.Readings.DamageCounted

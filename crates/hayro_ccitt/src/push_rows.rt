@@ -12,7 +12,7 @@ use crate::context::DecoderContext;
 use crate::row_reader::{RowState, first_stand, has_ended};
 use crate::white_lines::{WhiteLines, may_follow, pass_placed_line, placed_lines};
 use crate::{Decoder, EncodingMode, Result};
-use fax_bits::bit_reader::{BitOrder, BitReader, WordsAhead, at_bit, go_on_at, words_ahead};
+use fax_bits::bit_reader::{BitOrder, BitReader, WordsAhead, at_bit, bit_len, go_on_at, words_ahead};
 
 /// Returns how many more rows come before the row limit.
 #[inline(always)]
@@ -140,12 +140,14 @@ pub(crate) fn push_rows<D: Decoder>(
             return Err(refusal);
         }
         let repeats = ctx.repeats_white(&mut lines);
+        // The number of bits is known to be small once it is read.
+        let _length = bit_len(reader);
         if let Err(refusal) = push_white_rows(repeats, &lines, 0, &mut rows, ctx, reader, decoder) {
-            let damage = ctx.damaged_rows();
-            let cuts = ctx.cut_rows();
-            ctx.take_back_row(damage, cuts);
-            let start = rows.started_at;
-            *reader = at_bit(reader, start);
+            let repaired = ctx.damaged_rows();
+            let cut = ctx.cut_rows();
+            ctx.take_back_row(repaired, cut);
+            let begin = rows.started_at;
+            *reader = at_bit(reader, begin);
             return Err(refusal);
         }
         'white: while rows.take_white_row(repeats, lines, reader.bit_pos(), ctx, reader) {

@@ -184,3 +184,13 @@ module _ {M : Type 0} {step : M → List ℕ → M} {lines : WhiteLines} {droppe
             flag,
           );
         }
+
+-- no row was read
+pub none_read : {M : Type 0} {step : M → List ℕ → M} {lines : WhiteLines} {dropped : ℕ} {sink : SinkState M} {rows : RowState}
+    {ctx : Context} {at : BitsAt} → PushesWhite step lines dropped sink sink rows rows ctx ctx at at (Ok tt)
+none_read {sink = sink} {rows} {ctx} {at} = record {
+  count = 0;
+  mid = record { rows = rows; ctx = ctx; at = at; meaning = sink.meaning };
+  pass = refl;
+  ends = (refl, refl);
+}
