@@ -20,6 +20,7 @@ pub mod RowsOfFeeds
 pub mod RowsPassed
 pub mod RowsPushed
 pub mod RowsTried
+pub mod WhiteRowsFed
 pub mod WhiteRowsPushed
 pub mod WhiteRowsRead
 pub use Rattle.fax_bits.proofs.Repetition.Gathered

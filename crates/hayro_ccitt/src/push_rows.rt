@@ -12,7 +12,9 @@ use crate::context::DecoderContext;
 use crate::row_reader::{RowState, first_stand, has_ended};
 use crate::white_lines::{WhiteLines, may_follow, pass_placed_line, placed_lines};
 use crate::{Decoder, EncodingMode, Result};
-use fax_bits::bit_reader::{BitOrder, BitReader, WordsAhead, at_bit, bit_len, go_on_at, words_ahead};
+use fax_bits::bit_reader::{
+    BitOrder, BitReader, WordsAhead, at_bit, bit_len, go_on_at, words_ahead,
+};
 
 /// Returns how many more rows come before the row limit.
 #[inline(always)]

@@ -20,8 +20,8 @@ use crate::gap_look::{
     GapLook, GapRules, GapStage, first_rules, is_settled_at_once, rules_behind_row,
 };
 use crate::line_parts::{KeptPart, begin_part, continue_line};
-use crate::row_reader::{RowState, Stand, first_stand, has_ended, is_at_line};
 use crate::push_rows::push_white_rows;
+use crate::row_reader::{RowState, Stand, first_stand, has_ended, is_at_line};
 use crate::rows::try_row;
 use crate::{DecodeError, Decoder, EncodingMode, Result};
 use fax_bits::DecodeSettings;

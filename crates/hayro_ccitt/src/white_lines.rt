@@ -5,7 +5,9 @@ ghost use Rattle.hayro_ccitt.specs.WhiteRows.{ArePlacedLines};
 ghost use Rattle.hayro_ccitt.specs.WhiteLines.{AreKnown, IsLine, FitsIn, IsWhiteLine, IsWhiteRun, PassesLine, bits_of_word};
 
 use crate::{DecodeSettings, EncodingMode};
-use fax_bits::bit_reader::{BitReader, PlacedBits, WordsAhead, may_be_next, pass_bits, pass_more_bits};
+use fax_bits::bit_reader::{
+    BitReader, PlacedBits, WordsAhead, may_be_next, pass_bits, pass_more_bits,
+};
 use fax_bits::tables::{CodeWord, white_makeup_word, white_terminating_word};
 
 /// The bits of the white lines that may be next below a white row, each with the EOL before it. No bits mean no line.

@@ -1,6 +1,6 @@
 -- White rows that are read one after another, and passed to a sink.
-use Rattle.hayro_ccitt.proofs.Names.{◌≡◌, ◌+◌, ◌-◌, ◌<◌, ◌∙◌, ℕ, zero, suc, List, [], Result, Ok, Err, ap, arith, refl, subst, sym}
-use Rattle.hayro_ccitt.proofs.Names.{Bits, BitsAt, Bool, BehindRow, Context, DecodeError, None, Refused, SinkState, false, true}
+use Rattle.hayro_ccitt.proofs.Names.{◌≡◌, ◌+◌, ◌-◌, ◌<◌, ◌∙◌, ℕ, zero, suc, List, [], Ok, Err, ap, arith, refl, subst, sym}
+use Rattle.hayro_ccitt.proofs.Names.{BitsAt, BehindRow, Context, DecodeError, None, Refused, SinkState, false, true}
 use Rattle.hayro_ccitt.proofs.Readings.RowsAgain.{not_at_limit}
 use Rattle.hayro_ccitt.specs.RowFeeds.{TakesWhite}
 use Rattle.hayro_ccitt.specs.WhiteLines.{MayFollow, PassesLine}

@@ -4,7 +4,6 @@ use Rattle.hayro_ccitt.proofs.Names.{Bits, BitsAt, BehindRow, Context, DecodeSet
 use Rattle.hayro_ccitt.proofs.Names.{seen}
 use Rattle.hayro_ccitt.proofs.Readings.RowsAgain.{taken_reads, taken_stands, white_unchanging}
 use Rattle.hayro_ccitt.proofs.Readings.RowsPushed.{means_pushed, of_same}
-use Rattle.hayro_ccitt.specs.WhiteLines.{MayFollow}
 use Rattle.hayro_ccitt.specs.WhiteRows.{PassWhite, PassesWhite, Pushed, ReadsWhite}
 use Rattle.hayro_ccitt.specs.declared.row_reader.RowState.{RowState}
 use Rattle.hayro_ccitt.specs.declared.white_lines.WhiteLines.{WhiteLines}

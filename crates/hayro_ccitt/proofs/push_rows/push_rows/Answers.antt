@@ -1,5 +1,5 @@
 use Rattle.hayro_ccitt.proofs.Names.{◌≡◌, ◌∙◌, ◌-◌, Bool, Result, Ok, Err, Some, refl, sym, ap, subst, arith, true}
-use Rattle.hayro_ccitt.proofs.Names.{err_from_is_err_and, length, DecodeError, DecodeSettings, Bits, BitsAt, Context, Held, rules}
+use Rattle.hayro_ccitt.proofs.Names.{err_from_is_err_and, length, DecodeError, DecodeSettings, Bits, BitsAt, Context, rules}
 use Rattle.hayro_ccitt.proofs.Names.{SinkState, here, failed_at, IsStanding, IsStandingAtLine, ReachesNextLine, ReadsNext, seen}
 use Rattle.hayro_ccitt.proofs.Names.{ended, row_came, is_some, sum_by, words_of, take, plain, None, ℕ}
 use Rattle.hayro_ccitt.proofs.Names.{drop, DecodesRows, meaning_after, ReaderStands, DamageIsCounted, WorkIsPaid, MissIsTold}
@@ -8,7 +8,7 @@ use Rattle.hayro_ccitt.specs.declared.row_reader.RowState.{RowState}
 use Rattle.hayro_ccitt.proofs.PixelRows.ChangesAndPixels.{AreChanges-wider}
 use Rattle.hayro_ccitt.proofs.Readings.RowByRow.{at_line_stands, few, reader_fails_at_line}
 use Rattle.hayro_ccitt.proofs.Readings.RowsPushed.{HasRun, decodes_rows, ends_unfailed, means_pushed, none_missed, of_same}
-use Rattle.hayro_ccitt.proofs.Readings.RowsPushed.{few_rows_behind, run_is_over, run_refused}
+use Rattle.hayro_ccitt.proofs.Readings.RowsPushed.{run_is_over, run_refused}
 use Rattle.hayro_ccitt.proofs.Readings.RowsAgain.{taken_reads, taken_stands, taken_starts, taken_within, white_unchanging}
 use Rattle.hayro_ccitt.proofs.Names.{changes}
 use Rattle.hayro_ccitt.specs.RowFeeds.{TakesWhite}
@@ -430,8 +430,11 @@ returns-in-Err-push_white_rows-clause-space g c =
     let there = goal.at.returns-in-Err-push_white_rows-clause-space g c in
     let at = there.After-push_white_rows in
     let takes = (refused_behind g at c.in-Err-push_white_rows.is).reads.takes in
-    rw (c.take_back_row-in-Err-push_white_rows.ensures.frame, ap (λ (x : Context). x.space) takes.new_is,
-    ap (λ (x : Context). x.space) (counted_mid g at).same) (room_there g there.After-read_line)
+    rw (
+      c.take_back_row-in-Err-push_white_rows.ensures.frame,
+      ap (λ (x : Context). x.space) takes.new_is,
+      ap (λ (x : Context). x.space) (counted_mid g at).same,
+    ) (room_there g there.After-read_line)
 
 -- a white row that is taken is the next one
 module _ (g : Over) (c : After-take_white_row g) (is : c.take_white_row.result ≡ true) where

@@ -3,7 +3,6 @@ use Rattle.fax_bits.specs.Window.{WordsAt}
 use Rattle.hayro_ccitt.proofs.Readings.WhiteRowsPushed.{HasPushedWhite, ctx_behind, none_left, none_pushed, one_pushed, one_refused, some_pushed}
 use Rattle.hayro_ccitt.specs.WhiteLines.{PassesLine}
 use Rattle.hayro_ccitt.specs.WhiteRows.{ArePlacedLines}
-use Rattle.hayro_ccitt.specs.declared.row_reader.RowState.{RowState}
 use Rattle.fax_bits.specs.declared.bit_reader.BitOrder.{BitOrder}
 use Rattle.hayro_ccitt.proofs.push_rows.push_white_words.{Given.Over}
 use Rattle.hayro_ccitt.proofs.push_rows.push_white_words.Goals.{After-push_row, After-many}
