@@ -2,10 +2,10 @@
 
 ghost use Rattle.std.specs.Prelude.{◌≡◌, ◌+◌, ◌-◌, ◌*◌, ◌/◌, ◌%◌, ◌^◌, ◌<◌, ◌≤◌, ◌==◌, ◌↔◌, ◌∷◌, ℕ, length, min, false};
 ghost use Rattle.std.specs.Prelude.{◌++◌, slice_get, slice_index, get_or, Some, IfSome, true, IfOk, OnOk, OnErr, IsErr};
-ghost use Rattle.std.specs.Prelude.{IsOkUnless};
+ghost use Rattle.std.specs.Prelude.{IsOkUnless, ◌⊎◌};
 ghost use Rattle.fax_bits.specs.Bits.{AreWholeBytes, BitsAt, BitsFit, bits_of, low_first_bits_of, bits_in, bit_of, here};
 ghost use Rattle.fax_bits.specs.Bits.{at_end, aligned, low_bits};
-ghost use Rattle.fax_bits.specs.Window.{place_in_word, ArePlaced, AtHand, WordsAt, moved};
+ghost use Rattle.fax_bits.specs.Window.{place_in_word, ArePlaced, AtHand, HoldsNext, PassesPlaced, WordsAt, moved};
 ghost use Rattle.fax_bits.specs.LookUps.{padded, seven_bits, thirteen_bits, twelve_bits};
 
 use crate::{DecodeError, Result};
@@ -458,7 +458,7 @@ pub fn may_be_next(reader: &BitReader<'_>, bits: u64, count: usize) -> bool
 impl<'a> WordsAhead<'a> {
     /// Returns the number of bits before the offset.
     #[inline(always)]
-    pub fn bit_pos(&self) -> usize
+    pub fn passed(&self) -> usize
         ensures place { result ≡ self.now.at.place }
         ensures within { result ≤ length self.now.at.bits }
     {
@@ -487,31 +487,48 @@ impl<'a> WordsAhead<'a> {
         }
     }
 
-    /// Passes these bits if they are next and eight bytes are left, and returns whether it did; otherwise nothing changes.
+    /// Returns the next bits, 57 at least, in a word, or `None` if fewer than eight bytes begin at the offset's.
     #[inline(always)]
-    pub fn pass_placed(&mut self, placed: &PlacedBits) -> bool
-        requires few { placed.now.count ≤ 57 }
-        ensures order { self.new.order ≡ self.old.order }
-        ensures passed { (count bits : ℕ) → result ≡ true → ArePlaced self.old.order count bits placed.now
-            → (here self.old.at ≡ low_bits count bits ++ here (moved count self.old.at))
-            × (self.old.at.place + count ≤ length self.old.at.bits) × (self.new.at ≡ moved count self.old.at) }
-        ensures unchanged { result ≡ false → self.new ≡ self.old }
+    fn next_word(&self) -> Option<u64>
+        ensures { IfSome result (HoldsNext self.now) }
     {
-        let byte = self.place / 8;
-        if byte + 8 > self.data.len() {
-            return false;
+        let place = self.place;
+        let byte = place / 8;
+        if byte >= self.data.len().saturating_sub(7) {
+            return None;
         }
         let bytes = &self.data[byte..];
-        let shift = self.place % 8;
+        let shift = place % 8;
         let word = match self.order {
             BitOrder::HighestFirst => whole_word(bytes, BitOrder::HighestFirst) << shift,
             BitOrder::LowestFirst => low_word(bytes) >> shift,
         };
-        if word & placed.mask != placed.word {
+        Some(word)
+    }
+
+    /// Passes the first of these bits or else the second if they are next and eight bytes are left, and returns whether it did;
+    /// otherwise nothing changes.
+    #[inline(always)]
+    pub fn pass_either(&mut self, first: &PlacedBits, second: &PlacedBits) -> bool
+        requires first { first.now.count ≤ 57 }
+        requires second { second.now.count ≤ 57 }
+        ensures order { self.new.order ≡ self.old.order }
+        ensures passed { result ≡ true
+            → PassesPlaced first.now self.old self.new.at ⊎ PassesPlaced second.now self.old self.new.at }
+        ensures unchanged { result ≡ false → self.new ≡ self.old }
+    {
+        let Some(word) = self.next_word() else {
             return false;
+        };
+        if word & first.mask == first.word {
+            self.place += first.count;
+            return true;
         }
-        self.place += placed.count;
-        true
+        if word & second.mask == second.word {
+            self.place += second.count;
+            return true;
+        }
+        false
     }
 }
 

@@ -48,9 +48,9 @@ fn push_white_words<D: Decoder>(
     let placed = placed_lines(lines, &words);
     let most = rows_left(lines.limit, ctx.decoded_rows());
     let mut left = most;
-    let mut start = words.bit_pos();
+    let mut start = words.passed();
     'many: while left > 0 {
-        let place = words.bit_pos();
+        let place = words.passed();
         if !pass_placed_line(&placed, &mut words) {
             break 'many;
         }

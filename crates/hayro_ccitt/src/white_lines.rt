@@ -216,8 +216,5 @@ pub(crate) fn pass_placed_line(placed: &PlacedLines, words: &mut WordsAhead<'_>)
         → PassesLine lines words.old.at words.new.at }
     ensures unchanged { result ≡ false → words.new ≡ words.old }
 {
-    if words.pass_placed(&placed.first) {
-        return true;
-    }
-    words.pass_placed(&placed.second)
+    words.pass_either(&placed.first, &placed.second)
 }

@@ -2,11 +2,11 @@
 use Rattle.fax_bits.proofs.Names.{◌≡◌, ℕ, suc, zero, ◌+◌, ◌-◌, ◌*◌, ◌/◌, ◌%◌, ◌^◌, ◌<◌, ◌≤◌, ◌++◌, ◌∷◌, eqb, false, true, List, []}
 use Rattle.fax_bits.proofs.Names.{get_or, drop, length, refl, sym, ap, ◌∙◌, arith, eqb-true, drop-drop, length-drop, get_or-drop}
 use Rattle.fax_bits.proofs.Names.{append-nil, bit_and, bit_at, bit_at-lt, BitOrder, HighestFirst, LowestFirst, Bits, BitsAt, bit_of}
-use Rattle.fax_bits.proofs.Names.{bits_in, bits_of, from_be_bytes, w64, here, low_bits, min, moved, padded, get_or_past, subst}
+use Rattle.fax_bits.proofs.Names.{bits_in, from_be_bytes, w64, here, low_bits, min, moved, padded}
 use Rattle.fax_bits.proofs.BitReading.PeekedBits.{low_bits-padded}
 use Rattle.fax_bits.proofs.BitReading.WindowWords.{IsBytes, bit_at-shr, filled, get_or-bits_in, shifted_bit, word_bit}
 use Rattle.fax_bits.proofs.CodeWords.LooksAhead.{length-padded, stands_in_padded}
-use Rattle.fax_bits.specs.Window.{ArePlaced, position_of}
+use Rattle.fax_bits.specs.Window.{ArePlaced, HoldsNext, PassesPlaced, WordsAt, position_of}
 use Rattle.fax_bits.specs.declared.bit_reader.PlacedBits.{PlacedBits}
 use Rattle.std.proofs.lemmas.Nat.Bits.{bit_at_and, bit_at_ones}
 use Rattle.std.specs.Int.{to_be_bytes}
@@ -143,6 +143,16 @@ module _ (order : BitOrder) (at : BitsAt) (word count bits : ℕ) (placed : Plac
       ∙ ap (λ (n : ℕ). padded count (here at) ++ drop n (here at)) long
       ∙ ap (λ (b : Bits). padded count (here at) ++ b) (drop-drop count at.place at.bits)
       ∙ ap (λ (b : Bits). b ++ here (moved count at)) (sym shown)
+
+-- so placed bits that are equal are passed
+pub placed_passed : (words : WordsAt) (word : ℕ) (placed : PlacedBits) (next : BitsAt) → HoldsNext words word
+    → bit_and word placed.mask ≡ placed.word → next ≡ moved placed.count words.at → PassesPlaced placed words next
+placed_passed words word placed next holds same is count bits are =
+    let room : words.at.place + count ≤ length words.at.bits = omega (arith, holds.room, are.few) in (
+      placed_there words.order words.at word count bits placed holds.bits are same room,
+      room,
+      is ∙ ap (λ (n : ℕ). moved n words.at) are.count_is,
+    )
 
 -- the next bits in a word of eight bytes from the offset's byte on
 pub next_high : (bytes : List ℕ) (place word : ℕ)

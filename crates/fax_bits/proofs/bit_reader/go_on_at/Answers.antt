@@ -1,4 +1,4 @@
-use Rattle.fax_bits.proofs.Names.{◌≡◌, ◌∙◌, ap, length, sym, arith, Bits, BitsAt}
+use Rattle.fax_bits.proofs.Names.{◌∙◌, ap, length, sym, arith, BitsAt}
 use Rattle.fax_bits.proofs.BitReading.BitLists.{length-bits_in}
 use Rattle.fax_bits.specs.Window.{WordsAt}
 use Rattle.fax_bits.proofs.bit_reader.go_on_at.Goals as goal

@@ -17,7 +17,7 @@ many-init g c = record {
   reader = refl;
   placed = c.placed_lines-placed.ensures;
   bits = ap (λ (b : BitsAt). b.bits) c.requires.here;
-  within = omega (arith, c.bit_pos-start.ensures.within, ap (λ (b : BitsAt). length b.bits) c.requires.here);
+  within = omega (arith, c.passed-start.ensures.within, ap (λ (b : BitsAt). length b.bits) c.requires.here);
   width = refl;
   unrefused = refl;
 }
@@ -57,7 +57,7 @@ returns-in-Err-clause-pushes g c =
       cut = false;
       missed = None;
       stand = BehindRow;
-    }) c.bit_pos-place.ensures.place) (c.take_white_rows.ensures.frame ∙ ap (ctx_behind counted) inv.ctx) c.go_on_at.ensures refl
+    }) c.passed-place.ensures.place) (c.take_white_rows.ensures.frame ∙ ap (ctx_behind counted) inv.ctx) c.go_on_at.ensures refl
     c.in-Err.ensures.kept c.in-Err.ensures.only_refused c.in-Err.ensures.refused c.in-Err.ensures.refused_row
 
 pub many-preserved : goal.many-preserved
@@ -69,7 +69,7 @@ many-preserved g c =
     record {
       pushed = subst (λ (n : ℕ). HasPushedWhite step c.args.lines.now c.args.dropped c.rows_left-most.result (c.many.left - 1) n
           c.args.rows.now c.args.ctx.now c.args.reader.now c.pass_placed_line.new.words.at
-          (g.D.Decoder.meaning c.args.decoder.now) (g.D.Decoder.meaning c.push_row.new.self)) (sym c.bit_pos-place.ensures.place)
+          (g.D.Decoder.meaning c.args.decoder.now) (g.D.Decoder.meaning c.push_row.new.self)) (sym c.passed-place.ensures.place)
           (one_pushed inv.pushed c.requires.follow
           (c.rows_left-most.ensures ∙ ap (λ (n : ℕ). c.args.lines.now.limit - n) c.decoded_rows.ensures) c.many-test.true
           (passes g here) (c.many.left - 1) (omega (arith, c.many-test.true)) (c.in_default.ensures.taken
@@ -80,7 +80,7 @@ many-preserved g c =
       placed = subst (λ (o : BitOrder). ArePlacedLines o c.args.lines.now c.placed_lines-placed.result)
           (sym c.pass_placed_line.ensures.order) inv.placed;
       bits = ap (λ (b : BitsAt). b.bits) (passes g here).moved_on ∙ inv.bits;
-      within = omega (arith, c.bit_pos-place.ensures.within, ap length inv.bits);
+      within = omega (arith, c.passed-place.ensures.within, ap length inv.bits);
       width = c.push_row.ensures.same_width ∙ inv.width;
       unrefused = c.in_default.ensures.not_refused ∙ inv.unrefused;
     }
