@@ -7,6 +7,7 @@ pub mod FilledWindows
 pub mod LookUpEntries
 pub mod OnesLeft
 pub mod PeekedBits
+pub mod PlacedBits
 pub mod PlainEols
 pub mod SoughtEols
 pub mod TablesAgree

@@ -2,10 +2,10 @@
 
 ghost use Rattle.std.specs.Prelude.{◌≡◌, ◌+◌, ◌-◌, ◌*◌, ◌/◌, ◌%◌, ◌^◌, ◌<◌, ◌≤◌, ◌==◌, ◌↔◌, ◌∷◌, ℕ, length, min, false};
 ghost use Rattle.std.specs.Prelude.{◌++◌, slice_get, slice_index, get_or, Some, IfSome, true, IfOk, OnOk, OnErr, IsErr};
-ghost use Rattle.std.specs.Prelude.{IsOkUnless};
+ghost use Rattle.std.specs.Prelude.{IsOkUnless, ◌⊎◌};
 ghost use Rattle.fax_bits.specs.Bits.{AreWholeBytes, BitsAt, BitsFit, bits_of, low_first_bits_of, bits_in, bit_of, here};
 ghost use Rattle.fax_bits.specs.Bits.{at_end, aligned, low_bits};
-ghost use Rattle.fax_bits.specs.Window.{place_in_word, AtHand, moved};
+ghost use Rattle.fax_bits.specs.Window.{place_in_word, ArePlaced, AtHand, HoldsNext, PassesPlaced, WordsAt, moved};
 ghost use Rattle.fax_bits.specs.LookUps.{padded, seven_bits, thirteen_bits, twelve_bits};
 
 use crate::{DecodeError, Result};
@@ -378,6 +378,158 @@ pub fn bit_len(reader: &BitReader<'_>) -> usize
     ensures fit { length reader.now.bits + 64 < 2 ^ 64 }
 {
     reader.data.len() * 8
+}
+
+/// Returns the first eight bytes as a word, the lowest bit of the first one in the lowest position.
+#[inline(always)]
+fn low_word(bytes: &[u8]) -> u64
+    requires { 8 ≤ length bytes.now }
+    ensures { (k : ℕ) → k < 64 → bit_of result k ≡ get_or (bits_in BitOrder.LowestFirst bytes.now) k false }
+{
+    u64::from_be_bytes([
+        bytes[7], bytes[6], bytes[5], bytes[4], bytes[3], bytes[2], bytes[1], bytes[0],
+    ])
+}
+
+/// A few bits as they stand in a word of eight bytes, from its first bit on.
+#[derive(Copy, Clone)]
+pub struct PlacedBits {
+    /// How many there are.
+    pub(crate) count: usize,
+    /// A one for each of them.
+    pub(crate) mask: u64,
+    /// They, where the mask has its ones.
+    pub(crate) word: u64,
+}
+
+/// The bits of some bytes and an offset among them, from which bits are compared with words of eight bytes as they stand.
+#[derive(Drop)]
+pub struct WordsAhead<'a> {
+    data: &'a [u8],
+    place: usize,
+    order: BitOrder,
+}
+
+impl<'a> Model for WordsAhead<'a> {
+    ghost use Rattle.fax_bits.specs.Window.{WordsAt, IsAhead};
+    ghost use Rattle.fax_bits.specs.Bits.{bits_in};
+
+    ghost Value = { WordsAt };
+
+    ghost view = { λ r. record { at = record { bits = bits_in r.order r.«data».now; place = r.place }; order = r.order } };
+
+    ghost invariant = { IsAhead };
+}
+
+/// Returns the same bits at the same offset, or `None` if the bits are in another order.
+#[inline(always)]
+pub fn words_ahead<'a>(reader: &BitReader<'a>, order: BitOrder) -> Option<WordsAhead<'a>>
+    ensures same { IfSome result (λ words. words ≡ record { at = reader.now; order = order }) }
+{
+    if reader.order == order {
+        Some(WordsAhead {
+            data: reader.data,
+            place: reader.place,
+            order,
+        })
+    } else {
+        None
+    }
+}
+
+/// Moves to where the same bits are compared.
+#[inline(always)]
+pub fn go_on_at(reader: &mut BitReader<'_>, words: &WordsAhead<'_>)
+    requires { words.now.at.bits ≡ reader.old.bits }
+    ensures { reader.new ≡ words.now.at }
+{
+    *reader = at_place(reader.data, reader.order, words.place);
+}
+
+/// Returns whether the lowest `count` bits of a number may be next: they are, if these aren't beyond the end.
+#[inline(always)]
+pub fn may_be_next(reader: &BitReader<'_>, bits: u64, count: usize) -> bool
+    requires some { 0 < count }
+    requires few { count ≤ 64 }
+{
+    reader.window >> (64 - count) == bits
+}
+
+impl<'a> WordsAhead<'a> {
+    /// Returns the number of bits before the offset.
+    #[inline(always)]
+    pub fn passed(&self) -> usize
+        ensures place { result ≡ self.now.at.place }
+        ensures within { result ≤ length self.now.at.bits }
+    {
+        self.place
+    }
+
+    /// Returns the lowest `count` bits of a number as they stand in these bytes.
+    #[inline(always)]
+    pub fn placed(&self, bits: u64, count: usize) -> PlacedBits
+        requires some { 0 < count }
+        requires few { count ≤ 57 }
+        ensures { ArePlaced self.now.order count bits result }
+    {
+        let top = bits << (64 - count);
+        match self.order {
+            BitOrder::HighestFirst => PlacedBits {
+                count,
+                mask: u64::MAX << (64 - count),
+                word: top,
+            },
+            BitOrder::LowestFirst => PlacedBits {
+                count,
+                mask: u64::MAX >> (64 - count),
+                word: low_word(&bytes_turned(top).to_be_bytes()),
+            },
+        }
+    }
+
+    /// Returns the next bits, 57 at least, in a word, or `None` if fewer than eight bytes begin at the offset's.
+    #[inline(always)]
+    fn next_word(&self) -> Option<u64>
+        ensures { IfSome result (HoldsNext self.now) }
+    {
+        let place = self.place;
+        let byte = place / 8;
+        if byte >= self.data.len().saturating_sub(7) {
+            return None;
+        }
+        let bytes = &self.data[byte..];
+        let shift = place % 8;
+        let word = match self.order {
+            BitOrder::HighestFirst => whole_word(bytes, BitOrder::HighestFirst) << shift,
+            BitOrder::LowestFirst => low_word(bytes) >> shift,
+        };
+        Some(word)
+    }
+
+    /// Passes the first of these bits or else the second if they are next and eight bytes are left, and returns whether it did;
+    /// otherwise nothing changes.
+    #[inline(always)]
+    pub fn pass_either(&mut self, first: &PlacedBits, second: &PlacedBits) -> bool
+        requires first { first.now.count ≤ 57 }
+        requires second { second.now.count ≤ 57 }
+        ensures order { self.new.order ≡ self.old.order }
+        ensures passed { result ≡ true
+            → PassesPlaced first.now self.old self.new.at ⊎ PassesPlaced second.now self.old self.new.at }
+        ensures unchanged { result ≡ false → self.new ≡ self.old }
+    {
+        let Some(word) = self.next_word() else {
+            return false;
+        };
+        if word & first.mask == first.word {
+            self.place += first.count;
+            return true;
+        }
+        if word & second.mask == second.word {
+            self.place += second.count;
+            return true;
+        }
+        false
+    }
 }
 
 /// The bits of some bytes and an offset among them, as the drawing of a line keeps them for itself: the next ones are

@@ -20,6 +20,9 @@ pub mod RowsOfFeeds
 pub mod RowsPassed
 pub mod RowsPushed
 pub mod RowsTried
+pub mod WhiteRowsFed
+pub mod WhiteRowsPushed
+pub mod WhiteRowsRead
 pub use Rattle.fax_bits.proofs.Repetition.Gathered
 pub use Rattle.fax_bits.proofs.Repetition.Repeated
 pub use Rattle.fax_reading.proofs.Readings.DamageCounted

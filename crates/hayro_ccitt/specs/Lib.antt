@@ -14,6 +14,7 @@ pub mod RowsTried
 pub mod TakenRows
 pub mod TwoRunsHere
 pub mod WhiteLines
+pub mod WhiteRows
 pub use Rattle.fax_bits.specs.Bits
 pub use Rattle.fax_bits.specs.CodeLists
 pub use Rattle.fax_bits.specs.CodeReading

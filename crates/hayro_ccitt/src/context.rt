@@ -31,7 +31,7 @@ use crate::{DecodeError, Decoder, Result};
 use fax_bits::bit_reader::{
     BitOrder, BitReader, BitScanner, BitsAtHand, at_hand, go_to, none_at_hand, window_at_hand,
 };
-use fax_bits::codes::{Color, Mode, Ticks, pass_v0};
+use fax_bits::codes::{Color, Mode, Ticks, pass_v0, tick_times};
 use fax_bits::tables::Tables;
 use fax_bits::{DecodeSettings, EncodingMode};
 use std::alloc::Global;
@@ -605,6 +605,20 @@ impl DecoderContext {
         self.decoded_rows = rows + 1;
         self.ticks.tick();
         self.ticks.tick();
+    }
+
+    /// Counts so many more rows, each as `take_row_again` does.
+    #[inline(always)]
+    pub(crate) fn take_rows_again(&mut self, count: u64)
+        requires { self.old.held.taken + count < 2 ^ 64 }
+        ensures frame { self.new ≡ record self.old {
+          held = record self.old.held { taken = self.old.held.taken + count };
+          ticks = self.old.ticks + count + count;
+        } }
+    {
+        self.decoded_rows += count;
+        tick_times(&mut self.ticks, count as usize);
+        tick_times(&mut self.ticks, count as usize);
     }
 
     /// Takes back the last row, which the sink refused: it isn't counted, and this many rows are damaged, and in this many a

@@ -1,15 +1,108 @@
 //! Decoding into a sink: the rows of a reading one at a time, each passed to the sink.
 
-ghost use Rattle.std.specs.Prelude.{◌≡◌, ◌<◌, ◌≤◌, OnErr, false, max};
+ghost use Rattle.std.specs.Prelude.{◌≡◌, ◌<◌, ◌≤◌, ◌+◌, ◌-◌, ◌^◌, OnErr, false, true, length, max};
 ghost use Rattle.hayro_ccitt.specs.Bits.{here};
 ghost use Rattle.hayro_ccitt.specs.Context.{fresh};
 ghost use Rattle.hayro_ccitt.specs.Decoding.{DecodesRows, FailsHere, leaving};
 ghost use Rattle.hayro_ccitt.specs.Space.{most_room};
+ghost use Rattle.hayro_ccitt.specs.WhiteLines.{MayFollow};
+ghost use Rattle.hayro_ccitt.specs.WhiteRows.{PushesWhite};
 
 use crate::context::DecoderContext;
 use crate::row_reader::{RowState, first_stand, has_ended};
+use crate::white_lines::{WhiteLines, may_follow, pass_placed_line, placed_lines};
 use crate::{Decoder, EncodingMode, Result};
-use fax_bits::bit_reader::{BitReader, at_bit};
+use fax_bits::bit_reader::{
+    BitOrder, BitReader, WordsAhead, at_bit, bit_len, go_on_at, words_ahead,
+};
+
+/// Returns how many more rows come before the row limit.
+#[inline(always)]
+fn rows_left(limit: u64, rows: u64) -> u64
+    ensures { result ≡ limit - rows }
+{
+    limit.saturating_sub(rows)
+}
+
+/// Reads each line that is one of these white lines, from words of eight bytes as they stand, and passes its row to the sink, up to
+/// the row limit and the last eight bytes. After `Refused` that row was read.
+#[inline(always)]
+fn push_white_words<D: Decoder>(
+    mut words: WordsAhead<'_>,
+    lines: &WhiteLines,
+    dropped: usize,
+    rows: &mut RowState,
+    ctx: &mut DecoderContext,
+    reader: &mut BitReader<'_>,
+    decoder: &mut D,
+) -> Result<()>
+    requires here { words.at ≡ reader.old }
+    requires follow { MayFollow ctx.old.held.settings ctx.old.held.has_eols ctx.old.held.reference lines.now }
+    requires fits { dropped + length reader.old.bits + 64 < 2 ^ 64 }
+    ensures width { D.width decoder.new ≡ D.width decoder.old }
+    ensures pushes { PushesWhite (D.step (D.width decoder.old)) lines.now dropped
+        (record { meaning = D.meaning decoder.old; refused = D.has_refused decoder.old; refuses = D.refuses decoder.old })
+        (record { meaning = D.meaning decoder.new; refused = D.has_refused decoder.new; refuses = D.refuses decoder.new })
+        rows.old rows.new ctx.old ctx.new reader.old reader.new result }
+{
+    let placed = placed_lines(lines, &words);
+    let most = rows_left(lines.limit, ctx.decoded_rows());
+    let mut left = most;
+    let mut start = words.passed();
+    'many: while left > 0 {
+        let place = words.passed();
+        if !pass_placed_line(&placed, &mut words) {
+            break 'many;
+        }
+        start = place;
+        left -= 1;
+        if let Err(refusal) = decoder.push_row(&[]) {
+            rows.take_white_rows(most - left, dropped + start + lines.gap, ctx);
+            go_on_at(reader, &words);
+            return Err(refusal);
+        }
+    }
+    if left < most {
+        rows.take_white_rows(most - left, dropped + start + lines.gap, ctx);
+        go_on_at(reader, &words);
+    }
+    Ok(())
+}
+
+/// If a white row repeats, reads lines and passes their rows as `push_white_words` does. So many bits of the data come before these.
+#[inline(always)]
+pub(crate) fn push_white_rows<D: Decoder>(
+    repeats: bool,
+    lines: &WhiteLines,
+    dropped: usize,
+    rows: &mut RowState,
+    ctx: &mut DecoderContext,
+    reader: &mut BitReader<'_>,
+    decoder: &mut D,
+) -> Result<()>
+    requires follow { repeats ≡ true
+        → MayFollow ctx.old.held.settings ctx.old.held.has_eols ctx.old.held.reference lines.now }
+    requires fits { dropped + length reader.old.bits + 64 < 2 ^ 64 }
+    ensures width { D.width decoder.new ≡ D.width decoder.old }
+    ensures pushes { PushesWhite (D.step (D.width decoder.old)) lines.now dropped
+        (record { meaning = D.meaning decoder.old; refused = D.has_refused decoder.old; refuses = D.refuses decoder.old })
+        (record { meaning = D.meaning decoder.new; refused = D.has_refused decoder.new; refuses = D.refuses decoder.new })
+        rows.old rows.new ctx.old ctx.new reader.old reader.new result }
+{
+    if !repeats {
+        return Ok(());
+    }
+    if !may_follow(lines, reader) {
+        return Ok(());
+    }
+    if let Some(words) = words_ahead(reader, BitOrder::HighestFirst) {
+        return push_white_words(words, lines, dropped, rows, ctx, reader, decoder);
+    }
+    if let Some(words) = words_ahead(reader, BitOrder::LowestFirst) {
+        return push_white_words(words, lines, dropped, rows, ctx, reader, decoder);
+    }
+    Ok(())
+}
 
 /// Reads the rows of an image and passes each to the sink, in every encoding, until EOFB or RTC (with `end_of_block`), the row
 /// limit or the end of the data. The errors are those of a line that isn't repaired, `InvalidCode` if strict data misses an
@@ -49,6 +142,16 @@ pub(crate) fn push_rows<D: Decoder>(
             return Err(refusal);
         }
         let repeats = ctx.repeats_white(&mut lines);
+        // The number of bits is known to be small once it is read.
+        let _length = bit_len(reader);
+        if let Err(refusal) = push_white_rows(repeats, &lines, 0, &mut rows, ctx, reader, decoder) {
+            let repaired = ctx.damaged_rows();
+            let cut = ctx.cut_rows();
+            ctx.take_back_row(repaired, cut);
+            let begin = rows.started_at;
+            *reader = at_bit(reader, begin);
+            return Err(refusal);
+        }
         'white: while rows.take_white_row(repeats, lines, reader.bit_pos(), ctx, reader) {
             if let Err(refusal) = decoder.push_row(&[]) {
                 let damage = ctx.damaged_rows();

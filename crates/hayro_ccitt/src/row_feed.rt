@@ -20,6 +20,7 @@ use crate::gap_look::{
     GapLook, GapRules, GapStage, first_rules, is_settled_at_once, rules_behind_row,
 };
 use crate::line_parts::{KeptPart, begin_part, continue_line};
+use crate::push_rows::push_white_rows;
 use crate::row_reader::{RowState, Stand, first_stand, has_ended, is_at_line};
 use crate::rows::try_row;
 use crate::{DecodeError, Decoder, EncodingMode, Result};
@@ -656,6 +657,19 @@ impl RowFeed {
                 return Err(refusal);
             }
             let repeats = self.ctx.repeats_white(&mut lines);
+            if let Err(refused) = push_white_rows(
+                repeats,
+                &lines,
+                self.dropped,
+                &mut self.rows,
+                &mut self.ctx,
+                &mut reader,
+                decoder,
+            ) {
+                self.place = reader.bit_pos();
+                return Err(refused);
+            }
+            self.place = reader.bit_pos();
             'white: while self.rows.take_white_row(
                 repeats,
                 lines,

@@ -330,6 +330,25 @@ impl RowState {
         true
     }
 
+    /// Counts white rows that were read again and again, one at least. The line of the last one begins at this offset.
+    #[inline(always)]
+    pub(crate) fn take_white_rows(&mut self, count: u64, start: usize, ctx: &mut DecoderContext)
+        requires { ctx.old.held.taken + count < 2 ^ 64 }
+        ensures kept { self.new
+            ≡ record { started_at = start; damage = None; cut = false; missed = None; stand = Stand.BehindRow } }
+        ensures frame { ctx.new ≡ record ctx.old {
+          held = record ctx.old.held { taken = ctx.old.held.taken + count };
+          ticks = ctx.old.ticks + count + count;
+        } }
+    {
+        ctx.take_rows_again(count);
+        self.started_at = start;
+        self.damage = None;
+        self.cut = false;
+        self.missed = None;
+        self.stand = Stand::BehindRow;
+    }
+
     /// Reads the next row, and returns whether there was one. It is `UnexpectedEof` if more rows were read than these bits
     /// have room for.
     pub(crate) fn next_row(

@@ -1,10 +1,13 @@
 //! White lines below a white row, by their bits.
 
 ghost use Rattle.std.specs.Prelude.{◌≡◌, ◌+◌, ◌<◌, ◌≤◌, ◌++◌, ◌⊎◌, true, false, ℕ};
+ghost use Rattle.hayro_ccitt.specs.WhiteRows.{ArePlacedLines};
 ghost use Rattle.hayro_ccitt.specs.WhiteLines.{AreKnown, IsLine, FitsIn, IsWhiteLine, IsWhiteRun, PassesLine, bits_of_word};
 
 use crate::{DecodeSettings, EncodingMode};
-use fax_bits::bit_reader::{BitReader, pass_bits, pass_more_bits};
+use fax_bits::bit_reader::{
+    BitReader, PlacedBits, WordsAhead, may_be_next, pass_bits, pass_more_bits,
+};
 use fax_bits::tables::{CodeWord, white_makeup_word, white_terminating_word};
 
 /// The bits of the white lines that may be next below a white row, each with the EOL before it. No bits mean no line.
@@ -156,4 +159,62 @@ pub(crate) fn pass_line(lines: WhiteLines, reader: &mut BitReader<'_>) -> bool
         return false;
     }
     pass_more_bits(reader, second.bits, second.count)
+}
+
+/// Returns whether one of these lines may be next: one is, if it isn't cut by the end of the data.
+#[inline(always)]
+pub(crate) fn may_follow(lines: &WhiteLines, reader: &BitReader<'_>) -> bool
+    requires some { 0 < lines.now.first.count }
+    requires first { lines.now.first.count ≤ 32 }
+    requires second { lines.now.second.count ≤ 33 }
+{
+    let first = lines.first;
+    if may_be_next(reader, first.bits, first.count) {
+        return true;
+    }
+    let second = lines.second;
+    second.count > 1 && may_be_next(reader, second.bits, second.count)
+}
+
+/// White lines as they stand in words of eight bytes: the first twice, if there is no second.
+#[derive(Copy, Clone)]
+pub(crate) struct PlacedLines {
+    pub(crate) first: PlacedBits,
+    pub(crate) second: PlacedBits,
+}
+
+/// Returns these lines as they stand in the bytes of these bits.
+#[inline(always)]
+pub(crate) fn placed_lines(lines: &WhiteLines, words: &WordsAhead<'_>) -> PlacedLines
+    requires some { 0 < lines.now.first.count }
+    requires first { lines.now.first.count ≤ 32 }
+    requires second { lines.now.second.count ≤ 33 }
+    ensures { ArePlacedLines words.now.order lines.now result }
+{
+    let first = lines.first;
+    let placed = words.placed(first.bits, first.count);
+    let second = lines.second;
+    if second.count == 0 {
+        return PlacedLines {
+            first: placed,
+            second: placed,
+        };
+    }
+    PlacedLines {
+        first: placed,
+        second: words.placed(second.bits, second.count),
+    }
+}
+
+/// Passes one of these lines if it is next and eight bytes are left, and returns whether it did; otherwise nothing changes.
+#[inline(always)]
+pub(crate) fn pass_placed_line(placed: &PlacedLines, words: &mut WordsAhead<'_>) -> bool
+    requires first { placed.now.first.count ≤ 57 }
+    requires second { placed.now.second.count ≤ 57 }
+    ensures order { words.new.order ≡ words.old.order }
+    ensures passed { (lines : WhiteLines) → result ≡ true → ArePlacedLines words.old.order lines placed.now
+        → PassesLine lines words.old.at words.new.at }
+    ensures unchanged { result ≡ false → words.new ≡ words.old }
+{
+    words.pass_either(&placed.first, &placed.second)
 }

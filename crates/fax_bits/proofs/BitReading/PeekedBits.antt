@@ -4,7 +4,7 @@ use Rattle.fax_bits.proofs.Names.{arith, get_or-drop, shr-shr, Bits, BitsAt, bit
 use Rattle.fax_bits.specs.LookUps.{seven_bits, thirteen_bits, twelve_bits}
 
 -- the low bits of a number, if they are the first ones here
-low_bits-padded : (n x : ℕ) (here : Bits) → ((k : ℕ) → k < n → bit_of x (n - 1 - k) ≡ get_or here k false)
+pub low_bits-padded : (n x : ℕ) (here : Bits) → ((k : ℕ) → k < n → bit_of x (n - 1 - k) ≡ get_or here k false)
     → low_bits n x ≡ padded n here
 low_bits-padded zero x here h = refl
 low_bits-padded (suc n) x [] h =

@@ -6,12 +6,11 @@ use Rattle.hayro_ccitt.proofs.Names.{Context, Row, append_assoc}
 use Rattle.hayro_ccitt.proofs.Names.{bits_in, is_at_line, ended, BehindRow, IsStanding, ReadsNext}
 use Rattle.hayro_ccitt.proofs.Names.{seen, changes, pixels, length-append}
 use Rattle.hayro_ccitt.proofs.Names.{◌&&◌}
-use Rattle.hayro_ccitt.proofs.BitReading.BitLists.{length-bits_in, length-low_bits}
+use Rattle.hayro_ccitt.proofs.BitReading.BitLists.{length-low_bits}
 use Rattle.hayro_ccitt.proofs.PixelRows.ChangesAndPixels.{changes-pixels, length-pixels}
 use Rattle.hayro_ccitt.proofs.Readings.FeedTurns.{IsReadBy, past_line, read_on_by}
 use Rattle.hayro_ccitt.proofs.Readings.FeedsOn.{no_line_paid, none_looked, none_paid}
 use Rattle.hayro_ccitt.proofs.Readings.LooksKept.{fresh_look}
-use Rattle.hayro_ccitt.proofs.Readings.PartsFed.{none_kept}
 use Rattle.hayro_ccitt.proofs.Readings.RowsAgain.{gap_width, line_passed, white_reads, white_stands}
 use Rattle.hayro_ccitt.proofs.Readings.RowsFed.{from_place, place_within}
 use Rattle.hayro_ccitt.specs.GapsSeen.{nothing_seen}

@@ -1,5 +1,5 @@
 use Rattle.hayro_ccitt.proofs.Names.{◌≡◌, ◌∙◌, ◌-◌, Bool, Result, Ok, Err, Some, refl, sym, ap, subst, arith, true}
-use Rattle.hayro_ccitt.proofs.Names.{err_from_is_err_and, length, DecodeError, DecodeSettings, Bits, BitsAt, Context, Held, rules}
+use Rattle.hayro_ccitt.proofs.Names.{err_from_is_err_and, length, DecodeError, DecodeSettings, Bits, BitsAt, Context, rules}
 use Rattle.hayro_ccitt.proofs.Names.{SinkState, here, failed_at, IsStanding, IsStandingAtLine, ReachesNextLine, ReadsNext, seen}
 use Rattle.hayro_ccitt.proofs.Names.{ended, row_came, is_some, sum_by, words_of, take, plain, None, ℕ}
 use Rattle.hayro_ccitt.proofs.Names.{drop, DecodesRows, meaning_after, ReaderStands, DamageIsCounted, WorkIsPaid, MissIsTold}
@@ -8,15 +8,20 @@ use Rattle.hayro_ccitt.specs.declared.row_reader.RowState.{RowState}
 use Rattle.hayro_ccitt.proofs.PixelRows.ChangesAndPixels.{AreChanges-wider}
 use Rattle.hayro_ccitt.proofs.Readings.RowByRow.{at_line_stands, few, reader_fails_at_line}
 use Rattle.hayro_ccitt.proofs.Readings.RowsPushed.{HasRun, decodes_rows, ends_unfailed, means_pushed, none_missed, of_same}
-use Rattle.hayro_ccitt.proofs.Readings.RowsPushed.{few_rows_behind, run_is_over, run_refused}
+use Rattle.hayro_ccitt.proofs.Readings.RowsPushed.{run_is_over, run_refused}
 use Rattle.hayro_ccitt.proofs.Readings.RowsAgain.{taken_reads, taken_stands, taken_starts, taken_within, white_unchanging}
 use Rattle.hayro_ccitt.proofs.Names.{changes}
 use Rattle.hayro_ccitt.specs.RowFeeds.{TakesWhite}
 use Rattle.hayro_ccitt.specs.WhiteLines.{AreKnown, MayFollow}
+use Rattle.hayro_ccitt.specs.WhiteRows.{Pushed, PushesWhite, RefusesWhite, WhiteEnds}
+use Rattle.hayro_ccitt.specs.declared.white_lines.WhiteLines.{WhiteLines}
+use Rattle.hayro_ccitt.proofs.Names.{List}
+use Rattle.hayro_ccitt.proofs.Readings.WhiteRowsRead.{CountsRows, IsBehindRows, counts_rows, some_on, white_behind, white_comes}
+use Rattle.hayro_ccitt.proofs.Readings.WhiteRowsRead.{white_empty}
 use Rattle.hayro_ccitt.proofs.Names.{max, line_here, most_room, most_stored, room_for}
 use Rattle.hayro_ccitt.proofs.Work.RoomTaken.{grown_more, line_enough}
 use Rattle.hayro_ccitt.proofs.push_rows.push_rows.{Given.Over}
-use Rattle.hayro_ccitt.proofs.push_rows.push_rows.Goals.{After-read_line, After-push_row, After-take_white_row}
+use Rattle.hayro_ccitt.proofs.push_rows.push_rows.Goals.{After-read_line, After-push_row, After-push_white_rows, After-take_white_row}
 use Rattle.hayro_ccitt.proofs.push_rows.push_rows.Goals as goal
 
 -- the reading is at a line
@@ -209,9 +214,22 @@ returns-in-Err-clause-fails g c =
 
 -- ---- The white rows after a row
 
-pub white-init : goal.white-init
-white-init g c =
-    let came = row_came_here g (goal.at.white-init g c).After-push_row in
+-- the reading is behind the row, which the sink means
+abbrev read_before : (g : Over) → After-push_white_rows g → Pushed g.D.Decoder.Meaning
+read_before g c = record {
+  rows = c.read_line.new.self;
+  ctx = c.read_line.new.ctx;
+  at = c.read_line.new.reader;
+  meaning = g.D.Decoder.meaning c.push_row.new.self;
+}
+
+behind_before : (g : Over) (c : After-push_white_rows g) → IsBehindRows (g.D.Decoder.step (g.D.Decoder.width c.args.decoder.now))
+    c.args.ctx.now.ticks c.args.ctx.now.held.settings c.args.reader.now.bits (g.D.Decoder.meaning c.args.decoder.now)
+    (read_before g c)
+behind_before g c =
+    let came = subst (λ (r : Result (Unit {0}) DecodeError). ReadsNext (seen c.rows.rows c.rows.ctx c.rows.reader)
+    (seen c.read_line.new.self c.read_line.new.ctx c.read_line.new.reader) (row_came r)) c.in_ok-read_line.was
+    (c.read_line.ensures.reads c.args.ctx.now.ticks (c.rows.invariant.at_line, c.rows.invariant.stands)) in
     let inv = c.rows.invariant in
     let rows = (plain c.args.ctx.now.held.settings c.args.reader.now.bits).rows in
     let new = c.read_line.new.ctx.held in
@@ -220,22 +238,203 @@ white-init g c =
     record {
       stands = c.read_line.ensures.stands c.args.ctx.now.ticks (inv.at_line, inv.stands);
       behind_row = c.in_ok-read_line.ensures.behind_row;
-      settings = c.read_line.ensures.settings ∙ inv.settings;
-      bits = c.read_line.ensures.same_bits ∙ inv.bits;
-      more = omega arith;
+      settings_are = c.read_line.ensures.settings ∙ inv.settings;
+      bits_are = c.read_line.ensures.same_bits ∙ inv.bits;
       within = within;
-      width = c.push_row.ensures.same_width ∙ inv.width;
-      meaning = means_pushed g.D.Decoder.step _ _ (g.D.Decoder.meaning c.args.decoder.now) _ _ rows c.rows.ctx.held.taken
+      means = means_pushed g.D.Decoder.step _ _ (g.D.Decoder.meaning c.args.decoder.now) _ _ rows c.rows.ctx.held.taken
           new.taken new.reference c.reference_row.result.now inv.width inv.meaning c.in_default.ensures.taken
           c.reference_row.ensures.changes (of_same (λ s b. new.reference ≡ get_or (plain s b).rows c.rows.ctx.held.taken [])
           inv.settings inv.bits (came.row refl)) (came.more refl).1 within;
-      unrefused = c.in_default.ensures.not_refused ∙ inv.unrefused;
-      space = room_there g (goal.at.white-init g c).After-read_line;
-      unsought = λ is. c.read_line.ensures.has_eols ∙ inv.unsought is;
+    }
+
+pub push_white_rows-requires-clause-fits : goal.push_white_rows-requires-clause-fits
+push_white_rows-requires-clause-fits g c = omega (arith, c.bit_len-length.ensures.fit)
+
+-- white rows were read
+module _ (g : Over) (c : After-push_white_rows g) where
+  abbrev step_here : g.D.Decoder.Meaning → List ℕ → g.D.Decoder.Meaning
+  step_here = g.D.Decoder.step (g.D.Decoder.width c.args.decoder.now)
+
+  abbrev lines_here : WhiteLines
+  lines_here = c.repeats_white-repeats.new.lines
+
+  abbrev sink_before : SinkState g.D.Decoder.Meaning
+  sink_before = record {
+    meaning = g.D.Decoder.meaning c.push_row.new.self;
+    refused = g.D.Decoder.has_refused c.push_row.new.self;
+    refuses = g.D.Decoder.refuses c.push_row.new.self;
+  }
+
+  abbrev sink_behind : SinkState g.D.Decoder.Meaning
+  sink_behind = record {
+    meaning = g.D.Decoder.meaning c.push_white_rows.new.decoder;
+    refused = g.D.Decoder.has_refused c.push_white_rows.new.decoder;
+    refuses = g.D.Decoder.refuses c.push_white_rows.new.decoder;
+  }
+
+  abbrev read_behind : Pushed g.D.Decoder.Meaning
+  read_behind = record {
+    rows = c.push_white_rows.new.rows;
+    ctx = c.push_white_rows.new.ctx;
+    at = c.push_white_rows.new.reader;
+    meaning = g.D.Decoder.meaning c.push_white_rows.new.decoder;
+  }
+
+  pushes_white : PushesWhite step_here lines_here 0 sink_before sink_behind c.read_line.new.self c.push_white_rows.new.rows
+      c.read_line.new.ctx c.push_white_rows.new.ctx c.read_line.new.reader c.push_white_rows.new.reader c.push_white_rows.result
+  pushes_white = subst (λ (w : ℕ). PushesWhite (g.D.Decoder.step w) lines_here 0 sink_before sink_behind c.read_line.new.self
+      c.push_white_rows.new.rows c.read_line.new.ctx c.push_white_rows.new.ctx c.read_line.new.reader
+      c.push_white_rows.new.reader c.push_white_rows.result) (c.push_row.ensures.same_width ∙ c.rows.invariant.width)
+      c.push_white_rows.ensures.pushes
+
+  behind_mid : IsBehindRows step_here c.args.ctx.now.ticks c.args.ctx.now.held.settings c.args.reader.now.bits
+      (g.D.Decoder.meaning c.args.decoder.now) pushes_white.mid
+  behind_mid = some_on step_here _ _ _ _ lines_here pushes_white.count (read_before g c) pushes_white.mid (behind_before g c)
+      pushes_white.pass
+
+  counted_mid : CountsRows c.read_line.new.ctx pushes_white.mid.ctx
+  counted_mid = counts_rows step_here lines_here 0 (read_before g c) pushes_white.mid pushes_white.count pushes_white.pass
+
+  module _ (is : c.push_white_rows.result ≡ Ok tt) where
+    came_behind : (read_behind ≡ pushes_white.mid) × (sink_behind.refused ≡ sink_before.refused)
+    came_behind = subst (WhiteEnds lines_here 0 sink_before sink_behind pushes_white.mid read_behind) is pushes_white.ends
+
+    behind_now : IsBehindRows step_here c.args.ctx.now.ticks c.args.ctx.now.held.settings c.args.reader.now.bits
+        (g.D.Decoder.meaning c.args.decoder.now) read_behind
+    behind_now = subst (IsBehindRows step_here c.args.ctx.now.ticks c.args.ctx.now.held.settings c.args.reader.now.bits
+        (g.D.Decoder.meaning c.args.decoder.now)) (sym came_behind.0) behind_mid
+
+    counted_now : CountsRows c.read_line.new.ctx c.push_white_rows.new.ctx
+    counted_now = subst (λ (p : Pushed g.D.Decoder.Meaning). CountsRows c.read_line.new.ctx p.ctx) (sym came_behind.0) counted_mid
+
+  refused_behind : {error : DecodeError} → c.push_white_rows.result ≡ Err error
+      → RefusesWhite lines_here 0 sink_behind pushes_white.mid read_behind error
+  refused_behind is = subst (WhiteEnds lines_here 0 sink_before sink_behind pushes_white.mid read_behind) is pushes_white.ends
+
+pub white-init : goal.white-init
+white-init g c =
+    let at = (goal.at.white-init g c).After-push_white_rows in
+    let is = c.in_default-push_white_rows.is in
+    let inv = c.rows.invariant in
+    let now = behind_now g at is in
+    let counted = counted_now g at is in
+    record {
+      stands = now.stands;
+      behind_row = now.behind_row;
+      settings = now.settings_are;
+      bits = now.bits_are;
+      more = omega arith;
+      within = now.within;
+      width = c.push_white_rows.ensures.width ∙ c.push_row.ensures.same_width ∙ inv.width;
+      meaning = now.means;
+      unrefused = (came_behind g at is).1 ∙ c.in_default.ensures.not_refused ∙ inv.unrefused;
+      space = rw (ap (λ (x : Context). x.space) counted.same) (room_there g (goal.at.white-init g c).After-read_line);
+      unsought = λ is. ap (λ (x : Context). x.held.has_eols) counted.same ∙ c.read_line.ensures.has_eols ∙ inv.unsought is;
       known = subst (λ (s : DecodeSettings). AreKnown s c.repeats_white-repeats.new.lines) (c.read_line.ensures.settings
           ∙ inv.settings) c.repeats_white-repeats.ensures.known;
-      follow = c.repeats_white-repeats.ensures.follow;
+      follow = λ is. subst (λ (x : Context). MayFollow x.held.settings x.held.has_eols x.held.reference
+          c.repeats_white-repeats.new.lines) (sym counted.same) (c.repeats_white-repeats.ensures.follow is);
     }
+
+-- one more was read, which the sink refuses
+pub at_bit-requires-in-Err-push_white_rows : goal.at_bit-requires-in-Err-push_white_rows
+at_bit-requires-in-Err-push_white_rows g c =
+    let at = (goal.at.at_bit-requires-in-Err-push_white_rows g c).After-push_white_rows in
+    let behind = behind_mid g at in
+    let reads = (refused_behind g at c.in-Err-push_white_rows.is).reads in
+    omega (
+      arith,
+      ap (λ (b : BitsAt). length b.bits) reads.takes.passes.moved_on,
+      taken_within {from = c.args.ctx.now.ticks} behind.stands behind.behind_row reads.follow (omega arith) reads.takes,
+    )
+
+pub returns-in-Err-push_white_rows-clause-rows : goal.returns-in-Err-push_white_rows-clause-rows
+returns-in-Err-push_white_rows-clause-rows g c =
+    let at = (goal.at.returns-in-Err-push_white_rows-clause-rows g c).After-push_white_rows in
+    let from = c.args.ctx.now.ticks in
+    let bits = c.args.reader.now.bits in
+    let step = step_here g at in
+    let mid = (pushes_white g at).mid in
+    let behind = behind_mid g at in
+    let refused = refused_behind g at c.in-Err-push_white_rows.is in
+    let takes = refused.reads.takes in
+    let new = c.push_white_rows.new.ctx in
+    let last = c.take_back_row-in-Err-push_white_rows.new.self in
+    let frame = c.take_back_row-in-Err-push_white_rows.ensures.frame in
+    let after = sink_behind g at in
+    let before : SinkState g.D.Decoder.Meaning = record {
+      meaning = g.D.Decoder.meaning c.args.decoder.now;
+      refused = g.D.Decoder.has_refused c.args.decoder.now;
+      refuses = g.D.Decoder.refuses c.args.decoder.now;
+    } in
+    let run = run_refused {step = step} {before = before} {after = after} mid.rows c.push_white_rows.new.rows mid.ctx new mid.at
+    c.push_white_rows.new.reader behind.stands (white_behind behind refused.reads) (ap (λ (r : RowState). r.stand) takes.kept_is)
+    (white_comes behind refused.reads) last.held
+    (ap (λ (x : Context). x.held) frame ∙ ap (λ (n : ℕ). record new.held {
+      taken = new.held.taken - 1;
+      repairs = record new.held.repairs { rows = n; cut = c.cut_rows-cut.result };
+    }) (c.damaged_rows-repaired.ensures ∙ ap (λ (x : Context). x.held.repairs.rows) takes.new_is)
+    ∙ ap (λ (n : ℕ). record new.held {
+      taken = new.held.taken - 1;
+      repairs = record new.held.repairs { rows = mid.ctx.held.repairs.rows; cut = n };
+    }) (c.cut_rows-cut.ensures ∙ ap (λ (x : Context). x.held.repairs.cut) takes.new_is))
+    (refused.meaning ∙ of_same (λ s b. mid.meaning ≡ meaning_after step before.meaning (take mid.ctx.held.taken (plain s b).rows))
+    (sym behind.settings_are) (sym behind.bits_are) behind.means) refused.flag
+    (subst (g.D.Decoder.refuses c.push_white_rows.new.decoder) (white_empty behind refused.reads) refused.row) in
+    subst (λ (e : DecodeError). DecodesRows bits step before after c.args.ctx.now last (Err e)) (sym refused.is)
+    (decodes_rows bits step before after c.args.ctx.now last (Err Refused) c.requires.columns
+    (ap (λ (x : Context). x.held.settings) frame ∙ ap (λ (x : Context). x.held.settings) takes.new_is ∙ behind.settings_are)
+    (subst (λ (n : ℕ). HasRun c.args.ctx.now.held.settings bits from step before after last.held n (Err Refused))
+    (sym (ap (λ (x : Context). x.ticks) frame))
+    (of_same (λ s b. HasRun s b from step before after last.held new.ticks (Err Refused)) behind.settings_are behind.bits_are
+    run)))
+
+pub returns-in-Err-push_white_rows-clause-fails : goal.returns-in-Err-push_white_rows-clause-fails
+returns-in-Err-push_white_rows-clause-fails g c =
+    let at = (goal.at.returns-in-Err-push_white_rows-clause-fails g c).After-push_white_rows in
+    let mid = (pushes_white g at).mid in
+    let behind = behind_mid g at in
+    let reads = (refused_behind g at c.in-Err-push_white_rows.is).reads in
+    let takes = reads.takes in
+    let last = c.take_back_row-in-Err-push_white_rows.new.self in
+    let taken : last.held.taken ≡ mid.ctx.held.taken = omega (
+      arith,
+      ap (λ (x : Context). x.held.taken) c.take_back_row-in-Err-push_white_rows.ensures.frame,
+      ap (λ (x : Context). x.held.taken) takes.new_is,
+    ) in
+    let back : here c.at_bit-in-Err-push_white_rows.result ≡ drop c.push_white_rows.new.rows.started_at mid.at.bits
+    = ap here c.at_bit-in-Err-push_white_rows.ensures ∙ ap (λ (b : BitsAt). drop c.push_white_rows.new.rows.started_at b.bits)
+    takes.passes.moved_on in
+    of_same (λ s b. length b - length (here c.at_bit-in-Err-push_white_rows.result) ≡ failed_at s b last.held.taken)
+    behind.settings_are behind.bits_are (ap (λ (x : Bits). length mid.at.bits - length x) back
+    ∙ taken_starts {from = c.args.ctx.now.ticks} behind.stands behind.behind_row reads.follow (omega arith) takes
+    ∙ ap (failed_at mid.ctx.held.settings mid.at.bits) (sym taken))
+
+pub returns-in-Err-push_white_rows-clause-no_eols : goal.returns-in-Err-push_white_rows-clause-no_eols
+returns-in-Err-push_white_rows-clause-no_eols g c =
+    let at = (goal.at.returns-in-Err-push_white_rows-clause-no_eols g c).After-push_white_rows in
+    let takes = (refused_behind g at c.in-Err-push_white_rows.is).reads.takes in
+    λ is. ap (λ (x : Context). x.held.has_eols) c.take_back_row-in-Err-push_white_rows.ensures.frame
+    ∙ ap (λ (x : Context). x.held.has_eols) takes.new_is ∙ ap (λ (x : Context). x.held.has_eols) (counted_mid g at).same
+    ∙ c.read_line.ensures.has_eols ∙ c.rows.invariant.unsought is
+
+pub returns-in-Err-push_white_rows-clause-same_bits : goal.returns-in-Err-push_white_rows-clause-same_bits
+returns-in-Err-push_white_rows-clause-same_bits g c =
+    let at = (goal.at.returns-in-Err-push_white_rows-clause-same_bits g c).After-push_white_rows in
+    let takes = (refused_behind g at c.in-Err-push_white_rows.is).reads.takes in
+    ap (λ (b : BitsAt). b.bits) c.at_bit-in-Err-push_white_rows.ensures ∙ ap (λ (b : BitsAt). b.bits) takes.passes.moved_on
+    ∙ (behind_mid g at).bits_are
+
+pub returns-in-Err-push_white_rows-clause-space : goal.returns-in-Err-push_white_rows-clause-space
+returns-in-Err-push_white_rows-clause-space g c =
+    let there = goal.at.returns-in-Err-push_white_rows-clause-space g c in
+    let at = there.After-push_white_rows in
+    let takes = (refused_behind g at c.in-Err-push_white_rows.is).reads.takes in
+    rw (
+      c.take_back_row-in-Err-push_white_rows.ensures.frame,
+      ap (λ (x : Context). x.space) takes.new_is,
+      ap (λ (x : Context). x.space) (counted_mid g at).same,
+    ) (room_there g there.After-read_line)
 
 -- a white row that is taken is the next one
 module _ (g : Over) (c : After-take_white_row g) (is : c.take_white_row.result ≡ true) where
@@ -398,7 +597,8 @@ rows-smaller g c =
     let none = c.take_white_row.ensures.none c.white-test.false in
     let stands = still_stands g (goal.at.rows-smaller g c).After-take_white_row c.white-test.false in
     let comes = c.come_to_line.ensures.comes from stands in
-    omega (arith, (came.more refl).1, inv.more, inv.within, ap (λ (x : Context). x.held.taken) none.1, comes.taken)
+    let counted = counted_now g (goal.at.rows-smaller g c).After-push_white_rows c.in_default-push_white_rows.is in
+    omega (arith, (came.more refl).1, counted.more, inv.more, inv.within, ap (λ (x : Context). x.held.taken) none.1, comes.taken)
 
 pub returns-in_err-come_to_line-clause-rows : goal.returns-in_err-come_to_line-clause-rows
 returns-in_err-come_to_line-clause-rows g c =

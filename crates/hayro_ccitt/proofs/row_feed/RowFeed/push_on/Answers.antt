@@ -10,15 +10,24 @@ use Rattle.hayro_ccitt.proofs.Readings.RowsAgain.{white_unchanging}
 use Rattle.hayro_ccitt.proofs.Readings.FeedWhite.{white_read_by, white_row}
 use Rattle.hayro_ccitt.proofs.Readings.PartsFed.{scanned_after, unread_line}
 use Rattle.hayro_ccitt.proofs.Readings.RowsPassed.{keeps_on, passes_more, pushed_to_end, pushed_to_refusal}
+use Rattle.hayro_ccitt.proofs.BitReading.BitLists.{length-bits_in}
+use Rattle.hayro_ccitt.proofs.Names.{length}
+use Rattle.hayro_ccitt.specs.GapsSeen.{nothing_seen}
+use Rattle.hayro_ccitt.specs.RowFeeds.{KeepsBits}
 use Rattle.hayro_ccitt.specs.RowFeeds.{FeedsRow, PassesRows, ReadsInFeed, fed_row, feeding_of}
 use Rattle.hayro_ccitt.specs.RowsTried.{IsLeft}
 use Rattle.hayro_ccitt.specs.WhiteLines.{AreKnown, MayFollow}
+use Rattle.hayro_ccitt.specs.WhiteRows.{Pushed, PushesWhite, RefusesWhite, WhiteEnds}
+use Rattle.hayro_ccitt.specs.declared.white_lines.WhiteLines.{WhiteLines}
+use Rattle.hayro_ccitt.proofs.Names.{List, SinkState}
+use Rattle.hayro_ccitt.proofs.Readings.WhiteRowsFed.{IsFedTo, fed_to, some_fed, white_fed_by, white_fed_empty, white_fed_row}
+use Rattle.hayro_ccitt.proofs.Readings.WhiteRowsRead.{CountsRows, counts_rows}
 use Rattle.hayro_ccitt.specs.declared.row_reader.RowState.{RowState}
 use Rattle.hayro_ccitt.specs.declared.row_feed.Fed.{Fed}
 use Rattle.hayro_ccitt.specs.declared.row_feed.RowFeed.TheInside.{Inside}
 use Rattle.hayro_ccitt.proofs.row_feed.RowFeed.push_on.{Given.Over}
 use Rattle.hayro_ccitt.proofs.row_feed.RowFeed.push_on.Goals.{After-bit_pos-self-inside-in-white, After-is_some_line}
-use Rattle.hayro_ccitt.proofs.row_feed.RowFeed.push_on.Goals.{After-is_read}
+use Rattle.hayro_ccitt.proofs.row_feed.RowFeed.push_on.Goals.{After-is_read, After-push_white_rows}
 use Rattle.hayro_ccitt.proofs.row_feed.RowFeed.push_on.Goals.{then-is_unsettled, else-is_unsettled}
 use Rattle.hayro_ccitt.proofs.row_feed.RowFeed.push_on.Goals as goal
 
@@ -140,27 +149,193 @@ repeats_white-repeats-requires g c =
     subst (λ (s : DecodeSettings). AreKnown s c.rows.lines) (sym (row.counts.settings ∙ c.rows.invariant.settings))
     c.rows.invariant.known
 
+module _ (g : Over) (here : After-is_read g) (is : here.try_line-row.result ≡ Ok true) where
+  abbrev gap_there : Inside
+  gap_there = at_gap g (gap_here g here)
+
+  -- the feed is behind the row, which the sink means
+  fed_before : {meaning : g.D.Decoder.Meaning} → meaning ≡ g.D.Decoder.step (g.D.Decoder.width here.args.decoder.now)
+      (g.D.Decoder.meaning here.rows.decoder) (changes here.try_line-row.new.ctx.held.reference)
+      → IsFedTo (g.D.Decoder.step (g.D.Decoder.width here.args.decoder.now)) here.args.self.now
+      (g.D.Decoder.meaning here.args.decoder.now) gap_there (record {
+        rows = here.try_line-row.new.self;
+        ctx = here.try_line-row.new.ctx;
+        at = here.try_line-row.new.reader;
+        meaning = meaning;
+      })
+  fed_before {meaning} means =
+      let place = here.bit_pos-self-inside-in-rows.ensures.place in
+      let row = reads_next_row g here is in
+      let step = g.D.Decoder.step (g.D.Decoder.width here.args.decoder.now) in
+      let inv = here.rows.invariant in
+      record {
+        read_by = subst (λ (n : ℕ). IsReadBy (past_line gap_there here.try_line-row.new.ctx here.try_line-row.new.self n)
+            here.try_line-row.new.reader) place (row_by g here);
+        behind = (row.counts.stands refl).1;
+        passes = subst (λ (n : ℕ). PassesRows step (g.D.Decoder.meaning here.args.decoder.now) meaning here.args.self.now
+            (feeding_of (past_line gap_there here.try_line-row.new.ctx here.try_line-row.new.self n))) place
+            (passes_more inv.passes row means);
+        keeps = subst (λ (n : ℕ). KeepsBits here.args.self.now
+            (feeding_of (past_line gap_there here.try_line-row.new.ctx here.try_line-row.new.self n))) place
+            (keeps_on inv.keeps row.keeps);
+        settings = row.counts.settings ∙ inv.settings;
+      }
+
+  fresh_before : gap_there.look ≡ nothing_seen
+  fresh_before = (gap_by g (gap_here g here)).kept.line (line_is_here g here)
+
+-- white rows were read
+module _ (g : Over) (c : After-push_white_rows g) where
+  abbrev gap_before : Inside
+  gap_before = past_gap (past_gap c.self.inside c.rows.self-inside.1.0 c.rows.self-inside.1.1.0
+      c.rows.self-inside.1.1.1.1.1.1.1.1.0 c.rows.self-inside.1.1.1.1.1.1.1.1.1.0) c.come_to_settled_line-line.new.ctx
+      c.come_to_settled_line-line.new.self c.bit_pos-self-inside.result c.come_to_settled_line-line.new.look
+
+  abbrev step_here : g.D.Decoder.Meaning → List ℕ → g.D.Decoder.Meaning
+  step_here = g.D.Decoder.step (g.D.Decoder.width c.args.decoder.now)
+
+  abbrev lines_here : WhiteLines
+  lines_here = c.repeats_white-repeats.new.lines
+
+  abbrev sink_before : SinkState g.D.Decoder.Meaning
+  sink_before = record {
+    meaning = g.D.Decoder.meaning c.push_row.new.self;
+    refused = g.D.Decoder.has_refused c.push_row.new.self;
+    refuses = g.D.Decoder.refuses c.push_row.new.self;
+  }
+
+  abbrev sink_behind : SinkState g.D.Decoder.Meaning
+  sink_behind = record {
+    meaning = g.D.Decoder.meaning c.push_white_rows.new.decoder;
+    refused = g.D.Decoder.has_refused c.push_white_rows.new.decoder;
+    refuses = g.D.Decoder.refuses c.push_white_rows.new.decoder;
+  }
+
+  abbrev read_before : Pushed g.D.Decoder.Meaning
+  read_before = record {
+    rows = c.try_line-row.new.self;
+    ctx = c.try_line-row.new.ctx;
+    at = c.try_line-row.new.reader;
+    meaning = g.D.Decoder.meaning c.push_row.new.self;
+  }
+
+  abbrev read_behind : Pushed g.D.Decoder.Meaning
+  read_behind = record {
+    rows = c.push_white_rows.new.rows;
+    ctx = c.push_white_rows.new.ctx;
+    at = c.push_white_rows.new.reader;
+    meaning = g.D.Decoder.meaning c.push_white_rows.new.decoder;
+  }
+
+  pushes_white : PushesWhite step_here lines_here gap_before.dropped sink_before sink_behind c.try_line-row.new.self
+      c.push_white_rows.new.rows c.try_line-row.new.ctx c.push_white_rows.new.ctx c.try_line-row.new.reader
+      c.push_white_rows.new.reader c.push_white_rows.result
+  pushes_white = subst (λ (w : ℕ). PushesWhite (g.D.Decoder.step w) lines_here gap_before.dropped sink_before sink_behind
+      c.try_line-row.new.self c.push_white_rows.new.rows c.try_line-row.new.ctx c.push_white_rows.new.ctx
+      c.try_line-row.new.reader c.push_white_rows.new.reader c.push_white_rows.result)
+      (c.push_row.ensures.same_width ∙ c.rows.invariant.width) c.push_white_rows.ensures.pushes
+
+  counted_mid : CountsRows c.try_line-row.new.ctx pushes_white.mid.ctx
+  counted_mid = counts_rows step_here lines_here gap_before.dropped read_before pushes_white.mid pushes_white.count pushes_white.pass
+
+  refused_behind : {error : DecodeError} → c.push_white_rows.result ≡ Err error
+      → RefusesWhite lines_here gap_before.dropped sink_behind pushes_white.mid read_behind error
+  refused_behind is =
+      subst (WhiteEnds lines_here gap_before.dropped sink_before sink_behind pushes_white.mid read_behind) is pushes_white.ends
+
+  module _ (is : c.push_white_rows.result ≡ Ok tt) where
+    came_behind : (read_behind ≡ pushes_white.mid) × (sink_behind.refused ≡ sink_before.refused)
+    came_behind =
+        subst (WhiteEnds lines_here gap_before.dropped sink_before sink_behind pushes_white.mid read_behind) is pushes_white.ends
+
+    counted_now : CountsRows c.try_line-row.new.ctx c.push_white_rows.new.ctx
+    counted_now =
+        subst (λ (p : Pushed g.D.Decoder.Meaning). CountsRows c.try_line-row.new.ctx p.ctx) (sym came_behind.0) counted_mid
+
+  module _ (fed : IsFedTo step_here c.args.self.now (g.D.Decoder.meaning c.args.decoder.now) gap_before read_before)
+      (fresh : gap_before.look ≡ nothing_seen) where
+    fed_mid : IsFedTo step_here c.args.self.now (g.D.Decoder.meaning c.args.decoder.now) gap_before pushes_white.mid
+    fed_mid = some_fed step_here c.args.self.now (g.D.Decoder.meaning c.args.decoder.now) gap_before lines_here fresh
+        pushes_white.count read_before pushes_white.mid fed pushes_white.pass
+
+    fed_now : c.push_white_rows.result ≡ Ok tt
+        → IsFedTo step_here c.args.self.now (g.D.Decoder.meaning c.args.decoder.now) gap_before read_behind
+    fed_now is = subst (IsFedTo step_here c.args.self.now (g.D.Decoder.meaning c.args.decoder.now) gap_before)
+        (sym (came_behind is).0) fed_mid
+
+-- what the sink means behind the row
+means_before : (g : Over) (c : After-push_white_rows g) (taken : g.D.Decoder.meaning c.push_row.new.self
+    ≡ g.D.Decoder.step (g.D.Decoder.width c.rows.decoder) (g.D.Decoder.meaning c.rows.decoder) c.reference_row.result.now)
+    → g.D.Decoder.meaning c.push_row.new.self ≡ step_here g c (g.D.Decoder.meaning c.rows.decoder)
+    (changes c.try_line-row.new.ctx.held.reference)
+means_before g c taken =
+    taken ∙ ap (λ (w : ℕ). g.D.Decoder.step w (g.D.Decoder.meaning c.rows.decoder) c.reference_row.result.now)
+    c.rows.invariant.width ∙ ap (step_here g c (g.D.Decoder.meaning c.rows.decoder)) c.reference_row.ensures.changes
+
+pub push_white_rows-requires-clause-fits : goal.push_white_rows-requires-clause-fits
+push_white_rows-requires-clause-fits g c =
+    let by = row_by g (goal.at.push_white_rows-requires-clause-fits g c).After-is_read in
+    omega (arith, by.kept.fit, ap (λ (b : BitsAt). length b.bits) by.is, length-bits_in c.self.inside.order c.self.inside.«data».items)
+
+pub invariant_of-self-in-Err-push_white_rows : goal.invariant_of-self-in-Err-push_white_rows
+invariant_of-self-in-Err-push_white_rows g c =
+    let there = goal.at.invariant_of-self-in-Err-push_white_rows g c in
+    let read = c.is_read.ensures.read c.if-not-is_read.false in
+    let fed = fed_before g there.After-is_read read (means_before g there.After-push_white_rows c.in_default.ensures.taken) in
+    let fresh = fresh_before g there.After-is_read read in
+    let mid = fed_mid g there.After-push_white_rows fed fresh in
+    let reads = (refused_behind g there.After-push_white_rows c.in-Err-push_white_rows.is).reads in
+    (subst (λ (n : ℕ). IsReadBy (past_line (gap_before g there.After-push_white_rows) c.push_white_rows.new.ctx
+    c.push_white_rows.new.rows n) c.push_white_rows.new.reader)
+    (sym c.bit_pos-self-inside-in-Err-push_white_rows.ensures.place) (white_fed_by fresh mid reads)).kept
+
+pub returns-in-Err-push_white_rows-clause-pushes : goal.returns-in-Err-push_white_rows-clause-pushes
+returns-in-Err-push_white_rows-clause-pushes g c =
+    let there = goal.at.returns-in-Err-push_white_rows-clause-pushes g c in
+    let at = there.After-push_white_rows in
+    let read = c.is_read.ensures.read c.if-not-is_read.false in
+    let fed = fed_before g there.After-is_read read (means_before g at c.in_default.ensures.taken) in
+    let fresh = fresh_before g there.After-is_read read in
+    let mid = fed_mid g at fed fresh in
+    let refused = refused_behind g at c.in-Err-push_white_rows.is in
+    let step = step_here g at in
+    pushed_to_refusal (subst (λ (m : g.D.Decoder.Meaning). PassesRows step (g.D.Decoder.meaning c.args.decoder.now) m
+    c.args.self.now (feeding_of (fed_to (gap_before g at) (pushes_white g at).mid))) (sym refused.meaning) mid.passes) mid.keeps
+    mid.settings (subst (λ (n : ℕ). FeedsRow (feeding_of (fed_to (gap_before g at) (pushes_white g at).mid))
+    (feeding_of (past_line (gap_before g at) c.push_white_rows.new.ctx c.push_white_rows.new.rows n)) (Ok Fed.Row))
+    (sym c.bit_pos-self-inside-in-Err-push_white_rows.ensures.place) (white_fed_row fresh mid refused.reads))
+    (ap Err refused.is) refused.flag
+    (subst (g.D.Decoder.refuses c.push_white_rows.new.decoder) (white_fed_empty fresh mid refused.reads) refused.row)
+
 pub white-init : goal.white-init
 white-init g c =
-    let here = (goal.at.white-init g c).After-is_read in
+    let there = goal.at.white-init g c in
+    let at = there.After-push_white_rows in
     let inv = c.rows.invariant in
-    let row = reads_next_row g here (c.is_read.ensures.read c.if-not-is_read.false) in
-    let step = g.D.Decoder.step (g.D.Decoder.width c.args.decoder.now) in
-    let meaning = g.D.Decoder.meaning c.rows.decoder in
+    let read = c.is_read.ensures.read c.if-not-is_read.false in
+    let is = c.in_default-push_white_rows.is in
+    let fed = fed_before g there.After-is_read read (means_before g at c.in_default.ensures.taken) in
+    let fresh = fresh_before g there.After-is_read read in
+    let now = fed_now g at fed fresh is in
+    let counted = counted_now g at is in
+    let place = sym c.bit_pos-self-inside-in-rows-2.ensures.place in
+    let new = c.push_white_rows.new in
     record {
-      passes = passes_more inv.passes row (c.in_default.ensures.taken
-          ∙ ap (λ (w : ℕ). g.D.Decoder.step w meaning c.reference_row.result.now) inv.width
-          ∙ ap (step meaning) c.reference_row.ensures.changes);
-      keeps = keeps_on inv.keeps row.keeps;
-      settings = row.counts.settings ∙ inv.settings;
-      width = c.push_row.ensures.same_width ∙ inv.width;
-      unrefused = c.in_default.ensures.not_refused ∙ inv.unrefused;
-      read_by = row_by g here;
-      behind = (row.counts.stands refl).1;
-      fresh = (gap_by g (gap_here g here)).kept.line (line_is_here g here);
-      known = subst (λ (s : DecodeSettings). AreKnown s c.repeats_white-repeats.new.lines) (row.counts.settings ∙ inv.settings)
-          c.repeats_white-repeats.ensures.known;
-      follow = c.repeats_white-repeats.ensures.follow;
+      passes = subst (λ (n : ℕ). PassesRows (step_here g at) (g.D.Decoder.meaning c.args.decoder.now)
+          (g.D.Decoder.meaning new.decoder) c.args.self.now
+          (feeding_of (past_line (gap_before g at) new.ctx new.rows n))) place now.passes;
+      keeps = subst (λ (n : ℕ). KeepsBits c.args.self.now (feeding_of (past_line (gap_before g at) new.ctx new.rows n))) place
+          now.keeps;
+      settings = now.settings;
+      width = c.push_white_rows.ensures.width ∙ c.push_row.ensures.same_width ∙ inv.width;
+      unrefused = (came_behind g at is).1 ∙ c.in_default.ensures.not_refused ∙ inv.unrefused;
+      read_by = subst (λ (n : ℕ). IsReadBy (past_line (gap_before g at) new.ctx new.rows n) new.reader) place now.read_by;
+      behind = now.behind;
+      fresh = fresh;
+      known = subst (λ (s : DecodeSettings). AreKnown s c.repeats_white-repeats.new.lines)
+          (ap (λ (x : Context). x.held.settings) (sym counted.same) ∙ now.settings) c.repeats_white-repeats.ensures.known;
+      follow = λ is. subst (λ (x : Context). MayFollow x.held.settings x.held.has_eols x.held.reference
+          c.repeats_white-repeats.new.lines) (sym counted.same) (c.repeats_white-repeats.ensures.follow is);
       more = omega arith;
     }
 
@@ -237,7 +412,8 @@ rows-smaller g c =
     let here = (goal.at.rows-smaller g c).After-is_read in
     let taken = (reads_next_row g here (c.is_read.ensures.read c.if-not-is_read.false)).counts.taken refl in
     let none = c.take_white_row.ensures.none c.white-test.false in
-    omega (arith, taken.0, taken.1, c.white.invariant.more, ap (λ (x : Context). x.held.taken) none.1)
+    let counted = counted_now g (goal.at.rows-smaller g c).After-push_white_rows c.in_default-push_white_rows.is in
+    omega (arith, taken.0, taken.1, counted.more, c.white.invariant.more, ap (λ (x : Context). x.held.taken) none.1)
 
 pub rows-preserved : goal.rows-preserved
 rows-preserved g c =

@@ -1,6 +1,6 @@
 use Rattle.hayro_ccitt.proofs.Names.{◌≡◌, ◌≢◌, ◌∙◌, ap, sym, subst, arith, false≢true, false, true, BitsAt, bits_in}
 use Rattle.hayro_ccitt.proofs.Names.{List, ℕ, None}
-use Rattle.hayro_ccitt.proofs.Names.{Context, Ok, is_at_line, drop, ended, refl, DecodeError}
+use Rattle.hayro_ccitt.proofs.Names.{Context, Ok, is_at_line, drop, ended, refl}
 use Rattle.hayro_ccitt.proofs.Readings.FeedTurns.{IsReadBy, full_row, gap_read_by, gap_row, line_read_by, line_row}
 use Rattle.hayro_ccitt.proofs.Readings.FeedTurns.{past_gap, past_line, seen_by, turn_reads}
 use Rattle.hayro_ccitt.proofs.Readings.PartsFed.{scanned_after, unread_line}

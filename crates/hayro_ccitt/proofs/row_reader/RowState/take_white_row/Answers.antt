@@ -1,5 +1,4 @@
-use Rattle.hayro_ccitt.proofs.Names.{◌+◌, ◌<◌, arith, refl}
-use Rattle.std.specs.Prelude.{◌^◌}
+use Rattle.hayro_ccitt.proofs.Names.{arith, refl}
 use Rattle.hayro_ccitt.proofs.Readings.RowsAgain.{not_at_limit}
 use Rattle.hayro_ccitt.proofs.row_reader.RowState.take_white_row.Goals as goal
 

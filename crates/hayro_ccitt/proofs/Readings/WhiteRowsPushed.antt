@@ -1,0 +1,196 @@
+-- White rows that are read one after another, and passed to a sink.
+use Rattle.hayro_ccitt.proofs.Names.{◌≡◌, ◌+◌, ◌-◌, ◌<◌, ◌∙◌, ℕ, zero, suc, List, [], Ok, Err, ap, arith, refl, subst, sym}
+use Rattle.hayro_ccitt.proofs.Names.{BitsAt, BehindRow, Context, DecodeError, None, Refused, SinkState, false, true}
+use Rattle.hayro_ccitt.proofs.Readings.RowsAgain.{not_at_limit}
+use Rattle.hayro_ccitt.specs.RowFeeds.{TakesWhite}
+use Rattle.hayro_ccitt.specs.WhiteLines.{MayFollow, PassesLine}
+use Rattle.hayro_ccitt.specs.WhiteRows.{PassWhite, Pushed, PushesWhite, ReadsWhite}
+use Rattle.hayro_ccitt.specs.declared.row_reader.RowState.{RowState}
+use Rattle.hayro_ccitt.specs.declared.white_lines.WhiteLines.{WhiteLines}
+
+-- what is known behind so many rows, of which the last one's line begins there
+abbrev pub rows_behind : ℕ → ℕ → RowState → RowState
+rows_behind zero start rows = rows
+rows_behind (suc count) start rows =
+    record { started_at = start; damage = None; cut = false; missed = None; stand = BehindRow }
+
+abbrev pub ctx_behind : ℕ → Context → Context
+ctx_behind count ctx =
+    record ctx { held = record ctx.held { taken = ctx.held.taken + count }; ticks = ctx.ticks + count + count }
+
+some_behind : (count start : ℕ) (rows : RowState) → 0 < count → rows_behind count start rows
+    ≡ record { started_at = start; damage = None; cut = false; missed = None; stand = BehindRow }
+some_behind zero start rows some = absurd (omega arith)
+some_behind (suc count) start rows some = refl
+
+-- no row was passed
+first_meaning : {M : Type 0} (step : M → List ℕ → M) (lines : WhiteLines) (dropped : ℕ) (old new : Pushed M) (count : ℕ)
+    → count ≡ 0 → PassWhite step lines dropped count old new → new.meaning ≡ old.meaning
+first_meaning {M} step lines dropped old new zero none pass = ap (λ (p : Pushed M). p.meaning) pass
+first_meaning step lines dropped old new (suc count) none pass = absurd (omega (arith, none))
+
+-- so many rows were read and passed, and as many are left before the row limit
+pub record HasPushedWhite {M : Type 0} (step : M → List ℕ → M) (lines : WhiteLines) (dropped most left start : ℕ) (rows : RowState)
+    (ctx : Context) (at next : BitsAt) (before after : M) : Type 0 where
+  pub count : ℕ
+  pub count_is : count + left ≡ most
+  pub pass : PassWhite step lines dropped count (record { rows = rows; ctx = ctx; at = at; meaning = before }) (record {
+    rows = rows_behind count (dropped + start + lines.gap) rows;
+    ctx = ctx_behind count ctx;
+    at = next;
+    meaning = after;
+  })
+
+pub none_pushed : {M : Type 0} {step : M → List ℕ → M} {lines : WhiteLines} {dropped most start : ℕ} {rows : RowState}
+    {ctx : Context} {at next : BitsAt} {meaning : M} → next ≡ at
+    → HasPushedWhite step lines dropped most most start rows ctx at next meaning meaning
+none_pushed {rows = rows} {ctx} {at} {next} {meaning} same = record {
+  count = 0;
+  count_is = omega arith;
+  pass =
+      let taken : ctx.held.taken + 0 ≡ ctx.held.taken = omega arith in
+      let ticks : ctx.ticks + 0 + 0 ≡ ctx.ticks = omega arith in
+      ap (λ (n : ℕ). record {
+        rows = rows;
+        ctx = record ctx { held = record ctx.held { taken = n }; ticks = ctx.ticks + 0 + 0 };
+        at = next;
+        meaning = meaning;
+      }) taken ∙ ap (λ (n : ℕ). record { rows = rows; ctx = record ctx { ticks = n }; at = next; meaning = meaning }) ticks
+      ∙ ap (λ (b : BitsAt). record { rows = rows; ctx = ctx; at = b; meaning = meaning }) same;
+}
+
+module _ {M : Type 0} {step : M → List ℕ → M} {lines : WhiteLines} {dropped most left start : ℕ} {rows : RowState} {ctx : Context}
+    {at next : BitsAt} {before after : M}
+    (pushed : HasPushedWhite step lines dropped most left start rows ctx at next before after) where
+  abbrev count : ℕ
+  count = pushed.count
+
+  abbrev so_far : Pushed M
+  so_far = record {
+    rows = rows_behind count (dropped + start + lines.gap) rows;
+    ctx = ctx_behind count ctx;
+    at = next;
+    meaning = after;
+  }
+
+  -- one more is read
+  module _ (follow : MayFollow ctx.held.settings ctx.held.has_eols ctx.held.reference lines)
+      (limit : most ≡ lines.limit - ctx.held.taken) (more : 0 < left) {then : BitsAt} (passes : PassesLine lines next then) where
+    abbrev start_then : ℕ
+    start_then = dropped + next.place + lines.gap
+
+    takes_more : TakesWhite lines (dropped + next.place) so_far.rows (rows_behind (suc count) start_then rows) so_far.ctx
+        (ctx_behind (suc count) ctx) next then
+    takes_more = record {
+      unmet = not_at_limit ctx.held.settings ctx.held.has_eols ctx.held.reference lines (ctx.held.taken + count) follow
+          (λ e. omega (arith, e, limit, more, pushed.count_is));
+      room = omega (arith, limit, more, pushed.count_is, follow.known.limit_fits);
+      passes = passes;
+      kept_is = refl;
+      new_is =
+          let taken : ctx.held.taken + suc count ≡ ctx.held.taken + count + 1 = omega arith in
+          let ticks : ctx.ticks + suc count + suc count ≡ ctx.ticks + count + count + 2 = omega arith in
+          ap (λ (n : ℕ). record ctx { held = record ctx.held { taken = n }; ticks = ctx.ticks + suc count + suc count }) taken
+          ∙ ap (λ (n : ℕ). record ctx { held = record ctx.held { taken = ctx.held.taken + count + 1 }; ticks = n }) ticks;
+    }
+
+    reads_more : {after_it : M} → ReadsWhite lines dropped so_far (record {
+      rows = rows_behind (suc count) start_then rows;
+      ctx = ctx_behind (suc count) ctx;
+      at = then;
+      meaning = after_it;
+    })
+    reads_more = record { follow = follow; takes = takes_more }
+
+    -- and passed
+    pub one_pushed : (now : ℕ) {after_it : M} → now + 1 ≡ left → after_it ≡ step after []
+        → HasPushedWhite step lines dropped most now next.place rows ctx at then before after_it
+    one_pushed now less means = record {
+      count = suc count;
+      count_is = omega (arith, less, pushed.count_is);
+      pass = (so_far, pushed.pass, record { reads = reads_more; meaning = means });
+    }
+
+    -- or the sink refuses its row
+    pub one_refused : {kept : RowState} {new : Context} {last : BitsAt} (now counted : ℕ) {first end : SinkState M}
+        {error : DecodeError} → now + 1 ≡ left → counted ≡ most - now
+        → kept ≡ record { started_at = start_then; damage = None; cut = false; missed = None; stand = BehindRow }
+        → new ≡ ctx_behind counted ctx → last ≡ then → first.meaning ≡ before → end.meaning ≡ after → error ≡ Refused
+        → end.refused ≡ true → end.refuses []
+        → PushesWhite step lines dropped first end rows kept ctx new at last (Err error)
+    one_refused {kept} {new} {last} now counted {first} {end} less many kept_is new_is last_is start_is means is flag row =
+        let all : counted ≡ suc count = omega (arith, less, many, pushed.count_is) in
+        let new_then : new ≡ ctx_behind (suc count) ctx = new_is ∙ ap (λ (n : ℕ). ctx_behind n ctx) all in
+        record {
+          count = count;
+          mid = so_far;
+          pass = subst (λ (m : M). PassWhite step lines dropped count (record { rows = rows; ctx = ctx; at = at; meaning = m })
+              so_far) (sym start_is) pushed.pass;
+          ends = record {
+            reads = record {
+              follow = follow;
+              takes = subst (λ (r : RowState). TakesWhite lines (dropped + next.place) so_far.rows r so_far.ctx new next last)
+                  (sym kept_is) (subst (λ (x : Context). TakesWhite lines (dropped + next.place) so_far.rows
+                  (rows_behind (suc count) start_then rows) so_far.ctx x next last) (sym new_then)
+                  (subst (TakesWhite lines (dropped + next.place) so_far.rows (rows_behind (suc count) start_then rows) so_far.ctx
+                  (ctx_behind (suc count) ctx) next) (sym last_is) takes_more));
+            };
+            meaning = means;
+            is = is;
+            flag = flag;
+            row = row;
+          };
+        }
+
+  -- none is next
+  module _ {kept : RowState} {new : Context} {last : BitsAt} {first end : SinkState M} (start_is : first.meaning ≡ before)
+      (means : end.meaning ≡ after) (flag : end.refused ≡ first.refused) where
+    all_pushed : kept ≡ so_far.rows → new ≡ so_far.ctx → last ≡ next
+        → PushesWhite step lines dropped first end rows kept ctx new at last (Ok tt)
+    all_pushed kept_is new_is last_is = record {
+      count = count;
+      mid = so_far;
+      pass = subst (λ (m : M). PassWhite step lines dropped count (record { rows = rows; ctx = ctx; at = at; meaning = m }) so_far)
+          (sym start_is) pushed.pass;
+      ends = (
+        ap (λ (r : RowState). record { rows = r; ctx = new; at = last; meaning = end.meaning }) kept_is
+            ∙ ap (λ (x : Context). record { rows = so_far.rows; ctx = x; at = last; meaning = end.meaning }) new_is
+            ∙ ap (λ (b : BitsAt). record { rows = so_far.rows; ctx = so_far.ctx; at = b; meaning = end.meaning }) last_is
+            ∙ ap (λ (m : M). record { rows = so_far.rows; ctx = so_far.ctx; at = next; meaning = m }) means,
+        flag,
+      );
+    }
+
+    pub some_pushed : (counted : ℕ) → counted ≡ most - left → left < most
+        → kept ≡ record { started_at = dropped + start + lines.gap; damage = None; cut = false; missed = None; stand = BehindRow }
+        → new ≡ ctx_behind counted ctx → last ≡ next → PushesWhite step lines dropped first end rows kept ctx new at last (Ok tt)
+    some_pushed counted many some kept_is new_is last_is = all_pushed
+        (kept_is ∙ sym (some_behind count (dropped + start + lines.gap) rows (omega (arith, some, pushed.count_is))))
+        (new_is ∙ ap (λ (n : ℕ). ctx_behind n ctx) (omega (arith, many, pushed.count_is))) last_is
+
+    pub none_left : most - left ≡ 0 → kept ≡ rows → new ≡ ctx → last ≡ at
+        → PushesWhite step lines dropped first end rows kept ctx new at last (Ok tt)
+    none_left none kept_is new_is last_is =
+        let unmoved : after ≡ before = first_meaning step lines dropped _ so_far count (omega (arith, none, pushed.count_is)) pushed.pass in
+        record {
+          count = 0;
+          mid = record { rows = rows; ctx = ctx; at = at; meaning = first.meaning };
+          pass = refl;
+          ends = (
+            ap (λ (r : RowState). record { rows = r; ctx = new; at = last; meaning = end.meaning }) kept_is
+                ∙ ap (λ (x : Context). record { rows = rows; ctx = x; at = last; meaning = end.meaning }) new_is
+                ∙ ap (λ (b : BitsAt). record { rows = rows; ctx = ctx; at = b; meaning = end.meaning }) last_is
+                ∙ ap (λ (m : M). record { rows = rows; ctx = ctx; at = at; meaning = m }) (means ∙ unmoved ∙ sym start_is),
+            flag,
+          );
+        }
+
+-- no row was read
+pub none_read : {M : Type 0} {step : M → List ℕ → M} {lines : WhiteLines} {dropped : ℕ} {sink : SinkState M} {rows : RowState}
+    {ctx : Context} {at : BitsAt} → PushesWhite step lines dropped sink sink rows rows ctx ctx at at (Ok tt)
+none_read {sink = sink} {rows} {ctx} {at} = record {
+  count = 0;
+  mid = record { rows = rows; ctx = ctx; at = at; meaning = sink.meaning };
+  pass = refl;
+  ends = (refl, refl);
+}

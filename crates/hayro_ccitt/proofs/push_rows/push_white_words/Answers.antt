@@ -1,0 +1,124 @@
+use Rattle.hayro_ccitt.proofs.Names.{◌≡◌, ◌∙◌, ◌+◌, ◌-◌, [], ℕ, BehindRow, BitsAt, Context, None, ap, arith, length, refl, subst, sym, false}
+use Rattle.fax_bits.specs.Window.{WordsAt}
+use Rattle.hayro_ccitt.proofs.Readings.WhiteRowsPushed.{HasPushedWhite, ctx_behind, none_left, none_pushed, one_pushed, one_refused, some_pushed}
+use Rattle.hayro_ccitt.specs.WhiteLines.{PassesLine}
+use Rattle.hayro_ccitt.specs.WhiteRows.{ArePlacedLines}
+use Rattle.fax_bits.specs.declared.bit_reader.BitOrder.{BitOrder}
+use Rattle.hayro_ccitt.proofs.push_rows.push_white_words.{Given.Over}
+use Rattle.hayro_ccitt.proofs.push_rows.push_white_words.Goals.{After-push_row, After-many}
+use Rattle.hayro_ccitt.proofs.push_rows.push_white_words.Goals.{else-many-test, then-many-test+then-not-pass_placed_line}
+use Rattle.hayro_ccitt.proofs.push_rows.push_white_words.Goals as goal
+
+pub many-init : goal.many-init
+many-init g c = record {
+  pushed = none_pushed c.requires.here;
+  rows = refl;
+  ctx = refl;
+  reader = refl;
+  placed = c.placed_lines-placed.ensures;
+  bits = ap (λ (b : BitsAt). b.bits) c.requires.here;
+  within = omega (arith, c.passed-start.ensures.within, ap (λ (b : BitsAt). length b.bits) c.requires.here);
+  width = refl;
+  unrefused = refl;
+}
+
+-- a line is passed
+passes : (g : Over) (c : After-push_row g) → PassesLine c.args.lines.now c.many.words.at c.pass_placed_line.new.words.at
+passes g c = c.pass_placed_line.ensures.passed c.args.lines.now c.if-not-pass_placed_line.false c.many.invariant.placed
+
+pub take_white_rows-requires : goal.take_white_rows-requires
+take_white_rows-requires g c = omega (
+  arith,
+  c.rows_left-most.ensures,
+  c.decoded_rows.ensures,
+  c.requires.follow.known.limit_fits,
+  ap (λ (x : Context). x.held.taken) c.many.invariant.ctx,
+  c.many-test.true,
+  c.many.invariant.pushed.count_is,
+)
+
+pub go_on_at-requires : goal.go_on_at-requires
+go_on_at-requires g c =
+    let here = (goal.at.go_on_at-requires g c).After-push_row in
+    ap (λ (b : BitsAt). b.bits) (passes g here).moved_on ∙ c.many.invariant.bits
+    ∙ sym (ap (λ (b : BitsAt). b.bits) c.many.invariant.reader)
+
+pub returns-in-Err-clause-pushes : goal.returns-in-Err-clause-pushes
+returns-in-Err-clause-pushes g c =
+    let here = (goal.at.returns-in-Err-clause-pushes g c).After-push_row in
+    let inv = c.many.invariant in
+    let counted = c.rows_left-most.result - (c.many.left - 1) in
+    one_refused inv.pushed c.requires.follow
+    (c.rows_left-most.ensures ∙ ap (λ (n : ℕ). c.args.lines.now.limit - n) c.decoded_rows.ensures) c.many-test.true (passes g here)
+    (c.many.left - 1) counted (omega (arith, c.many-test.true)) refl
+    (c.take_white_rows.ensures.kept ∙ ap (λ (n : ℕ). record {
+      started_at = c.args.dropped + n + c.args.lines.now.gap;
+      damage = None;
+      cut = false;
+      missed = None;
+      stand = BehindRow;
+    }) c.passed-place.ensures.place) (c.take_white_rows.ensures.frame ∙ ap (ctx_behind counted) inv.ctx) c.go_on_at.ensures refl
+    c.in-Err.ensures.kept c.in-Err.ensures.only_refused c.in-Err.ensures.refused c.in-Err.ensures.refused_row
+
+pub many-preserved : goal.many-preserved
+many-preserved g c =
+    let here = (goal.at.many-preserved g c).After-push_row in
+    let inv = c.many.invariant in
+    let step = g.D.Decoder.step (g.D.Decoder.width c.args.decoder.now) in
+    let meaning = g.D.Decoder.meaning c.many.decoder in
+    record {
+      pushed = subst (λ (n : ℕ). HasPushedWhite step c.args.lines.now c.args.dropped c.rows_left-most.result (c.many.left - 1) n
+          c.args.rows.now c.args.ctx.now c.args.reader.now c.pass_placed_line.new.words.at
+          (g.D.Decoder.meaning c.args.decoder.now) (g.D.Decoder.meaning c.push_row.new.self)) (sym c.passed-place.ensures.place)
+          (one_pushed inv.pushed c.requires.follow
+          (c.rows_left-most.ensures ∙ ap (λ (n : ℕ). c.args.lines.now.limit - n) c.decoded_rows.ensures) c.many-test.true
+          (passes g here) (c.many.left - 1) (omega (arith, c.many-test.true)) (c.in_default.ensures.taken
+          ∙ ap (λ (w : ℕ). g.D.Decoder.step w meaning []) inv.width));
+      rows = inv.rows;
+      ctx = inv.ctx;
+      reader = inv.reader;
+      placed = subst (λ (o : BitOrder). ArePlacedLines o c.args.lines.now c.placed_lines-placed.result)
+          (sym c.pass_placed_line.ensures.order) inv.placed;
+      bits = ap (λ (b : BitsAt). b.bits) (passes g here).moved_on ∙ inv.bits;
+      within = omega (arith, c.passed-place.ensures.within, ap length inv.bits);
+      width = c.push_row.ensures.same_width ∙ inv.width;
+      unrefused = c.in_default.ensures.not_refused ∙ inv.unrefused;
+    }
+
+pub take_white_rows-requires-then-left-most : goal.take_white_rows-requires-then-left-most
+take_white_rows-requires-then-left-most g c = omega (
+  arith,
+  c.rows_left-most.ensures,
+  c.decoded_rows.ensures,
+  c.requires.follow.known.limit_fits,
+  ap (λ (x : Context). x.held.taken) c.many.invariant.ctx,
+  c.if-left-most.true,
+  c.many.invariant.pushed.count_is,
+)
+
+pub go_on_at-requires-then-left-most : goal.go_on_at-requires-then-left-most
+go_on_at-requires-then-left-most g c =
+    let stopped : c.many-test.words ≡ c.many.words = elim c.many-test.branch [
+      | else-many-test w ↦ w.words-is
+      | then-many-test+then-not-pass_placed_line w ↦
+          w.words-is ∙ w.pass_placed_line.ensures.unchanged w.if-not-pass_placed_line.true
+    ] in
+    ap (λ (w : WordsAt). w.at.bits) stopped ∙ c.many.invariant.bits ∙ sym (ap (λ (b : BitsAt). b.bits) c.many.invariant.reader)
+
+pub returns-then-left-most-clause-pushes : goal.returns-then-left-most-clause-pushes
+returns-then-left-most-clause-pushes g c =
+    let inv = c.many.invariant in
+    let counted = c.rows_left-most.result - c.many.left in
+    let stopped : c.many-test.words ≡ c.many.words = elim c.many-test.branch [
+      | else-many-test w ↦ w.words-is
+      | then-many-test+then-not-pass_placed_line w ↦
+          w.words-is ∙ w.pass_placed_line.ensures.unchanged w.if-not-pass_placed_line.true
+    ] in
+    some_pushed inv.pushed refl refl inv.unrefused counted refl c.if-left-most.true c.take_white_rows-then-left-most.ensures.kept
+    (c.take_white_rows-then-left-most.ensures.frame ∙ ap (ctx_behind counted) inv.ctx)
+    (c.go_on_at-then-left-most.ensures ∙ ap (λ (w : WordsAt). w.at) stopped)
+
+pub returns-else-left-most-clause-pushes : goal.returns-else-left-most-clause-pushes
+returns-else-left-most-clause-pushes g c =
+    let inv = c.many.invariant in
+    none_left inv.pushed refl refl inv.unrefused (omega (arith, c.if-left-most.false)) inv.rows inv.ctx inv.reader

@@ -1,0 +1,27 @@
+use Rattle.hayro_ccitt.proofs.Names.{BitsAt, inl, inr}
+use Rattle.fax_bits.specs.Window.{PassesPlaced, WordsAt}
+use Rattle.fax_bits.specs.declared.bit_reader.PlacedBits.{PlacedBits}
+use Rattle.hayro_ccitt.specs.WhiteLines.{PassesLine}
+use Rattle.hayro_ccitt.specs.WhiteRows.{IsPlacedLine}
+use Rattle.hayro_ccitt.specs.declared.white_lines.WhiteLines.{WhiteLines}
+use Rattle.hayro_ccitt.proofs.white_lines.pass_placed_line.Goals as goal
+
+-- placed bits that are passed are a line
+line_passed : {words : WordsAt} {lines : WhiteLines} {placed : PlacedBits} {next : BitsAt} → IsPlacedLine words.order lines placed
+    → PassesPlaced placed words next → PassesLine lines words.at next
+line_passed is passed =
+    let said = passed is.word.count is.word.bits is.are in
+    record {
+      word = is.word;
+      one = is.one;
+      some = is.some;
+      there = said.0;
+      within = said.1;
+      moved_on = said.2;
+    }
+
+pub returns-clause-passed : goal.returns-clause-passed
+returns-clause-passed c lines e are = elim (c.pass_either.ensures.passed e) [
+  | inl first ↦ line_passed {words = c.args.words.now} are.first first
+  | inr second ↦ line_passed {words = c.args.words.now} are.second second
+]
