@@ -35,5 +35,6 @@ pub mod ShortestWays
 pub mod StepsToB1
 pub mod StoredWords
 pub mod TurnedBits
+pub mod WhiteRowLines
 pub mod WordTables
 pub mod WrittenBits

@@ -158,6 +158,19 @@ fn count_plain(bytes: &[u8], most: usize, is_black: bool) -> usize
     count
 }
 
+/// Returns how many bytes at the start are zero.
+#[inline(always)]
+pub fn zero_bytes(bytes: &[u8]) -> usize
+    ensures within { result ≤ length bytes.now }
+    ensures white { bits_of (take result bytes.now) ≡ replicate (8 * result) false }
+{
+    let mut count = 8 * count_plain(bytes, bytes.len() / 8, false);
+    'bytes: while count < bytes.len() && bytes[count] == 0 {
+        count += 1;
+    }
+    count
+}
+
 /// Returns how many words of pixels at the start have this colour only, up to a maximum.
 #[inline(always)]
 fn plain_words(bytes: &[u8], most: usize, is_black: bool) -> usize
