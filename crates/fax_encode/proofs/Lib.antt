@@ -12,6 +12,7 @@ pub mod Elements
 pub mod FilledEols
 pub mod LinesByK
 pub mod LinesOfPictures
+pub mod ModesBelow
 pub mod ModesWritten
 pub mod Names
 pub mod PackedRows
