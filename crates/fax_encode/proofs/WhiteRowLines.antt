@@ -3,7 +3,7 @@ use Rattle.fax_encode.proofs.Names.{◌≡◌, ℕ, zero, suc, ◌+◌, ◌*◌,
 use Rattle.fax_encode.proofs.Names.{replicate, take, drop, sym, ap, ◌∙◌, arith, append-nil, length-replicate, length-drop}
 use Rattle.fax_encode.proofs.Names.{take-append-le, take-replicate, take-add, drop-drop, flat_map-append}
 use Rattle.fax_encode.proofs.Names.{replicate-append-replicate, HighestFirst, Bits, Row, bits_of, bits_of_byte, white_row}
-use Rattle.fax_encode.proofs.Names.{bytes_of_row, shown}
+use Rattle.fax_encode.proofs.Names.{bytes_of_row, shown, take_all, length-take}
 use Rattle.fax_encode.proofs.{CutBits.first_bytes, ScannedRows.shown-row, ScannedRows.bits_of-parts}
 use Rattle.fax_encode.proofs.ScannedRows.{front_same, length-first}
 
@@ -65,3 +65,14 @@ white_shown columns width (suc n) bytes below some w within white is =
     (white_first columns (width + n * width) bytes (omega (arith, w)) fit zeros)
     ∙ ap (λ (m : ℕ). white_row columns ∷ shown columns (drop m bytes)) (sym w)
     ∙ ap (λ (l : List Row). white_row columns ∷ l) more
+
+-- one white row
+pub white_bytes_row : (columns width count : ℕ) (bytes front : List ℕ) → front ≡ take width bytes → bytes_of_row columns ≤ width
+    → count ≡ width → width ≤ length bytes → bits_of (take count front) ≡ replicate (8 * count) false
+    → take columns (bits_of bytes) ≡ white_row columns
+white_bytes_row columns width count bytes front is some all within white =
+    let whole : take count front ≡ take width bytes =
+    ap (take count) is ∙ take_all count (take width bytes) (omega (arith, all, length-take width bytes)) in
+    let same : bits_of (take width bytes) ≡ replicate (8 * width) false =
+    ap bits_of (sym whole) ∙ white ∙ ap (λ (n : ℕ). replicate (8 * n) false) all in
+    white_first columns width bytes (omega (arith, some)) within same
