@@ -1,9 +1,10 @@
 /* One encoding of a bitmap, for callgrind to count its instructions:
  *
- *   encode ENCODER ENCODING COLUMNS BITMAP STRIP
+ *   encode ENCODER ENCODING K COLUMNS BITMAP STRIP
  *
- * ENCODER is `ours`, `shortest`, which is ours with FAX_ENCODE_SHORTEST, or `tiff`. ENCODING is 0 for Group 4, 1 for one-dimensional Group 3, 2 for two-dimensional, in which K is 4,
- * as libtiff chooses for 200 lines an inch. The strip is written to STRIP.
+ * ENCODER is `ours`, `shortest`, which is ours with FAX_ENCODE_SHORTEST, or `tiff`. ENCODING is 0 for Group 4, 1 for
+ * one-dimensional Group 3, 2 for two-dimensional, in which K is 2 or 4, as libtiff chooses for 100 and 200 lines an inch. The strip
+ * is written to STRIP.
  * Callgrind is given --toggle-collect=measured. */
 #include "../c/fax_encode.h"
 #include <stdio.h>
@@ -33,7 +34,7 @@ static TIFF *tiff_to_write(char *name)
     TIFFSetField(made, TIFFTAG_BITSPERSAMPLE, 1);
     TIFFSetField(made, TIFFTAG_PHOTOMETRIC, PHOTOMETRIC_MINISWHITE);
     TIFFSetField(made, TIFFTAG_COMPRESSION, settings.encoding ? COMPRESSION_CCITTFAX3 : COMPRESSION_CCITTFAX4);
-    TIFFSetField(made, TIFFTAG_YRESOLUTION, 200.0);
+    TIFFSetField(made, TIFFTAG_YRESOLUTION, 50.0 * settings.k);
     if (settings.encoding == FAX_ENCODE_GROUP_3_2D)
         TIFFSetField(made, TIFFTAG_GROUP3OPTIONS, GROUP3OPT_2DENCODING);
     return made;
@@ -48,15 +49,16 @@ __attribute__((noinline)) static void measured(int by_tiff)
 
 int main(int count, char **words)
 {
-    if (count != 6)
+    if (count != 7)
         return 2;
     int by_tiff = !strcmp(words[1], "tiff");
-    settings = (fax_encode_settings){strtoul(words[3], NULL, 10), strtoul(words[2], NULL, 10), FAX_ENCODE_END_OF_BLOCK, 4, 0};
+    uint32_t columns = strtoul(words[4], NULL, 10), encoding = strtoul(words[2], NULL, 10), k = strtoul(words[3], NULL, 10);
+    settings = (fax_encode_settings){columns, encoding, FAX_ENCODE_END_OF_BLOCK, k, 0};
     if (settings.encoding != FAX_ENCODE_GROUP_4)
         settings.flags += FAX_ENCODE_END_OF_LINE;
     if (!strcmp(words[1], "shortest"))
         settings.flags += FAX_ENCODE_SHORTEST;
-    FILE *file = fopen(words[4], "rb");
+    FILE *file = fopen(words[5], "rb");
     if (!file || fseek(file, 0, SEEK_END))
         return 3;
     length = ftell(file);
@@ -77,6 +79,6 @@ int main(int count, char **words)
         TIFFClose(tiff);
         unlink(name);
     }
-    file = fopen(words[5], "wb");
+    file = fopen(words[6], "wb");
     return !file || fwrite(strip, 1, outcome.bytes, file) != outcome.bytes || fclose(file) ? 3 : 0;
 }

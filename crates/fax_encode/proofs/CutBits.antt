@@ -4,7 +4,7 @@ use Rattle.fax_encode.proofs.Names.{append_assoc, take-append_seam, take-length,
 use Rattle.fax_encode.proofs.{ScannedRows.bits_of-parts, ScannedRows.length-first, WrittenBits.length-written}
 
 -- the bits of the first bytes stand first
-first_bytes : (bytes : List ℕ) (count : ℕ) (more : Bits) → count ≤ length bytes
+pub first_bytes : (bytes : List ℕ) (count : ℕ) (more : Bits) → count ≤ length bytes
     → bits_of (take count bytes) ≡ take (8 * count) (bits_of bytes ++ more)
 first_bytes bytes count more within =
     let front : Bits = bits_of (take count bytes) in

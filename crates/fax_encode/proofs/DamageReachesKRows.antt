@@ -13,7 +13,8 @@ use Rattle.fax_encode.proofs.Names.{chosen_lines_with_eols, chosen_eols, with_en
 use Rattle.fax_encode.proofs.{ChosenBySettings.line_2d_encoded, ChosenBySettings.line_1d_encoded, FilledEols.length-eol}
 use Rattle.fax_encode.proofs.ChosenBySettings.{line_encodes, lines_with_eols_encode, eols_close, white_is_wide}
 use Rattle.fax_encode.proofs.Names.{Effort, line_2d}
-use Rattle.fax_encode.proofs.LinesOfPictures.{lines_left, lines_pushed, rows_are_chosen}
+use Rattle.fax_encode.proofs.LinesOfPictures.{lines_pushed, rows_are_chosen}
+use Rattle.fax_encode.proofs.Names.{lines_left}
 use Rattle.hayro_ccitt.proofs.DamagedLines.DamageByK.{eol_before_lines}
 
 -- ---- Fewer rows

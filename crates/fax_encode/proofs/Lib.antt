@@ -12,6 +12,7 @@ pub mod Elements
 pub mod FilledEols
 pub mod LinesByK
 pub mod LinesOfPictures
+pub mod ModesBelow
 pub mod ModesWritten
 pub mod Names
 pub mod PackedRows
@@ -35,5 +36,6 @@ pub mod ShortestWays
 pub mod StepsToB1
 pub mod StoredWords
 pub mod TurnedBits
+pub mod WhiteRowLines
 pub mod WordTables
 pub mod WrittenBits

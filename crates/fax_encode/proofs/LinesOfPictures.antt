@@ -4,7 +4,7 @@ use Rattle.fax_encode.proofs.Names.{append_assoc, append-nil, length-append, Enc
 use Rattle.fax_encode.proofs.Names.{Row, white_row, eol, padding, EncodeSettings, RowsAreChosen, RowsEncoded, no_rows, with_row}
 use Rattle.fax_encode.proofs.Names.{with_rows, chosen, chosen_picture, chosen_line, chosen_lines, chosen_lines_with_eols}
 use Rattle.fax_encode.proofs.Names.{chosen_part, chosen_end, fill_of, has_eols, left_after, with_end}
-use Rattle.fax_encode.proofs.Names.{Effort}
+use Rattle.fax_encode.proofs.Names.{Effort, lines_by, lines_left}
 use Rattle.fax_encode.proofs.FilledEols.{length-eol}
 
 -- ---- one line
@@ -29,17 +29,6 @@ module _ (settings : EncodeSettings) (at left : ℕ) (reference row : Row) where
   part_without_eol e = part_is false e
 
 -- ---- the lines that are left
--- with EOLs or without
-abbrev pub lines_by : Bool → EncodeSettings → ℕ → ℕ → Row → List Row → Bits
-lines_by true settings at left reference rows =
-    chosen_lines_with_eols settings.effort settings.encoding settings.k settings.eols_end_at_bytes at left reference rows
-lines_by false settings at left reference rows =
-    chosen_lines settings.effort settings.encoding settings.k settings.rows_are_byte_aligned left reference rows
-
-abbrev pub lines_left : EncodeSettings → ℕ → ℕ → Row → List Row → Bits
-lines_left settings at left reference rows =
-    lines_by (has_eols settings.encoding settings.end_of_line) settings at left reference rows
-
 -- none are left
 pub lines_none : (settings : EncodeSettings) (at left : ℕ) (reference : Row) → lines_left settings at left reference [] ≡ []
 lines_none settings at left reference = by_with_eols (has_eols settings.encoding settings.end_of_line)

@@ -17,8 +17,9 @@ pub use Rattle.fax_encode.specs.RowByRow.{RowsEncoded, no_rows, with_row, with_r
 pub use Rattle.fax_encode.specs.Scanning.{differences, ones_from}
 pub use Rattle.fax_encode.specs.Settings.{chosen, chosen_end, chosen_eols, chosen_group4, chosen_line, chosen_lines}
 pub use Rattle.fax_encode.specs.Settings.{chosen_lines_with_eols, chosen_part, chosen_picture, chosen_with_eols}
-pub use Rattle.fax_encode.specs.Settings.{decode_settings_for, fill_of, group3_settings, group4_settings, has_eols, is_closed}
+pub use Rattle.fax_encode.specs.Settings.{decode_settings_for, lines_by, lines_left, fill_of, group3_settings, group4_settings, has_eols, is_closed}
 pub use Rattle.fax_encode.specs.Settings.{is_two_dimensional, left_after, line_1d, line_2d, names_encoding, needs_row, with_end}
+pub use Rattle.fax_encode.specs.WhiteRows.{AreWhiteLines, IsWhiteLine}
 pub use Rattle.fax_encode.specs.Writing.{IsWord, Marked, Written, all_bits}
 pub use Rattle.fax_encode.specs.declared.bit_order.TheConstants.{TURNED}
 pub use Rattle.fax_encode.specs.declared.painting.Brush.{Brush}
@@ -86,7 +87,7 @@ pub use Rattle.hayro_ccitt.specs.EncodingMode.{EncodingMode}
 pub use Rattle.hayro_ccitt.specs.EncodingMode.TheVariants.{Group3_1D, Group3_2D, Group4}
 pub use Rattle.hayro_ccitt.specs.TableConstants.{BLACK_MAKEUP, BLACK_TERMINATING, COMMON_MAKEUP, WHITE_MAKEUP}
 pub use Rattle.hayro_ccitt.specs.TableConstants.{WHITE_TERMINATING}
-pub use Rattle.std.proofs.Common.{Bool, Err, IfOk, List, None, OnOk, Result, Some, [], add-one, ap, append_assoc, arith}
+pub use Rattle.std.proofs.Common.{Bool, Err, IfOk, IfSome, List, None, OnOk, Result, Some, [], add-one, ap, append_assoc, arith}
 pub use Rattle.std.proofs.Common.{below_more, cond, drop, eqb, false, get_or, inl, inr, leb, length, ltb, map, nat_eq, not, refl}
 pub use Rattle.std.proofs.Common.{vec_capacity, vec_len}
 pub use Rattle.std.proofs.Common.{replicate, rules, set, subst, suc, sym, take, take_all, true, zero, ℕ, ◌%◌, ◌&&◌, ◌*◌, ◌++◌}

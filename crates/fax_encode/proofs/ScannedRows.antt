@@ -223,7 +223,7 @@ rows_below columns width rest below some w le is =
 
 -- ---- packed rows
 -- two lists whose prefixes have the same length
-front_same : {A : Type 0} (a b c d : List A) → a ++ b ≡ c ++ d → length a ≡ length c → b ≡ d
+pub front_same : {A : Type 0} (a b c d : List A) → a ++ b ≡ c ++ d → length a ≡ length c → b ≡ d
 front_same [] b [] d e len = e
 front_same [] b (y ∷ c) d e len = absurd (omega arith)
 front_same (x ∷ a) b [] d e len = absurd (omega arith)

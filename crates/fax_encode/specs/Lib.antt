@@ -9,4 +9,5 @@ pub mod Scanning
 pub mod Settings
 pub mod Shortest
 pub mod Ways
+pub mod WhiteRows
 pub mod Writing

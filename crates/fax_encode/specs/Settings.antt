@@ -121,6 +121,17 @@ chosen_part settings at left reference row =
     ++ (if settings.rows_are_byte_aligned then padding (length
     (chosen_line settings.effort settings.encoding left reference row)) else [])
 
+-- the lines of rows after this number of bits, with EOLs or without
+abbrev pub lines_by : Bool → EncodeSettings → ℕ → ℕ → Row → List Row → Bits
+lines_by true settings at left reference rows =
+    chosen_lines_with_eols settings.effort settings.encoding settings.k settings.eols_end_at_bytes at left reference rows
+lines_by false settings at left reference rows =
+    chosen_lines settings.effort settings.encoding settings.k settings.rows_are_byte_aligned left reference rows
+
+abbrev pub lines_left : EncodeSettings → ℕ → ℕ → Row → List Row → Bits
+lines_left settings at left reference rows =
+    lines_by (has_eols settings.encoding settings.end_of_line) settings at left reference rows
+
 -- what follows the lines, after this number of bits: EOFB or RTC if the picture is closed
 abbrev pub chosen_end : EncodingMode → Bool → Bool → Bool → ℕ → Bits
 chosen_end Group4 eols fills closed at = if closed then eol 0 ++ eol 0 else []

@@ -1,11 +1,12 @@
 //! Bits written one after another into bytes, each byte's highest bit first.
 
-ghost use Rattle.std.specs.Prelude.{◌≡◌, ◌+◌, ◌-◌, ◌*◌, ◌%◌, ◌^◌, ◌<◌, ◌≤◌, ◌++◌, [], OnOk, IfOk, length, take};
+ghost use Rattle.std.specs.Prelude.{◌≡◌, ◌+◌, ◌-◌, ◌*◌, ◌%◌, ◌^◌, ◌<◌, ◌≤◌, ◌++◌, [], OnOk, IfOk, IfSome, length, take};
 ghost use Rattle.std.specs.Int.{to_be_bytes, w64};
 ghost use Rattle.hayro_ccitt.specs.Bits.{bits_of, low_bits};
 ghost use Rattle.fax_encode.specs.Writing.{all_bits};
 ghost use Rattle.fax_encode.specs.Chosen.{filled_up};
 
+use crate::words::Joined;
 use std::alloc::{AllocError, Global};
 use std::marker::Model;
 
@@ -137,6 +138,21 @@ impl BitWriter {
         ensures { result ≡ length (all_bits self.now) }
     {
         self.bytes.len() as u128 * 8 + u128::from(64 - self.room)
+    }
+
+    /// Returns all that was written as one number, if that is fewer than 64 bits.
+    pub fn as_joined(&self) -> Option<Joined>
+        ensures { IfSome result (λ joined. (joined.count ≤ 63) × ((joined.bits < 2 ^ joined.count)
+            × (low_bits joined.count joined.bits ≡ all_bits self.now))) }
+    {
+        if self.bytes.is_empty() {
+            let count = 64 - self.room;
+            return Some(Joined {
+                count,
+                bits: self.pending % (1 << count),
+            });
+        }
+        None
     }
 
     /// Returns what was written so far, for [`BitWriter::cut_back`].

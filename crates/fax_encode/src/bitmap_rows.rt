@@ -158,6 +158,41 @@ fn count_plain(bytes: &[u8], most: usize, is_black: bool) -> usize
     count
 }
 
+/// Returns whether the first sixteen words of pixels have this colour only.
+#[inline(always)]
+fn sixteen_are_plain(bytes: &[u8], is_black: bool) -> bool
+    requires { 128 ≤ length bytes.now }
+    ensures { IsTrue result → bits_of (take 128 bytes.now) ≡ replicate 1024 is_black }
+{
+    eight_are_plain(bytes, is_black) & eight_are_plain(&bytes[64..], is_black)
+}
+
+/// Returns whether the first 32 words of pixels are white. All are looked at, by one test.
+#[inline(always)]
+fn many_are_white(bytes: &[u8]) -> bool
+    requires { 256 ≤ length bytes.now }
+    ensures { IsTrue result → bits_of (take 256 bytes.now) ≡ replicate 2048 false }
+{
+    sixteen_are_plain(bytes, false) & sixteen_are_plain(&bytes[128..], false)
+}
+
+/// Returns how many bytes at the start are zero.
+#[inline(always)]
+pub fn zero_bytes(bytes: &[u8]) -> usize
+    ensures within { result ≤ length bytes.now }
+    ensures white { bits_of (take result bytes.now) ≡ replicate (8 * result) false }
+{
+    let mut count = 0;
+    'many: while bytes.len() - count >= 256 && many_are_white(&bytes[count..]) {
+        count += 256;
+    }
+    count += 8 * count_plain(&bytes[count..], (bytes.len() - count) / 8, false);
+    'bytes: while count < bytes.len() && bytes[count] == 0 {
+        count += 1;
+    }
+    count
+}
+
 /// Returns how many words of pixels at the start have this colour only, up to a maximum.
 #[inline(always)]
 fn plain_words(bytes: &[u8], most: usize, is_black: bool) -> usize

@@ -13,6 +13,7 @@ use crate::bit_writer::BitWriter;
 use crate::bitmap_rows::scan_row;
 use crate::encoding::{names_encoding, put_end, put_part};
 use crate::rows::first_unlawful;
+use crate::white_rows::{lines_for, put_white_lines, white_rows};
 use crate::{EncodeError, EncodeSettings};
 use hayro_ccitt::EncodingMode;
 use std::alloc::{AllocError, Global};
@@ -138,9 +139,19 @@ fn put_bitmap(
     let mut reference = Vec::new(alloc);
     let mut row = Vec::new(alloc);
     let mut ways = Vec::new(alloc);
+    let mut lines = None;
     let mut left = 0;
     let mut rest = bitmap;
     while rest.len() >= width {
+        if reference.is_empty() {
+            let count = white_rows(rest, width);
+            if count > 0 {
+                lines = lines_for(lines, alloc, &mut ways, columns, settings, count)?;
+                left = put_white_lines(writer, &mut ways, columns, settings, left, lines, count)?;
+                rest = &rest[count * width..];
+                continue;
+            }
+        }
         scan_row(&mut row, columns, rest)?;
         left = put_part(
             writer,

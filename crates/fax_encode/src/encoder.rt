@@ -2,7 +2,7 @@
 
 ghost use Rattle.std.specs.Prelude.{◌≡◌, ◌≢◌, ◌<◌, ◌≤◌, ◌↔◌, ℕ, true, false, length, Err, IfOk, OnOk, OnErr, IsOk, take};
 ghost use Rattle.hayro_ccitt.specs.Bits.{bits_in, bits_of};
-ghost use Rattle.hayro_ccitt.specs.Rows.{AreChanges, pixels};
+ghost use Rattle.hayro_ccitt.specs.Rows.{AreChanges, pixels, white_row};
 ghost use Rattle.fax_encode.specs.Chosen.{filled_up};
 ghost use Rattle.fax_encode.specs.Packed.{bytes_of_row, in_black};
 ghost use Rattle.fax_encode.specs.RowByRow.{no_rows, with_row};
@@ -10,11 +10,12 @@ ghost use Rattle.fax_encode.specs.Settings.{names_encoding, needs_row, with_end}
 
 use crate::bit_order::bytes_in_order;
 use crate::bit_writer::BitWriter;
-use crate::bitmap_rows::scan_in_black;
+use crate::bitmap_rows::{scan_in_black, zero_bytes};
 use crate::by_settings::needs_row;
 use crate::encoding::{names_encoding, put_end, put_part};
 use crate::rows::is_row;
 use crate::shortest_lines::Way;
+use crate::white_rows::{WhiteLines, put_white_line, white_lines};
 use crate::{EncodeError, EncodeSettings};
 use std::alloc::{AllocError, Global};
 use std::marker::Model;
@@ -31,6 +32,9 @@ pub struct Encoder {
     row: Vec<u32>,
     /// The ways of the current row, for their memory.
     ways: Vec<Way>,
+    /// The lines of white rows below white ones, once there was one.
+    lines: Option<WhiteLines>,
+    alloc: Global,
     settings: EncodeSettings,
     columns: u32,
     /// How many lines may still be two-dimensional.
@@ -40,10 +44,11 @@ pub struct Encoder {
 }
 
 impl Model for Encoder {
-    ghost use Rattle.std.specs.Prelude.{◌≡◌, ◌≢◌, ◌<◌, ◌%◌, true, false, length};
+    ghost use Rattle.std.specs.Prelude.{◌≡◌, ◌≢◌, ◌<◌, ◌%◌, true, false, length, IfSome};
     ghost use Rattle.hayro_ccitt.specs.Rows.{AreChanges, pixels};
     ghost use Rattle.fax_encode.specs.RowByRow.{RowsEncoded};
     ghost use Rattle.fax_encode.specs.Settings.{has_eols};
+    ghost use Rattle.fax_encode.specs.WhiteRows.{AreWhiteLines};
     ghost use Rattle.fax_encode.specs.Writing.{all_bits};
 
     ghost Value = { RowsEncoded };
@@ -58,9 +63,9 @@ impl Model for Encoder {
       wants_memory = e.wants_memory;
     } };
 
-    ghost invariant = { λ e. (AreChanges e.columns e.reference.items) × (e.wants_memory ≡ false
+    ghost invariant = { λ e. (AreChanges e.columns e.reference.items) × ((e.wants_memory ≡ false
         → has_eols e.settings.encoding e.settings.end_of_line ≡ false → e.settings.rows_are_byte_aligned ≡ true
-        → length (all_bits e.writer) % 8 ≡ 0) };
+        → length (all_bits e.writer) % 8 ≡ 0) × IfSome e.lines (λ made. AreWhiteLines e.settings e.columns made)) };
 }
 
 impl Encoder {
@@ -90,6 +95,8 @@ impl Encoder {
             reference: Vec::new(alloc),
             row: Vec::new(alloc),
             ways: Vec::new(alloc),
+            lines: None,
+            alloc,
             settings,
             columns,
             left: 0,
@@ -113,6 +120,34 @@ impl Encoder {
         !self.wants_memory && self.rows == 0 && needs_row(self.settings)
     }
 
+    /// Adds a white row below a white one, or below none. Until all of it is added, the encoder is marked as out of memory.
+    #[inline(never)]
+    fn add_white(&mut self) -> Result<(), AllocError>
+        requires above { self.old.last ≡ white_row self.old.columns }
+        requires memory { self.old.wants_memory ≡ false }
+        ensures taken { OnOk result (self.new ≡ with_row self.old (white_row self.old.columns)) }
+        ensures wanted { OnErr result (self.new.wants_memory ≡ true) }
+        ensures settings { self.new.settings ≡ self.old.settings }
+        ensures columns { self.new.columns ≡ self.old.columns }
+    {
+        self.wants_memory = true;
+        if self.lines.is_none() {
+            self.lines = white_lines(self.alloc, &mut self.ways, self.columns, self.settings)?;
+        }
+        let left = put_white_line(
+            &mut self.writer,
+            &mut self.ways,
+            self.columns,
+            self.settings,
+            self.left,
+            self.lines,
+        )?;
+        self.left = left;
+        self.rows = self.rows.saturating_add(1);
+        self.wants_memory = false;
+        Ok(())
+    }
+
     /// Adds a row. Until all of it is added, the encoder is marked as out of memory.
     fn add(&mut self, changes: &[u32]) -> Result<(), AllocError>
         requires lawful { AreChanges self.old.columns changes.now }
@@ -122,6 +157,9 @@ impl Encoder {
         ensures settings { self.new.settings ≡ self.old.settings }
         ensures columns { self.new.columns ≡ self.old.columns }
     {
+        if self.reference.is_empty() && changes.is_empty() {
+            return self.add_white();
+        }
         self.wants_memory = true;
         let left = put_part(
             &mut self.writer,
@@ -181,6 +219,10 @@ impl Encoder {
         ensures settings { self.new.settings ≡ self.old.settings }
         ensures columns { self.new.columns ≡ self.old.columns }
     {
+        let width = (self.columns as usize).div_ceil(8);
+        if !black_is_0 && self.reference.is_empty() && zero_bytes(&bitmap[..width]) == width {
+            return self.add_white();
+        }
         self.wants_memory = true;
         scan_in_black(&mut self.row, self.columns, bitmap, black_is_0)?;
         let left = put_part(

@@ -1,11 +1,11 @@
 //! Group 4 (T.6): two-dimensional lines (T.4, 4.2).
 
-ghost use Rattle.std.specs.Prelude.{◌≡◌, ◌+◌, ◌<◌, ◌≤◌, ◌++◌, [], length, get_or, IfOk, OnOk, MatchOption, if◌then◌else◌, true};
+ghost use Rattle.std.specs.Prelude.{◌≡◌, ◌+◌, ◌<◌, ◌≤◌, ◌++◌, [], length, ℕ, get_or, IfOk, OnOk, MatchOption, if◌then◌else◌, true};
 ghost use Rattle.std.specs.Prelude.{false};
 ghost use Rattle.hayro_ccitt.specs.Mode.TheVariants.{Horizontal};
 ghost use Rattle.hayro_ccitt.specs.Rows.{AreChanges, pixels, opposite, b1, b2};
 ghost use Rattle.hayro_ccitt.specs.Encodings.{padding};
-ghost use Rattle.fax_encode.specs.Chosen.{bits_at, place_after, chosen_mode, chosen_run, word_of_mode, chosen_line_2d, is_near};
+ghost use Rattle.fax_encode.specs.Chosen.{bits_at, chosen_from, place_after, chosen_mode, chosen_run, word_of_mode, chosen_line_2d, is_near};
 ghost use Rattle.fax_encode.specs.Chosen.{vertical_mode};
 ghost use Rattle.fax_encode.specs.Coding.{AreAllLeft, place_of, IsNear, color_after};
 ghost use Rattle.fax_encode.specs.Writing.{all_bits};
@@ -187,9 +187,9 @@ fn put_horizontal(
     put_long_horizontal(writer, color, first, second)
 }
 
-/// Writes one mode: pass if b2 is left of a1; else vertical if a1 is at most three positions from b1; else horizontal (T.4,
-/// 4.2.1.3.2). Afterwards all changes of the row that are left of the new position are counted, and the index from which b1
-/// is found is at most one less than before. The new position is past the row's end only if no changes are left.
+/// Writes one mode. Takes where b1 is: pass if b2 is left of a1; else vertical if a1 is at most three positions from b1; else
+/// horizontal (T.4, 4.2.1.3.2). Afterwards all changes of the row that are left of the new position are counted, and the index
+/// from which b1 is found is at most one less than before. The new position is past the row's end only if no changes are left.
 #[inline(always)]
 fn put_mode(
     writer: &mut BitWriter,
@@ -197,12 +197,18 @@ fn put_mode(
     reference: &[u32],
     changes: &[u32],
     at: Coding,
+    above: Above,
 ) -> Result<Coding, AllocError>
     requires reference { AreChanges columns reference.now }
     requires changes { AreChanges columns changes.now }
     requires inside { at.from ≤ columns }
-    requires near { IsNear columns reference.now (place_of at) at.above }
     requires next { AreAllLeft changes.now at.from at.next }
+    requires b1 { b1 (pixels columns reference.now) at.from (color_after at.next) ≡ above.b1 }
+    requires b2 { b2 (pixels columns reference.now) at.from (color_after at.next) ≡ get_or reference.now (above.index + 1) columns }
+    requires first { above.b1 ≡ get_or reference.now above.index columns }
+    requires near { IsNear columns reference.now (place_of at) above.index }
+    requires within { above.index ≤ length reference.now + 1 }
+    requires onward { at.above ≤ above.index }
     ensures written { OnOk result (all_bits writer.new ≡ all_bits writer.old
         ++ bits_at (pixels columns reference.now) (pixels columns changes.now) (place_of at)) }
     ensures place { IfOk result (λ after. place_of after
@@ -214,7 +220,6 @@ fn put_mode(
     ensures inside { IfOk result (λ after. after.next < length changes.now → after.from ≤ columns) }
 {
     let a1 = change_or_end(changes, at.next, columns);
-    let above = find_above(columns, reference, at);
     let next = at.next + 1;
     if a1 == above.b1 {
         put_below(writer, above.b1, a1)?;
@@ -254,7 +259,64 @@ fn put_mode(
     })
 }
 
-/// Writes the modes of a row, from the position left of it to its end (T.4, 4.2.1.3).
+/// Returns how many changes of a row from one index on are where those of the reference row from another index on are, up to 63.
+#[inline(always)]
+fn count_below(reference: &[u32], index: usize, changes: &[u32], next: usize) -> usize
+    requires reference { index < length reference.now }
+    requires changes { next < length changes.now }
+    requires first { get_or changes.now next 0 ≡ get_or reference.now index 0 }
+    ensures some { 0 < result }
+    ensures few { result ≤ 63 }
+    ensures within { next + result ≤ length changes.now }
+    ensures reaches { index + result ≤ length reference.now }
+    ensures same { (k : ℕ) → k < result → get_or changes.now (next + k) 0 ≡ get_or reference.now (index + k) 0 }
+{
+    let most = (changes.len() - next).min(reference.len() - index).min(63);
+    let mut count = 1;
+    'same: while count < most && changes[next + count] == reference[index + count] {
+        count += 1;
+    }
+    count
+}
+
+/// Writes the modes V0 of changes that are all below changes of the reference row, and returns how far the line is coded then.
+#[inline(always)]
+fn put_all_below(
+    writer: &mut BitWriter,
+    _columns: u32,
+    reference: &[u32],
+    changes: &[u32],
+    at: Coding,
+    above: Above,
+) -> Result<Coding, AllocError>
+    requires reference { AreChanges _columns reference.now }
+    requires changes { AreChanges _columns changes.now }
+    requires inside { at.from ≤ _columns }
+    requires near { IsNear _columns reference.now (place_of at) above.index }
+    requires next { AreAllLeft changes.now at.from at.next }
+    requires some { at.next < length changes.now }
+    requires within { above.index < length reference.now }
+    requires below { get_or changes.now at.next 0 ≡ get_or reference.now above.index 0 }
+    ensures written { IfOk result (λ after. all_bits writer.new
+        ++ chosen_from (pixels _columns reference.now) (pixels _columns changes.now) (place_of after) ≡ all_bits writer.old
+        ++ chosen_from (pixels _columns reference.now) (pixels _columns changes.now) (place_of at)) }
+    ensures near { IfOk result (λ after. IsNear _columns reference.now (place_of after) after.above) }
+    ensures next { IfOk result (λ after. AreAllLeft changes.now after.from after.next) }
+    ensures inside { IfOk result (λ after. after.from ≤ _columns) }
+    ensures onward { IfOk result (λ after. at.from < after.from) }
+{
+    let count = count_below(reference, above.index, changes, at.next);
+    let last = changes[at.next + count - 1];
+    writer.put((1 << count) - 1, count as u32)?;
+    Ok(Coding {
+        from: u64::from(last) + 1,
+        next: at.next + count,
+        above: above.index + count,
+    })
+}
+
+/// Writes the modes of a row, from the position left of it to its end (T.4, 4.2.1.3). Modes V0 that follow one another are written
+/// at once.
 pub fn put_line(
     writer: &mut BitWriter,
     columns: u32,
@@ -272,10 +334,16 @@ pub fn put_line(
         above: 0,
     };
     'changes: while at.next < changes.len() {
-        at = put_mode(writer, columns, reference, changes, at)?;
+        let above = find_above(columns, reference, at);
+        if changes[at.next] == above.b1 {
+            at = put_all_below(writer, columns, reference, changes, at, above)?;
+        } else {
+            at = put_mode(writer, columns, reference, changes, at, above)?;
+        }
     }
     'modes: while at.from <= u64::from(columns) {
-        at = put_mode(writer, columns, reference, changes, at)?;
+        let above = find_above(columns, reference, at);
+        at = put_mode(writer, columns, reference, changes, at, above)?;
     }
     Ok(())
 }

@@ -21,6 +21,7 @@ mod rows;
 mod runs;
 mod settings;
 mod shortest_lines;
+mod white_rows;
 mod words;
 
 pub use bitmap_rows::rows_of_bitmap;

@@ -1,6 +1,6 @@
 use Rattle.fax_encode.proofs.Names.{◌≡◌, ◌%◌, ◌++◌, true, false, length, drop, map, AreChanges, pixels, white_row, rows_of}
 use Rattle.fax_encode.proofs.Names.{has_eols, all_bits}
-use Rattle.fax_encode.proofs.LinesOfPictures.{lines_left}
+use Rattle.fax_encode.proofs.Names.{lines_left}
 use Rattle.fax_encode.proofs.by_settings.put_rows.Given as goal
 
 abbrev pub invariant-loop-row : goal.invariant-loop-row

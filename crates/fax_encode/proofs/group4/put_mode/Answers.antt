@@ -6,52 +6,52 @@ use Rattle.fax_encode.proofs.Elements.{left_of_end, a1_found, a2_found, next_is_
 use Rattle.fax_encode.proofs.ModesWritten.{pass_bits, vertical_bits, horizontal_bits, pass_place, vertical_place}
 use Rattle.fax_encode.proofs.ModesWritten.{horizontal_place, first_run, near_same, step_right}
 use Rattle.fax_encode.proofs.StepsToB1.{color_next, color_second, near_next, near_pass, near_right}
-use Rattle.fax_encode.proofs.group4.put_mode.Goals.{After-find_above-above}
+use Rattle.fax_encode.proofs.group4.put_mode.Goals.{After-change_or_end-a1}
 use Rattle.fax_encode.proofs.group4.put_mode.Goals as goal
 
-inside : (c : After-find_above-above) → c.args.at.from ≤ length (pixels c.args.columns c.args.changes.now)
+inside : (c : After-change_or_end-a1) → c.args.at.from ≤ length (pixels c.args.columns c.args.changes.now)
 inside c = omega (arith, c.requires.inside, length-pixels c.args.columns c.args.changes.now c.requires.changes)
 
 -- a1 as it was found
-a1_is : (c : After-find_above-above) → c.change_or_end-a1.result ≡ a1 (pixels c.args.columns c.args.changes.now) c.args.at.from
+a1_is : (c : After-change_or_end-a1) → c.change_or_end-a1.result ≡ a1 (pixels c.args.columns c.args.changes.now) c.args.at.from
 a1_is c = c.change_or_end-a1.ensures
     ∙ sym (a1_found c.args.columns c.args.changes.now c.requires.changes c.args.at.from c.args.at.next c.requires.next)
 
-a2_is : (c : After-find_above-above)
+a2_is : (c : After-change_or_end-a1)
     → a2 (pixels c.args.columns c.args.changes.now) c.args.at.from ≡ get_or c.args.changes.now (c.args.at.next + 1) c.args.columns
 a2_is c = a2_found c.args.columns c.args.changes.now c.requires.changes c.args.at.from c.args.at.next c.requires.next
 
 -- it is right of a0
-a1_right : (c : After-find_above-above) → c.args.at.from ≤ c.change_or_end-a1.result
+a1_right : (c : After-change_or_end-a1) → c.args.at.from ≤ c.change_or_end-a1.result
 a1_right c = omega (arith, a1_is c, (a1_next (pixels c.args.columns c.args.changes.now) c.args.at.from).above (inside c))
 
 pub returns-in-Some-clause-written : goal.returns-in-Some-clause-written
 returns-in-Some-clause-written c =
-    let d = (goal.at.returns-in-Some-clause-written c).After-find_above-above in
+    let d = (goal.at.returns-in-Some-clause-written c).After-change_or_end-a1 in
     let reference : Row = pixels c.args.columns c.args.reference.now in
     let row : Row = pixels c.args.columns c.args.changes.now in
     let left : b2 reference c.args.at.from (color_after c.args.at.next) < a1 row c.args.at.from =
-    omega (arith, c.in-Some.ensures.0, c.in-Some.ensures.1, c.find_above-above.ensures.b2, a1_is d) in
+    omega (arith, c.in-Some.ensures.0, c.in-Some.ensures.1, c.requires.b2, a1_is d) in
     c.in_ok-put_code_word.ensures ∙ ap (λ (b : Bits). all_bits c.args.writer.now ++ b)
     (c.pass_word.ensures.spells ∙ sym (pass_bits reference row (place_of c.args.at) (inside d) left))
 
 pub returns-in-Some-clause-place : goal.returns-in-Some-clause-place
 returns-in-Some-clause-place c =
-    let d = (goal.at.returns-in-Some-clause-place c).After-find_above-above in
+    let d = (goal.at.returns-in-Some-clause-place c).After-change_or_end-a1 in
     let reference : Row = pixels c.args.columns c.args.reference.now in
     let row : Row = pixels c.args.columns c.args.changes.now in
     let left : b2 reference c.args.at.from (color_after c.args.at.next) < a1 row c.args.at.from =
-    omega (arith, c.in-Some.ensures.0, c.in-Some.ensures.1, c.find_above-above.ensures.b2, a1_is d) in
+    omega (arith, c.in-Some.ensures.0, c.in-Some.ensures.1, c.requires.b2, a1_is d) in
     let to : ℕ → Place = λ n. record { from = n; color = (color_after c.args.at.next) } in
     let from : c.from-in-Some.result + 1 ≡ suc (b2 reference c.args.at.from (color_after c.args.at.next)) =
-    omega (arith, c.from-in-Some.ensures, c.in-Some.ensures.0, c.find_above-above.ensures.b2) in
+    omega (arith, c.from-in-Some.ensures, c.in-Some.ensures.0, c.requires.b2) in
     ap to from ∙ sym (pass_place reference row (place_of c.args.at) (inside d) left)
 
 pub returns-in-Some-clause-near : goal.returns-in-Some-clause-near
 returns-in-Some-clause-near c = subst (λ (n : ℕ). IsNear c.args.columns c.args.reference.now
-    (record { from = n + 1; color = (color_after c.args.at.next) }) (c.find_above-above.result.index + 2))
+    (record { from = n + 1; color = (color_after c.args.at.next) }) (c.args.above.index + 2))
     (sym c.from-in-Some.ensures) (near_pass c.args.columns c.args.reference.now c.requires.reference
-    (place_of c.args.at) c.find_above-above.result.index c.find_above-above.ensures.near c.in-Some.b2 c.in-Some.ensures.0)
+    (place_of c.args.at) c.args.above.index c.requires.near c.in-Some.b2 c.in-Some.ensures.0)
 
 pub returns-in-Some-clause-next : goal.returns-in-Some-clause-next
 returns-in-Some-clause-next c = λ le.
@@ -63,28 +63,28 @@ returns-in-Some-clause-next c = λ le.
 
 -- ---- after V0
 -- b2 is not left of a1
-below_right : (c : After-find_above-above) → c.change_or_end-a1.result ≡ c.find_above-above.result.b1
+below_right : (c : After-change_or_end-a1) → c.change_or_end-a1.result ≡ c.args.above.b1
     → a1 (pixels c.args.columns c.args.changes.now) c.args.at.from
     ≤ b2 (pixels c.args.columns c.args.reference.now) c.args.at.from (color_after c.args.at.next)
 below_right c same =
-    let index : ℕ = c.find_above-above.result.index in
+    let index : ℕ = c.args.above.index in
     omega (
       arith,
       same,
       a1_is c,
-      c.find_above-above.ensures.first,
-      c.find_above-above.ensures.b2,
+      c.requires.first,
+      c.requires.b2,
       next_is_right 0 c.args.columns c.args.reference.now index (index + 1) refl c.requires.reference,
     )
 
 pub returns-then-a1-above-clause-written : goal.returns-then-a1-above-clause-written
 returns-then-a1-above-clause-written c =
-    let d = (goal.at.returns-then-a1-above-clause-written c).After-find_above-above in
+    let d = (goal.at.returns-then-a1-above-clause-written c).After-change_or_end-a1 in
     let reference : Row = pixels c.args.columns c.args.reference.now in
     let row : Row = pixels c.args.columns c.args.changes.now in
     let first : ℕ = b1 reference c.args.at.from (color_after c.args.at.next) in
     let a : c.change_or_end-a1.result ≡ a1 row c.args.at.from = a1_is d in
-    let b : c.find_above-above.result.b1 ≡ first = sym c.find_above-above.ensures.b1 in
+    let b : c.args.above.b1 ≡ first = sym c.requires.b1 in
     let near = near_same _ _ _ _ true b a c.put_below.ensures.near in
     let same = ap (λ (n : ℕ). word_of_mode (vertical_mode n c.change_or_end-a1.result)) b
     ∙ ap (λ (n : ℕ). word_of_mode (vertical_mode first n)) a in
@@ -94,12 +94,12 @@ returns-then-a1-above-clause-written c =
 
 pub returns-then-a1-above-clause-place : goal.returns-then-a1-above-clause-place
 returns-then-a1-above-clause-place c =
-    let d = (goal.at.returns-then-a1-above-clause-place c).After-find_above-above in
+    let d = (goal.at.returns-then-a1-above-clause-place c).After-change_or_end-a1 in
     let reference : Row = pixels c.args.columns c.args.reference.now in
     let row : Row = pixels c.args.columns c.args.changes.now in
     let a : c.change_or_end-a1.result ≡ a1 row c.args.at.from = a1_is d in
-    let b : c.find_above-above.result.b1 ≡ b1 reference c.args.at.from (color_after c.args.at.next) =
-    sym c.find_above-above.ensures.b1 in
+    let b : c.args.above.b1 ≡ b1 reference c.args.at.from (color_after c.args.at.next) =
+    sym c.requires.b1 in
     let near = near_same _ _ _ _ true b a c.put_below.ensures.near in
     let to : ℕ → Place = λ n. record { from = n; color = color_after (c.args.at.next + 1) } in
     let turned : Color → Place = λ k. record { from = suc (a1 row c.args.at.from); color = k } in
@@ -110,11 +110,11 @@ returns-then-a1-above-clause-place c =
 pub returns-then-a1-above-clause-near : goal.returns-then-a1-above-clause-near
 returns-then-a1-above-clause-near c =
     let after : ℕ → Color → Type 0 =
-    λ n k. IsNear c.args.columns c.args.reference.now (record { from = n; color = k }) (c.find_above-above.result.index + 1) in
+    λ n k. IsNear c.args.columns c.args.reference.now (record { from = n; color = k }) (c.args.above.index + 1) in
     let from : c.change_or_end-a1.result + 1 ≡ c.from.result + 1 = omega (arith, c.from.ensures) in
     let next = near_next c.args.columns c.args.reference.now c.requires.reference
-    (place_of c.args.at) c.find_above-above.result.index c.find_above-above.ensures.near c.change_or_end-a1.result
-    (omega (arith, c.if-a1-above.true, c.find_above-above.ensures.first)) in
+    (place_of c.args.at) c.args.above.index c.requires.near c.change_or_end-a1.result
+    (omega (arith, c.if-a1-above.true, c.requires.first)) in
     subst (λ (n : ℕ). after n (color_after (c.args.at.next + 1))) from
     (subst (λ (k : Color). after (c.change_or_end-a1.result + 1) k) (sym (color_next c.args.at.next)) next)
 
@@ -126,20 +126,20 @@ returns-then-a1-above-clause-next c = λ le.
 -- ---- after a vertical mode
 pub above_after_vertical-requires-clause-right : goal.above_after_vertical-requires-clause-right
 above_after_vertical-requires-clause-right c =
-    a1_right (goal.at.above_after_vertical-requires-clause-right c).After-find_above-above
+    a1_right (goal.at.above_after_vertical-requires-clause-right c).After-change_or_end-a1
 
 pub returns-then-is_vertical-clause-written : goal.returns-then-is_vertical-clause-written
 returns-then-is_vertical-clause-written c =
-    let d = (goal.at.returns-then-is_vertical-clause-written c).After-find_above-above in
+    let d = (goal.at.returns-then-is_vertical-clause-written c).After-change_or_end-a1 in
     let reference : Row = pixels c.args.columns c.args.reference.now in
     let row : Row = pixels c.args.columns c.args.changes.now in
     let first : ℕ = b1 reference c.args.at.from (color_after c.args.at.next) in
     let a : c.change_or_end-a1.result ≡ a1 row c.args.at.from = a1_is d in
-    let b : c.find_above-above.result.b1 ≡ first = sym c.find_above-above.ensures.b1 in
+    let b : c.args.above.b1 ≡ first = sym c.requires.b1 in
     let right : a1 row c.args.at.from ≤ b2 reference c.args.at.from (color_after c.args.at.next) =
-    omega (arith, c.in_default.ensures, a, c.find_above-above.ensures.b2) in
+    omega (arith, c.in_default.ensures, a, c.requires.b2) in
     let near = near_same _ _ _ _ true b a (sym c.in_ok-is_vertical.ensures.near ∙ c.if-is_vertical.true) in
-    let word : Bits = word_of_mode (vertical_mode c.find_above-above.result.b1 c.change_or_end-a1.result) in
+    let word : Bits = word_of_mode (vertical_mode c.args.above.b1 c.change_or_end-a1.result) in
     let same : word ≡ word_of_mode (vertical_mode first (a1 row c.args.at.from)) = ap (λ (n : ℕ).
     word_of_mode (vertical_mode n c.change_or_end-a1.result)) b ∙ ap (λ (n : ℕ). word_of_mode (vertical_mode first n)) a in
     c.in_ok-is_vertical.ensures.written ∙ ap (λ (t : Bool). all_bits c.args.writer.now ++ cond t word []) c.if-is_vertical.true
@@ -148,14 +148,14 @@ returns-then-is_vertical-clause-written c =
 
 pub returns-then-is_vertical-clause-place : goal.returns-then-is_vertical-clause-place
 returns-then-is_vertical-clause-place c =
-    let d = (goal.at.returns-then-is_vertical-clause-place c).After-find_above-above in
+    let d = (goal.at.returns-then-is_vertical-clause-place c).After-change_or_end-a1 in
     let reference : Row = pixels c.args.columns c.args.reference.now in
     let row : Row = pixels c.args.columns c.args.changes.now in
     let a : c.change_or_end-a1.result ≡ a1 row c.args.at.from = a1_is d in
-    let b : c.find_above-above.result.b1 ≡ b1 reference c.args.at.from (color_after c.args.at.next) =
-    sym c.find_above-above.ensures.b1 in
+    let b : c.args.above.b1 ≡ b1 reference c.args.at.from (color_after c.args.at.next) =
+    sym c.requires.b1 in
     let right : a1 row c.args.at.from ≤ b2 reference c.args.at.from (color_after c.args.at.next) =
-    omega (arith, c.in_default.ensures, a, c.find_above-above.ensures.b2) in
+    omega (arith, c.in_default.ensures, a, c.requires.b2) in
     let near = near_same _ _ _ _ true b a (sym c.in_ok-is_vertical.ensures.near ∙ c.if-is_vertical.true) in
     let to : ℕ → Place = λ n. record { from = n; color = color_after (c.args.at.next + 1) } in
     let turned : Color → Place = λ k. record { from = suc (a1 row c.args.at.from); color = k } in
@@ -171,7 +171,7 @@ returns-then-is_vertical-clause-next c = λ le.
 
 pub overflow_sub-a1 : goal.overflow_sub-a1
 overflow_sub-a1 c =
-    let d = (goal.at.overflow_sub-a1 c).After-find_above-above in
+    let d = (goal.at.overflow_sub-a1 c).After-change_or_end-a1 in
     omega (
       arith,
       c.saturating_sub.ensures,
@@ -181,7 +181,7 @@ overflow_sub-a1 c =
 
 pub overflow_sub-a2 : goal.overflow_sub-a2
 overflow_sub-a2 c =
-    let d = (goal.at.overflow_sub-a2 c).After-find_above-above in
+    let d = (goal.at.overflow_sub-a2 c).After-change_or_end-a1 in
     omega (
       arith,
       a1_is d,
@@ -202,14 +202,14 @@ returns-then-is_vertical-clause-near c =
 -- ---- after horizontal mode
 pub returns-clause-written : goal.returns-clause-written
 returns-clause-written c =
-    let d = (goal.at.returns-clause-written c).After-find_above-above in
+    let d = (goal.at.returns-clause-written c).After-change_or_end-a1 in
     let reference : Row = pixels c.args.columns c.args.reference.now in
     let row : Row = pixels c.args.columns c.args.changes.now in
     let a : c.change_or_end-a1.result ≡ a1 row c.args.at.from = a1_is d in
-    let b : c.find_above-above.result.b1 ≡ b1 reference c.args.at.from (color_after c.args.at.next) =
-    sym c.find_above-above.ensures.b1 in
+    let b : c.args.above.b1 ≡ b1 reference c.args.at.from (color_after c.args.at.next) =
+    sym c.requires.b1 in
     let right : a1 row c.args.at.from ≤ b2 reference c.args.at.from (color_after c.args.at.next) =
-    omega (arith, c.in_default.ensures, a, c.find_above-above.ensures.b2) in
+    omega (arith, c.in_default.ensures, a, c.requires.b2) in
     let near = near_same _ _ _ _ false b a (sym c.in_ok-is_vertical.ensures.near ∙ c.if-is_vertical.false) in
     let first : c.change_or_end-a1.result - c.saturating_sub.result ≡ a1 row c.args.at.from - (c.args.at.from - 1) =
     omega (arith, c.saturating_sub.ensures, a) in
@@ -218,7 +218,7 @@ returns-clause-written c =
     let runs : ℕ → ℕ → Bits = λ m n. all_bits c.args.writer.now ++ (word_of_mode Horizontal
     ++ (chosen_run (color_after c.args.at.next) m ++ chosen_run (opposite (color_after c.args.at.next)) n)) in
     let nothing : all_bits c.put_vertical.new.writer ≡ all_bits c.args.writer.now = c.in_ok-is_vertical.ensures.written
-    ∙ ap (λ (t : Bool). all_bits c.args.writer.now ++ cond t (word_of_mode (vertical_mode c.find_above-above.result.b1
+    ∙ ap (λ (t : Bool). all_bits c.args.writer.now ++ cond t (word_of_mode (vertical_mode c.args.above.b1
     c.change_or_end-a1.result)) []) c.if-is_vertical.false ∙ append-nil (all_bits c.args.writer.now) in
     c.in_ok-put_horizontal.ensures ∙ ap (λ (k : Color). all_bits c.put_vertical.new.writer
     ++ (word_of_mode Horizontal ++ (chosen_run k (c.change_or_end-a1.result - c.saturating_sub.result) ++ chosen_run
@@ -231,14 +231,14 @@ returns-clause-written c =
 
 pub returns-clause-place : goal.returns-clause-place
 returns-clause-place c =
-    let d = (goal.at.returns-clause-place c).After-find_above-above in
+    let d = (goal.at.returns-clause-place c).After-change_or_end-a1 in
     let reference : Row = pixels c.args.columns c.args.reference.now in
     let row : Row = pixels c.args.columns c.args.changes.now in
     let a : c.change_or_end-a1.result ≡ a1 row c.args.at.from = a1_is d in
-    let b : c.find_above-above.result.b1 ≡ b1 reference c.args.at.from (color_after c.args.at.next) =
-    sym c.find_above-above.ensures.b1 in
+    let b : c.args.above.b1 ≡ b1 reference c.args.at.from (color_after c.args.at.next) =
+    sym c.requires.b1 in
     let right : a1 row c.args.at.from ≤ b2 reference c.args.at.from (color_after c.args.at.next) =
-    omega (arith, c.in_default.ensures, a, c.find_above-above.ensures.b2) in
+    omega (arith, c.in_default.ensures, a, c.requires.b2) in
     let near = near_same _ _ _ _ false b a (sym c.in_ok-is_vertical.ensures.near ∙ c.if-is_vertical.false) in
     let to : ℕ → Place = λ n. record { from = n; color = (color_after c.args.at.next) } in
     let from : c.from-2.result + 1 ≡ suc (a2 row c.args.at.from) =
@@ -249,7 +249,7 @@ returns-clause-place c =
 
 pub returns-clause-near : goal.returns-clause-near
 returns-clause-near c =
-    let d = (goal.at.returns-clause-near c).After-find_above-above in
+    let d = (goal.at.returns-clause-near c).After-change_or_end-a1 in
     let le : c.args.at.from ≤ c.from-2.result + 1 = omega (
       arith,
       a1_right d,
@@ -260,9 +260,9 @@ returns-clause-near c =
       a2_least (pixels c.args.columns c.args.changes.now) c.args.at.from,
     ) in
     subst (λ (k : Color).
-    IsNear c.args.columns c.args.reference.now (record { from = c.from-2.result + 1; color = k }) c.find_above-above.result.index)
+    IsNear c.args.columns c.args.reference.now (record { from = c.from-2.result + 1; color = k }) c.args.above.index)
     (sym (color_second c.args.at.next)) (near_right c.args.columns c.args.reference.now c.requires.reference
-    (place_of c.args.at) c.find_above-above.result.index c.find_above-above.ensures.near (c.from-2.result + 1) le)
+    (place_of c.args.at) c.args.above.index c.requires.near (c.from-2.result + 1) le)
 
 pub returns-clause-next : goal.returns-clause-next
 returns-clause-next c = λ le.

@@ -1,0 +1,74 @@
+use Rattle.fax_encode.proofs.Names.{◌≡◌, ◌+◌, ◌-◌, ◌*◌, ◌%◌, ◌^◌, ◌<◌, ◌++◌, ℕ, suc, true, length, replicate, get_or, sym, ap, subst}
+use Rattle.fax_encode.proofs.Names.{◌∙◌, arith, append_assoc, one_shl, Bits, Row, low_bits, pixels, chosen_from, AreAllLeft}
+use Rattle.fax_encode.proofs.Names.{IsNear, color_after, all_bits}
+use Rattle.fax_encode.proofs.{Elements.left_of_end, Elements.same_change}
+use Rattle.fax_encode.proofs.ModesBelow.{IsBelow, all_below, ones_bits}
+use Rattle.fax_encode.proofs.group4.put_all_below.Goals.{After-from}
+use Rattle.fax_encode.proofs.group4.put_all_below.Goals as goal
+
+below : (c : After-from) → IsBelow c.args._columns c.args.reference.now c.args.changes.now c.requires.reference c.requires.changes
+    (c.count_below-count.result - 1) c.args.at.from c.args.at.next (c.args.at.next + c.count_below-count.result - 1)
+    (c.args.at.next + c.count_below-count.result) (c.args.above.index + c.count_below-count.result)
+below c =
+    let count : ℕ = c.count_below-count.result in
+    all_below c.args._columns c.args.reference.now c.args.changes.now c.requires.reference c.requires.changes (count - 1)
+    c.args.at.from c.args.at.next c.args.above.index (c.args.at.next + count - 1) (c.args.at.next + count) (c.args.above.index + count)
+    (omega (arith, c.count_below-count.ensures.some)) (omega (arith, c.count_below-count.ensures.some))
+    (omega (arith, c.count_below-count.ensures.some)) c.requires.inside c.requires.near c.requires.next
+    c.count_below-count.ensures.within c.count_below-count.ensures.reaches
+    (λ k lt. c.count_below-count.ensures.same k (omega (arith, lt, c.count_below-count.ensures.some)))
+
+inside : (c : After-from) → c.args.at.next + c.count_below-count.result - 1 < length c.args.changes.now
+inside c = omega (arith, c.count_below-count.ensures.some, c.count_below-count.ensures.within)
+
+-- the last of them
+last : (c : After-from) → c.from.result ≡ get_or c.args.changes.now (c.args.at.next + c.count_below-count.result - 1) c.args._columns
+last c = c.from.ensures
+    ∙ same_change c.args.changes.now (c.args.at.next + c.count_below-count.result - 1) 0 c.args._columns (inside c)
+
+pub returns-clause-written : goal.returns-clause-written
+returns-clause-written c =
+    let d = (goal.at.returns-clause-written c).After-from in
+    let count : ℕ = c.count_below-count.result in
+    let to : ℕ = c.args.at.next + count in
+    let above : Row = pixels c.args._columns c.args.reference.now in
+    let row : Row = pixels c.args._columns c.args.changes.now in
+    let old : Bits = all_bits c.args.writer.now in
+    let behind : ℕ → Bits = λ n. chosen_from above row (record { from = n + 1; color = color_after to }) in
+    let place : ℕ = get_or c.args.changes.now (to - 1) c.args._columns in
+    let one : 1 * 2 ^ count % 2 ^ 64 ≡ 2 ^ count = one_shl count 64 (omega (arith, c.count_below-count.ensures.few)) in
+    let more : count ≡ suc (count - 1) = omega (arith, c.count_below-count.ensures.some) in
+    ap (λ (n : ℕ). all_bits c.put.new.self ++ behind n) (last d)
+    ∙ ap (λ (b : Bits). b ++ behind place) c.in_ok-put.ensures
+    ∙ ap (λ (m : ℕ). (old ++ low_bits count (m - 1)) ++ behind place) one
+    ∙ ap (λ (b : Bits). (old ++ b) ++ behind place) (ones_bits count count (omega arith))
+    ∙ ap (λ (m : ℕ). (old ++ replicate m true) ++ behind place) more
+    ∙ append_assoc old (replicate (suc (count - 1)) true) (behind place) ∙ ap (λ (b : Bits). old ++ b) (sym (below d).bits)
+
+pub returns-clause-near : goal.returns-clause-near
+returns-clause-near c =
+    let d = (goal.at.returns-clause-near c).After-from in
+    subst (λ (n : ℕ). IsNear c.args._columns c.args.reference.now
+    (record { from = n + 1; color = color_after (c.args.at.next + c.count_below-count.result) })
+    (c.args.above.index + c.count_below-count.result)) (sym (last d)) (below d).near
+
+pub returns-clause-next : goal.returns-clause-next
+returns-clause-next c =
+    let d = (goal.at.returns-clause-next c).After-from in
+    subst (λ (n : ℕ). AreAllLeft c.args.changes.now (n + 1) (c.args.at.next + c.count_below-count.result)) (sym (last d)) (below d).left
+
+pub returns-clause-inside : goal.returns-clause-inside
+returns-clause-inside c =
+    let d = (goal.at.returns-clause-inside c).After-from in
+    let place : ℕ = c.args.at.next + c.count_below-count.result - 1 in
+    omega (arith, last d, left_of_end 0 c.args._columns c.args.changes.now place c.requires.changes (inside d))
+
+pub returns-clause-onward : goal.returns-clause-onward
+returns-clause-onward c =
+    let d = (goal.at.returns-clause-onward c).After-from in
+    omega (
+      arith,
+      last d,
+      (below d).left.left.left c.args.at.next (omega (arith, c.count_below-count.ensures.some)),
+      c.requires.next.right c.requires.some,
+    )
