@@ -33,3 +33,15 @@ pub fn put_pixels(bytes: &mut [u8], start: usize, word: u64)
     let behind = start + 8;
     bytes[start..behind].copy_from_slice(&word.to_be_bytes());
 }
+
+/// Fills all bytes, by one call of the library's: `fill` writes the last byte apart.
+#[inline(always)]
+pub fn fill_bytes(bytes: &mut [u8], byte: u8)
+    ensures { bytes.new ≡ replicate (length bytes.old) byte }
+{
+    let mut at = 0;
+    'bytes: while at < bytes.len() {
+        bytes[at] = byte;
+        at += 1;
+    }
+}
