@@ -6,7 +6,7 @@ ghost use Rattle.hayro_ccitt.specs.Rows.{AreChanges, pixels};
 ghost use Rattle.fax_encode.specs.Chosen.{filled_up};
 ghost use Rattle.fax_encode.specs.Painting.{then_white};
 
-use crate::pixel_words::{fill_bytes, first_pixels, put_pixels};
+use crate::pixel_words::{fill_by_pieces, fill_bytes, first_pixels, put_pixels};
 
 /// Returns a word whose bits are zeros left of an offset, and ones from there on.
 #[inline(always)]
@@ -150,5 +150,18 @@ pub fn paint_by_runs(row: &mut [u8], columns: u32, changes: &[u32])
     ensures painted { bits_of row.new ≡ filled_up (pixels columns changes.now) }
 {
     fill_bytes(row, 0);
+    paint_runs(row, columns, changes);
+}
+
+/// Paints a row of many bytes, which are cleared by pieces, or of many runs, by them. It is a function of its own, so that their
+/// loop has all registers.
+#[inline(never)]
+pub fn paint_apart(row: &mut [u8], columns: u32, changes: &[u32])
+    requires changes { AreChanges columns changes.now }
+    requires room { length row.old ≡ (columns + 7) / 8 }
+    requires long { 8 ≤ length row.old }
+    ensures painted { bits_of row.new ≡ filled_up (pixels columns changes.now) }
+{
+    fill_by_pieces(row, 0);
     paint_runs(row, columns, changes);
 }

@@ -7,8 +7,11 @@ ghost use Rattle.hayro_ccitt.specs.Rows.{AreChanges, pixels};
 ghost use Rattle.fax_encode.specs.Chosen.{filled_up};
 ghost use Rattle.fax_encode.specs.Painting.{under, StandsAt};
 
-use crate::black_runs::paint_by_runs;
-use crate::pixel_words::{fill_bytes, plain_word};
+use crate::black_runs::{paint_apart, paint_by_runs};
+use crate::pixel_words::{MOST_FILLED, fill_by_pieces, plain_word};
+
+/// The most changes of a row that is painted without a call.
+const FEW: usize = 24;
 
 /// How far a row is painted.
 #[derive(Copy, Clone)]
@@ -182,12 +185,14 @@ pub fn paint_row(row: &mut [u8], columns: u32, changes: &[u32])
     requires room { length row.old ≡ (columns + 7) / 8 }
     ensures painted { bits_of row.new ≡ filled_up (pixels columns changes.now) }
 {
-    if changes.is_empty() {
-        fill_bytes(row, 0);
-    } else if row.len() < 8 {
+    if row.len() < 8 {
         paint_narrow(row, columns, changes);
+    } else if changes.is_empty() {
+        fill_by_pieces(row, 0);
     } else if row.len() <= changes.len() {
         paint_changes(row, columns, changes);
+    } else if row.len() > MOST_FILLED || changes.len() > FEW {
+        paint_apart(row, columns, changes);
     } else {
         paint_by_runs(row, columns, changes);
     }
