@@ -100,19 +100,29 @@ fn fill(bytes: &mut [u8], byte: u8)
     }
 }
 
+/// Packs a row with 0 for black: with 1, and then all bits are inverted.
+#[inline(always)]
+fn pack_inverted(row: &mut [u8], columns: u32, changes: &[u32])
+    requires changes { AreChanges columns changes.now }
+    requires room { length row.old ≡ (columns + 7) / 8 }
+    ensures packed { bits_of row.new ≡ packed_row true (pixels columns changes.now) }
+{
+    paint_row(row, columns, changes);
+    invert(row);
+}
+
 /// Packs a row with 0 for black.
 #[inline(never)]
-fn pack_inverted(row: &mut [u8], columns: u32, changes: &[u32])
+fn pack_black_as_0(row: &mut [u8], columns: u32, changes: &[u32])
     requires changes { AreChanges columns changes.now }
     requires room { length row.old ≡ (columns + 7) / 8 }
     ensures packed { bits_of row.new ≡ packed_row true (pixels columns changes.now) }
 {
     if changes.is_empty() {
         fill(row, white_byte(true));
-        return;
+    } else {
+        pack_inverted(row, columns, changes);
     }
-    paint_row(row, columns, changes);
-    invert(row);
 }
 
 /// Returns the byte before which a white row of so many bytes begins that need not be written when it comes: it fits, and no bytes
@@ -139,7 +149,7 @@ pub(crate) fn pack_row(row: &mut [u8], columns: u32, changes: &[u32], black_is_0
     ensures packed { bits_of row.new ≡ packed_row black_is_0 (pixels columns changes.now) }
 {
     if black_is_0 {
-        pack_inverted(row, columns, changes);
+        pack_black_as_0(row, columns, changes);
     } else {
         paint_row(row, columns, changes);
     }

@@ -1,6 +1,6 @@
 use Rattle.std.proofs.Common.{◌≡◌, length, rules, true}
 use Rattle.hayro_ccitt_c.proofs.WhiteRows.{white_bytes}
-use Rattle.hayro_ccitt_c.proofs.packed_rows.pack_inverted.Goals as goal
+use Rattle.hayro_ccitt_c.proofs.packed_rows.pack_black_as_0.Goals as goal
 
 pub returns-then-is_empty : goal.returns-then-is_empty
 returns-then-is_empty c =
