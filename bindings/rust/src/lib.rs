@@ -214,7 +214,8 @@ fn push_as_they_come(
 /// Passes the first rows of these lists to the decoder, as many as are counted.
 fn push_listed(lists: &[u32], count: usize, decoder: &mut impl Decoder) {
     let mut rest = lists;
-    for _ in 0..count {
+    let mut left = count;
+    while left > 0 {
         // Each number and its changes are there.
         let Some((&length, after)) = rest.split_first() else {
             return;
@@ -223,8 +224,27 @@ fn push_listed(lists: &[u32], count: usize, decoder: &mut impl Decoder) {
             return;
         };
         decoder.push_row(changes);
+        left -= 1;
         rest = after;
+        if length == 0 {
+            let white = white_rows(rest, left);
+            for _ in 0..white {
+                decoder.push_row(&[]);
+            }
+            left -= white;
+            rest = &rest[white..];
+        }
     }
+}
+
+/// How many rows are looked at together, to see whether all are white.
+const TOGETHER: usize = 16;
+
+/// Returns a number of white rows with which these lists begin, at most `most`: each is a 0. There may be some more.
+fn white_rows(lists: &[u32], most: usize) -> usize {
+    let lists = &lists[..most.min(lists.len())];
+    let white = |rows: &&[u32]| rows.iter().fold(0, |sum, row| sum | row) == 0;
+    lists.chunks_exact(TOGETHER).take_while(white).count() * TOGETHER
 }
 
 /// Feeds the next piece of the data, or finishes it after the last one.

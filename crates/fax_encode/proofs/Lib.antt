@@ -9,6 +9,7 @@ pub mod ClosedPictures
 pub mod CutBits
 pub mod DamageReachesKRows
 pub mod Elements
+pub mod FilledBytes
 pub mod FilledEols
 pub mod LinesByK
 pub mod LinesOfPictures

@@ -6,7 +6,7 @@ ghost use Rattle.hayro_ccitt.specs.Rows.{AreChanges, pixels};
 ghost use Rattle.fax_encode.specs.Chosen.{filled_up};
 ghost use Rattle.fax_encode.specs.Painting.{then_white};
 
-use crate::pixel_words::{first_pixels, put_pixels};
+use crate::pixel_words::{fill_by_pieces, fill_bytes, first_pixels, put_pixels};
 
 /// Returns a word whose bits are zeros left of an offset, and ones from there on.
 #[inline(always)]
@@ -32,7 +32,7 @@ fn paint_in_word(row: &mut [u8], start: usize, from: usize, to: usize)
 }
 
 /// Paints the bytes between two positions, each of them a byte's first.
-#[inline(never)]
+#[inline(always)]
 fn paint_bytes(row: &mut [u8], from: usize, to: usize)
     requires ascend { from ≤ to }
     requires within { to ≤ length row.old }
@@ -41,7 +41,7 @@ fn paint_bytes(row: &mut [u8], from: usize, to: usize)
     ensures length { length row.new ≡ length row.old }
 {
     if from < to {
-        row[from..to].fill(u8::MAX);
+        fill_bytes(&mut row[from..to], u8::MAX);
     }
 }
 
@@ -65,23 +65,41 @@ fn paint_run(row: &mut [u8], from: usize, to: usize)
     }
 }
 
-/// Paints a black run that ends in the last eight bytes of the row.
-#[inline(never)]
-fn paint_last_run(row: &mut [u8], from: usize, to: usize)
+/// Paints a black run that begins before the last eight bytes of the row, and ends behind its last whole word.
+#[inline(always)]
+fn paint_long_run(row: &mut [u8], from: usize, to: usize)
     requires long { 8 ≤ length row.old }
-    requires ascend { from ≤ to }
-    requires right { 8 * length row.old < to + 64 }
+    requires before { from < 8 * (length row.old - 8) }
+    requires right { length row.old / 8 ≤ to / 64 }
     requires within { to ≤ 8 * length row.old }
     ensures painted { (front : Bits) → length front ≡ from → bits_of row.old ≡ then_white front (length row.old)
         → bits_of row.new ≡ then_white (front ++ replicate (to - from) true) (length row.old) }
     ensures length { length row.new ≡ length row.old }
 {
-    let start = row.len() - 8;
-    if from < 8 * start {
-        paint_run(row, from, 8 * start);
-        paint_in_word(row, start, 0, to - 8 * start);
+    let first = from / 64 * 8;
+    let last = row.len() - 8;
+    let behind = last.max(first + 8);
+    paint_in_word(row, first, from % 64, 64);
+    paint_bytes(row, first + 8, behind);
+    paint_in_word(row, last, 8 * (behind - last), to - 8 * last);
+}
+
+/// Paints a black run that ends behind the last whole word of the row.
+#[inline(always)]
+fn paint_last_run(row: &mut [u8], from: usize, to: usize)
+    requires long { 8 ≤ length row.old }
+    requires ascend { from ≤ to }
+    requires right { length row.old / 8 ≤ to / 64 }
+    requires within { to ≤ 8 * length row.old }
+    ensures painted { (front : Bits) → length front ≡ from → bits_of row.old ≡ then_white front (length row.old)
+        → bits_of row.new ≡ then_white (front ++ replicate (to - from) true) (length row.old) }
+    ensures length { length row.new ≡ length row.old }
+{
+    let last = row.len() - 8;
+    if from < 8 * last {
+        paint_long_run(row, from, to);
     } else {
-        paint_in_word(row, start, from - 8 * start, to - 8 * start);
+        paint_in_word(row, last, from - 8 * last, to - 8 * last);
     }
 }
 
@@ -124,13 +142,26 @@ fn paint_runs(row: &mut [u8], columns: u32, changes: &[u32])
 
 /// Paints a row of 57 pixels or more by its black runs. It takes time in proportion to the runs, and the library's time to
 /// clear the row.
-#[inline(never)]
+#[inline(always)]
 pub fn paint_by_runs(row: &mut [u8], columns: u32, changes: &[u32])
     requires changes { AreChanges columns changes.now }
     requires room { length row.old ≡ (columns + 7) / 8 }
     requires long { 8 ≤ length row.old }
     ensures painted { bits_of row.new ≡ filled_up (pixels columns changes.now) }
 {
-    row.fill(0);
+    fill_bytes(row, 0);
+    paint_runs(row, columns, changes);
+}
+
+/// Paints a row of many bytes, which are cleared by pieces, or of many runs, by them. It is a function of its own, so that their
+/// loop has all registers.
+#[inline(never)]
+pub fn paint_apart(row: &mut [u8], columns: u32, changes: &[u32])
+    requires changes { AreChanges columns changes.now }
+    requires room { length row.old ≡ (columns + 7) / 8 }
+    requires long { 8 ≤ length row.old }
+    ensures painted { bits_of row.new ≡ filled_up (pixels columns changes.now) }
+{
+    fill_by_pieces(row, 0);
     paint_runs(row, columns, changes);
 }

@@ -7,8 +7,11 @@ ghost use Rattle.hayro_ccitt.specs.Rows.{AreChanges, pixels};
 ghost use Rattle.fax_encode.specs.Chosen.{filled_up};
 ghost use Rattle.fax_encode.specs.Painting.{under, StandsAt};
 
-use crate::black_runs::paint_by_runs;
-use crate::pixel_words::plain_word;
+use crate::black_runs::{paint_apart, paint_by_runs};
+use crate::pixel_words::{MOST_FILLED, fill_by_pieces, plain_word};
+
+/// The most changes of a row that is painted without a call.
+const FEW: usize = 24;
 
 /// How far a row is painted.
 #[derive(Copy, Clone)]
@@ -123,17 +126,73 @@ fn paint_changes(row: &mut [u8], columns: u32, changes: &[u32])
     finish(row, at);
 }
 
+/// Writes the first bytes of a word over as many bytes.
+#[inline(always)]
+fn put_bytes(row: &mut [u8], word: u64, count: usize)
+    requires all { length row.old ≡ count }
+    requires few { count ≤ 8 }
+    ensures { bits_of row.new ≡ take (8 * length row.old) (low_bits 64 word) }
+{
+    row.copy_from_slice(&word.to_be_bytes()[..count]);
+}
+
+/// Writes the first bytes of a word over all bytes of a row. For each number of them there is a copy of its own, which is no call.
+#[inline(always)]
+fn put_first(row: &mut [u8], word: u64)
+    requires { length row.old < 8 }
+    ensures { bits_of row.new ≡ take (8 * length row.old) (low_bits 64 word) }
+{
+    match row.len() {
+        1 => put_bytes(row, word, 1),
+        2 => put_bytes(row, word, 2),
+        3 => put_bytes(row, word, 3),
+        4 => put_bytes(row, word, 4),
+        5 => put_bytes(row, word, 5),
+        6 => put_bytes(row, word, 6),
+        count => put_bytes(row, word, count),
+    }
+}
+
+/// Paints a row of less than eight bytes: it is the first part of a word.
+#[inline(always)]
+fn paint_narrow(row: &mut [u8], columns: u32, changes: &[u32])
+    requires changes { AreChanges columns changes.now }
+    requires room { length row.old ≡ (columns + 7) / 8 }
+    requires narrow { length row.old < 8 }
+    ensures painted { bits_of row.new ≡ filled_up (pixels columns changes.now) }
+{
+    let mut brush = Brush {
+        start: 0,
+        word: 0,
+        is_black: false,
+    };
+    let mut done = 0;
+    'changes: while done < changes.len() {
+        brush = turned(brush, changes[done]);
+        done += 1;
+    }
+    if brush.is_black {
+        brush = turned(brush, columns);
+    }
+    put_first(row, brush.word);
+}
+
 /// Paints a row: one bit a pixel, 1 for black, the leftmost pixel in each byte's highest bit, and zeros up to the end of
 /// the last byte. It takes time in proportion to the bytes and the changes.
+#[inline(always)]
 pub fn paint_row(row: &mut [u8], columns: u32, changes: &[u32])
     requires changes { AreChanges columns changes.now }
     requires room { length row.old ≡ (columns + 7) / 8 }
     ensures painted { bits_of row.new ≡ filled_up (pixels columns changes.now) }
 {
-    if changes.is_empty() {
-        row.fill(0);
-    } else if row.len() < 8 || row.len() <= changes.len() {
+    if row.len() < 8 {
+        paint_narrow(row, columns, changes);
+    } else if changes.is_empty() {
+        fill_by_pieces(row, 0);
+    } else if row.len() <= changes.len() {
         paint_changes(row, columns, changes);
+    } else if row.len() > MOST_FILLED || changes.len() > FEW {
+        paint_apart(row, columns, changes);
     } else {
         paint_by_runs(row, columns, changes);
     }

@@ -33,3 +33,39 @@ pub fn put_pixels(bytes: &mut [u8], start: usize, word: u64)
     let behind = start + 8;
     bytes[start..behind].copy_from_slice(&word.to_be_bytes());
 }
+
+/// The most bytes that one call fills: it is fastest below 2 KiB.
+pub const MOST_FILLED: usize = 2047;
+
+/// Fills all bytes, by one call of the library's: `fill` writes the last byte apart.
+#[inline(always)]
+pub fn fill_bytes(bytes: &mut [u8], byte: u8)
+    ensures { bytes.new ≡ replicate (length bytes.old) byte }
+{
+    let mut at = 0;
+    'bytes: while at < bytes.len() {
+        bytes[at] = byte;
+        at += 1;
+    }
+}
+
+/// Fills a piece by a call of its own: inlined into a loop, all its calls would become one.
+#[inline(never)]
+fn fill_apart(bytes: &mut [u8], byte: u8)
+    ensures { bytes.new ≡ replicate (length bytes.old) byte }
+{
+    fill_bytes(bytes, byte);
+}
+
+/// Fills all bytes, as many at a time as are filled fast.
+#[inline(never)]
+pub fn fill_by_pieces(bytes: &mut [u8], byte: u8)
+    ensures { bytes.new ≡ replicate (length bytes.old) byte }
+{
+    let mut from = 0;
+    'pieces: while bytes.len() - from > MOST_FILLED {
+        fill_apart(&mut bytes[from..from + MOST_FILLED], byte);
+        from += MOST_FILLED;
+    }
+    fill_apart(&mut bytes[from..], byte);
+}

@@ -9,5 +9,4 @@ pub mod Reporting
 pub mod SpreadRows
 pub mod StandingRows
 pub mod TakenRows
-pub mod FilledBytes
 pub mod WhiteRows

@@ -55,8 +55,53 @@ fn invert(bytes: &mut [u8])
     }
 }
 
-/// Packs a row with 0 for black.
+/// Returns the byte of eight white pixels.
+#[inline(always)]
+fn white_byte(black_is_0: bool) -> u8
+    ensures { result ≡ white_byte black_is_0 }
+{
+    if black_is_0 { 255 } else { 0 }
+}
+
+/// Fills a piece by one call of the library's: `fill` writes the last byte apart, and inlined into a loop, all calls would become one.
 #[inline(never)]
+fn fill_piece(bytes: &mut [u8], byte: u8)
+    ensures { bytes.new ≡ replicate (length bytes.old) byte }
+{
+    let mut at = 0;
+    'bytes: while at < bytes.len() {
+        bytes[at] = byte;
+        at += 1;
+    }
+}
+
+/// Fills bytes by pieces.
+#[inline(never)]
+fn fill_by_pieces(bytes: &mut [u8], byte: u8)
+    ensures { bytes.new ≡ replicate (length bytes.old) byte }
+{
+    let mut from = 0;
+    'pieces: while bytes.len() - from > PIECE {
+        fill_piece(&mut bytes[from..from + PIECE], byte);
+        from += PIECE;
+    }
+    fill_piece(&mut bytes[from..], byte);
+}
+
+/// Fills all bytes.
+#[inline(always)]
+fn fill(bytes: &mut [u8], byte: u8)
+    ensures { bytes.new ≡ replicate (length bytes.old) byte }
+{
+    if bytes.len() > PIECE {
+        fill_by_pieces(bytes, byte);
+    } else {
+        fill_piece(bytes, byte);
+    }
+}
+
+/// Packs a row with 0 for black: with 1, and then all bits are inverted.
+#[inline(always)]
 fn pack_inverted(row: &mut [u8], columns: u32, changes: &[u32])
     requires changes { AreChanges columns changes.now }
     requires room { length row.old ≡ (columns + 7) / 8 }
@@ -66,32 +111,18 @@ fn pack_inverted(row: &mut [u8], columns: u32, changes: &[u32])
     invert(row);
 }
 
-/// Returns the byte of eight white pixels.
-#[inline(always)]
-fn white_byte(black_is_0: bool) -> u8
-    ensures { result ≡ white_byte black_is_0 }
-{
-    if black_is_0 { 255 } else { 0 }
-}
-
-/// Fills a piece by one call: inlined into a loop, all its calls would become one.
+/// Packs a row with 0 for black.
 #[inline(never)]
-fn fill_piece(bytes: &mut [u8], byte: u8)
-    ensures { bytes.new ≡ replicate (length bytes.old) byte }
+fn pack_black_as_0(row: &mut [u8], columns: u32, changes: &[u32])
+    requires changes { AreChanges columns changes.now }
+    requires room { length row.old ≡ (columns + 7) / 8 }
+    ensures packed { bits_of row.new ≡ packed_row true (pixels columns changes.now) }
 {
-    bytes.fill(byte);
-}
-
-/// Fills all bytes.
-fn fill(bytes: &mut [u8], byte: u8)
-    ensures { bytes.new ≡ replicate (length bytes.old) byte }
-{
-    let mut from = 0;
-    'pieces: while bytes.len() - from > PIECE {
-        fill_piece(&mut bytes[from..from + PIECE], byte);
-        from += PIECE;
+    if changes.is_empty() {
+        fill(row, white_byte(true));
+    } else {
+        pack_inverted(row, columns, changes);
     }
-    fill_piece(&mut bytes[from..], byte);
 }
 
 /// Returns the byte before which a white row of so many bytes begins that need not be written when it comes: it fits, and no bytes
@@ -117,10 +148,8 @@ pub(crate) fn pack_row(row: &mut [u8], columns: u32, changes: &[u32], black_is_0
     requires room { length row.old ≡ (columns + 7) / 8 }
     ensures packed { bits_of row.new ≡ packed_row black_is_0 (pixels columns changes.now) }
 {
-    if changes.is_empty() {
-        row.fill(white_byte(black_is_0));
-    } else if black_is_0 {
-        pack_inverted(row, columns, changes);
+    if black_is_0 {
+        pack_black_as_0(row, columns, changes);
     } else {
         paint_row(row, columns, changes);
     }
@@ -217,11 +246,12 @@ impl<'a> PackedRows<'a> {
         ensures changes { self.new.changes ≡ self.old.changes }
         ensures has_refused { self.new.has_refused ≡ self.old.has_refused }
     {
+        let from = self.written;
+        self.written = self.start;
         fill(
-            &mut self.bitmap[self.written..self.start],
+            &mut self.bitmap[from..self.start],
             white_byte(self.layout.black_is_0),
         );
-        self.written = self.start;
     }
 
     /// Writes the white rows that aren't written. All rows are then in memory.

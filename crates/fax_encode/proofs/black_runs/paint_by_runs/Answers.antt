@@ -4,8 +4,8 @@ use Rattle.fax_encode.proofs.{BlackRuns.zeros_are_white, PaintedRows.filled}
 use Rattle.fax_encode.proofs.black_runs.paint_by_runs.Goals as goal
 
 pub paint_runs-requires-clause-white : goal.paint_runs-requires-clause-white
-paint_runs-requires-clause-white c = zeros_are_white (length c.fill.new.self) c.fill.new.self
-    (c.fill.ensures.after (λ y e. e) ∙ ap (λ (n : ℕ). replicate n 0) (sym c.fill.ensures.len))
+paint_runs-requires-clause-white c = zeros_are_white (length c.fill_bytes.new.bytes) c.fill_bytes.new.bytes
+    (c.fill_bytes.ensures ∙ ap (λ (n : ℕ). replicate n 0) (sym c.fill_bytes.auto.bytes))
 
 pub returns : goal.returns
 returns c =
@@ -13,9 +13,9 @@ returns c =
     let changes : List ℕ = c.args.changes.now in
     let row : List ℕ = c.args.row.now in
     let new : List ℕ = c.paint_runs.new.row in
-    let total : ℕ = length c.fill.new.self in
+    let total : ℕ = length c.fill_bytes.new.bytes in
     let n : ℕ = 8 * total - length (pixels columns changes) in
-    let bytes : total ≡ length row = c.fill.ensures.len in
+    let bytes : total ≡ length row = c.fill_bytes.auto.bytes in
     let long = length-pixels columns changes c.requires.changes in
     let all : take (8 * length row) (bits_of new) ≡ bits_of new = take_all (8 * length row) (bits_of new)
     (omega (arith, length-bits_of new, c.paint_runs.ensures.length, bytes)) in

@@ -9,7 +9,7 @@ returns-then-from-to-clause-painted c = λ front long white.
     let count : ℕ = c.args.to - c.args.from in
     let there : length (take count (drop c.args.from row)) ≡ count =
     length-take-le count (drop c.args.from row) (omega (arith, length-drop c.args.from row, c.requires.within)) in
-    let filled : c.fill.new.self ≡ replicate count 255 =
-    c.fill.ensures.after (λ y e. e) ∙ ap (λ (n : ℕ). replicate n 255) there in
+    let filled : c.fill_bytes.new.bytes ≡ replicate count 255 =
+    c.fill_bytes.ensures ∙ ap (λ (n : ℕ). replicate n 255) there in
     bytes_painted c.args.from c.args.to row _ front c.requires.ascend c.requires.within long white
     (ap (put_mid c.args.from count row) filled)

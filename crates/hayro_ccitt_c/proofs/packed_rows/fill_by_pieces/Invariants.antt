@@ -1,5 +1,5 @@
 use Rattle.std.proofs.Common.{◌≡◌, ◌≤◌, ◌-◌, length, replicate, take}
-use Rattle.hayro_ccitt_c.proofs.packed_rows.fill.Given as goal
+use Rattle.hayro_ccitt_c.proofs.packed_rows.fill_by_pieces.Given as goal
 
 -- the bytes so far are filled
 abbrev pub invariant-pieces : goal.invariant-pieces

@@ -1,0 +1,20 @@
+use Rattle.std.proofs.Common.{◌≡◌, ℕ, List, [], ◌∷◌, ◌++◌, ap, sym, ◌∙◌, arith, length, replicate}
+use Rattle.std.proofs.lemmas.List.{length-set, replicate-append-replicate, take_all}
+use Rattle.std.proofs.lemmas.List.{take_more_set}
+use Rattle.hayro_ccitt_c.proofs.packed_rows.fill_piece.Goals as goal
+
+pub bytes-preserved : goal.bytes-preserved
+bytes-preserved c =
+    let at = c.bytes.at in
+    let is = c.bytes.invariant in (
+      length-set c.bytes.bytes at c.args.byte ∙ is.0,
+      omega (arith, length-set c.bytes.bytes at c.args.byte, c.bytes-test.true),
+      take_more_set c.bytes.bytes at c.args.byte c.bytes-test.true ∙ ap (λ (l : List ℕ). l ++ c.args.byte ∷ []) is.2
+          ∙ replicate-append-replicate at 1 c.args.byte,
+    )
+
+pub returns : goal.returns
+returns c =
+    let is = c.bytes.invariant in
+    let all : c.bytes.at ≡ length c.args.bytes.now = omega (arith, is.0, is.1, c.bytes-test.false) in
+    sym (take_all c.bytes.at c.bytes.bytes (omega (arith, is.0, all))) ∙ is.2 ∙ ap (λ (n : ℕ). replicate n c.args.byte) all
