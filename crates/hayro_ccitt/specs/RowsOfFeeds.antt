@@ -16,8 +16,7 @@ use Rattle.hayro_ccitt.specs.RowsRead.{HasEnded, HasFailed, ended}
 abbrev pub rows_of : Feeding → Bits → List Row
 rows_of feed whole = (plain feed.ctx.held.settings whole).rows
 
--- Of some data the next rows of the plain reading were passed to a sink of this step, so many. The one after them is the first
--- that a call returns from now on, unless the sink refused it.
+-- Of some data the next rows of the plain reading were passed to a sink of this step, so many.
 pub record PassesNextRows {M : Type 0} (whole : Bits) (step : M → List ℕ → M) (before after : SinkState M) (old new : Feeding)
     (answer : Result Fed DecodeError) : Type 0 where
   pub passed : ℕ

@@ -16,6 +16,9 @@ use fax_bits::bit_reader::{
     BitOrder, BitReader, WordsAhead, at_bit, bit_len, go_on_at, words_ahead,
 };
 
+/// Of lines with fewer bits many are in the window of a reader, which passes them as fast.
+const LEAST_BITS: usize = 8;
+
 /// Returns how many more rows come before the row limit.
 #[inline(always)]
 fn rows_left(limit: u64, rows: u64) -> u64
@@ -69,11 +72,13 @@ fn push_white_words<D: Decoder>(
     Ok(())
 }
 
-/// If a white row repeats, reads lines and passes their rows as `push_white_words` does. So many bits of the data come before these.
+/// If a white row repeats whose line has so many bits at least, reads lines and passes their rows as `push_white_words` does. Some
+/// bits of the data come before these.
 #[inline(always)]
 pub(crate) fn push_white_rows<D: Decoder>(
     repeats: bool,
     lines: &WhiteLines,
+    least: usize,
     dropped: usize,
     rows: &mut RowState,
     ctx: &mut DecoderContext,
@@ -92,7 +97,7 @@ pub(crate) fn push_white_rows<D: Decoder>(
     if !repeats {
         return Ok(());
     }
-    if !may_follow(lines, reader) {
+    if !may_follow(lines, reader, least) {
         return Ok(());
     }
     if let Some(words) = words_ahead(reader, BitOrder::HighestFirst) {
@@ -144,7 +149,9 @@ pub(crate) fn push_rows<D: Decoder>(
         let repeats = ctx.repeats_white(&mut lines);
         // The number of bits is known to be small once it is read.
         let _length = bit_len(reader);
-        if let Err(refusal) = push_white_rows(repeats, &lines, 0, &mut rows, ctx, reader, decoder) {
+        if let Err(refusal) = push_white_rows(
+            repeats, &lines, LEAST_BITS, 0, &mut rows, ctx, reader, decoder,
+        ) {
             let repaired = ctx.damaged_rows();
             let cut = ctx.cut_rows();
             ctx.take_back_row(repaired, cut);

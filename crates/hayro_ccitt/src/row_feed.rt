@@ -660,6 +660,7 @@ impl RowFeed {
             if let Err(refused) = push_white_rows(
                 repeats,
                 &lines,
+                1,
                 self.dropped,
                 &mut self.rows,
                 &mut self.ctx,

@@ -161,14 +161,17 @@ pub(crate) fn pass_line(lines: WhiteLines, reader: &mut BitReader<'_>) -> bool
     pass_more_bits(reader, second.bits, second.count)
 }
 
-/// Returns whether one of these lines may be next: one is, if it isn't cut by the end of the data.
+/// Returns whether one of these lines may be next, and has so many bits at least: one is next, if it isn't cut by the end of the data.
 #[inline(always)]
-pub(crate) fn may_follow(lines: &WhiteLines, reader: &BitReader<'_>) -> bool
+pub(crate) fn may_follow(lines: &WhiteLines, reader: &BitReader<'_>, least: usize) -> bool
     requires some { 0 < lines.now.first.count }
     requires first { lines.now.first.count ≤ 32 }
     requires second { lines.now.second.count ≤ 33 }
 {
     let first = lines.first;
+    if first.count < least {
+        return false;
+    }
     if may_be_next(reader, first.bits, first.count) {
         return true;
     }
