@@ -238,7 +238,7 @@ fn push_listed(lists: &[u32], count: usize, decoder: &mut impl Decoder) {
 }
 
 /// How many rows are looked at together, to see whether all are white.
-const TOGETHER: usize = 16;
+const TOGETHER: usize = 8;
 
 /// Returns a number of white rows with which these lists begin, at most `most`: each is a 0. There may be some more.
 fn white_rows(lists: &[u32], most: usize) -> usize {

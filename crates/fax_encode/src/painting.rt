@@ -136,7 +136,7 @@ fn put_bytes(row: &mut [u8], word: u64, count: usize)
     row.copy_from_slice(&word.to_be_bytes()[..count]);
 }
 
-/// Writes the first bytes of a word over all bytes of a row. For each number of them there is a copy of its own, which is no call.
+/// Writes the first bytes of a word over all bytes of a row. Each number of them has a copy of its own, which is no call.
 #[inline(always)]
 fn put_first(row: &mut [u8], word: u64)
     requires { length row.old < 8 }

@@ -63,7 +63,8 @@ fn white_byte(black_is_0: bool) -> u8
     if black_is_0 { 255 } else { 0 }
 }
 
-/// Fills a piece by one call of the library's: `fill` writes the last byte apart, and inlined into a loop, all calls would become one.
+/// Fills a piece by one call of the library's: `fill` writes the last byte apart. Inlined into a loop, all calls would become
+/// one.
 #[inline(never)]
 fn fill_piece(bytes: &mut [u8], byte: u8)
     ensures { bytes.new ≡ replicate (length bytes.old) byte }

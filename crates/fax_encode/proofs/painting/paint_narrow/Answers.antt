@@ -50,7 +50,8 @@ returns c =
           c.requires.changes wide there painted w.if-brush.true w.turned-brush-then-brush.ensures.start
           w.turned-brush-then-brush.ensures.word
       | else-brush w ↦
-          ap (λ (b : Brush). under b row) w.brush-is ∙ painted ∙ ap (λ b. pixels columns changes ++ replicate n b) w.if-brush.false
+          ap (λ (b : Brush). under b row) w.brush-is ∙ painted
+          ∙ ap (λ b. pixels columns changes ++ replicate n b) w.if-brush.false
     ] in
     let begun : c.if-brush.brush.start ≡ 0 = elim c.if-brush.branch [
       | then-brush w ↦
