@@ -74,7 +74,8 @@ module _ (columns : ℕ) (reference changes : List ℕ) (lawful : AreChanges col
         ap (λ (n : ℕ). at n (next + 1)) to ∙ ap turned (color_next next)
         ∙ sym (vertical_place above row (at from next) in_row right is_below)
 
-    one_below : chosen_from above row (at from next) ≡ true ∷ chosen_from above row (at (get_or changes next columns + 1) (next + 1))
+    one_below : chosen_from above row (at from next)
+        ≡ true ∷ chosen_from above row (at (get_or changes next columns + 1) (next + 1))
     one_below =
         let after : Place = at (get_or changes next columns + 1) (next + 1) in
         step_bits columns reference changes lawful are (at from next) after inside moves
