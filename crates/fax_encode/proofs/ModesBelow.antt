@@ -74,7 +74,8 @@ module _ (columns : ℕ) (reference changes : List ℕ) (lawful : AreChanges col
         ap (λ (n : ℕ). at n (next + 1)) to ∙ ap turned (color_next next)
         ∙ sym (vertical_place above row (at from next) in_row right is_below)
 
-    one_below : chosen_from above row (at from next) ≡ true ∷ chosen_from above row (at (get_or changes next columns + 1) (next + 1))
+    one_below : chosen_from above row (at from next)
+        ≡ true ∷ chosen_from above row (at (get_or changes next columns + 1) (next + 1))
     one_below =
         let after : Place = at (get_or changes next columns + 1) (next + 1) in
         step_bits columns reference changes lawful are (at from next) after inside moves
@@ -100,7 +101,8 @@ module _ (columns : ℕ) (reference changes : List ℕ) (lawful : AreChanges col
 
   -- where the first of them is
   first_below : (next index : ℕ) → next < length changes → index < length reference
-      → get_or changes (next + 0) 0 ≡ get_or reference (index + 0) 0 → get_or changes next columns ≡ get_or reference index columns
+      → get_or changes (next + 0) 0 ≡ get_or reference (index + 0) 0
+      → get_or changes next columns ≡ get_or reference index columns
   first_below next index lt le same =
       let c : next + 0 ≡ next = omega arith in
       let r : index + 0 ≡ index = omega arith in
@@ -126,7 +128,8 @@ module _ (columns : ℕ) (reference changes : List ℕ) (lawful : AreChanges col
       let more : next < length changes = omega arith in
       let first = first_below next index more (omega arith) (same 0 (omega arith)) in
       let rest : IsBelow m (get_or changes next columns + 1) (next + 1) last to reach =
-      all_below m (get_or changes next columns + 1) (next + 1) (index + 1) last to reach (omega arith) (omega arith) (omega arith)
+      all_below m (get_or changes next columns + 1) (next + 1) (index + 1) last to reach (omega arith) (omega arith)
+      (omega arith)
       (omega (arith, left_of_end 0 columns changes next are more)) (near_after from next index inside near left more first)
       (left_after_one from next index inside near left more first) within reaches (λ k lt.
       let c : next + 1 + k ≡ next + (k + 1) = omega arith in

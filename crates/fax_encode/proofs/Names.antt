@@ -17,7 +17,8 @@ pub use Rattle.fax_encode.specs.RowByRow.{RowsEncoded, no_rows, with_row, with_r
 pub use Rattle.fax_encode.specs.Scanning.{differences, ones_from}
 pub use Rattle.fax_encode.specs.Settings.{chosen, chosen_end, chosen_eols, chosen_group4, chosen_line, chosen_lines}
 pub use Rattle.fax_encode.specs.Settings.{chosen_lines_with_eols, chosen_part, chosen_picture, chosen_with_eols}
-pub use Rattle.fax_encode.specs.Settings.{decode_settings_for, lines_by, lines_left, fill_of, group3_settings, group4_settings, has_eols, is_closed}
+pub use Rattle.fax_encode.specs.Settings.{decode_settings_for, fill_of, group3_settings, group4_settings, has_eols, is_closed}
+pub use Rattle.fax_encode.specs.Settings.{lines_by, lines_left}
 pub use Rattle.fax_encode.specs.Settings.{is_two_dimensional, left_after, line_1d, line_2d, names_encoding, needs_row, with_end}
 pub use Rattle.fax_encode.specs.WhiteRows.{AreWhiteLines, IsWhiteLine}
 pub use Rattle.fax_encode.specs.Writing.{IsWord, Marked, Written, all_bits}

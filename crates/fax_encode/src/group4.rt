@@ -188,8 +188,8 @@ fn put_horizontal(
 }
 
 /// Writes one mode. Takes where b1 is: pass if b2 is left of a1; else vertical if a1 is at most three positions from b1; else
-/// horizontal (T.4, 4.2.1.3.2). Afterwards all changes of the row that are left of the new position are counted, and the index
-/// from which b1 is found is at most one less than before. The new position is past the row's end only if no changes are left.
+/// horizontal (T.4, 4.2.1.3.2). Afterwards all changes of the row that are left of the new position are counted. The new position is
+/// past the row's end only if no changes are left.
 #[inline(always)]
 fn put_mode(
     writer: &mut BitWriter,
@@ -203,12 +203,11 @@ fn put_mode(
     requires changes { AreChanges columns changes.now }
     requires inside { at.from ≤ columns }
     requires next { AreAllLeft changes.now at.from at.next }
-    requires b1 { b1 (pixels columns reference.now) at.from (color_after at.next) ≡ above.b1 }
+    requires b1 { (b1 (pixels columns reference.now) at.from (color_after at.next) ≡ above.b1)
+        × (above.b1 ≡ get_or reference.now above.index columns) }
     requires b2 { b2 (pixels columns reference.now) at.from (color_after at.next) ≡ get_or reference.now (above.index + 1) columns }
-    requires first { above.b1 ≡ get_or reference.now above.index columns }
     requires near { IsNear columns reference.now (place_of at) above.index }
     requires within { above.index ≤ length reference.now + 1 }
-    requires onward { at.above ≤ above.index }
     ensures written { OnOk result (all_bits writer.new ≡ all_bits writer.old
         ++ bits_at (pixels columns reference.now) (pixels columns changes.now) (place_of at)) }
     ensures place { IfOk result (λ after. place_of after
@@ -216,7 +215,6 @@ fn put_mode(
         (chosen_mode (pixels columns reference.now) (pixels columns changes.now) (place_of at))) }
     ensures near { IfOk result (λ after. IsNear columns reference.now (place_of after) after.above) }
     ensures next { IfOk result (λ after. after.from ≤ columns → AreAllLeft changes.now after.from after.next) }
-    ensures onward { IfOk result (λ after. at.above ≤ after.above + 1) }
     ensures inside { IfOk result (λ after. after.next < length changes.now → after.from ≤ columns) }
 {
     let a1 = change_or_end(changes, at.next, columns);

@@ -18,13 +18,13 @@ below c =
     c.count_below-count.ensures.within c.count_below-count.ensures.reaches
     (λ k lt. c.count_below-count.ensures.same k (omega (arith, lt, c.count_below-count.ensures.some)))
 
-inside : (c : After-from) → c.args.at.next + c.count_below-count.result - 1 < length c.args.changes.now
-inside c = omega (arith, c.count_below-count.ensures.some, c.count_below-count.ensures.within)
+in_list : (c : After-from) → c.args.at.next + c.count_below-count.result - 1 < length c.args.changes.now
+in_list c = omega (arith, c.count_below-count.ensures.some, c.count_below-count.ensures.within)
 
 -- the last of them
 last : (c : After-from) → c.from.result ≡ get_or c.args.changes.now (c.args.at.next + c.count_below-count.result - 1) c.args._columns
 last c = c.from.ensures
-    ∙ same_change c.args.changes.now (c.args.at.next + c.count_below-count.result - 1) 0 c.args._columns (inside c)
+    ∙ same_change c.args.changes.now (c.args.at.next + c.count_below-count.result - 1) 0 c.args._columns (in_list c)
 
 pub returns-clause-written : goal.returns-clause-written
 returns-clause-written c =
@@ -61,7 +61,7 @@ pub returns-clause-inside : goal.returns-clause-inside
 returns-clause-inside c =
     let d = (goal.at.returns-clause-inside c).After-from in
     let place : ℕ = c.args.at.next + c.count_below-count.result - 1 in
-    omega (arith, last d, left_of_end 0 c.args._columns c.args.changes.now place c.requires.changes (inside d))
+    omega (arith, last d, left_of_end 0 c.args._columns c.args.changes.now place c.requires.changes (in_list d))
 
 pub returns-clause-onward : goal.returns-clause-onward
 returns-clause-onward c =

@@ -72,7 +72,7 @@ below_right c same =
       arith,
       same,
       a1_is c,
-      c.requires.first,
+      c.requires.b1.1,
       c.requires.b2,
       next_is_right 0 c.args.columns c.args.reference.now index (index + 1) refl c.requires.reference,
     )
@@ -84,7 +84,7 @@ returns-then-a1-above-clause-written c =
     let row : Row = pixels c.args.columns c.args.changes.now in
     let first : ℕ = b1 reference c.args.at.from (color_after c.args.at.next) in
     let a : c.change_or_end-a1.result ≡ a1 row c.args.at.from = a1_is d in
-    let b : c.args.above.b1 ≡ first = sym c.requires.b1 in
+    let b : c.args.above.b1 ≡ first = sym c.requires.b1.0 in
     let near = near_same _ _ _ _ true b a c.put_below.ensures.near in
     let same = ap (λ (n : ℕ). word_of_mode (vertical_mode n c.change_or_end-a1.result)) b
     ∙ ap (λ (n : ℕ). word_of_mode (vertical_mode first n)) a in
@@ -99,7 +99,7 @@ returns-then-a1-above-clause-place c =
     let row : Row = pixels c.args.columns c.args.changes.now in
     let a : c.change_or_end-a1.result ≡ a1 row c.args.at.from = a1_is d in
     let b : c.args.above.b1 ≡ b1 reference c.args.at.from (color_after c.args.at.next) =
-    sym c.requires.b1 in
+    sym c.requires.b1.0 in
     let near = near_same _ _ _ _ true b a c.put_below.ensures.near in
     let to : ℕ → Place = λ n. record { from = n; color = color_after (c.args.at.next + 1) } in
     let turned : Color → Place = λ k. record { from = suc (a1 row c.args.at.from); color = k } in
@@ -114,7 +114,7 @@ returns-then-a1-above-clause-near c =
     let from : c.change_or_end-a1.result + 1 ≡ c.from.result + 1 = omega (arith, c.from.ensures) in
     let next = near_next c.args.columns c.args.reference.now c.requires.reference
     (place_of c.args.at) c.args.above.index c.requires.near c.change_or_end-a1.result
-    (omega (arith, c.if-a1-above.true, c.requires.first)) in
+    (omega (arith, c.if-a1-above.true, c.requires.b1.1)) in
     subst (λ (n : ℕ). after n (color_after (c.args.at.next + 1))) from
     (subst (λ (k : Color). after (c.change_or_end-a1.result + 1) k) (sym (color_next c.args.at.next)) next)
 
@@ -135,7 +135,7 @@ returns-then-is_vertical-clause-written c =
     let row : Row = pixels c.args.columns c.args.changes.now in
     let first : ℕ = b1 reference c.args.at.from (color_after c.args.at.next) in
     let a : c.change_or_end-a1.result ≡ a1 row c.args.at.from = a1_is d in
-    let b : c.args.above.b1 ≡ first = sym c.requires.b1 in
+    let b : c.args.above.b1 ≡ first = sym c.requires.b1.0 in
     let right : a1 row c.args.at.from ≤ b2 reference c.args.at.from (color_after c.args.at.next) =
     omega (arith, c.in_default.ensures, a, c.requires.b2) in
     let near = near_same _ _ _ _ true b a (sym c.in_ok-is_vertical.ensures.near ∙ c.if-is_vertical.true) in
@@ -153,7 +153,7 @@ returns-then-is_vertical-clause-place c =
     let row : Row = pixels c.args.columns c.args.changes.now in
     let a : c.change_or_end-a1.result ≡ a1 row c.args.at.from = a1_is d in
     let b : c.args.above.b1 ≡ b1 reference c.args.at.from (color_after c.args.at.next) =
-    sym c.requires.b1 in
+    sym c.requires.b1.0 in
     let right : a1 row c.args.at.from ≤ b2 reference c.args.at.from (color_after c.args.at.next) =
     omega (arith, c.in_default.ensures, a, c.requires.b2) in
     let near = near_same _ _ _ _ true b a (sym c.in_ok-is_vertical.ensures.near ∙ c.if-is_vertical.true) in
@@ -207,7 +207,7 @@ returns-clause-written c =
     let row : Row = pixels c.args.columns c.args.changes.now in
     let a : c.change_or_end-a1.result ≡ a1 row c.args.at.from = a1_is d in
     let b : c.args.above.b1 ≡ b1 reference c.args.at.from (color_after c.args.at.next) =
-    sym c.requires.b1 in
+    sym c.requires.b1.0 in
     let right : a1 row c.args.at.from ≤ b2 reference c.args.at.from (color_after c.args.at.next) =
     omega (arith, c.in_default.ensures, a, c.requires.b2) in
     let near = near_same _ _ _ _ false b a (sym c.in_ok-is_vertical.ensures.near ∙ c.if-is_vertical.false) in
@@ -236,7 +236,7 @@ returns-clause-place c =
     let row : Row = pixels c.args.columns c.args.changes.now in
     let a : c.change_or_end-a1.result ≡ a1 row c.args.at.from = a1_is d in
     let b : c.args.above.b1 ≡ b1 reference c.args.at.from (color_after c.args.at.next) =
-    sym c.requires.b1 in
+    sym c.requires.b1.0 in
     let right : a1 row c.args.at.from ≤ b2 reference c.args.at.from (color_after c.args.at.next) =
     omega (arith, c.in_default.ensures, a, c.requires.b2) in
     let near = near_same _ _ _ _ false b a (sym c.in_ok-is_vertical.ensures.near ∙ c.if-is_vertical.false) in
