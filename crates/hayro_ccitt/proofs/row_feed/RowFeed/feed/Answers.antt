@@ -1,4 +1,4 @@
-use Rattle.hayro_ccitt.proofs.Names.{◌≡◌, ◌<◌, ◌≤◌, ◌+◌, ◌*◌, ap, sym, refl, arith, bits_in, true, length, length-append}
+use Rattle.hayro_ccitt.proofs.Names.{◌<◌, ◌≤◌, ap, refl, arith, bits_in, length, length-append}
 use Rattle.hayro_ccitt.proofs.BitReading.BitLists.{length-bits_in}
 use Rattle.hayro_ccitt.proofs.Readings.BitsHeld.{holds_more}
 use Rattle.hayro_ccitt.proofs.Readings.FeedsOn.{feeds_more}

@@ -1,4 +1,4 @@
-use Rattle.hayro_ccitt.proofs.Names.{◌≡◌, ◌∙◌, ◌++◌, ◌*◌, ap, sym, subst, bits_in, Bits, drop, length, arith, length-append, [], ◌∷◌, get_or}
+use Rattle.hayro_ccitt.proofs.Names.{◌∙◌, ap, sym, subst, bits_in, Bits, drop, length, arith, length-append, [], ◌∷◌, get_or}
 use Rattle.hayro_ccitt.proofs.Readings.LooksKept.{seen_more, seen_there}
 use Rattle.hayro_ccitt.proofs.Readings.PartsFed.{kept_longer}
 use Rattle.std.proofs.lemmas.List.{drop-append-le}
