@@ -808,16 +808,15 @@ impl<'a> Model for BitScanner<'a> {
     ghost invariant = { IsScanned };
 }
 
-/// Creates a scanner at a bit offset.
+/// Creates a scanner at a bit offset, given the 64 bits from its byte on.
 #[inline(always)]
-pub fn scanner_at<'a>(data: &'a [u8], order: BitOrder, place: usize) -> BitScanner<'a>
+fn scanner_over<'a>(data: &'a [u8], order: BitOrder, place: usize, word: u64) -> BitScanner<'a>
     requires fit { BitsFit «data».now }
     requires within { place ≤ 8 * length «data».now }
+    requires word { (k : ℕ) → k < 64 → bit_of word (63 - k) ≡ get_or (bits_in order «data».now) (8 * (place / 8) + k) false }
     ensures { result ≡ record { bits = bits_in order «data».now; place = place } }
 {
-    let byte = place / 8;
-    let word = word_at(data, order, byte);
-    let limit = (byte * 8 + 64).min(data.len() * 8);
+    let limit = (place / 8 * 8 + 64).min(data.len() * 8);
     BitScanner {
         data,
         window: word << (place % 8),
@@ -827,15 +826,25 @@ pub fn scanner_at<'a>(data: &'a [u8], order: BitOrder, place: usize) -> BitScann
     }
 }
 
-/// Creates a scanner at a bit offset, as `scanner_at` does, by a call.
-#[cold]
-#[inline(never)]
-fn later_scanner<'a>(data: &'a [u8], order: BitOrder, place: usize) -> BitScanner<'a>
+/// Creates a scanner at a bit offset.
+#[inline(always)]
+pub fn scanner_at<'a>(data: &'a [u8], order: BitOrder, place: usize) -> BitScanner<'a>
     requires fit { BitsFit «data».now }
     requires within { place ≤ 8 * length «data».now }
     ensures { result ≡ record { bits = bits_in order «data».now; place = place } }
 {
-    scanner_at(data, order, place)
+    let word = word_at(data, order, place / 8);
+    scanner_over(data, order, place, word)
+}
+
+/// Returns the 64 bits from a byte on, as `word_at` does, by a call: a scanner rarely needs more bits.
+#[cold]
+#[inline(never)]
+fn later_word(data: &[u8], order: BitOrder, byte: usize) -> u64
+    requires { byte ≤ length «data».now }
+    ensures { (k : ℕ) → k < 64 → bit_of result (63 - k) ≡ get_or (bits_in order «data».now) (8 * byte + k) false }
+{
+    word_at(data, order, byte)
 }
 
 impl<'a> BitScanner<'a> {
@@ -877,7 +886,9 @@ impl<'a> BitScanner<'a> {
         let window = self.window << n;
         let left = self.left - n;
         if left < 16 && self.limit < self.data.len() * 8 {
-            *self = later_scanner(self.data, self.order, self.limit - left);
+            let place = self.limit - left;
+            let word = later_word(self.data, self.order, place / 8);
+            *self = scanner_over(self.data, self.order, place, word);
             return Ok(());
         }
         self.window = window;

@@ -654,6 +654,7 @@ impl DecoderContext {
     /// Returns b1 and b2 of a row of which this many pixels are painted, and whose next ones have this colour (T.4, 4.2.1.1).
     /// `passed` is how many changes of the reference row are known not to be right of a0; afterwards it is the number of all such
     /// changes.
+    #[inline(always)]
     pub(crate) fn places_behind(
         &mut self,
         painted: u32,

@@ -193,16 +193,11 @@ fn is_row(fed: &Result<Fed>) -> bool
     matches!(fed, Ok(Fed::Row))
 }
 
-/// Appends bytes. A single one is stored without a call.
-#[inline(always)]
+/// Appends bytes.
 fn append(data: &mut Vec<u8>, bytes: &[u8]) -> Result<()>
     ensures items { «data».new.items ≡ (if is_ok result then «data».old.items ++ bytes.now else «data».old.items) }
     ensures only { IsOkUnless result DecodeError.OutOfMemory }
 {
-    if bytes.len() == 1 {
-        data.push(bytes[0])?;
-        return Ok(());
-    }
     data.extend_from_slice(bytes)?;
     Ok(())
 }
@@ -591,6 +586,7 @@ impl RowFeed {
     ///
     /// Those of [`decode`](crate::decode), except `Refused`. After an error each further call returns the same error, except
     /// after `OutOfMemory`: then nothing was read, and the call can be made again.
+    #[inline(always)]
     pub fn next_row(&mut self) -> Result<Fed>
         ensures reads { (whole : Bits) (tried : ℕ) → ended self.old.rows.stand ≡ None → IsFeedOf whole tried self.old
             → FeedsNext whole tried self.old self.new result }
@@ -613,6 +609,7 @@ impl RowFeed {
     }
 
     /// Reads each row behind the last one, with one reader of the bits that are kept.
+    #[inline(never)]
     fn push_on<D: Decoder>(&mut self, decoder: &mut D) -> Result<Fed>
         requires width { self.old.ctx.held.settings.columns ≤ D.width decoder.old }
         requires begun { self.old.begun ≡ true }
@@ -711,6 +708,7 @@ impl RowFeed {
     /// rows.finish();
     /// rows.push_rows(&mut sink)?;
     /// ```
+    #[inline(always)]
     pub fn push_rows<D: Decoder>(&mut self, decoder: &mut D) -> Result<Fed>
         requires width { self.old.ctx.held.settings.columns ≤ D.width decoder.old }
         ensures width { D.width decoder.new ≡ D.width decoder.old }
@@ -744,14 +742,31 @@ impl RowFeed {
         self.place -= bytes * 8;
     }
 
-    /// Feeds the bytes that come next in the data. Those that were read are dropped first, also if this fails, and those that
-    /// are left are moved; while the same line or gap is waited for, none are.
-    ///
-    /// # Errors
-    ///
-    /// `OutOfMemory` if the bytes can't be stored, and `Overflow` if all bytes fed would have more than 2^64 - 72 bits. No byte
-    /// is fed then, and the reading is the same.
-    pub fn feed(&mut self, bytes: &[u8]) -> Result<()>
+    /// Feeds a single byte, if nothing is to be dropped and there is room for it, and returns whether it did; otherwise nothing
+    /// changes.
+    #[inline(always)]
+    fn take_byte(&mut self, bytes: &[u8]) -> bool
+        ensures fed { result ≡ true
+            → self.new ≡ record self.old { kept = self.old.kept ++ bits_in self.old.order bytes.now } }
+        ensures few_read { result ≡ true → (self.old.place < 8) × (self.old.place ≤ length self.old.kept)
+            × (count : ℕ) × (length self.old.kept ≡ 8 * count) }
+        ensures fit { result ≡ true → fed_bits self.old + 8 * length bytes.now + 72 ≤ 2 ^ 64 }
+        ensures unchanged { result ≡ false → self.new ≡ self.old }
+    {
+        let kept = self.data.len();
+        if bytes.len() != 1 || self.place >= 8 || kept == self.data.capacity() {
+            return false;
+        }
+        if kept >= MOST_BYTES || self.dropped > (MOST_BYTES - kept - 1) * 8 {
+            return false;
+        }
+        self.data.push_reserved(bytes[0]);
+        true
+    }
+
+    /// Feeds bytes, as [`feed`](RowFeed::feed) does, by a call.
+    #[inline(never)]
+    fn feed_all(&mut self, bytes: &[u8]) -> Result<()>
         requires unfinished { self.old.finished ≡ false }
         ensures fed { OnOk result ((whole : Bits) (tried : ℕ) → IsFeedOf whole tried self.old
             → ComeNext whole self.old (bits_in self.old.order bytes.now) → IsFeedOf whole tried self.new) }
@@ -772,6 +787,34 @@ impl RowFeed {
         }
         append(&mut self.data, bytes)?;
         Ok(())
+    }
+
+    /// Feeds the bytes that come next in the data. Those that were read are dropped first, also if this fails, and those that
+    /// are left are moved; while the same line or gap is waited for, none are.
+    ///
+    /// # Errors
+    ///
+    /// `OutOfMemory` if the bytes can't be stored, and `Overflow` if all bytes fed would have more than 2^64 - 72 bits. No byte
+    /// is fed then, and the reading is the same.
+    #[inline(always)]
+    pub fn feed(&mut self, bytes: &[u8]) -> Result<()>
+        requires unfinished { self.old.finished ≡ false }
+        ensures fed { OnOk result ((whole : Bits) (tried : ℕ) → IsFeedOf whole tried self.old
+            → ComeNext whole self.old (bits_in self.old.order bytes.now) → IsFeedOf whole tried self.new) }
+        ensures refused { OnErr result ((whole : Bits) (tried : ℕ) → IsFeedOf whole tried self.old
+            → IsFeedOf whole tried self.new) }
+        ensures only { IfErr result (λ e. (e ≡ DecodeError.OutOfMemory) ⊎ (e ≡ DecodeError.Overflow)) }
+        ensures held { OnOk result (HoldsMore (bits_in self.old.order bytes.now) self.old self.new) }
+        ensures kept { OnErr result (HoldsMore [] self.old self.new) }
+        ensures too_long { (result ≡ Err DecodeError.Overflow)
+            ↔ (2 ^ 64 - 72 < fed_bits self.old + 8 * length bytes.now) }
+        ensures counts { OnOk result (fed_bits self.new ≡ fed_bits self.old + 8 * length bytes.now) }
+        ensures fit { result ≢ Err DecodeError.Overflow → fed_bits self.old + 8 * length bytes.now + 64 < 2 ^ 64 }
+    {
+        if self.take_byte(bytes) {
+            return Ok(());
+        }
+        self.feed_all(bytes)
     }
 
     /// Finishes the data: no bytes follow those that were fed.

@@ -39,11 +39,7 @@ impl Feed {
         ensures feeding { self.new.handle.value ≡ Some feeding.value }
         ensures open { self.new.is_open ≡ true }
     {
-        let nowhere = self.nowhere;
-        *self = Feed {
-            handle: Handle::of(feeding),
-            nowhere,
-            is_open: true,
-        };
+        self.handle = Handle::of(feeding);
+        self.is_open = true;
     }
 }

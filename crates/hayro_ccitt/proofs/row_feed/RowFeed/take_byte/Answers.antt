@@ -1,0 +1,63 @@
+use Rattle.hayro_ccitt.proofs.Names.{◌∙◌, ap, sym, subst, bits_in, Bits, drop, length, arith, length-append, [], ◌∷◌, get_or}
+use Rattle.hayro_ccitt.proofs.Readings.LooksKept.{seen_more, seen_there}
+use Rattle.hayro_ccitt.proofs.Readings.PartsFed.{kept_longer}
+use Rattle.std.proofs.lemmas.List.{drop-append-le}
+use Rattle.std.proofs.lemmas.List.Concat.{flat_map-append}
+use Rattle.hayro_ccitt.specs.Bits.{bits_of_byte}
+use Rattle.hayro_ccitt.specs.RowFeeds.{Feeding, PartIsKept, fed_bits}
+use Rattle.hayro_ccitt.proofs.BitReading.BitLists.{length-bits_in}
+use Rattle.hayro_ccitt.proofs.row_feed.RowFeed.take_byte.Goals as goal
+
+pub invariant_of-self : goal.invariant_of-self
+invariant_of-self c =
+    let inside = c.self.inside in
+    let old = c.self.invariant in
+    let items = c.push_reserved.ensures.items in
+    let next = get_or c.args.bytes.now 0 0 ∷ [] in
+    let longer = ap length items ∙ length-append inside.«data».items next in
+    record {
+      within = omega (arith, longer, old.within);
+      fit = omega (arith, longer, old.fit, c.len-kept.ensures, c.if-kept-ge-MOST_BYTES.false, c.if-self-kept.false);
+      fresh = old.fresh;
+      start = old.start;
+      unended = old.unended;
+      rows = old.rows;
+      seen = seen_there (ap (drop inside.place) (sym (ap (bits_in inside.order) items
+          ∙ flat_map-append (bits_of_byte inside.order) inside.«data».items next)))
+          (seen_more inside.place (bits_in inside.order inside.«data».items) (bits_in inside.order next)
+          (omega (arith, old.within, length-bits_in inside.order inside.«data».items)) old.seen);
+      line = old.line;
+      part = subst (λ (b : Bits). PartIsKept inside.part inside.begun inside.rows.stand inside.ctx.held b inside.line_read)
+          (sym (drop-append-le inside.place (bits_in inside.order inside.«data».items) (bits_in inside.order next)
+          (omega (arith, old.within, length-bits_in inside.order inside.«data».items)))
+          ∙ ap (drop inside.place) (sym (ap (bits_in inside.order) items
+          ∙ flat_map-append (bits_of_byte inside.order) inside.«data».items next)))
+          (kept_longer inside.part inside.begun inside.rows.stand inside.ctx.held
+          (drop inside.place (bits_in inside.order inside.«data».items)) inside.line_read (bits_in inside.order next)
+          old.part);
+    }
+
+pub returns-clause-few_read : goal.returns-clause-few_read
+returns-clause-few_read c = λ e. (
+  omega (arith, ap (λ (f : Feeding). f.place) c.self.view_is, c.if-bytes-ne1.false),
+  omega (
+    arith,
+    ap (λ (f : Feeding). f.place) c.self.view_is,
+    ap (λ (f : Feeding). length f.kept) c.self.view_is,
+    c.self.invariant.within,
+    length-bits_in c.self.inside.order c.self.inside.«data».items,
+  ),
+  length c.self.inside.«data».items,
+  sym (ap (λ (f : Feeding). length f.kept) c.self.view_is) ∙ length-bits_in c.self.inside.order c.self.inside.«data».items,
+)
+
+pub returns-clause-fit : goal.returns-clause-fit
+returns-clause-fit c = λ e. omega (
+  arith,
+  ap fed_bits c.self.view_is,
+  length-bits_in c.self.inside.order c.self.inside.«data».items,
+  c.len-kept.ensures,
+  c.if-kept-ge-MOST_BYTES.false,
+  c.if-self-kept.false,
+  c.if-bytes-ne1.false,
+)
