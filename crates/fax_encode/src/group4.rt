@@ -1,11 +1,13 @@
 //! Group 4 (T.6): two-dimensional lines (T.4, 4.2).
 
-ghost use Rattle.std.specs.Prelude.{◌≡◌, ◌+◌, ◌<◌, ◌≤◌, ◌++◌, [], length, ℕ, get_or, IfOk, OnOk, MatchOption, if◌then◌else◌, true};
+ghost use Rattle.std.specs.Prelude.{◌≡◌, ◌+◌, ◌<◌, ◌≤◌, ◌++◌, [], length};
+ghost use Rattle.std.specs.Prelude.{ℕ, get_or, IfOk, OnOk, MatchOption, if◌then◌else◌, true};
 ghost use Rattle.std.specs.Prelude.{false};
 ghost use Rattle.hayro_ccitt.specs.Mode.TheVariants.{Horizontal};
 ghost use Rattle.hayro_ccitt.specs.Rows.{AreChanges, pixels, opposite, b1, b2};
 ghost use Rattle.hayro_ccitt.specs.Encodings.{padding};
-ghost use Rattle.fax_encode.specs.Chosen.{bits_at, chosen_from, place_after, chosen_mode, chosen_run, word_of_mode, chosen_line_2d, is_near};
+ghost use Rattle.fax_encode.specs.Chosen.{bits_at, chosen_from, place_after, chosen_mode};
+ghost use Rattle.fax_encode.specs.Chosen.{chosen_run, word_of_mode, chosen_line_2d, is_near};
 ghost use Rattle.fax_encode.specs.Chosen.{vertical_mode};
 ghost use Rattle.fax_encode.specs.Coding.{AreAllLeft, place_of, IsNear, color_after};
 ghost use Rattle.fax_encode.specs.Writing.{all_bits};

@@ -1,6 +1,7 @@
 //! White rows below white ones: they are counted by their bytes, and their lines are words that are made once.
 
-ghost use Rattle.std.specs.Prelude.{◌≡◌, ◌*◌, ◌%◌, ◌^◌, ◌<◌, ◌≤◌, ◌++◌, List, true, false, length, replicate, take, IfOk, IfSome, OnOk};
+ghost use Rattle.std.specs.Prelude.{◌≡◌, ◌*◌, ◌%◌, ◌^◌, ◌<◌, ◌≤◌, ◌++◌, List};
+ghost use Rattle.std.specs.Prelude.{true, false, length, replicate, take, IfOk, IfSome, OnOk};
 ghost use Rattle.hayro_ccitt.specs.Bits.{bits_of};
 ghost use Rattle.hayro_ccitt.specs.Rows.{Row, white_row};
 ghost use Rattle.fax_encode.specs.Settings.{chosen_part, has_eols, left_after, lines_left};

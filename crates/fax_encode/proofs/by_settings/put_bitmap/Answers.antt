@@ -1,7 +1,8 @@
 use Rattle.fax_encode.proofs.Names.{◌≡◌, ◌-◌, ◌++◌, List, ℕ, length, take, drop, refl, sym, ap, subst, ◌∙◌, arith, Vec, Bits}
 use Rattle.fax_encode.proofs.Names.{bits_of, Row, AreChanges, pixels, bytes_of_row, shown, chosen_part, left_after, all_bits}
 use Rattle.fax_encode.proofs.LinesOfPictures.{line_written, all_written}
-use Rattle.fax_encode.proofs.Names.{[], ◌*◌, false, eqb-true, nil_from_length, replicate, take_rest, vec_len, lines_left, white_row}
+use Rattle.fax_encode.proofs.Names.{[], ◌*◌, false, eqb-true, nil_from_length}
+use Rattle.fax_encode.proofs.Names.{replicate, take_rest, vec_len, lines_left, white_row}
 use Rattle.fax_encode.proofs.WhiteRowLines.{white_shown}
 use Rattle.fax_encode.proofs.ScannedRows.{rows_below, shown-none}
 use Rattle.fax_encode.proofs.by_settings.put_bitmap.Goals as goal

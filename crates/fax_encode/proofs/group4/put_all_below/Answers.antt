@@ -1,4 +1,5 @@
-use Rattle.fax_encode.proofs.Names.{◌≡◌, ◌+◌, ◌-◌, ◌*◌, ◌%◌, ◌^◌, ◌<◌, ◌++◌, ℕ, suc, true, length, replicate, get_or, sym, ap, subst}
+use Rattle.fax_encode.proofs.Names.{◌≡◌, ◌+◌, ◌-◌, ◌*◌, ◌%◌, ◌^◌, ◌<◌, ◌++◌}
+use Rattle.fax_encode.proofs.Names.{ℕ, suc, true, length, replicate, get_or, sym, ap, subst}
 use Rattle.fax_encode.proofs.Names.{◌∙◌, arith, append_assoc, one_shl, Bits, Row, low_bits, pixels, chosen_from, AreAllLeft}
 use Rattle.fax_encode.proofs.Names.{IsNear, color_after, all_bits}
 use Rattle.fax_encode.proofs.{Elements.left_of_end, Elements.same_change}
@@ -12,7 +13,8 @@ below : (c : After-from) → IsBelow c.args._columns c.args.reference.now c.args
 below c =
     let count : ℕ = c.count_below-count.result in
     all_below c.args._columns c.args.reference.now c.args.changes.now c.requires.reference c.requires.changes (count - 1)
-    c.args.at.from c.args.at.next c.args.above.index (c.args.at.next + count - 1) (c.args.at.next + count) (c.args.above.index + count)
+    c.args.at.from c.args.at.next c.args.above.index (c.args.at.next + count - 1) (c.args.at.next + count)
+    (c.args.above.index + count)
     (omega (arith, c.count_below-count.ensures.some)) (omega (arith, c.count_below-count.ensures.some))
     (omega (arith, c.count_below-count.ensures.some)) c.requires.inside c.requires.near c.requires.next
     c.count_below-count.ensures.within c.count_below-count.ensures.reaches
@@ -22,7 +24,8 @@ in_list : (c : After-from) → c.args.at.next + c.count_below-count.result - 1 <
 in_list c = omega (arith, c.count_below-count.ensures.some, c.count_below-count.ensures.within)
 
 -- the last of them
-last : (c : After-from) → c.from.result ≡ get_or c.args.changes.now (c.args.at.next + c.count_below-count.result - 1) c.args._columns
+last : (c : After-from) → c.from.result
+    ≡ get_or c.args.changes.now (c.args.at.next + c.count_below-count.result - 1) c.args._columns
 last c = c.from.ensures
     ∙ same_change c.args.changes.now (c.args.at.next + c.count_below-count.result - 1) 0 c.args._columns (in_list c)
 
@@ -55,7 +58,8 @@ returns-clause-near c =
 pub returns-clause-next : goal.returns-clause-next
 returns-clause-next c =
     let d = (goal.at.returns-clause-next c).After-from in
-    subst (λ (n : ℕ). AreAllLeft c.args.changes.now (n + 1) (c.args.at.next + c.count_below-count.result)) (sym (last d)) (below d).left
+    subst (λ (n : ℕ). AreAllLeft c.args.changes.now (n + 1) (c.args.at.next + c.count_below-count.result)) (sym (last d))
+    (below d).left
 
 pub returns-clause-inside : goal.returns-clause-inside
 returns-clause-inside c =

@@ -7,7 +7,8 @@ use Rattle.fax_encode.proofs.group4.put_line.Goals as goal
 pub changes-smaller : goal.changes-smaller
 changes-smaller c =
     let right = step_right c.args.columns c.args.reference.now c.args.changes.now c.requires.reference c.requires.changes
-    (place_of c.changes.at) (place_of c.in_ok-at-2.at) (c.changes.invariant.inside c.changes-test.true) c.in_ok-at-2.ensures.place in
+    (place_of c.changes.at) (place_of c.in_ok-at-2.at) (c.changes.invariant.inside c.changes-test.true)
+    c.in_ok-at-2.ensures.place in
     omega (arith, right.0, right.1)
 
 pub changes-preserved : goal.changes-preserved

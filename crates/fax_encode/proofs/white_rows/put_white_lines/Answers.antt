@@ -15,6 +15,7 @@ rows-preserved c =
           let rest : List Row = replicate (c.rows.rows - 1) white ++ below in
           ap (λ (n : ℕ). new ++ lines_left c.args.settings (length new) n white rest) c.in_ok-now.ensures.left
           ∙ line_written c.args.settings c.rows.now white white rest old new c.in_ok-now.ensures.written
-          ∙ ap (λ (n : ℕ). old ++ lines_left c.args.settings (length old) c.rows.now white (replicate n white ++ below)) (sym some)
+          ∙ ap (λ (n : ℕ). old ++ lines_left c.args.settings (length old) c.rows.now white (replicate n white ++ below))
+          (sym some)
           ∙ c.rows.invariant.written below;
     }

@@ -1,4 +1,5 @@
-use Rattle.fax_encode.proofs.Names.{◌≡◌, ◌%◌, ◌++◌, true, false, List, length, replicate, Row, white_row, has_eols, lines_left, all_bits}
+use Rattle.fax_encode.proofs.Names.{◌≡◌, ◌%◌, ◌++◌, true, false, List}
+use Rattle.fax_encode.proofs.Names.{length, replicate, Row, white_row, has_eols, lines_left, all_bits}
 use Rattle.fax_encode.proofs.white_rows.put_white_lines.Given as goal
 
 abbrev pub invariant-rows : goal.invariant-rows

@@ -9,7 +9,8 @@ returns-then-is_empty c =
     let pending : ℕ = c.self.inside.pending in
     let count : ℕ = 64 - c.self.inside.room in
     let none : bytes ≡ [] =
-    nil_from_length bytes (omega (arith, eqb-true (vec_len c.self.inside.bytes) 0 (sym c.is_empty.ensures ∙ c.if-is_empty.true))) in
+    nil_from_length bytes
+    (omega (arith, eqb-true (vec_len c.self.inside.bytes) 0 (sym c.is_empty.ensures ∙ c.if-is_empty.true))) in
     let one : 1 * 2 ^ count % 2 ^ 64 ≡ 2 ^ count = one_shl count 64 (omega (arith, c.self.invariant.1)) in
     let bits : low_bits count (pending % 2 ^ count) ≡ bits_of bytes ++ low_bits count pending =
     low_bits_mod count count pending (omega arith) ∙ ap (λ (l : List ℕ). bits_of l ++ low_bits count pending) (sym none) in

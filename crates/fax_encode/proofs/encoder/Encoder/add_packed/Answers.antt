@@ -1,4 +1,5 @@
-use Rattle.fax_encode.proofs.Names.{◌≡◌, ◌≤◌, Bool, OnOk, ℕ, length, refl, sym, ap, subst, ◌∙◌, arith, take, Row, RowsEncoded, bits_of}
+use Rattle.fax_encode.proofs.Names.{◌≡◌, ◌≤◌, Bool, OnOk, ℕ, length, refl, sym}
+use Rattle.fax_encode.proofs.Names.{ap, subst, ◌∙◌, arith, take, Row, RowsEncoded, bits_of}
 use Rattle.fax_encode.proofs.Names.{bytes_of_row, in_black, with_row, white_row}
 use Rattle.fax_encode.proofs.WhiteRowLines.{white_bytes_row}
 use Rattle.fax_encode.proofs.encoder.Encoder.add_packed.Goals as goal
