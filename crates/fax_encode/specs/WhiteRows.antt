@@ -7,8 +7,8 @@ use Rattle.fax_encode.specs.declared.white_rows.WhiteLine.{WhiteLine}
 use Rattle.fax_encode.specs.declared.white_rows.WhiteLines.{WhiteLines}
 use Rattle.fax_encode.specs.Settings.{chosen_part, left_after}
 
--- the line with what belongs to it at the start of the data, in fewer than 64 bits, if `left` more may be two-dimensional, and how
--- many may be after it
+-- the line with what belongs to it at the start of the data, in fewer than 64 bits, if `left` more may be two-dimensional, and
+-- how many may be after it
 pub record IsWhiteLine (settings : EncodeSettings) (columns left : ℕ) (white : WhiteLine) : Type 0 where
   pub few : white.line.count ≤ 63
   pub fits : white.line.bits < 2 ^ white.line.count

@@ -1,5 +1,5 @@
--- What the functions that take rows, or pass what is between them, have in common. This is not part of the trusted specification: no
--- contract of a public call cites it.
+-- What the functions that take rows have in common. This is not part of the trusted specification: no contract of a public call
+-- cites it.
 use Rattle.std.specs.Prelude.{◌≡◌, ◌+◌, ◌<◌, ◌≤◌, ◌^◌, length, Result, Err, IsOkUnless}
 use Rattle.fax_bits.specs.declared.error.DecodeError.{DecodeError}
 use Rattle.hayro_ccitt.specs.Bits.{BitsAt, here}

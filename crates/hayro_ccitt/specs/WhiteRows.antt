@@ -1,5 +1,5 @@
--- White rows below a white row that are read one after another, and passed to a sink. This is not part of the trusted specification:
--- no contract of a public call cites it.
+-- White rows below a white row that are read one after another, and passed to a sink. This is not part of the trusted
+-- specification: no contract of a public call cites it.
 use Rattle.std.specs.Prelude.{◌≡◌, ◌+◌, ◌<◌, ◌⊎◌, ℕ, zero, suc, List, [], Result, Ok, Err, true}
 use Rattle.fax_bits.specs.Bits.{BitsAt}
 use Rattle.fax_bits.specs.Window.{ArePlaced}

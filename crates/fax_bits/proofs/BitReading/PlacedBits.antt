@@ -1,7 +1,9 @@
 -- Bits that are compared with a word of eight bytes as they stand.
-use Rattle.fax_bits.proofs.Names.{◌≡◌, ℕ, suc, zero, ◌+◌, ◌-◌, ◌*◌, ◌/◌, ◌%◌, ◌^◌, ◌<◌, ◌≤◌, ◌++◌, ◌∷◌, eqb, false, true, List, []}
+use Rattle.fax_bits.proofs.Names.{◌≡◌, ℕ, suc, zero, ◌+◌, ◌-◌, ◌*◌, ◌/◌, ◌%◌, ◌^◌, ◌<◌, ◌≤◌, ◌++◌, ◌∷◌, eqb, false, true, List}
+use Rattle.fax_bits.proofs.Names.{[]}
 use Rattle.fax_bits.proofs.Names.{get_or, drop, length, refl, sym, ap, ◌∙◌, arith, eqb-true, drop-drop, length-drop, get_or-drop}
-use Rattle.fax_bits.proofs.Names.{append-nil, bit_and, bit_at, bit_at-lt, BitOrder, HighestFirst, LowestFirst, Bits, BitsAt, bit_of}
+use Rattle.fax_bits.proofs.Names.{append-nil, bit_and, bit_at, bit_at-lt, BitOrder, HighestFirst, LowestFirst, Bits, BitsAt}
+use Rattle.fax_bits.proofs.Names.{bit_of}
 use Rattle.fax_bits.proofs.Names.{bits_in, from_be_bytes, w64, here, low_bits, min, moved, padded}
 use Rattle.fax_bits.proofs.BitReading.PeekedBits.{low_bits-padded}
 use Rattle.fax_bits.proofs.BitReading.WindowWords.{IsBytes, bit_at-shr, filled, get_or-bits_in, shifted_bit, word_bit}
@@ -90,11 +92,16 @@ ones_bit : (i : ℕ) → i < 64 → bit_of (2 ^ 64 - 1) i ≡ true
 ones_bit i h = ap (λ (v : ℕ). eqb v 1) (bit_at_ones 64 i h)
 
 pub placed_high : (count bits : ℕ) → 0 < count → count ≤ 57
-    → ArePlaced HighestFirst count bits (record { count = count; mask = (2 ^ 64 - 1) * 2 ^ (64 - count) % 2 ^ 64; word = bits * 2 ^ (64 - count) % 2 ^ 64 })
+    → ArePlaced HighestFirst count bits (record {
+      count = count;
+      mask = (2 ^ 64 - 1) * 2 ^ (64 - count) % 2 ^ 64;
+      word = bits * 2 ^ (64 - count) % 2 ^ 64;
+    })
 placed_high count bits some few = record {
   count_is = refl;
   few = few;
-  masked = λ k h. shifted_bit (2 ^ 64 - 1) (64 - count) k (omega (arith, h, few)) ∙ ones_bit (63 - (64 - count + k)) (omega arith);
+  masked = λ k h. shifted_bit (2 ^ 64 - 1) (64 - count) k (omega (arith, h, few))
+      ∙ ones_bit (63 - (64 - count + k)) (omega arith);
   there = λ k h.
       let at : 63 - (64 - count + k) ≡ count - 1 - k = omega (arith, h, few) in
       shifted_bit bits (64 - count) k (omega (arith, h, few)) ∙ ap (bit_of bits) at;

@@ -5,7 +5,8 @@ use Rattle.hayro_ccitt.proofs.Names.{length-drop, IfOk-weaker, on_err_weaker, on
 use Rattle.hayro_ccitt.proofs.Names.{append-nil}
 use Rattle.hayro_ccitt.proofs.Names.{Group4, Bits, Held, Context, fresh, gap_said, all_eols, gap_behind_row, first_line}
 use Rattle.hayro_ccitt.proofs.Names.{changes, refl, length-append}
-use Rattle.hayro_ccitt.proofs.Names.{DamageIsCounted, Stand, IsPaid, ReaderStands, stand_after, AtLine, looked, EncodingMode, Group3_1D}
+use Rattle.hayro_ccitt.proofs.Names.{DamageIsCounted, Stand, IsPaid, ReaderStands, stand_after, AtLine, looked, EncodingMode}
+use Rattle.hayro_ccitt.proofs.Names.{Group3_1D}
 use Rattle.hayro_ccitt.proofs.Names.{Group3_2D, BitsAt}
 use Rattle.std.proofs.lemmas.List.{drop-append-le}
 use Rattle.std.specs.Prelude.{nat_lt, ◌||◌}

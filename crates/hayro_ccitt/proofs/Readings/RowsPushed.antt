@@ -93,19 +93,6 @@ means_pushed {M} by_width width first start before after rows taken now row push
     ∙ means_more (by_width first) start rows taken row (omega (arith, more, within)) there
     ∙ ap (λ (n : ℕ). meaning_after (by_width first) start (take n rows)) (sym more)
 
--- behind a row there are no more rows than bits, and two more
-pub few_rows_behind : (stand : Stand) (settings : DecodeSettings) (bits : Bits) (held : Held) (place : ℕ) → stand ≡ BehindRow
-    → ReaderStands stand settings bits held place → held.taken ≤ length bits + 2
-few_rows_behind stand settings bits held place is stands =
-    let behind : StandsBehindRow settings bits held (drop place bits) =
-    subst (λ (s : Stand). ReaderStands s settings bits held place) is stands in
-    omega (
-      arith,
-      few_rows settings behind.wide bits behind.begins behind.reaches behind.room,
-      ap (λ (h : Held). h.taken) behind.held_is,
-      length-append behind.so_far.rows (behind.row ∷ []),
-    )
-
 -- ---- Before the first row
 
 -- a reading that has ended, and has not failed, has ended well

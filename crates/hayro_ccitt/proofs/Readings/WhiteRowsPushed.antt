@@ -30,7 +30,8 @@ first_meaning {M} step lines dropped old new zero none pass = ap (λ (p : Pushed
 first_meaning step lines dropped old new (suc count) none pass = absurd (omega (arith, none))
 
 -- so many rows were read and passed, and as many are left before the row limit
-pub record HasPushedWhite {M : Type 0} (step : M → List ℕ → M) (lines : WhiteLines) (dropped most left start : ℕ) (rows : RowState)
+pub record HasPushedWhite {M : Type 0} (step : M → List ℕ → M) (lines : WhiteLines) (dropped most left start : ℕ)
+    (rows : RowState)
     (ctx : Context) (at next : BitsAt) (before after : M) : Type 0 where
   pub count : ℕ
   pub count_is : count + left ≡ most
@@ -150,7 +151,8 @@ module _ {M : Type 0} {step : M → List ℕ → M} {lines : WhiteLines} {droppe
     all_pushed kept_is new_is last_is = record {
       count = count;
       mid = so_far;
-      pass = subst (λ (m : M). PassWhite step lines dropped count (record { rows = rows; ctx = ctx; at = at; meaning = m }) so_far)
+      pass = subst (λ (m : M). PassWhite step lines dropped count
+          (record { rows = rows; ctx = ctx; at = at; meaning = m }) so_far)
           (sym start_is) pushed.pass;
       ends = (
         ap (λ (r : RowState). record { rows = r; ctx = new; at = last; meaning = end.meaning }) kept_is
@@ -168,10 +170,11 @@ module _ {M : Type 0} {step : M → List ℕ → M} {lines : WhiteLines} {droppe
         (kept_is ∙ sym (some_behind count (dropped + start + lines.gap) rows (omega (arith, some, pushed.count_is))))
         (new_is ∙ ap (λ (n : ℕ). ctx_behind n ctx) (omega (arith, many, pushed.count_is))) last_is
 
-    pub none_left : most - left ≡ 0 → kept ≡ rows → new ≡ ctx → last ≡ at
+    pub no_row_left : most - left ≡ 0 → kept ≡ rows → new ≡ ctx → last ≡ at
         → PushesWhite step lines dropped first end rows kept ctx new at last (Ok tt)
-    none_left none kept_is new_is last_is =
-        let unmoved : after ≡ before = first_meaning step lines dropped _ so_far count (omega (arith, none, pushed.count_is)) pushed.pass in
+    no_row_left none kept_is new_is last_is =
+        let unmoved : after ≡ before = first_meaning step lines dropped _ so_far count
+        (omega (arith, none, pushed.count_is)) pushed.pass in
         record {
           count = 0;
           mid = record { rows = rows; ctx = ctx; at = at; meaning = first.meaning };
@@ -186,9 +189,9 @@ module _ {M : Type 0} {step : M → List ℕ → M} {lines : WhiteLines} {droppe
         }
 
 -- no row was read
-pub none_read : {M : Type 0} {step : M → List ℕ → M} {lines : WhiteLines} {dropped : ℕ} {sink : SinkState M} {rows : RowState}
+pub no_white_read : {M : Type 0} {step : M → List ℕ → M} {lines : WhiteLines} {dropped : ℕ} {sink : SinkState M} {rows : RowState}
     {ctx : Context} {at : BitsAt} → PushesWhite step lines dropped sink sink rows rows ctx ctx at at (Ok tt)
-none_read {sink = sink} {rows} {ctx} {at} = record {
+no_white_read {sink = sink} {rows} {ctx} {at} = record {
   count = 0;
   mid = record { rows = rows; ctx = ctx; at = at; meaning = sink.meaning };
   pass = refl;

@@ -1,6 +1,8 @@
 -- White rows that are read one after another are the next ones of the plain reading.
-use Rattle.hayro_ccitt.proofs.Names.{◌≡◌, ◌+◌, ◌≤◌, ◌∙◌, ℕ, zero, suc, List, [], Ok, ap, arith, refl, subst, sym, take, true, length, get_or}
-use Rattle.hayro_ccitt.proofs.Names.{Bits, BitsAt, BehindRow, Context, DecodeSettings, IsStanding, ReadsNext, changes, meaning_after, plain}
+use Rattle.hayro_ccitt.proofs.Names.{◌≡◌, ◌+◌, ◌≤◌, ◌∙◌, ℕ, zero, suc, List, [], Ok, ap, arith, refl, subst, sym, take, true}
+use Rattle.hayro_ccitt.proofs.Names.{length, get_or}
+use Rattle.hayro_ccitt.proofs.Names.{Bits, BitsAt, BehindRow, Context, DecodeSettings, IsStanding, ReadsNext, changes}
+use Rattle.hayro_ccitt.proofs.Names.{meaning_after, plain}
 use Rattle.hayro_ccitt.proofs.Names.{seen}
 use Rattle.hayro_ccitt.proofs.Readings.RowsAgain.{taken_reads, taken_stands, white_unchanging}
 use Rattle.hayro_ccitt.proofs.Readings.RowsPushed.{means_pushed, of_same}
@@ -47,7 +49,8 @@ pub record IsBehindRows {M : Type 0} (step : M → List ℕ → M) (from : ℕ) 
 module _ {M : Type 0} {step : M → List ℕ → M} {from : ℕ} {settings : DecodeSettings} {bits : Bits} {start : M}
     {lines : WhiteLines} where
   -- a white line is the next row
-  module _ {mid new : Pushed M} (behind : IsBehindRows step from settings bits start mid) (reads : ReadsWhite lines 0 mid new) where
+  module _ {mid new : Pushed M} (behind : IsBehindRows step from settings bits start mid)
+      (reads : ReadsWhite lines 0 mid new) where
     there : 0 + mid.at.place ≡ mid.at.place
     there = omega arith
 

@@ -7,7 +7,8 @@ pub at_place-requires-clause-within : goal.at_place-requires-clause-within
 at_place-requires-clause-within c =
     let r = c.reader.inside in
     let w = c.words.inside in
-    let same = ap (λ (x : WordsAt). x.at.bits) c.words.view_is ∙ c.requires ∙ sym (ap (λ (x : BitsAt). x.bits) c.reader.view_is) in
+    let same = ap (λ (x : WordsAt). x.at.bits) c.words.view_is ∙ c.requires
+    ∙ sym (ap (λ (x : BitsAt). x.bits) c.reader.view_is) in
     omega (
       arith,
       c.words.invariant.within,

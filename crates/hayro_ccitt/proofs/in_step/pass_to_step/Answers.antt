@@ -1,4 +1,5 @@
-use Rattle.hayro_ccitt.proofs.Names.{rules, ◌≡◌, ℕ, ◌+◌, ◌*◌, ◌≤◌, length, Some, sym, ap, subst, ◌∙◌, arith, IsTrue, ◌↔◌, DecodeSettings}
+use Rattle.hayro_ccitt.proofs.Names.{rules, ◌≡◌, ℕ, ◌+◌, ◌*◌, ◌≤◌, length, Some, sym, ap, subst, ◌∙◌, arith, IsTrue, ◌↔◌}
+use Rattle.hayro_ccitt.proofs.Names.{DecodeSettings}
 use Rattle.hayro_ccitt.proofs.Names.{Bits, BitsAt, here, Held, after_eol, next_eol, eols_here, EndsByWords, looked}
 use Rattle.hayro_ccitt.proofs.Names.{most_for_lines, Group3_2D, ComesBefore1D, false≢true}
 use Rattle.hayro_ccitt.proofs.DamagedLines.LinesPassed.{eol_passed}
@@ -128,7 +129,8 @@ unreferred c eol =
     let found = here c.skip_to_eol.new.self in
     let same : c.settings.result ≡ c.args.ctx.now.held.settings
     = c.settings.ensures.value ∙ ap (λ (h : Held). h.settings)
-    (c.read_eols-count.ensures.only_ticks.held ∙ c.line_ends_before.ensures.only_ticks.held ∙ c.read_eols.ensures.only_ticks.held) in
+    (c.read_eols-count.ensures.only_ticks.held ∙ c.line_ends_before.ensures.only_ticks.held
+    ∙ c.read_eols.ensures.only_ticks.held) in
     subst (λ (s : DecodeSettings). eols_here s found ≡ (c.read_eols-count.result, here c.read_eols-count.new.reader)
     → IsTrue c.needs_no_reference.result ↔ (s.encoding ≡ Group3_2D → ComesBefore1D s found)) same
     (c.needs_no_reference.ensures.tag found (here c.pass_eol.new.reader, eol)) (behind c)

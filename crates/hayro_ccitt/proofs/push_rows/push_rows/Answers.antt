@@ -21,7 +21,8 @@ use Rattle.hayro_ccitt.proofs.Readings.WhiteRowsRead.{white_empty}
 use Rattle.hayro_ccitt.proofs.Names.{max, line_here, most_room, most_stored, room_for}
 use Rattle.hayro_ccitt.proofs.Work.RoomTaken.{grown_more, line_enough}
 use Rattle.hayro_ccitt.proofs.push_rows.push_rows.{Given.Over}
-use Rattle.hayro_ccitt.proofs.push_rows.push_rows.Goals.{After-read_line, After-push_row, After-push_white_rows, After-take_white_row}
+use Rattle.hayro_ccitt.proofs.push_rows.push_rows.Goals.{After-read_line, After-push_row, After-push_white_rows}
+use Rattle.hayro_ccitt.proofs.push_rows.push_rows.Goals.{After-take_white_row}
 use Rattle.hayro_ccitt.proofs.push_rows.push_rows.Goals as goal
 
 -- the reading is at a line

@@ -1,6 +1,8 @@
-use Rattle.hayro_ccitt.proofs.Names.{◌≡◌, ◌∙◌, ◌+◌, ◌-◌, [], ℕ, BehindRow, BitsAt, Context, None, ap, arith, length, refl, subst, sym, false}
+use Rattle.hayro_ccitt.proofs.Names.{◌≡◌, ◌∙◌, ◌+◌, ◌-◌, [], ℕ, BehindRow, BitsAt, Context, None, ap, arith, length, refl, subst}
+use Rattle.hayro_ccitt.proofs.Names.{sym, false}
 use Rattle.fax_bits.specs.Window.{WordsAt}
-use Rattle.hayro_ccitt.proofs.Readings.WhiteRowsPushed.{HasPushedWhite, ctx_behind, none_left, none_pushed, one_pushed, one_refused, some_pushed}
+use Rattle.hayro_ccitt.proofs.Readings.WhiteRowsPushed.{HasPushedWhite, ctx_behind, no_row_left, none_pushed, one_pushed}
+use Rattle.hayro_ccitt.proofs.Readings.WhiteRowsPushed.{one_refused, some_pushed}
 use Rattle.hayro_ccitt.specs.WhiteLines.{PassesLine}
 use Rattle.hayro_ccitt.specs.WhiteRows.{ArePlacedLines}
 use Rattle.fax_bits.specs.declared.bit_reader.BitOrder.{BitOrder}
@@ -49,7 +51,8 @@ returns-in-Err-clause-pushes g c =
     let inv = c.many.invariant in
     let counted = c.rows_left-most.result - (c.many.left - 1) in
     one_refused inv.pushed c.requires.follow
-    (c.rows_left-most.ensures ∙ ap (λ (n : ℕ). c.args.lines.now.limit - n) c.decoded_rows.ensures) c.many-test.true (passes g here)
+    (c.rows_left-most.ensures ∙ ap (λ (n : ℕ). c.args.lines.now.limit - n) c.decoded_rows.ensures)
+    c.many-test.true (passes g here)
     (c.many.left - 1) counted (omega (arith, c.many-test.true)) refl
     (c.take_white_rows.ensures.kept ∙ ap (λ (n : ℕ). record {
       started_at = c.args.dropped + n + c.args.lines.now.gap;
@@ -71,7 +74,8 @@ many-preserved g c =
           c.args.rows.now c.args.ctx.now c.args.reader.now c.pass_placed_line.new.words.at
           (g.D.Decoder.meaning c.args.decoder.now) (g.D.Decoder.meaning c.push_row.new.self)) (sym c.passed-place.ensures.place)
           (one_pushed inv.pushed c.requires.follow
-          (c.rows_left-most.ensures ∙ ap (λ (n : ℕ). c.args.lines.now.limit - n) c.decoded_rows.ensures) c.many-test.true
+          (c.rows_left-most.ensures ∙ ap (λ (n : ℕ). c.args.lines.now.limit - n) c.decoded_rows.ensures)
+          c.many-test.true
           (passes g here) (c.many.left - 1) (omega (arith, c.many-test.true)) (c.in_default.ensures.taken
           ∙ ap (λ (w : ℕ). g.D.Decoder.step w meaning []) inv.width));
       rows = inv.rows;
@@ -121,4 +125,4 @@ returns-then-left-most-clause-pushes g c =
 pub returns-else-left-most-clause-pushes : goal.returns-else-left-most-clause-pushes
 returns-else-left-most-clause-pushes g c =
     let inv = c.many.invariant in
-    none_left inv.pushed refl refl inv.unrefused (omega (arith, c.if-left-most.false)) inv.rows inv.ctx inv.reader
+    no_row_left inv.pushed refl refl inv.unrefused (omega (arith, c.if-left-most.false)) inv.rows inv.ctx inv.reader

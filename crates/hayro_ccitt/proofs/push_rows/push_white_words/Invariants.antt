@@ -6,7 +6,8 @@ use Rattle.hayro_ccitt.proofs.push_rows.push_white_words.Given as goal
 -- white rows were read, and the sink means them
 abbrev pub invariant-many : goal.invariant-many
 invariant-many g l = record {
-  pushed : HasPushedWhite (g.D.Decoder.step (g.D.Decoder.width l.fn.decoder)) l.fn.lines l.fn.dropped l.most l.left l.start l.fn.rows
+  pushed : HasPushedWhite (g.D.Decoder.step (g.D.Decoder.width l.fn.decoder))
+      l.fn.lines l.fn.dropped l.most l.left l.start l.fn.rows
       l.fn.ctx l.fn.reader l.words.at (g.D.Decoder.meaning l.fn.decoder) (g.D.Decoder.meaning l.decoder);
   rows : l.rows ≡ l.fn.rows;
   ctx : l.ctx ≡ l.fn.ctx;

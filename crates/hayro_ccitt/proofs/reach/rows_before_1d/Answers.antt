@@ -1,4 +1,5 @@
-use Rattle.hayro_ccitt.proofs.Names.{rules, ◌≡◌, ℕ, ◌+◌, ◌*◌, ◌≤◌, ◌⊎◌, true, [], ◌∷◌, length, drop, Some, None, sym, ap, subst, ◌∙◌}
+use Rattle.hayro_ccitt.proofs.Names.{rules, ◌≡◌, ℕ, ◌+◌, ◌*◌, ◌≤◌, ◌⊎◌, true, [], ◌∷◌, length, drop, Some, None, sym, ap, subst}
+use Rattle.hayro_ccitt.proofs.Names.{◌∙◌}
 use Rattle.hayro_ccitt.proofs.Names.{arith, DecodeSettings, Bits, BitsAt, here, Held, after_eol, tagged_eols, looked}
 use Rattle.hayro_ccitt.proofs.Names.{most_for_lines}
 use Rattle.hayro_ccitt.proofs.{EncodedPictures.PicturesT4.eols_here_two, reach.rows_before_1d.Goals.After-read_tagged_eols-count}
@@ -161,7 +162,11 @@ lines-preserved c =
       c.pass_line.ensures.same_bits ∙ c.pass_eol.ensures.same_bits ∙ ap (λ (at : BitsAt). at.bits) c.copy-line.ensures.value
           ∙ c.lines.invariant.0,
       c.pass_line.ensures.only_ticks.held ∙ c.lines.invariant.1,
-      omega (arith, counted_to_tag (goal.at.lines-preserved c).After-read_tagged_eols-count, c.pass_line.ensures.only_ticks.counts),
+      omega (
+        arith,
+        counted_to_tag (goal.at.lines-preserved c).After-read_tagged_eols-count,
+        c.pass_line.ensures.only_ticks.counts,
+      ),
       omega (
         arith,
         c.lines.invariant.3,

@@ -32,20 +32,6 @@ returns-then-count-gt0-clause-passes c = record {
   work_refused = search rules;
 }
 
-pub returns-then-settings-clause-passes : goal.returns-then-settings-clause-passes
-returns-then-settings-clause-passes c = record {
-  gap = search rules;
-  held = search rules;
-  missed = search rules;
-  given_up = search rules;
-  only_code = search rules;
-  unchanged = c.read_eols-count.ensures.only_ticks.held;
-  counts = search rules;
-  work = search rules;
-  work_given_up = search rules;
-  work_refused = search rules;
-}
-
 pub returns-then-not-skip_to_eol-clause-passes : goal.returns-then-not-skip_to_eol-clause-passes
 returns-then-not-skip_to_eol-clause-passes c = record {
   gap = search rules;
@@ -96,10 +82,12 @@ returns-clause-passes c = record {
       let same : c.count_missed_eol.new.self.held.settings ≡ settings = ap (λ (x : Context). x.held.settings)
       c.count_missed_eol.ensures.frame ∙ ap (λ (h : Held). h.settings) c.read_eols-count.ensures.only_ticks.held in
       let over : is_over settings held.taken eols ≡ c.is_over-2.result
-      = sym (c.is_over-2.ensures.over ∙ ap (λ (h : Held). is_over h.settings h.taken eols) c.read_eols-count-2.ensures.only_ticks.held
+      = sym (c.is_over-2.ensures.over
+      ∙ ap (λ (h : Held). is_over h.settings h.taken eols) c.read_eols-count-2.ensures.only_ticks.held
       ∙ ap (λ (x : Context). is_over x.held.settings x.held.taken eols) c.count_missed_eol.ensures.frame
       ∙ ap (λ (h : Held). is_over h.settings h.taken eols) c.read_eols-count.ensures.only_ticks.held) in
-      let on : c.read_eols-count-2.new.ctx.held.has_eols ≡ true = ap (λ (h : Held). h.has_eols) c.read_eols-count-2.ensures.only_ticks.held
+      let on : c.read_eols-count-2.new.ctx.held.has_eols ≡ true
+      = ap (λ (h : Held). h.has_eols) c.read_eols-count-2.ensures.only_ticks.held
       ∙ ap (λ (x : Context). x.held.has_eols) c.count_missed_eol.ensures.frame
       ∙ ap (λ (h : Held). h.has_eols) c.read_eols-count.ensures.only_ticks.held ∙ sought in
       cond-true (misses_eol settings held.taken held.has_eols start) _ _ misses ∙ cond-false settings.strict _ _ lenient
@@ -180,6 +168,3 @@ returns-clause-at_least c =
 
 pub returns-then-count-gt0-clause-at_least : goal.returns-then-count-gt0-clause-at_least
 returns-then-count-gt0-clause-at_least c = search rules
-
-pub returns-then-settings-clause-refused : goal.returns-then-settings-clause-refused
-returns-then-settings-clause-refused c = search rules

@@ -1,4 +1,5 @@
-use Rattle.hayro_ccitt.proofs.Names.{rules, ◌≡◌, ℕ, refl, ap, sym, ◌∙◌, length, arith, EncodingMode, DecodeSettings, Bits, here, eols_by}
+use Rattle.hayro_ccitt.proofs.Names.{rules, ◌≡◌, ℕ, refl, ap, sym, ◌∙◌, length, arith, EncodingMode, DecodeSettings, Bits, here}
+use Rattle.hayro_ccitt.proofs.Names.{eols_by}
 use Rattle.hayro_ccitt.proofs.Names.{eols_here, looked, looked_ahead, tag_tests}
 use Rattle.hayro_ccitt.proofs.{BitReading.EolCounts.all_eols_leave, Work.EolsPassed.eols_here_stay}
 use Rattle.fax_bits.proofs.BitReading.ConsecutiveEols.{tagged_eols_counted}

@@ -7,9 +7,10 @@ use Rattle.hayro_ccitt.specs.declared.white_lines.WhiteLines.{WhiteLines}
 use Rattle.hayro_ccitt.proofs.white_lines.pass_placed_line.Goals as goal
 
 -- placed bits that are passed are a line
-line_passed : {words : WordsAt} {lines : WhiteLines} {placed : PlacedBits} {next : BitsAt} → IsPlacedLine words.order lines placed
+placed_line_passed : {words : WordsAt} {lines : WhiteLines} {placed : PlacedBits} {next : BitsAt}
+    → IsPlacedLine words.order lines placed
     → PassesPlaced placed words next → PassesLine lines words.at next
-line_passed is passed =
+placed_line_passed is passed =
     let said = passed is.word.count is.word.bits is.are in
     record {
       word = is.word;
@@ -22,6 +23,6 @@ line_passed is passed =
 
 pub returns-clause-passed : goal.returns-clause-passed
 returns-clause-passed c lines e are = elim (c.pass_either.ensures.passed e) [
-  | inl first ↦ line_passed {words = c.args.words.now} are.first first
-  | inr second ↦ line_passed {words = c.args.words.now} are.second second
+  | inl first ↦ placed_line_passed {words = c.args.words.now} are.first first
+  | inr second ↦ placed_line_passed {words = c.args.words.now} are.second second
 ]

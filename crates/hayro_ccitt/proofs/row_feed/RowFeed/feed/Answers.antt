@@ -28,7 +28,8 @@ drops_none feed few within = record {
 
 pub returns-then-take_byte-clause-fed : goal.returns-then-take_byte-clause-fed
 returns-then-take_byte-clause-fed c whole tried feed come =
-    feeds_more (bits_in c.args.self.now.order c.args.bytes.now) (c.take_byte.ensures.fed c.if-take_byte.true) c.requires.unfinished
+    feeds_more (bits_in c.args.self.now.order c.args.bytes.now)
+    (c.take_byte.ensures.fed c.if-take_byte.true) c.requires.unfinished
     feed come
 
 pub returns-then-take_byte-clause-held : goal.returns-then-take_byte-clause-held

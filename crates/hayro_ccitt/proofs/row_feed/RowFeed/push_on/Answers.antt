@@ -236,7 +236,8 @@ module _ (g : Over) (c : After-push_white_rows g) where
       (c.push_row.ensures.same_width ∙ c.rows.invariant.width) c.push_white_rows.ensures.pushes
 
   counted_mid : CountsRows c.try_line-row.new.ctx pushes_white.mid.ctx
-  counted_mid = counts_rows step_here lines_here gap_before.dropped read_before pushes_white.mid pushes_white.count pushes_white.pass
+  counted_mid = counts_rows step_here lines_here gap_before.dropped read_before
+      pushes_white.mid pushes_white.count pushes_white.pass
 
   refused_behind : {error : DecodeError} → c.push_white_rows.result ≡ Err error
       → RefusesWhite lines_here gap_before.dropped sink_behind pushes_white.mid read_behind error
@@ -275,7 +276,12 @@ means_before g c taken =
 pub push_white_rows-requires-clause-fits : goal.push_white_rows-requires-clause-fits
 push_white_rows-requires-clause-fits g c =
     let by = row_by g (goal.at.push_white_rows-requires-clause-fits g c).After-is_read in
-    omega (arith, by.kept.fit, ap (λ (b : BitsAt). length b.bits) by.is, length-bits_in c.self.inside.order c.self.inside.«data».items)
+    omega (
+      arith,
+      by.kept.fit,
+      ap (λ (b : BitsAt). length b.bits) by.is,
+      length-bits_in c.self.inside.order c.self.inside.«data».items,
+    )
 
 pub invariant_of-self-in-Err-push_white_rows : goal.invariant_of-self-in-Err-push_white_rows
 invariant_of-self-in-Err-push_white_rows g c =
