@@ -179,7 +179,7 @@ fn paint_narrow(row: &mut [u8], columns: u32, changes: &[u32])
 
 /// Paints a row: one bit a pixel, 1 for black, the leftmost pixel in each byte's highest bit, and zeros up to the end of
 /// the last byte. It takes time in proportion to the bytes and the changes.
-#[inline(always)]
+#[inline(never)]
 pub fn paint_row(row: &mut [u8], columns: u32, changes: &[u32])
     requires changes { AreChanges columns changes.now }
     requires room { length row.old ≡ (columns + 7) / 8 }
