@@ -1,6 +1,7 @@
 //! The calls of `c/hayro_ccitt.h` and `c/fax_encode.h`. All unsafe code is here.
 
 use crate::{DecodeSettings, EncodingMode, PackedLayout};
+use alloc::vec::Vec;
 use core::ffi::c_void;
 
 pub(crate) const OK: u32 = 0;
@@ -308,23 +309,30 @@ pub(crate) fn decode_packed(data: &[u8], settings: &Settings, bitmap: &mut [u8])
     (status, outcome)
 }
 
-/// Lists the rows, of each the number of its changes and then the changes; and returns the status and the outcome.
+/// Lists the rows in the room behind the numbers of `lists`, of each the number of its changes and then the changes; and returns the
+/// status and the outcome.
 pub(crate) fn decode_changes(
     data: &[u8],
     settings: &Settings,
-    lists: &mut [u32],
+    lists: &mut Vec<u32>,
 ) -> (u32, Outcome) {
     let mut outcome = Outcome::default();
-    // SAFETY: as above, for `lists` in place of `bitmap`.
+    let length = lists.len();
+    let room = lists.spare_capacity_mut();
+    let most = room.len();
+    // SAFETY: as above, for the room in place of `bitmap`. The call writes the numbers of the rows that it tells.
     let status = unsafe {
-        hayro_ccitt_decode_changes(
+        let status = hayro_ccitt_decode_changes(
             data.as_ptr(),
             data.len(),
             settings,
-            lists.as_mut_ptr(),
-            lists.len(),
+            room.as_mut_ptr().cast(),
+            most,
             &mut outcome,
-        )
+        );
+        let written = usize::try_from(outcome.rows + outcome.changes).unwrap_or(most);
+        lists.set_len(length + written.min(most));
+        status
     };
     (status, outcome)
 }

@@ -139,7 +139,7 @@ pub fn decode_packed_low_first(data: &[u8], ctx: &mut DecoderContext) -> PackedR
 }
 
 /// How many bytes data may have whose rows are listed at once.
-const SHORT: usize = 1 << 12;
+const SHORT: usize = 1 << 14;
 
 /// How many bytes of the data are fed at a time, where not all rows are decoded at once.
 const PIECE: usize = 1 << 16;
@@ -174,7 +174,7 @@ fn push_at_once(
     if data.len() > SHORT {
         return None;
     }
-    let mut lists = zeros(data.len() * 8 + 1);
+    let mut lists = Vec::with_capacity(data.len() * 8 + 1);
     let (status, outcome) = c::decode_changes(data, settings, &mut lists);
     if status == c::REFUSED {
         return None;
