@@ -138,8 +138,11 @@ class Writer:
             self.lines.append(f"\t.reloc .Lsection{number}+{place}, {kind}, {name}{offset + addend:+}")
 
     def text(self):
+        targets = (self.object.symbols[info >> 32] for each in self.object.relocations.values() for _, info, _ in each)
+        referred = {symbol.section for symbol in targets if symbol.bind == LOCAL}
         for number, section in enumerate(self.object.sections):
-            if section.flags & ALLOC and (section.size or number in self.object.relocations):
+            # An empty constant may be referred to.
+            if section.flags & ALLOC and (section.size or number in self.object.relocations or number in referred):
                 assert section.kind in (PROGBITS, NOBITS, UNWIND), section.name
                 self.section(number)
         for section in self.object.sections:
