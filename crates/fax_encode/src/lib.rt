@@ -32,5 +32,6 @@ pub use encoder::Encoder;
 pub use encoding::names_encoding;
 pub use error::EncodeError;
 pub use painting::paint_row;
+pub use pixel_words::fill_all;
 pub use round_trip::{bitmap_by_group3, bitmap_by_group4};
 pub use settings::{Effort, EncodeSettings};

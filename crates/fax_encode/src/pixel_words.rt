@@ -69,3 +69,15 @@ pub fn fill_by_pieces(bytes: &mut [u8], byte: u8)
     }
     fill_apart(&mut bytes[from..], byte);
 }
+
+/// Fills all bytes: many by pieces, and few by one call.
+#[inline(always)]
+pub fn fill_all(bytes: &mut [u8], byte: u8)
+    ensures { bytes.new ≡ replicate (length bytes.old) byte }
+{
+    if bytes.len() > MOST_FILLED {
+        fill_by_pieces(bytes, byte);
+    } else {
+        fill_apart(bytes, byte);
+    }
+}

@@ -1,17 +1,14 @@
 //! A sink that packs rows into the caller's memory.
 
-ghost use Rattle.std.specs.Prelude.{◌≡◌, ◌+◌, ◌/◌, ◌<◌, ◌≤◌, true, length, map, not, replicate};
+ghost use Rattle.std.specs.Prelude.{◌≡◌, ◌+◌, ◌/◌, ◌<◌, ◌≤◌, true, length, map, not};
 ghost use Rattle.hayro_ccitt.specs.BitOrder.TheVariants.{HighestFirst};
 ghost use Rattle.hayro_ccitt.specs.Bits.{bits_of, bits_of_byte};
 ghost use Rattle.hayro_ccitt.specs.Rows.{AreChanges, pixels};
 ghost use Rattle.hayro_ccitt_c.specs.Packing.{packed_row, packing_up_to, spaced, white_byte};
 
 use crate::change_count::counted;
-use fax_encode::paint_row;
+use fax_encode::{fill_all, paint_row};
 use hayro_ccitt::{DecodeError, Decoder};
-
-/// The most bytes that one call fills: it is fastest below 2 KiB.
-const PIECE: usize = 2047;
 
 /// A white row of fewer bytes is written at once.
 const LEAST_WAITING: usize = 16;
@@ -63,44 +60,6 @@ fn white_byte(black_is_0: bool) -> u8
     if black_is_0 { 255 } else { 0 }
 }
 
-/// Fills a piece by one call of the library's: `fill` writes the last byte apart. Inlined into a loop, all calls would become
-/// one.
-#[inline(never)]
-fn fill_piece(bytes: &mut [u8], byte: u8)
-    ensures { bytes.new ≡ replicate (length bytes.old) byte }
-{
-    let mut at = 0;
-    'bytes: while at < bytes.len() {
-        bytes[at] = byte;
-        at += 1;
-    }
-}
-
-/// Fills bytes by pieces.
-#[inline(never)]
-fn fill_by_pieces(bytes: &mut [u8], byte: u8)
-    ensures { bytes.new ≡ replicate (length bytes.old) byte }
-{
-    let mut from = 0;
-    'pieces: while bytes.len() - from > PIECE {
-        fill_piece(&mut bytes[from..from + PIECE], byte);
-        from += PIECE;
-    }
-    fill_piece(&mut bytes[from..], byte);
-}
-
-/// Fills all bytes.
-#[inline(always)]
-fn fill(bytes: &mut [u8], byte: u8)
-    ensures { bytes.new ≡ replicate (length bytes.old) byte }
-{
-    if bytes.len() > PIECE {
-        fill_by_pieces(bytes, byte);
-    } else {
-        fill_piece(bytes, byte);
-    }
-}
-
 /// Packs a row with 0 for black: with 1, and then all bits are inverted.
 #[inline(always)]
 fn pack_inverted(row: &mut [u8], columns: u32, changes: &[u32])
@@ -120,7 +79,7 @@ fn pack_black_as_0(row: &mut [u8], columns: u32, changes: &[u32])
     ensures packed { bits_of row.new ≡ packed_row true (pixels columns changes.now) }
 {
     if changes.is_empty() {
-        fill(row, white_byte(true));
+        fill_all(row, white_byte(true));
     } else {
         pack_inverted(row, columns, changes);
     }
@@ -249,7 +208,7 @@ impl<'a> PackedRows<'a> {
     {
         let from = self.written;
         self.written = self.start;
-        fill(
+        fill_all(
             &mut self.bitmap[from..self.start],
             white_byte(self.layout.black_is_0),
         );
