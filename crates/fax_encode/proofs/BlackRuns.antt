@@ -1,12 +1,12 @@
 -- A white row that is painted by its black runs: what is painted, and white pixels after it.
-use Rattle.fax_encode.proofs.Names.{◌≡◌, ℕ, ◌+◌, ◌-◌, ◌*◌, ◌^◌, ◌<◌, ◌≤◌, true, false, List, []}
+use Rattle.fax_encode.proofs.Names.{◌≡◌, ℕ, ◌+◌, ◌-◌, ◌*◌, ◌/◌, ◌^◌, ◌<◌, ◌≤◌, true, false, List, []}
 use Rattle.fax_encode.proofs.Names.{◌++◌, length, get_or, take, drop, replicate, refl, sym, ap, ◌∙◌, arith, append_assoc}
 use Rattle.fax_encode.proofs.Names.{flat_map-append, length-append, length-replicate, length-drop, drop_all, bit_xor}
 use Rattle.fax_encode.proofs.Names.{replicate-append-replicate, take-replicate, drop-replicate, take-append-add}
 use Rattle.fax_encode.proofs.Names.{drop-append-add, drop-drop}
 use Rattle.fax_encode.proofs.Names.{append-nil, take-append-le, drop-append-le, take-append-drop, put_mid, HighestFirst, Bits}
 use Rattle.fax_encode.proofs.Names.{bits_of}
-use Rattle.fax_encode.proofs.Names.{bits_of_byte, low_bits, AscendFrom, pixels, pixels_from}
+use Rattle.fax_encode.proofs.Names.{AreChanges, bits_of_byte, filled_up, length-pixels, low_bits, AscendFrom, pixels, pixels_from}
 use Rattle.fax_encode.proofs.Names.{then_white, White}
 use Rattle.fax_encode.proofs.PaintedRows.{bits_of_plain}
 use Rattle.fax_encode.proofs.PaintedWords.{bits_of-take, bits_of-drop, turned_behind}
@@ -230,8 +230,24 @@ no_run_left columns changes done row all room is =
     ∙ ap (λ (b : Bits). then_white b (length row))
     (sym (ap (λ (l : List ℕ). is.front ++ pixels_from is.place false columns l) none) ∙ is.left)
 
--- a row of zeros is white
-pub zeros_are_white : (count : ℕ) (row : List ℕ) → row ≡ replicate count 0 → bits_of row ≡ then_white [] count
-zeros_are_white count row is =
-    let all : 8 * count ≡ 8 * count - 0 = omega arith in
-    ap bits_of is ∙ bits_of_plain 0 count false refl ∙ ap (λ (n : ℕ). replicate n false) all
+-- nothing of a row of zeros is painted
+pub none_painted : (columns : ℕ) (changes row : List ℕ) → AreChanges columns changes → row ≡ replicate (length row) 0
+    → AreBlack columns changes 0 row
+none_painted columns changes row lawful zeros =
+    let all : 8 * length row ≡ 8 * length row - 0 = omega arith in
+    record {
+      place = 0;
+      front = [];
+      within = omega arith;
+      ascend = lawful;
+      long = refl;
+      left = refl;
+      painted = ap bits_of zeros ∙ bits_of_plain 0 (length row) false refl ∙ ap (λ (n : ℕ). replicate n false) all;
+    }
+
+-- all is painted, and the white pixels after it fill the row up
+pub all_painted_is_filled : (columns : ℕ) (changes row row' : List ℕ) → AreChanges columns changes
+    → length row ≡ (columns + 7) / 8 → bits_of row' ≡ then_white (pixels columns changes) (length row)
+    → bits_of row' ≡ filled_up (pixels columns changes)
+all_painted_is_filled columns changes row row' lawful room is =
+    is ∙ ap (λ (n : ℕ). pixels columns changes ++ replicate n false) (omega (arith, length-pixels columns changes lawful))

@@ -6,7 +6,7 @@ ghost use Rattle.hayro_ccitt.specs.Rows.{AreChanges, pixels};
 ghost use Rattle.fax_encode.specs.Chosen.{filled_up};
 ghost use Rattle.fax_encode.specs.Painting.{then_white};
 
-use crate::pixel_words::{fill_by_pieces, fill_bytes, first_pixels, put_pixels};
+use crate::pixel_words::{fill_all, fill_bytes, first_pixels, put_pixels};
 
 /// Returns a word whose bits are zeros left of an offset, and ones from there on.
 #[inline(always)]
@@ -120,15 +120,14 @@ fn paint_black(row: &mut [u8], from: usize, to: usize)
     }
 }
 
-/// Paints the black runs of a white row.
+/// Paints a row of zeros by its black runs.
 #[inline(always)]
 fn paint_runs(row: &mut [u8], columns: u32, changes: &[u32])
     requires changes { AreChanges columns changes.now }
+    requires room { length row.old ≡ (columns + 7) / 8 }
     requires long { 8 ≤ length row.old }
-    requires room { columns ≤ 8 * length row.old }
-    requires white { bits_of row.old ≡ then_white [] (length row.old) }
-    ensures painted { bits_of row.new ≡ then_white (pixels columns changes.now) (length row.old) }
-    ensures length { length row.new ≡ length row.old }
+    requires white { row.old ≡ replicate (length row.old) 0 }
+    ensures painted { bits_of row.new ≡ filled_up (pixels columns changes.now) }
 {
     let mut done = 0;
     'runs: while done + 1 < changes.len() {
@@ -162,6 +161,6 @@ pub fn paint_apart(row: &mut [u8], columns: u32, changes: &[u32])
     requires long { 8 ≤ length row.old }
     ensures painted { bits_of row.new ≡ filled_up (pixels columns changes.now) }
 {
-    fill_by_pieces(row, 0);
+    fill_all(row, 0);
     paint_runs(row, columns, changes);
 }

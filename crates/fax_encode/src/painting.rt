@@ -8,7 +8,7 @@ ghost use Rattle.fax_encode.specs.Chosen.{filled_up};
 ghost use Rattle.fax_encode.specs.Painting.{under, StandsAt};
 
 use crate::black_runs::{paint_apart, paint_by_runs};
-use crate::pixel_words::{MOST_FILLED, fill_by_pieces, plain_word};
+use crate::pixel_words::{MOST_FILLED, fill_all, plain_word};
 
 /// The most changes of a row that is painted without a call.
 const FEW: usize = 24;
@@ -188,7 +188,7 @@ pub fn paint_row(row: &mut [u8], columns: u32, changes: &[u32])
     if row.len() < 8 {
         paint_narrow(row, columns, changes);
     } else if changes.is_empty() {
-        fill_by_pieces(row, 0);
+        fill_all(row, 0);
     } else if row.len() <= changes.len() {
         paint_changes(row, columns, changes);
     } else if row.len() > MOST_FILLED || changes.len() > FEW {

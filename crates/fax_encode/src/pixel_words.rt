@@ -59,7 +59,7 @@ fn fill_apart(bytes: &mut [u8], byte: u8)
 
 /// Fills all bytes, as many at a time as are filled fast.
 #[inline(never)]
-pub fn fill_by_pieces(bytes: &mut [u8], byte: u8)
+fn fill_by_pieces(bytes: &mut [u8], byte: u8)
     ensures { bytes.new ≡ replicate (length bytes.old) byte }
 {
     let mut from = 0;

@@ -1,6 +1,14 @@
-use Rattle.fax_encode.proofs.Names.{ap, ◌∙◌, arith, then_white, pixels}
-use Rattle.fax_encode.proofs.BlackRuns.{run_painted, last_painted, no_run_left}
+use Rattle.fax_encode.proofs.Names.{◌∙◌, arith, refl}
+use Rattle.fax_encode.proofs.BlackRuns.{all_painted_is_filled, last_painted, no_run_left, none_painted, run_painted}
 use Rattle.fax_encode.proofs.black_runs.paint_runs.Goals as goal
+
+pub runs-init : goal.runs-init
+runs-init c =
+    record {
+      painted = none_painted c.args.columns c.args.changes.now c.args.row.now c.requires.changes c.requires.white;
+      within = omega arith;
+      room = refl;
+    }
 
 pub runs-preserved : goal.runs-preserved
 runs-preserved c =
@@ -13,15 +21,23 @@ runs-preserved c =
       room = c.paint_black.ensures.length ∙ is.room;
     }
 
-pub returns-then-done-changes-clause-painted : goal.returns-then-done-changes-clause-painted
-returns-then-done-changes-clause-painted c =
+pub returns-then-done-changes : goal.returns-then-done-changes
+returns-then-done-changes c =
     let is = c.runs.invariant in
-    last_painted c.args.columns c.args.changes.now c.runs.done c.runs.row c.paint_black-then-done-changes.new.row
-    c.if-done-changes.true (omega (arith, is.room, c.requires.room)) is.painted (omega (arith, c.runs-test.false))
-    c.paint_black-then-done-changes.ensures.painted ∙ ap (then_white (pixels c.args.columns c.args.changes.now)) is.room
+    record {
+      painted = all_painted_is_filled c.args.columns c.args.changes.now c.runs.row c.paint_black-then-done-changes.new.row
+          c.requires.changes (is.room ∙ c.requires.room)
+          (last_painted c.args.columns c.args.changes.now c.runs.done c.runs.row c.paint_black-then-done-changes.new.row
+          c.if-done-changes.true (omega (arith, is.room, c.requires.room)) is.painted (omega (arith, c.runs-test.false))
+          c.paint_black-then-done-changes.ensures.painted);
+    }
 
-pub returns-else-done-changes-clause-painted : goal.returns-else-done-changes-clause-painted
-returns-else-done-changes-clause-painted c =
+pub returns-else-done-changes : goal.returns-else-done-changes
+returns-else-done-changes c =
     let is = c.runs.invariant in
-    no_run_left c.args.columns c.args.changes.now c.runs.done c.runs.row (omega (arith, c.if-done-changes.false))
-    (omega (arith, is.room, c.requires.room)) is.painted ∙ ap (then_white (pixels c.args.columns c.args.changes.now)) is.room
+    record {
+      painted = all_painted_is_filled c.args.columns c.args.changes.now c.runs.row c.runs.row c.requires.changes
+          (is.room ∙ c.requires.room)
+          (no_run_left c.args.columns c.args.changes.now c.runs.done c.runs.row (omega (arith, c.if-done-changes.false))
+          (omega (arith, is.room, c.requires.room)) is.painted);
+    }
