@@ -260,20 +260,23 @@ fn read_run(
     }
 }
 
-/// Begins a run of a one-dimensional line, which reads nothing. Only contracts read the context and the reader.
+/// Begins a run of a one-dimensional line, which reads nothing, and returns it. Only contracts read the context and the reader.
 #[inline(always)]
-fn begin_run(_ctx: &DecoderContext, _reader: &BitScanner<'_>, part: &mut KeptPart)
+fn begin_run(_ctx: &DecoderContext, _reader: &BitScanner<'_>, part: &mut KeptPart) -> KeptRun
     requires lawful { IsLawfulPart _ctx.now.held.settings _ctx.now.held.reference part.old }
     requires run { part.old.run ≡ None }
     requires line { part.old.is_2d ≡ false }
     requires open { part.old.painted ≢ _ctx.now.held.settings.columns }
     ensures reads { ReadsWord part.old part.new _ctx.now _ctx.now _reader.now _reader.now Word.GoesOn }
     ensures run { part.new.run ≡ Some (record { another = false; total = 0 }) }
+    ensures begun { part.new.run ≡ Some result }
 {
-    part.run = Some(KeptRun {
+    let run = KeptRun {
         another: false,
         total: 0,
-    });
+    };
+    part.run = Some(run);
+    run
 }
 
 /// Goes on behind the word that is next, unless the row is full. Behind a run of a one-dimensional line the next one is begun
@@ -294,11 +297,7 @@ fn read_on(ctx: &mut DecoderContext, reader: &mut BitScanner<'_>, part: &mut Kep
     if part.is_2d {
         return read_mode(ctx, reader, part);
     }
-    begin_run(ctx, reader, part);
-    let run = KeptRun {
-        another: false,
-        total: 0,
-    };
+    let run = begin_run(ctx, reader, part);
     read_run(ctx, reader, part, run)
 }
 

@@ -53,7 +53,7 @@ returns-then-part-clause-smaller c = λ e.
 pub returns-clause-smaller : goal.returns-clause-smaller
 returns-clause-smaller c = λ e.
     let held = c.args.ctx.now.held in
-    let begun = c.begin_run.new.part in
+    let begun = c.begin_run-run.new.part in
     let before = here c.args.reader.now in
     let less = reads_some held.settings held.reference begun c.read_run-2.new.part before (here c.read_run-2.new.reader)
     (subst (GoesOnBy held.settings held.reference (λ front. (read_on held.settings held.reference
@@ -63,5 +63,5 @@ returns-clause-smaller c = λ e.
       arith,
       less,
       ap (λ (r : Option KeptRun). left_to_read r before) c.in_default.is,
-      ap (λ (r : Option KeptRun). left_to_read r before) c.begin_run.ensures.run,
+      ap (λ (r : Option KeptRun). left_to_read r before) c.begin_run-run.ensures.run,
     )
