@@ -5,7 +5,7 @@ use crate::cases::{check, says};
 use crate::same;
 use fax_encode::{
     BitmapSink, EncodeError, bitmap_by_group3, bitmap_by_group4, encode_1d, encode_bitmap_1d,
-    encode_bitmap_g4, encode_g4, paint_row, rows_of_bitmap,
+    encode_bitmap_g4, encode_g4, fill_all, paint_row, rows_of_bitmap,
 };
 use hayro_ccitt::{
     DecodeError, DecodeSettings, Decoder, DecoderContext, EncodingMode, bits_fit, decode,
@@ -145,6 +145,21 @@ fn paints_over_words(rt: HostRuntime) {
     let mut eight = [0x55u8; 8];
     paint_row(&mut eight, 64, &[0]);
     same(&rt, eight, [0xFFu8; 8]);
+}
+
+/// Fills bytes that were filled with another byte.
+fn fills(rt: &(impl Abort + AllocGlobal), count: usize) {
+    let mut bytes = vec![in rt.alloc(); 0x55u8; count].expect(rt, "memory");
+    let filled = vec![in rt.alloc(); 0xA3u8; count].expect(rt, "memory");
+    fill_all(&mut bytes, 0xA3);
+    same(rt, bytes.as_slice(), filled.as_slice());
+}
+
+#[test]
+fn fills_by_pieces(rt: HostRuntime) {
+    for count in [0, 1, 2047, 2048, 5000] {
+        fills(&rt, count);
+    }
 }
 
 /// Returns the changes of a row of at most four pixels, given by the bits of a number, the last pixel the lowest.
