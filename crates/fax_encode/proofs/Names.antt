@@ -97,8 +97,8 @@ pub use Rattle.std.proofs.Math.Pow.{pow_mono}
 pub use Rattle.std.proofs.Math.Nat.{div-eq-sub-div, div-eq_of_lt, div-mul-le_self, mul-mod_left, pow-suc}
 pub use Rattle.std.proofs.Math.Seq.{drop-append-add}
 pub use Rattle.std.proofs.Math.Seq.{drop-append_seam, take-add, take-append-add, take-append_seam, take-length}
-pub use Rattle.std.proofs.lemmas.Bool.{agree_below_at, and_parts, cases_eq, cases_lt, eqb-true, false≢true, le-leb, le-ltb}
-pub use Rattle.std.proofs.lemmas.Bool.{leb-true, lt-ltb, ltb-true}
+pub use Rattle.std.proofs.lemmas.Bool.{agree_below_at, and_parts, cases_eq, cases_lt, eqb-false, eqb-true, false≢true, le-leb}
+pub use Rattle.std.proofs.lemmas.Bool.{le-ltb, leb-true, lt-ltb, ltb-true}
 pub use Rattle.std.proofs.lemmas.Grind.{flat_map-append, get_or_default_zero}
 pub use Rattle.std.proofs.lemmas.Int.{ints}
 pub use Rattle.std.proofs.lemmas.List.{append-nil, drop-drop, drop_all, get_or-map, get_or-set_other, get_or-set_same}

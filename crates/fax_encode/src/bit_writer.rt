@@ -1,6 +1,6 @@
 //! Bits written one after another into bytes, each byte's highest bit first.
 
-ghost use Rattle.std.specs.Prelude.{◌≡◌, ◌+◌, ◌-◌, ◌*◌, ◌%◌, ◌^◌, ◌<◌, ◌≤◌, ◌++◌, [], OnOk, IfOk, IfSome, length, take};
+ghost use Rattle.std.specs.Prelude.{◌≡◌, ◌+◌, ◌-◌, ◌*◌, ◌%◌, ◌^◌, ◌<◌, ◌≤◌, ◌++◌, [], None, OnOk, IfOk, IfSome, length, take};
 ghost use Rattle.std.specs.Int.{to_be_bytes, w64};
 ghost use Rattle.hayro_ccitt.specs.Bits.{bits_of, low_bits};
 ghost use Rattle.fax_encode.specs.Writing.{all_bits};
@@ -142,8 +142,9 @@ impl BitWriter {
 
     /// Returns all that was written as one number, if that is fewer than 64 bits.
     pub fn as_joined(&self) -> Option<Joined>
-        ensures { IfSome result (λ joined. (joined.count ≤ 63) × ((joined.bits < 2 ^ joined.count)
+        ensures joined { IfSome result (λ joined. (joined.count ≤ 63) × ((joined.bits < 2 ^ joined.count)
             × (low_bits joined.count joined.bits ≡ all_bits self.now))) }
+        ensures many { result ≡ None → 64 ≤ length (all_bits self.now) }
     {
         if self.bytes.is_empty() {
             let count = 64 - self.room;

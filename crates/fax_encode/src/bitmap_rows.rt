@@ -1,7 +1,7 @@
 //! The rows of a bitmap, as lists of changes: found 64 pixels at a time.
 
 ghost use Rattle.std.specs.Prelude.{IsTrue, ◌≡◌, ◌+◌, ◌*◌, ◌^◌, ◌<◌, ◌≤◌, ◌++◌, false, map, length, replicate, take};
-ghost use Rattle.std.specs.Prelude.{IfOk, OnOk, slice_index, vec_capacity, vec_len};
+ghost use Rattle.std.specs.Prelude.{IfOk, OnOk, get_or, slice_index, vec_capacity, vec_len};
 ghost use Rattle.hayro_ccitt.specs.Bits.{bits_of, bit_of, low_bits};
 ghost use Rattle.hayro_ccitt.specs.Rows.{AreChanges, pixels};
 ghost use Rattle.fax_encode.specs.Chosen.{rows_of};
@@ -181,6 +181,7 @@ fn many_are_white(bytes: &[u8]) -> bool
 pub fn zero_bytes(bytes: &[u8]) -> usize
     ensures within { result ≤ length bytes.now }
     ensures white { bits_of (take result bytes.now) ≡ replicate (8 * result) false }
+    ensures all { result < length bytes.now → 0 < get_or bytes.now result 0 }
 {
     let mut count = 0;
     'many: while bytes.len() - count >= 256 && many_are_white(&bytes[count..]) {

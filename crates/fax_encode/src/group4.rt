@@ -1,6 +1,6 @@
 //! Group 4 (T.6): two-dimensional lines (T.4, 4.2).
 
-ghost use Rattle.std.specs.Prelude.{◌≡◌, ◌+◌, ◌<◌, ◌≤◌, ◌++◌, [], length};
+ghost use Rattle.std.specs.Prelude.{◌≡◌, ◌≢◌, ◌+◌, ◌<◌, ◌≤◌, ◌++◌, [], length};
 ghost use Rattle.std.specs.Prelude.{ℕ, get_or, IfOk, OnOk, MatchOption, if◌then◌else◌, true};
 ghost use Rattle.std.specs.Prelude.{false};
 ghost use Rattle.hayro_ccitt.specs.Mode.TheVariants.{Horizontal};
@@ -270,6 +270,8 @@ fn count_below(reference: &[u32], index: usize, changes: &[u32], next: usize) ->
     ensures within { next + result ≤ length changes.now }
     ensures reaches { index + result ≤ length reference.now }
     ensures same { (k : ℕ) → k < result → get_or changes.now (next + k) 0 ≡ get_or reference.now (index + k) 0 }
+    ensures all { result < 63 → next + result < length changes.now → index + result < length reference.now
+        → get_or changes.now (next + result) 0 ≢ get_or reference.now (index + result) 0 }
 {
     let most = (changes.len() - next).min(reference.len() - index).min(63);
     let mut count = 1;
