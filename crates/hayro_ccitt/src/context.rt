@@ -55,6 +55,17 @@ fn exchange(reference: &mut Vec<u32>, coding: &mut Vec<u32>)
     mem::swap(reference, coding);
 }
 
+/// Finds the white lines of these settings. This is a call, so that rows that aren't white cost nothing for it.
+#[cold]
+#[inline(never)]
+fn find_white_lines(lines: &mut WhiteLines, settings: DecodeSettings, has_eols: bool)
+    requires { 0 < settings.columns }
+    ensures known { AreKnown settings lines.new }
+    ensures same { lines.new.has_eols ≡ has_eols }
+{
+    *lines = white_lines(settings, has_eols);
+}
+
 /// The state of decoding: the settings, the reference row and the coding row (T.4, 4.2.1.1), the number of rows
 /// decoded, and the lookup tables of the code words. One context may decode any number of images with the same
 /// settings, one after another.
@@ -588,7 +599,7 @@ impl DecoderContext {
             return false;
         }
         if lines.first.count == 0 || lines.has_eols != self.has_eols {
-            *lines = white_lines(self.settings, self.has_eols);
+            find_white_lines(lines, self.settings, self.has_eols);
         }
         lines.first.count != 0
     }
