@@ -196,6 +196,16 @@ impl<'a> BitReader<'a> {
         (self.window >> 32) as u32
     }
 
+    /// Returns the thirteen bits after the next `skip`, padded with zeros, as a number.
+    #[inline(always)]
+    pub(crate) fn thirteen(&self, skip: usize) -> usize
+        requires near { skip ≤ 20 }
+        ensures few { result < 8192 }
+        ensures bits { thirteen_bits result ≡ padded 13 (here (moved skip self.now)) }
+    {
+        (self.window << skip >> 51) as usize
+    }
+
     /// Consumes `n` bits, at most 32.
     ///
     /// # Errors

@@ -1,7 +1,7 @@
 //! Colours, modes, and the code words and EOLs of the data.
 
-ghost use Rattle.std.specs.Prelude.{◌≡◌, ℕ, ◌+◌, ◌-◌, ◌*◌, ◌^◌, ◌<◌, ◌≤◌, ◌==◌, ◌↔◌, ◌++◌, ◌∷◌, IsTrue, IfSome, IfNone, IfErr};
-ghost use Rattle.std.specs.Prelude.{MatchResult, Ok, Err, Some, None, true, false, length, replicate, nat_le, if◌then◌else◌};
+ghost use Rattle.std.specs.Prelude.{◌≡◌, ◌≢◌, ℕ, ◌+◌, ◌-◌, ◌*◌, ◌^◌, ◌<◌, ◌≤◌, ◌==◌, ◌↔◌, ◌++◌, ◌∷◌, IsTrue, IfSome, IfNone};
+ghost use Rattle.std.specs.Prelude.{IfErr, MatchResult, Ok, Err, Some, None, true, false, length, replicate, nat_le, if◌then◌else◌};
 ghost use Rattle.std.specs.Prelude.{drop, [], slice_get, is_some, min, pos};
 ghost use Rattle.std.specs.Borrow.{ftrue};
 ghost use Rattle.fax_bits.specs.Faults.{IsFault};
@@ -12,12 +12,12 @@ ghost use Rattle.fax_bits.specs.EndOfLine.{after_eol, eols, all_eols, next_eol, 
 ghost use Rattle.fax_bits.specs.EndOfLine.{tagged_eols};
 ghost use Rattle.fax_bits.specs.Ones.{holds_one};
 ghost use Rattle.fax_bits.specs.LookUps.{entry_of, mode_told, padded, seven_bits};
-ghost use Rattle.fax_bits.specs.Runs.{codes_of, opposite, read_run};
-ghost use Rattle.fax_bits.specs.WordsHere.{RunGoesOn};
+ghost use Rattle.fax_bits.specs.Runs.{codes_of, opposite, read_run, run_from};
+ghost use Rattle.fax_bits.specs.WordsHere.{IsWordHere, RunGoesOn};
 ghost use Rattle.fax_bits.specs.Window.{moved};
 ghost use Rattle.fax_bits.specs.Ticks.{run_found, missed, looked, looked_at_tag};
 
-use crate::bit_reader::{BitReader, BitScanner, copy, go_to, none_at_hand};
+use crate::bit_reader::{BitReader, BitScanner, at_bit, copy, go_to, none_at_hand};
 use crate::tables::{LOOKUP_BITS, LOOKUP_INVALID, Tables};
 use crate::words_at_hand::pass_makeup_words;
 use crate::{DecodeError, Result};
@@ -212,6 +212,90 @@ impl<'a> BitReader<'a> {
         sum
     }
 
+    /// Reads the rest of a run whose words before it sum to `start`, as `decode_run` does. Runs with so many words are rare.
+    #[cold]
+    #[inline(never)]
+    fn decode_long_run(
+        &mut self,
+        color: Color,
+        tables: &Tables,
+        ticks: &mut Ticks,
+        start: u32,
+    ) -> Result<u32>
+        ensures run { MatchResult result
+            (λ n. run_from color (start, here self.old) ≡ Ok (n, here self.new))
+            (λ e. run_from color (start, here self.old) ≡ Err e) }
+        ensures fault { IfErr result IsFault }
+        ensures same_bits { self.new.bits ≡ self.old.bits }
+        ensures ticks { ticks.new ≡ ticks.old + length (run_found color (start, here self.old)) + missed result }
+    {
+        let mut total = self.pass_makeup_words(color, tables, ticks, start);
+        'words: loop {
+            let run = self.decode_word(color, tables, ticks)?;
+            total = total
+                .checked_add(u32::from(run))
+                .ok_or(DecodeError::Overflow)?;
+            if run < 64 {
+                return Ok(total);
+            }
+        }
+    }
+
+    /// Returns the run and the number of bits of the code word after the next `skip` bits; the run is `LOOKUP_INVALID` if there
+    /// is none.
+    #[inline(always)]
+    fn word_behind(&self, skip: usize, color: Color, tables: &Tables) -> (u32, usize)
+        requires near { skip ≤ 20 }
+        ensures word { result.0 ≢ 4095 → self.now.place + skip + result.1 ≤ length self.now.bits
+            → IsWordHere color (moved skip self.now) result.0 result.1 }
+        ensures cut { length self.now.bits < self.now.place + skip + result.1
+            → read_code (codes_of color) (here (moved skip self.now)) ≡ Err DecodeError.UnexpectedEof }
+        ensures below { result.0 ≤ 4095 }
+        ensures narrow { result.1 ≤ 15 }
+    {
+        let entry = tables.lookup(color)[self.thirteen(skip)];
+        (u32::from(entry & LOOKUP_INVALID), usize::from(entry >> 12))
+    }
+
+    /// Reads a make-up word of a run whose words before it sum to `total`, and the word after it. Returns the sum with them, and
+    /// whether the run ends; or `None`, reading nothing, if they aren't both here.
+    #[inline(always)]
+    fn read_two_words(
+        &mut self,
+        color: Color,
+        tables: &Tables,
+        ticks: &mut Ticks,
+        total: u32,
+    ) -> Option<(u32, bool)>
+        requires below { total ≤ 40960 }
+        ensures last { IfSome result (λ sum. sum.1 ≡ true → (run_from color (total, here self.old) ≡ Ok (sum.0, here self.new))
+            × (ticks.new ≡ ticks.old + length (run_found color (total, here self.old)))) }
+        ensures on { IfSome result (λ sum. sum.1 ≡ false
+            → RunGoesOn color total (here self.old) sum.0 (here self.new) ticks.old ticks.new) }
+        ensures shorter { IfSome result (λ sum. length (here self.new) < length (here self.old)) }
+        ensures left { IfNone result ((self.new ≡ self.old) × (ticks.new ≡ ticks.old)) }
+        ensures same_bits { self.new.bits ≡ self.old.bits }
+    {
+        let (first, width) = self.word_behind(0, color, tables);
+        if first < 64 {
+            return None;
+        }
+        if first == 4095 {
+            return None;
+        }
+        let (second, more) = self.word_behind(width, color, tables);
+        if second == 4095 {
+            return None;
+        }
+        let place = self.bit_pos();
+        if self.consume(width + more).is_err() {
+            *self = at_bit(self, place);
+            return None;
+        }
+        tick_times(ticks, 2);
+        Some((total + first + second, second < 64))
+    }
+
     /// Reads a run of a colour: make-up words and one terminating word (T.4, 4.1.1). Each word that is looked
     /// for is a tick.
     ///
@@ -230,16 +314,31 @@ impl<'a> BitReader<'a> {
     {
         let mut total: u32 = 0;
         'words: loop {
-            let run = self.decode_word(color, tables, ticks)?;
-            total = total
-                .checked_add(u32::from(run))
-                .ok_or(DecodeError::Overflow)?;
-            if run < 64 {
-                return Ok(total);
+            let (last, width) = self.word_behind(0, color, tables);
+            if last < 64 {
+                ticks.tick();
+                // If the data ends inside the word these bits aren't there.
+                self.consume(width)?;
+                return Ok(total + last);
             }
-            // Longer than four of the longest make-up words: many more of them may follow.
-            if total > 10240 {
-                total = self.pass_makeup_words(color, tables, ticks, total);
+            match self.read_two_words(color, tables, ticks, total) {
+                Some((sum, is_whole)) => {
+                    if is_whole {
+                        return Ok(sum);
+                    }
+                    total = sum;
+                }
+                None => {
+                    let run = self.decode_word(color, tables, ticks)?;
+                    total += u32::from(run);
+                    if run < 64 {
+                        return Ok(total);
+                    }
+                }
+            }
+            // Longer than sixteen of the longest make-up words: many more of them may follow.
+            if total > 40960 {
+                return self.decode_long_run(color, tables, ticks, total);
             }
         }
     }
@@ -690,6 +789,28 @@ impl<'a> BitScanner<'a> {
             None => Err(DecodeError::InvalidCode),
         }
     }
+}
+
+/// Returns whether a white run and a black one, after the next `skip` bits, are likely not to have one or two words each: one of
+/// them begins with the longest make-up word and another one, or the black one with the longest.
+#[inline(always)]
+pub fn is_long_pair(reader: &BitReader<'_>, skip: usize, tables: &Tables) -> bool
+    requires near { skip ≤ 5 }
+{
+    let (first, width) = reader.word_behind(skip, Color::White, tables);
+    let mut behind = skip + width;
+    if first >= 64 {
+        let (second, more) = reader.word_behind(behind, Color::White, tables);
+        if second >= 64 {
+            return true;
+        }
+        behind += more;
+        if behind > 20 {
+            return false;
+        }
+    }
+    let (black, _) = reader.word_behind(behind, Color::Black, tables);
+    black == 2560
 }
 
 /// Consumes V0 if it is here, and returns whether it is; otherwise nothing changes.

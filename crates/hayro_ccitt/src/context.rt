@@ -29,9 +29,10 @@ use crate::usual::{draw_runs, draw_two_runs, lay_down, pass_white_row, take_up};
 use crate::white_lines::{WhiteLines, none_known, white_lines};
 use crate::{DecodeError, Decoder, Result};
 use fax_bits::bit_reader::{
-    BitOrder, BitReader, BitScanner, BitsAtHand, at_hand, go_to, none_at_hand, window_at_hand,
+    BitOrder, BitReader, BitScanner, BitsAtHand, at_hand, go_to, may_be_next, none_at_hand,
+    window_at_hand,
 };
-use fax_bits::codes::{Color, Mode, Ticks, pass_v0, tick_times};
+use fax_bits::codes::{Color, Mode, Ticks, is_long_pair, pass_v0, tick_times};
 use fax_bits::tables::Tables;
 use fax_bits::{DecodeSettings, EncodingMode};
 use std::alloc::Global;
@@ -52,6 +53,17 @@ fn exchange(reference: &mut Vec<u32>, coding: &mut Vec<u32>)
         }
     }
     mem::swap(reference, coding);
+}
+
+/// Finds the white lines of these settings. This is a call, so that rows that aren't white cost nothing for it.
+#[cold]
+#[inline(never)]
+fn find_white_lines(lines: &mut WhiteLines, settings: DecodeSettings, has_eols: bool)
+    requires { 0 < settings.columns }
+    ensures known { AreKnown settings lines.new }
+    ensures same { lines.new.has_eols ≡ has_eols }
+{
+    *lines = white_lines(settings, has_eols);
 }
 
 /// The state of decoding: the settings, the reference row and the coding row (T.4, 4.2.1.1), the number of rows
@@ -587,7 +599,7 @@ impl DecoderContext {
             return false;
         }
         if lines.first.count == 0 || lines.has_eols != self.has_eols {
-            *lines = white_lines(self.settings, self.has_eols);
+            find_white_lines(lines, self.settings, self.has_eols);
         }
         lines.first.count != 0
     }
@@ -845,6 +857,28 @@ impl DecoderContext {
             && self.coding_changes.len() < 5
     }
 
+    /// Returns whether plain calls are likely to draw the next runs of this row at less cost: it has few more, or the next ones
+    /// may have three words or more.
+    #[inline(always)]
+    fn suits_plain_calls(&self, reader: &BitReader<'_>) -> bool {
+        if self.settings.columns <= 64 {
+            return false;
+        }
+        if self.has_few_runs() {
+            return true;
+        }
+        if self.settings.columns <= 2623 {
+            return false;
+        }
+        // As many changes as the row before has, or a few less, are expected.
+        let stored = self.coding_changes.len();
+        let before = self.reference_row().len();
+        if before <= stored + 5 && stored <= before + 1 {
+            return true;
+        }
+        is_long_pair(reader, 0, &self.tables)
+    }
+
     /// The same, without a call where the row is full or black is next.
     #[inline(always)]
     fn draw_usual_runs(&mut self, reader: &mut BitReader<'_>)
@@ -864,7 +898,7 @@ impl DecoderContext {
         if self.pixels_decoded == self.settings.columns {
             return;
         }
-        if self.has_few_runs() {
+        if self.suits_plain_calls(reader) {
             return;
         }
         self.draw_runs_of(reader);
@@ -1020,6 +1054,14 @@ impl DecoderContext {
         self.draw_usual_runs(reader);
     }
 
+    /// Returns whether a row as wide as to have runs of three words or more is likely to begin with them: plain calls draw them.
+    #[inline(always)]
+    fn begins_with_long_runs(&self, reader: &BitReader<'_>) -> bool {
+        self.settings.columns > 2623
+            && may_be_next(reader, 0b001, 3)
+            && is_long_pair(reader, 3, &self.tables)
+    }
+
     /// Draws modes from the start of a line as long as they are usual.
     #[inline(always)]
     fn draw_modes_at_hand(&mut self, hand: &mut BitsAtHand<'_>)
@@ -1142,6 +1184,9 @@ impl DecoderContext {
         }
         // The first row with changes is drawn by calls that ask for the room that it needs.
         if is_white_row(&self.ref_changes) && has_no_room(&self.coding_changes) {
+            return;
+        }
+        if self.begins_with_long_runs(reader) {
             return;
         }
         self.draw_modes_of(reader);

@@ -1,36 +1,89 @@
-use Rattle.fax_bits.proofs.Names.{◌≡◌, Err, refl, arith, err_from_is_err_and, DecodeError, here, codes_of}
-use Rattle.fax_bits.proofs.Names.{common_steps}
+use Rattle.fax_bits.proofs.Names.{◌≡◌, ◌≢◌, ◌+◌, ◌<◌, ◌≤◌, ◌∙◌, ℕ, Err, refl, sym, ap, subst, length, drop, min, arith}
+use Rattle.fax_bits.proofs.Names.{err_from_is_err_and, DecodeError, UnexpectedEof, BitsAt, here, moved, codes_of, read_code}
+use Rattle.fax_bits.proofs.Names.{run_from, run_found, common_steps}
+use Rattle.fax_bits.proofs.CodeWords.WordsHere.{run_ends_by_one}
 use Rattle.fax_bits.proofs.CodeWords.ReadCodes.{read_code_missed}
-use Rattle.fax_bits.proofs.CodeWords.ReadRuns.{read_code_shorter, words_not_empty, run_goes_on}
+use Rattle.fax_bits.proofs.CodeWords.ReadRuns.{read_code_shorter, words_not_empty, run_fails, run_goes_on}
 use Rattle.fax_bits.proofs.CodeWords.RunWords.{run_found_on, run_found_missed}
 use Rattle.fax_bits.proofs.CodeWords.ReadRuns.{some_where}
+use Rattle.fax_bits.proofs.bit_reader.BitReader.decode_run.Goals.{in-Some+else-is_whole, in-None+in_ok-run-in-None+else-run-lt64}
 use Rattle.fax_bits.proofs.bit_reader.BitReader.decode_run.Goals as goal
 
 pub words-smaller : goal.words-smaller
-words-smaller c =
-    read_code_shorter (codes_of c.args.color) (here c.words.self) c.in_ok-run.run' (here c.decode_word.new.self)
-    (words_not_empty c.args.color) c.in_ok-run.ensures.word
+words-smaller c = elim c.match-read_two_words.branch [
+  | in-Some+else-is_whole w ↦ rw (w.self-is) w.in-Some.ensures.shorter
+  | in-None+in_ok-run-in-None+else-run-lt64 w ↦
+      let old = here c.read_two_words.new.self in
+      let shorter = read_code_shorter (codes_of c.args.color) old w.in_ok-run-in-None.run' (here w.decode_word.new.self)
+      (words_not_empty c.args.color) w.in_ok-run-in-None.ensures.word in
+      rw (w.self-is, ← w.in-None.ensures.left.0) shorter
+]
 
 pub words-preserved : goal.words-preserved
-words-preserved c = grind (arith, common_steps, some_where, run_found_on, run_goes_on)
+words-preserved c = elim c.match-read_two_words.branch [
+  | in-Some+else-is_whole w ↦
+      let on = w.in-Some.ensures.on w.if-is_whole.false in
+      grind (arith, common_steps, on.run, on.counted, c.words.invariant)
+  | in-None+in_ok-run-in-None+else-run-lt64 w ↦
+      let left = w.in-None.ensures.left in
+      grind (arith, common_steps, some_where, run_found_on, run_goes_on, left, c.words.invariant)
+]
 
-pub words-smaller-then-total-gt10240 : goal.words-smaller-then-total-gt10240
-words-smaller-then-total-gt10240 c =
-    let shorter = read_code_shorter (codes_of c.args.color) (here c.words.self) c.in_ok-run.run' (here c.decode_word.new.self)
-    (words_not_empty c.args.color) c.in_ok-run.ensures.word in
-    omega (arith, shorter, c.pass_makeup_words-total.ensures.on.onward)
-
-pub words-preserved-then-total-gt10240 : goal.words-preserved-then-total-gt10240
-words-preserved-then-total-gt10240 c =
-    let on = c.pass_makeup_words-total.ensures.on in
-    grind (arith, common_steps, some_where, run_found_on, run_goes_on, on.run, on.counted)
-
-pub returns-in_err-run-clause-ticks : goal.returns-in_err-run-clause-ticks
-returns-in_err-run-clause-ticks c =
-    let e : DecodeError = c.in_err-run.field-0.0 in
-    let old = here c.words.self in
+pub returns-in_err-consume-clause-run : goal.returns-in_err-consume-clause-run
+returns-in_err-consume-clause-run c =
+    let at : BitsAt = c.words.self in
+    let missing : length at.bits < at.place + c.word_behind-last.result.1 = c.in_err-consume.ensures.end.0 refl in
+    let cut : read_code (codes_of c.args.color) (here (moved 0 at)) ≡ Err UnexpectedEof =
+    c.word_behind-last.ensures.cut (omega (arith, missing)) in
+    let none : at.place + 0 ≡ at.place = omega arith in
+    let fault : read_code (codes_of c.args.color) (here at) ≡ Err UnexpectedEof =
+    subst (λ (p : ℕ). read_code (codes_of c.args.color) (drop p at.bits) ≡ Err UnexpectedEof) none cut in
     let answer = err_from_is_err_and c.from_residual.result c.from_residual.ensures.1 in
-    let is : c.from_residual.result ≡ Err e = rw (answer.1, answer.2) refl in
-    let none = run_found_missed c.args.color c.words.total old e c.in_err-run.ensures.word in
-    let one = read_code_missed (codes_of c.args.color) old e c.from_residual.result c.in_err-run.ensures.word is in
-    omega (arith, c.words.invariant.2, c.decode_word.ensures.ticks, none, one)
+    rw (answer.1, answer.2, c.words.invariant.0) (run_fails c.args.color c.words.total (here at) UnexpectedEof fault
+    ∙ ap Err (sym c.in_err-consume.ensures.only_end))
+
+-- the bits of the last word are here
+within : (c : goal.In_ok-consume) → c.words.self.place + c.word_behind-last.result.1 ≤ length c.words.self.bits
+within c = grind (arith, common_steps)
+
+behind : (c : goal.In_ok-consume) → c.consume.new.self ≡ moved c.word_behind-last.result.1 c.words.self
+behind c = grind (arith, common_steps, min, within)
+
+pub returns-then-last-lt64-clause-run : goal.returns-then-last-lt64-clause-run
+returns-then-last-lt64-clause-run c =
+    let some : c.word_behind-last.result.0 ≢ 4095 = λ e. absurd (omega (arith, e, c.if-last-lt64.true)) in
+    let word = c.word_behind-last.ensures.word some (omega (arith, within c)) in
+    c.words.invariant.0 ∙ rw (behind c) (run_ends_by_one c.args.color c.words.self c.words.total c.word_behind-last.result.0
+    c.word_behind-last.result.1 word c.if-last-lt64.true (omega (arith, c.words.invariant, c.if-last-lt64.true)))
+
+pub returns-in_err-run-in-None-clause-ticks : goal.returns-in_err-run-in-None-clause-ticks
+returns-in_err-run-in-None-clause-ticks c =
+    let e : DecodeError = c.in_err-run-in-None.field-0.0 in
+    let left = c.in-None.ensures.left in
+    let old = here c.words.self in
+    let word : read_code (codes_of c.args.color) old ≡ Err e = rw (← left.0) c.in_err-run-in-None.ensures.word in
+    let answer = err_from_is_err_and c.from_residual-in_err-run-in-None.result c.from_residual-in_err-run-in-None.ensures.1 in
+    let is : c.from_residual-in_err-run-in-None.result ≡ Err e = rw (answer.1, answer.2) refl in
+    let none = run_found_missed c.args.color c.words.total old e word in
+    let one = read_code_missed (codes_of c.args.color) old e c.from_residual-in_err-run-in-None.result word is in
+    omega (arith, c.words.invariant.2, c.decode_word.ensures.ticks, left.1, none, one)
+
+-- the run goes on after the words that were read
+goes_on : (c : goal.After-decode_long_run) → (run_from c.args.color (0, here c.args.self.now)
+    ≡ run_from c.args.color (c.match-read_two_words.total, here c.match-read_two_words.self)) × (c.match-read_two_words.ticks
+    + length (run_found c.args.color (c.match-read_two_words.total, here c.match-read_two_words.self))
+    ≡ c.args.ticks.now + length (run_found c.args.color (0, here c.args.self.now)))
+goes_on c = elim c.match-read_two_words.branch [
+  | in-Some+else-is_whole w ↦
+      let on = w.in-Some.ensures.on w.if-is_whole.false in
+      grind (arith, common_steps, on.run, on.counted, c.words.invariant)
+  | in-None+in_ok-run-in-None+else-run-lt64 w ↦
+      let left = w.in-None.ensures.left in
+      grind (arith, common_steps, some_where, run_found_on, run_goes_on, left, c.words.invariant)
+]
+
+pub returns-then-total-gt40960-clause-run : goal.returns-then-total-gt40960-clause-run
+returns-then-total-gt40960-clause-run c = rw ((goes_on c).0) c.decode_long_run.ensures.run
+
+pub returns-then-total-gt40960-clause-ticks : goal.returns-then-total-gt40960-clause-ticks
+returns-then-total-gt40960-clause-ticks c = omega (arith, (goes_on c).1, c.decode_long_run.ensures.ticks)
