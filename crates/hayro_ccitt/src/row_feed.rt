@@ -429,15 +429,27 @@ impl RowFeed {
     fn is_still_short(&mut self) -> bool
         ensures { StaysShort self.old self.new result }
     {
-        let Some(part) = self.part else {
+        if self.part.is_none() {
             return false;
-        };
+        }
         if self.is_last {
             self.line_read = 0;
             self.part = None;
             return false;
         }
-        self.go_on_from(part, self.line_read)
+        let place = self.place + self.line_read;
+        let mut reader = scanner_at(&self.data, self.order, place);
+        let Some(part) = &mut self.part else {
+            return false;
+        };
+        let (is_short, reached) = continue_line(&mut self.ctx, &mut reader, part);
+        if is_short {
+            self.line_read = reached - self.place;
+            return true;
+        }
+        self.line_read = 0;
+        self.part = None;
+        false
     }
 
     /// Keeps the part from which the line here goes on, which is short, unless it was tried for the first time: mostly it is whole
