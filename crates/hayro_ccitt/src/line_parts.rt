@@ -78,6 +78,12 @@ fn vertical_place(b1: u32, painted: u32, offset: i8) -> Option<u32>
     ensures none { IfNone result (place_from painted (pos b1 +ℤ offset) ≡ Err DecodeError.Overflow) }
     ensures right { IfSome result (λ place. painted ≤ place) }
 {
+    if offset == 0 {
+        if b1 < painted {
+            return None;
+        }
+        return Some(b1);
+    }
     match b1.checked_add_signed(i32::from(offset)) {
         None => None,
         Some(place) => {
