@@ -7,7 +7,7 @@ use Rattle.hayro_ccitt.proofs.Names.{Bits, Color, DecodeSettings, Row, is_black,
 use Rattle.hayro_ccitt.proofs.Names.{Line, Turn, line_here}
 use Rattle.hayro_ccitt.proofs.Names.{lt-ltb, le-leb, common_steps, Mode, read_code, mode_codes, codes_of, ArePassed}
 use Rattle.hayro_ccitt.proofs.Names.{InvalidCode, List, changes}
-use Rattle.hayro_ccitt.proofs.Names.{White, line_1d, line_2d, line_by, start, not, EncodingMode, Group3_2D, BitsAt, Context}
+use Rattle.hayro_ccitt.proofs.Names.{line_1d, line_2d, line_by, start, not, EncodingMode, Group3_2D, BitsAt, Context}
 use Rattle.hayro_ccitt.proofs.Names.{here, length-drop}
 use Rattle.hayro_ccitt.proofs.Names.{Pass, Vertical, b1, b2, right_of, right_of_painted, opposite, ℤ, pos, ◌+ℤ◌, ◌∷◌}
 use Rattle.fax_bits.specs.declared.error.DecodeError.TheVariants.{Overflow}
@@ -78,7 +78,8 @@ module _ (settings : DecodeSettings) (reference : Row) {start : Bits} (old new :
     front = leads.0;
     painted = leads.1;
     line = λ more. part.line more
-        ∙ ap (line_from_part settings reference) (sym (before_at more old.in_run (run_of_part old) (pen_of_part old part.front rest)))
+        ∙ ap (line_from_part settings reference) (sym (before_at more old.in_run (run_of_part old)
+            (pen_of_part old part.front rest)))
         ∙ word_leads settings reference (part_at old part.front rest) (part_at new leads.0 after) leads.2 more
         ∙ ap (line_from_part settings reference) (before_at more new.in_run (run_of_part new) (pen_of_part new leads.0 after));
   }

@@ -175,7 +175,8 @@ module _ (old new : Feeding) (part next : KeptPart) (read : ℕ) (before after :
 pub stays_by : (old new : Feeding) (part : KeptPart) (short : Bool) → old.part ≡ Some part → old.finished ≡ false
     → redrawn old.ctx.held [] White ≡ old.ctx.held → ScansLine part.passed old.line_read old new short → StaysShort old new short
 stays_by old new part short is unfinished none_drawn scans =
-    let paid : paid_for_line old ≡ part.passed + 2 * old.line_read + 2 = ap (λ (p : Option KeptPart). paid_by p old.line_read) is in
+    let paid : paid_for_line old ≡ part.passed + 2 * old.line_read + 2
+    = ap (λ (p : Option KeptPart). paid_by p old.line_read) is in
     record {
       scans = scans.scans;
       tried = scans.tried;

@@ -9,7 +9,8 @@ use Rattle.hayro_ccitt.proofs.line_parts.add_word.Goals as goal
 pub returns-in_default-clause-goes : goal.returns-in_default-clause-goes
 returns-in_default-clause-goes c = λ rest front is.
     let part = c.args.part.now in
-    let over : 4294967295 < c.args.part.now.total + c.args.n = grind (arith, common_steps, c.checked_add.ensures, c.in_default.is) in
+    let over : 4294967295 < c.args.part.now.total + c.args.n
+    = grind (arith, common_steps, c.checked_add.ensures, c.in_default.is) in
     word_overflows c.args.settings [] front part.color rest
     (run_of_part part) c.args.n over
 

@@ -1,6 +1,6 @@
 use Rattle.hayro_ccitt.proofs.Names.{refl}
-use Rattle.hayro_ccitt.proofs.Names.{◌≡◌, ◌∙◌, ◌+◌, ◌-◌, ◌*◌, ap, sym, subst, arith, length, length-drop, drop, false≢true}
-use Rattle.hayro_ccitt.proofs.Names.{bits_in, changes, List, ℕ, None, Some, Context, Held, BitsAt}
+use Rattle.hayro_ccitt.proofs.Names.{◌≡◌, ◌∙◌, ◌+◌, ap, sym, subst, arith, length, length-drop, drop, false≢true}
+use Rattle.hayro_ccitt.proofs.Names.{bits_in, List, ℕ, Context, Held, BitsAt}
 use Rattle.hayro_ccitt.specs.GapsSeen.{IsSeen, rules_for}
 use Rattle.hayro_ccitt.proofs.BitReading.BitLists.{length-bits_in}
 use Rattle.hayro_ccitt.proofs.Readings.PartsFed.{part_reached, scans_short, scans_whole}
@@ -103,8 +103,8 @@ returns-then-is_short c =
     let on = c.continue_line-is_short in
     rw (← c.self.view_is) (record {
       scans = scans_short (feeding_of c.self.inside) (scanned at) c.args.part on.new.part c.args.read
-    c.scanner_at-reader.result (reached at) on.result.0 (starts_at at) (within_kept there) on.ensures.goes_on (kept there)
-    on.ensures.within c.if-is_short.true;
+          c.scanner_at-reader.result (reached at) on.result.0 (starts_at at) (within_kept there) on.ensures.goes_on (kept there)
+          on.ensures.within c.if-is_short.true;
     })
 
 pub returns : goal.returns
@@ -114,6 +114,6 @@ returns c =
     let on = c.continue_line-is_short in
     rw (← c.self.view_is) (record {
       scans = scans_whole (feeding_of c.self.inside) (scanned at) c.args.part on.new.part c.args.read
-    c.scanner_at-reader.result (reached at) on.result.0 (starts_at at) (within_kept there) on.ensures.goes_on (kept there)
-    c.if-is_short.false;
+          c.scanner_at-reader.result (reached at) on.result.0 (starts_at at) (within_kept there) on.ensures.goes_on (kept there)
+          c.if-is_short.false;
     })

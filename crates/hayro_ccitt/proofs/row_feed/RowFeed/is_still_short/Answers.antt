@@ -1,5 +1,6 @@
-use Rattle.hayro_ccitt.proofs.Names.{◌≡◌, ◌∙◌, ◌+◌, ◌*◌, ◌≤◌, ap, sym, subst, arith, length, length-drop, drop, false≢true, true, false}
-use Rattle.hayro_ccitt.proofs.Names.{bits_in, List, ℕ, Bool, Option, Context, Held, BitsAt, Stand, Bits, None, Some, refl}
+use Rattle.hayro_ccitt.proofs.Names.{◌≡◌, ◌∙◌, ◌+◌, ◌≤◌, ap, sym, subst, arith, length, length-drop, drop}
+use Rattle.hayro_ccitt.proofs.Names.{false≢true, true, false}
+use Rattle.hayro_ccitt.proofs.Names.{bits_in, List, ℕ, Bool, Option, Context, Held, BitsAt, Stand, Bits, None, Some}
 use Rattle.hayro_ccitt.specs.declared.line_parts.KeptPart.{KeptPart}
 use Rattle.hayro_ccitt.specs.GapsSeen.{IsSeen, rules_for}
 use Rattle.hayro_ccitt.proofs.BitReading.BitLists.{length-bits_in}
@@ -54,7 +55,8 @@ module _ (c : After-continue_line-is_short) where
   reached = record c.scanner_at-reader.result { place = c.continue_line-is_short.result.1 }
 
   kept : LineGoesOn old.begun old.rows.stand old.ctx.held (drop old.place old.kept) old.line_read c.in-Some.part
-  kept = subst (λ (p : Option KeptPart). PartIsKept p old.begun old.rows.stand old.ctx.held (drop old.place old.kept) old.line_read)
+  kept = subst (λ (p : Option KeptPart). PartIsKept p old.begun old.rows.stand old.ctx.held (drop old.place old.kept)
+      old.line_read)
       c.in-Some.is c.self.invariant.part
 
   starts_at : c.scanner_at-reader.result ≡ record { bits = old.kept; place = old.place + old.line_read }

@@ -1,5 +1,4 @@
-use Rattle.std.proofs.Common.{refl, sym, subst, ◌∙◌, true}
-use Rattle.hayro_ccitt.specs.Rows.{Row}
+use Rattle.std.proofs.Common.{refl, sym, subst, ◌∙◌}
 use Rattle.hayro_ccitt_c.specs.GivenRows.{AreListedRows, room_of_lists}
 use Rattle.hayro_ccitt_c.specs.RowsFed.{TurnsToFed}
 use Rattle.hayro_ccitt_c.proofs.FedRows.{gives_from, gives_no_row, row_fed}
@@ -7,12 +6,14 @@ use Rattle.hayro_ccitt_c.proofs.feeding.Feeding.list_rows.Goals as goal
 
 pub returns-then-not-is_fed_row : goal.returns-then-not-is_fed_row
 returns-then-not-is_fed_row c =
-    gives_no_row AreListedRows room_of_lists _ _ c.come_to_row-answer.result (record { rows_are = refl; rest = refl }) c.come_to_row-answer.ensures.turns
-    (sym c.is_fed_row.ensures ∙ c.if-not-is_fed_row.true) c.come_to_row-answer.ensures.none_kept
-    c.come_to_row-answer.ensures.layout c.status_of_fed.ensures.status
+    gives_no_row AreListedRows room_of_lists _ _ c.come_to_row-answer.result (record { rows_are = refl; rest = refl })
+    c.come_to_row-answer.ensures.turns (sym c.is_fed_row.ensures ∙ c.if-not-is_fed_row.true)
+    c.come_to_row-answer.ensures.none_kept c.come_to_row-answer.ensures.layout c.status_of_fed.ensures.status
 
 pub returns : goal.returns
 returns c =
-    gives_from c.args.self.now _ (subst (TurnsToFed c.args.self.now.is_kept c.args.self.now.rows c.come_to_row-answer.new.self.rows)
-    (row_fed c.come_to_row-answer.result (sym c.is_fed_row.ensures ∙ c.if-not-is_fed_row.false)) c.come_to_row-answer.ensures.turns)
-    refl c.come_to_row-answer.ensures.layout AreListedRows room_of_lists (λ rows are. are) c.list_kept.ensures
+    let turns = subst (TurnsToFed c.args.self.now.is_kept c.args.self.now.rows c.come_to_row-answer.new.self.rows)
+    (row_fed c.come_to_row-answer.result (sym c.is_fed_row.ensures ∙ c.if-not-is_fed_row.false))
+    c.come_to_row-answer.ensures.turns in
+    gives_from c.args.self.now _ turns refl c.come_to_row-answer.ensures.layout AreListedRows room_of_lists (λ rows are. are)
+    c.list_kept.ensures
