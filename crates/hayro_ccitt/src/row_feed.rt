@@ -185,6 +185,14 @@ fn is_read(row: &Result<bool>) -> bool
     matches!(row, Ok(true))
 }
 
+/// Returns whether a row was the last that was read, and no gap behind it yet.
+#[inline(always)]
+fn is_behind_row(stand: Stand) -> bool
+    ensures { result ≡ true → stand ≡ Stand.BehindRow }
+{
+    matches!(&stand, Stand::BehindRow)
+}
+
 /// Returns whether a call read a row.
 fn is_row(fed: &Result<Fed>) -> bool
     ensures row { result ≡ true → fed.now ≡ Ok Fed.Row }
@@ -699,6 +707,26 @@ impl RowFeed {
         fed_row(fed)
     }
 
+    /// Reads the next row and each behind it.
+    #[inline(always)]
+    fn push_from_next<D: Decoder>(&mut self, decoder: &mut D) -> Result<Fed>
+        requires width { self.old.ctx.held.settings.columns ≤ D.width decoder.old }
+        ensures width { D.width decoder.new ≡ D.width decoder.old }
+        ensures pushes { PushesRows (D.step (D.width decoder.old))
+            (record { meaning = D.meaning decoder.old; refused = D.has_refused decoder.old; refuses = D.refuses decoder.old })
+            (record { meaning = D.meaning decoder.new; refused = D.has_refused decoder.new; refuses = D.refuses decoder.new })
+            self.old self.new result }
+    {
+        let fed = self.next_row();
+        if !is_row(&fed) {
+            return fed;
+        }
+        if let Err(error) = decoder.push_row(self.row()) {
+            return Err(error);
+        }
+        self.push_on(decoder)
+    }
+
     /// Reads each row that no data that follows can change, and passes it to the sink, until more data is needed or the image
     /// ends: then it returns [`Fed::NeedsMore`] or [`Fed::End`]. So one call for each piece reads all rows, as calls of
     /// [`next_row`](RowFeed::next_row) do.
@@ -729,14 +757,10 @@ impl RowFeed {
             (record { meaning = D.meaning decoder.new; refused = D.has_refused decoder.new; refuses = D.refuses decoder.new })
             self.old self.new result }
     {
-        let fed = self.next_row();
-        if !is_row(&fed) {
-            return fed;
+        if self.begun && is_behind_row(self.rows.stand) && self.part.is_none() {
+            return self.push_on(decoder);
         }
-        if let Err(error) = decoder.push_row(self.row()) {
-            return Err(error);
-        }
-        self.push_on(decoder)
+        self.push_from_next(decoder)
     }
 
     /// Drops the bytes that were read.

@@ -79,7 +79,7 @@ module _ (settings : DecodeSettings) (reference : Row) {start : Bits} (old new :
     painted = leads.1;
     line = λ more. part.line more
         ∙ ap (line_from_part settings reference) (sym (before_at more old.in_run (run_of_part old)
-            (pen_of_part old part.front rest)))
+        (pen_of_part old part.front rest)))
         ∙ word_leads settings reference (part_at old part.front rest) (part_at new leads.0 after) leads.2 more
         ∙ ap (line_from_part settings reference) (before_at more new.in_run (run_of_part new) (pen_of_part new leads.0 after));
   }
