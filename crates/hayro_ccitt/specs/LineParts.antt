@@ -1,16 +1,16 @@
 -- A line that is read a word at a time and not drawn, in data of which more may come: what is kept of it.
-use Rattle.std.specs.Prelude.{◌≡◌, ◌≤◌, ◌+◌, ◌*◌, ◌⊎◌, ℕ, Bool, true, false, ◌++◌, length, Option, None, Some}
+use Rattle.std.specs.Prelude.{◌≡◌, ◌≤◌, ◌+◌, ◌*◌, ◌⊎◌, ℕ, Bool, true, false, ◌++◌, length}
 use Rattle.fax_bits.specs.declared.settings.DecodeSettings.{DecodeSettings}
 use Rattle.fax_bits.specs.declared.codes.Color.{Color}
 use Rattle.std.specs.Prelude.{Ok}
 use Rattle.hayro_ccitt.specs.declared.line_parts.KeptPart.{KeptPart}
-use Rattle.hayro_ccitt.specs.declared.line_parts.KeptRun.{KeptRun}
+use Rattle.fax_bits.specs.declared.codes.Color.TheVariants.{White}
 use Rattle.hayro_ccitt.specs.declared.line_parts.Word.{Word}
 use Rattle.hayro_ccitt.specs.Bits.{Bits, BitsAt, here}
 use Rattle.hayro_ccitt.specs.Context.{ArePassed, Context}
 use Rattle.hayro_ccitt.specs.Continuations.{is_short}
 use Rattle.hayro_ccitt.specs.Lines.{Line, Pen}
-use Rattle.hayro_ccitt.specs.LinesGoOn.{LinePart, line_from_part, read_on}
+use Rattle.hayro_ccitt.specs.LinesGoOn.{LinePart, OpenRun, line_from_part, read_on}
 use Rattle.hayro_ccitt.specs.PlainReading.{line_here}
 use Rattle.hayro_ccitt.specs.Repetition.{Turn}
 use Rattle.hayro_ccitt.specs.Rows.{Row, changes, paint}
@@ -19,14 +19,22 @@ use Rattle.hayro_ccitt.specs.Rows.{Row, changes, paint}
 abbrev pub pen_of_part : KeptPart → Row → Bits → Pen
 pen_of_part part front rest = record { front = front; color = part.color; rest = rest }
 
+-- the run of which words are read, if the part is within one
+abbrev pub run_of_part : KeptPart → OpenRun
+run_of_part part = record { is_2d = part.is_2d; another = part.another; total = part.total }
+
 -- the part of a line that is kept, with a front, where these bits are left to read: before a step, or within a run (T.4, 4.1.1
 -- and 4.2.1.3)
-abbrev pub part_by : Option KeptRun → Bool → Pen → LinePart
-part_by None is_2d pen = LinePart.at_step is_2d pen
-part_by (Some run) is_2d pen = LinePart.in_run (record { is_2d = is_2d; another = run.another; total = run.total }) pen
+abbrev pub part_by : Bool → OpenRun → Pen → LinePart
+part_by false run pen = LinePart.at_step run.is_2d pen
+part_by true run pen = LinePart.in_run run pen
 
 abbrev pub part_at : KeptPart → Row → Bits → LinePart
-part_at part front rest = part_by part.run part.is_2d (pen_of_part part front rest)
+part_at part front rest = part_by part.in_run (run_of_part part) (pen_of_part part front rest)
+
+-- the part before any word
+abbrev pub first_kept : Bool → KeptPart
+first_kept is_2d = record { is_2d = is_2d; in_run = false; another = false; color = White; total = 0; painted = 0; passed = 0 }
 
 -- a part of a line has no more pixels than columns, and the changes that are passed are not right of a0 (T.4, 4.2.1.1)
 pub record IsLawfulPart (settings : DecodeSettings) (reference : Row) (part : KeptPart) : Type 0 where
@@ -74,9 +82,9 @@ pub record GoesOnBy (settings : DecodeSettings) (reference : Row) (turn_of : Row
   pub lawful : IsLawfulPart settings reference new
 
 -- twice the bits that are left, and one more before a step, as it may read none
-abbrev pub left_to_read : Option KeptRun → Bits → ℕ
-left_to_read None rest = 2 * length rest + 1
-left_to_read (Some run) rest = 2 * length rest
+abbrev pub left_to_read : Bool → Bits → ℕ
+left_to_read false rest = 2 * length rest + 1
+left_to_read true rest = 2 * length rest
 
 -- What a call that reads a word leaves: a word counts at most twice, and each change of the reference row once a line.
 pub record ReadsWord (old new : KeptPart) (ctx now : Context) (before after : BitsAt) (word : Word) : Type 0 where

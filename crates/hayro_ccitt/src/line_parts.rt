@@ -6,7 +6,8 @@ ghost use Rattle.hayro_ccitt.specs.Bits.{Bits, here};
 ghost use Rattle.hayro_ccitt.specs.Context.{right_of_painted};
 ghost use Rattle.hayro_ccitt.specs.Continuations.{is_short, misses_end};
 ghost use Rattle.hayro_ccitt.specs.LineParts.{ContinuesLine, GoesOnBy, IsLawfulPart, IsPartOf, Leads, PaintsTo};
-ghost use Rattle.hayro_ccitt.specs.LineParts.{ReadsNextWord, ReadsWord, is_missing, left_to_read, pen_of_part};
+ghost use Rattle.hayro_ccitt.specs.LineParts.{ReadsNextWord, ReadsWord, first_kept, is_missing, left_to_read, pen_of_part};
+ghost use Rattle.hayro_ccitt.specs.LineParts.{run_of_part};
 ghost use Rattle.hayro_ccitt.specs.Lines.{place_from};
 ghost use Rattle.hayro_ccitt.specs.LinesGoOn.{OpenRun, mode_added, word_added};
 ghost use Rattle.hayro_ccitt.specs.PlainReading.{line_here};
@@ -18,24 +19,19 @@ use fax_bits::DecodeSettings;
 use fax_bits::bit_reader::{BitReader, BitScanner};
 use fax_bits::codes::{Color, Mode};
 
-/// A run of which words are read.
-#[derive(Clone, Copy)]
-pub(crate) struct KeptRun {
-    /// Whether another run follows it in its horizontal mode.
-    another: bool,
-    /// The sum of its words so far.
-    total: u32,
-}
-
 /// Where in a line its next word begins. Of its front only the number of pixels is kept.
 #[derive(Clone, Copy)]
 pub(crate) struct KeptPart {
     is_2d: bool,
-    /// The run that goes on, or `None` before a mode, or before a run of a one-dimensional line.
-    run: Option<KeptRun>,
-    painted: u32,
+    /// Whether a run goes on; if not, a mode is next, or a run of a one-dimensional line.
+    in_run: bool,
+    /// Whether another run follows that one in its horizontal mode.
+    another: bool,
     /// The colour of the next pixels.
     color: Color,
+    /// The sum of the run's words so far.
+    total: u32,
+    painted: u32,
     /// How many changes of the reference row are known not to be right of a0.
     passed: usize,
 }
@@ -82,6 +78,12 @@ fn vertical_place(b1: u32, painted: u32, offset: i8) -> Option<u32>
     ensures none { IfNone result (place_from painted (pos b1 +ℤ offset) ≡ Err DecodeError.Overflow) }
     ensures right { IfSome result (λ place. painted ≤ place) }
 {
+    if offset == 0 {
+        if b1 < painted {
+            return None;
+        }
+        return Some(b1);
+    }
     match b1.checked_add_signed(i32::from(offset)) {
         None => None,
         Some(place) => {
@@ -112,7 +114,7 @@ fn word_of_fault(error: DecodeError) -> Word
 #[inline(always)]
 fn pass(ctx: &mut DecoderContext, part: &mut KeptPart) -> Word
     requires lawful { IsLawfulPart ctx.old.held.settings ctx.old.held.reference part.old }
-    requires run { part.old.run ≡ None }
+    requires run { part.old.in_run ≡ false }
     requires mode { part.old.is_2d ≡ true }
     ensures goes { (rest : Bits) → GoesOnBy ctx.old.held.settings ctx.old.held.reference
         (λ front. (mode_added ctx.old.held.settings.strict ctx.old.held.settings.columns ctx.old.held.reference
@@ -133,7 +135,7 @@ fn pass(ctx: &mut DecoderContext, part: &mut KeptPart) -> Word
 #[inline(always)]
 fn turn(ctx: &mut DecoderContext, part: &mut KeptPart, offset: i8) -> Word
     requires lawful { IsLawfulPart ctx.old.held.settings ctx.old.held.reference part.old }
-    requires run { part.old.run ≡ None }
+    requires run { part.old.in_run ≡ false }
     requires mode { part.old.is_2d ≡ true }
     ensures goes { (rest : Bits) → GoesOnBy ctx.old.held.settings ctx.old.held.reference
         (λ front. (mode_added ctx.old.held.settings.strict ctx.old.held.settings.columns ctx.old.held.reference
@@ -158,7 +160,7 @@ fn turn(ctx: &mut DecoderContext, part: &mut KeptPart, offset: i8) -> Word
 #[inline(always)]
 fn add_mode(ctx: &mut DecoderContext, part: &mut KeptPart, mode: Mode) -> Word
     requires lawful { IsLawfulPart ctx.old.held.settings ctx.old.held.reference part.old }
-    requires run { part.old.run ≡ None }
+    requires run { part.old.in_run ≡ false }
     requires mode { part.old.is_2d ≡ true }
     ensures goes { (rest : Bits) → GoesOnBy ctx.old.held.settings ctx.old.held.reference
         (λ front. (mode_added ctx.old.held.settings.strict ctx.old.held.settings.columns ctx.old.held.reference
@@ -172,10 +174,9 @@ fn add_mode(ctx: &mut DecoderContext, part: &mut KeptPart, mode: Mode) -> Word
         Mode::Pass => pass(ctx, part),
         Mode::Vertical(offset) => turn(ctx, part, offset),
         Mode::Horizontal => {
-            part.run = Some(KeptRun {
-                another: true,
-                total: 0,
-            });
+            part.in_run = true;
+            part.another = true;
+            part.total = 0;
             Word::GoesOn
         }
     }
@@ -185,7 +186,7 @@ fn add_mode(ctx: &mut DecoderContext, part: &mut KeptPart, mode: Mode) -> Word
 #[inline(always)]
 fn read_mode(ctx: &mut DecoderContext, reader: &mut BitScanner<'_>, part: &mut KeptPart) -> Word
     requires lawful { IsLawfulPart ctx.old.held.settings ctx.old.held.reference part.old }
-    requires run { part.old.run ≡ None }
+    requires run { part.old.in_run ≡ false }
     requires mode { part.old.is_2d ≡ true }
     requires open { part.old.painted < ctx.old.held.settings.columns }
     ensures reads { ReadsWord part.old part.new ctx.old ctx.new reader.old reader.new result }
@@ -196,87 +197,61 @@ fn read_mode(ctx: &mut DecoderContext, reader: &mut BitScanner<'_>, part: &mut K
     }
 }
 
-/// Returns the run that follows a run in its horizontal mode, if one does.
-#[inline(always)]
-fn run_behind(run: KeptRun) -> Option<KeptRun>
-    ensures another { run.another ≡ true → result ≡ Some (record { another = false; total = 0 }) }
-    ensures none { run.another ≡ false → result ≡ None }
-{
-    if run.another {
-        return Some(KeptRun {
-            another: false,
-            total: 0,
-        });
-    }
-    None
-}
-
 /// Goes on behind a word of a run (T.4, 4.1.1).
 #[inline(always)]
-fn add_word(part: &mut KeptPart, settings: DecodeSettings, run: KeptRun, n: u32) -> Word
+fn add_word(part: &mut KeptPart, settings: DecodeSettings, n: u32) -> Word
     requires within { part.old.painted ≤ settings.columns }
-    requires run { part.old.run ≡ Some run }
+    requires run { part.old.in_run ≡ true }
     ensures goes { (rest : Bits) (front : Row) → length front ≡ part.old.painted → Leads result part.new rest
-        (word_added settings.strict settings.columns
-        (record { is_2d = part.old.is_2d; another = run.another; total = run.total }) (pen_of_part part.old front rest) n).turn }
+        (word_added settings.strict settings.columns (run_of_part part.old) (pen_of_part part.old front rest) n).turn }
     ensures within { part.new.painted ≤ settings.columns }
     ensures onward { part.old.painted ≤ part.new.painted }
     ensures passed { part.new.passed ≡ part.old.passed }
     ensures known { result ≢ Word.Missing }
 {
-    let Some(total) = run.total.checked_add(n) else {
+    let Some(total) = part.total.checked_add(n) else {
         return Word::Ends;
     };
     if n >= 64 {
-        part.run = Some(KeptRun {
-            another: run.another,
-            total,
-        });
+        part.total = total;
         return Word::GoesOn;
     }
     if !paint(part, settings, total) {
         return Word::Ends;
     }
     part.color = part.color.opposite();
-    part.run = run_behind(run);
+    part.in_run = part.another;
+    part.another = false;
+    part.total = 0;
     Word::GoesOn
 }
 
 /// Goes on behind a word of a run that is read here.
 #[inline(always)]
-fn read_run(
-    ctx: &mut DecoderContext,
-    reader: &mut BitScanner<'_>,
-    part: &mut KeptPart,
-    run: KeptRun,
-) -> Word
+fn read_run(ctx: &mut DecoderContext, reader: &mut BitScanner<'_>, part: &mut KeptPart) -> Word
     requires lawful { IsLawfulPart ctx.old.held.settings ctx.old.held.reference part.old }
-    requires run { part.old.run ≡ Some run }
+    requires run { part.old.in_run ≡ true }
     ensures reads { ReadsWord part.old part.new ctx.old ctx.new reader.old reader.new result }
 {
     match ctx.read_word(part.color, reader) {
-        Ok(n) => add_word(part, ctx.settings(), run, u32::from(n)),
+        Ok(n) => add_word(part, ctx.settings(), u32::from(n)),
         Err(error) => word_of_fault(error),
     }
 }
 
-/// Begins a run of a one-dimensional line, which reads nothing, and returns it. Only contracts read the context and the reader.
+/// Begins a run of a one-dimensional line, which reads nothing. Only contracts read the context and the reader.
 #[inline(always)]
-fn begin_run(_ctx: &DecoderContext, _reader: &BitScanner<'_>, part: &mut KeptPart) -> KeptRun
+fn begin_run(_ctx: &DecoderContext, _reader: &BitScanner<'_>, part: &mut KeptPart)
     requires lawful { IsLawfulPart _ctx.now.held.settings _ctx.now.held.reference part.old }
-    requires run { part.old.run ≡ None }
+    requires run { part.old.in_run ≡ false }
     requires line { part.old.is_2d ≡ false }
     requires open { part.old.painted ≢ _ctx.now.held.settings.columns }
     ensures reads { ReadsWord part.old part.new _ctx.now _ctx.now _reader.now _reader.now Word.GoesOn }
-    ensures run { part.new.run ≡ Some (record { another = false; total = 0 }) }
-    ensures begun { part.new.run ≡ Some result }
+    ensures run { part.new.in_run ≡ true }
 {
-    let run = KeptRun {
-        another: false,
-        total: 0,
-    };
-    part.run = Some(run);
-    run
+    part.in_run = true;
+    part.another = false;
+    part.total = 0;
 }
 
 /// Goes on behind the word that is next, unless the row is full. Behind a run of a one-dimensional line the next one is begun
@@ -286,10 +261,10 @@ fn read_on(ctx: &mut DecoderContext, reader: &mut BitScanner<'_>, part: &mut Kep
     requires lawful { IsLawfulPart ctx.old.held.settings ctx.old.held.reference part.old }
     ensures reads { ReadsNextWord part.old part.new ctx.old ctx.new reader.old reader.new result }
     ensures smaller { result ≡ Word.GoesOn
-        → left_to_read part.new.run (here reader.new) < left_to_read part.old.run (here reader.old) }
+        → left_to_read part.new.in_run (here reader.new) < left_to_read part.old.in_run (here reader.old) }
 {
-    if let Some(run) = part.run {
-        return read_run(ctx, reader, part, run);
+    if part.in_run {
+        return read_run(ctx, reader, part);
     }
     if part.painted == ctx.settings().columns {
         return Word::Ends;
@@ -297,19 +272,21 @@ fn read_on(ctx: &mut DecoderContext, reader: &mut BitScanner<'_>, part: &mut Kep
     if part.is_2d {
         return read_mode(ctx, reader, part);
     }
-    let run = begin_run(ctx, reader, part);
-    read_run(ctx, reader, part, run)
+    begin_run(ctx, reader, part);
+    read_run(ctx, reader, part)
 }
 
 /// Returns the part with which the words of a line begin.
 fn first_part(is_2d: bool) -> KeptPart
-    ensures { result ≡ record { is_2d = is_2d; run = None; painted = 0; color = Color.White; passed = 0 } }
+    ensures { result ≡ first_kept is_2d }
 {
     KeptPart {
         is_2d,
-        run: None,
-        painted: 0,
+        in_run: false,
+        another: false,
         color: Color::White,
+        total: 0,
+        painted: 0,
         passed: 0,
     }
 }

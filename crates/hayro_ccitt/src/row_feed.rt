@@ -185,6 +185,14 @@ fn is_read(row: &Result<bool>) -> bool
     matches!(row, Ok(true))
 }
 
+/// Returns whether a row was the last that was read, and no gap behind it yet.
+#[inline(always)]
+fn is_behind_row(stand: Stand) -> bool
+    ensures { result ≡ true → stand ≡ Stand.BehindRow }
+{
+    matches!(&stand, Stand::BehindRow)
+}
+
 /// Returns whether a call read a row.
 fn is_row(fed: &Result<Fed>) -> bool
     ensures row { result ≡ true → fed.now ≡ Ok Fed.Row }
@@ -429,15 +437,27 @@ impl RowFeed {
     fn is_still_short(&mut self) -> bool
         ensures { StaysShort self.old self.new result }
     {
-        let Some(part) = self.part else {
+        if self.part.is_none() {
             return false;
-        };
+        }
         if self.is_last {
             self.line_read = 0;
             self.part = None;
             return false;
         }
-        self.go_on_from(part, self.line_read)
+        let place = self.place + self.line_read;
+        let mut reader = scanner_at(&self.data, self.order, place);
+        let Some(part) = &mut self.part else {
+            return false;
+        };
+        let (is_short, reached) = continue_line(&mut self.ctx, &mut reader, part);
+        if is_short {
+            self.line_read = reached - self.place;
+            return true;
+        }
+        self.line_read = 0;
+        self.part = None;
+        false
     }
 
     /// Keeps the part from which the line here goes on, which is short, unless it was tried for the first time: mostly it is whole
@@ -687,6 +707,26 @@ impl RowFeed {
         fed_row(fed)
     }
 
+    /// Reads the next row and each behind it.
+    #[inline(always)]
+    fn push_from_next<D: Decoder>(&mut self, decoder: &mut D) -> Result<Fed>
+        requires width { self.old.ctx.held.settings.columns ≤ D.width decoder.old }
+        ensures width { D.width decoder.new ≡ D.width decoder.old }
+        ensures pushes { PushesRows (D.step (D.width decoder.old))
+            (record { meaning = D.meaning decoder.old; refused = D.has_refused decoder.old; refuses = D.refuses decoder.old })
+            (record { meaning = D.meaning decoder.new; refused = D.has_refused decoder.new; refuses = D.refuses decoder.new })
+            self.old self.new result }
+    {
+        let fed = self.next_row();
+        if !is_row(&fed) {
+            return fed;
+        }
+        if let Err(error) = decoder.push_row(self.row()) {
+            return Err(error);
+        }
+        self.push_on(decoder)
+    }
+
     /// Reads each row that no data that follows can change, and passes it to the sink, until more data is needed or the image
     /// ends: then it returns [`Fed::NeedsMore`] or [`Fed::End`]. So one call for each piece reads all rows, as calls of
     /// [`next_row`](RowFeed::next_row) do.
@@ -717,14 +757,10 @@ impl RowFeed {
             (record { meaning = D.meaning decoder.new; refused = D.has_refused decoder.new; refuses = D.refuses decoder.new })
             self.old self.new result }
     {
-        let fed = self.next_row();
-        if !is_row(&fed) {
-            return fed;
+        if self.begun && is_behind_row(self.rows.stand) && self.part.is_none() {
+            return self.push_on(decoder);
         }
-        if let Err(error) = decoder.push_row(self.row()) {
-            return Err(error);
-        }
-        self.push_on(decoder)
+        self.push_from_next(decoder)
     }
 
     /// Drops the bytes that were read.

@@ -1,6 +1,6 @@
 -- Rows that are given as many as there is room for, from what is left where they were passed to a sink.
 use Rattle.std.proofs.Common.{◌≡◌, ◌≢◌, ◌≤◌, ◌<◌, inl, inr, ℕ, zero, suc, Bool, true, false, List, [], ◌∷◌, length, refl, sym, ap}
-use Rattle.std.proofs.Common.{subst, ◌∙◌, arith, Result, Ok, Err}
+use Rattle.std.proofs.Common.{◌⊎◌, subst, ◌∙◌, arith, Result, Ok, Err}
 use Rattle.hayro_ccitt.specs.DecodeError.{DecodeError}
 use Rattle.hayro_ccitt.specs.DecodeSettings.{DecodeSettings}
 use Rattle.hayro_ccitt.specs.Answers.{meaning_after}
@@ -109,6 +109,17 @@ not_refused (Err DecodeError.Overflow) e = absurd (omega (arith, e))
 not_refused (Err DecodeError.OutOfMemory) e = absurd (omega (arith, e))
 not_refused (Err DecodeError.Refused) e = absurd (omega (arith, e))
 
+-- the answer of a row doesn't occur
+not_given : (answer : Result Fed DecodeError) → is_fed_row answer ≡ false → status_of_fed answer ≢ OK
+not_given (Ok Fed.Row) none e = absurd cc
+not_given (Ok Fed.NeedsMore) none e = absurd (omega (arith, e))
+not_given (Ok Fed.End) none e = absurd (omega (arith, e))
+not_given (Err DecodeError.UnexpectedEof) none e = absurd (omega (arith, e))
+not_given (Err DecodeError.InvalidCode) none e = absurd (omega (arith, e))
+not_given (Err DecodeError.Overflow) none e = absurd (omega (arith, e))
+not_given (Err DecodeError.OutOfMemory) none e = absurd (omega (arith, e))
+not_given (Err DecodeError.Refused) none e = absurd (omega (arith, e))
+
 -- none was kept before
 pub passed_all : {M : Type 0} {step : M → List ℕ → M} {before after : SinkState M} {old new : Feeding}
     {answer : Result Fed DecodeError} → old.is_kept ≡ false → before.refused ≡ false
@@ -207,17 +218,6 @@ module _ {M : Type 0} {step : M → List ℕ → M} {start final : SinkState M} 
     layout = layout_is;
   }
 
-  -- the answer of a row doesn't occur
-  not_ok : (answer : Result Fed DecodeError) → is_fed_row answer ≡ false → status_of_fed answer ≢ OK
-  not_ok (Ok Fed.Row) none e = absurd cc
-  not_ok (Ok Fed.NeedsMore) none e = absurd (omega (arith, e))
-  not_ok (Ok Fed.End) none e = absurd (omega (arith, e))
-  not_ok (Err DecodeError.UnexpectedEof) none e = absurd (omega (arith, e))
-  not_ok (Err DecodeError.InvalidCode) none e = absurd (omega (arith, e))
-  not_ok (Err DecodeError.Overflow) none e = absurd (omega (arith, e))
-  not_ok (Err DecodeError.OutOfMemory) none e = absurd (omega (arith, e))
-  not_ok (Err DecodeError.Refused) none e = absurd (omega (arith, e))
-
   status_kept : (count : ℕ) → (status_behind answer count true ≡ OK → 0 < count)
       × (status_behind answer count true ≡ REFUSED → count ≡ 0)
   status_kept zero = (λ e. absurd (omega (arith, e)), λ _. refl)
@@ -241,10 +241,10 @@ module _ {M : Type 0} {step : M → List ℕ → M} {start final : SinkState M} 
           each = passes.each;
           count_is = many;
           written = written;
-          some = λ e. absurd (not_ok answer end.no_row (sym status_is ∙ e));
+          some = λ e. absurd (not_given answer end.no_row (sym status_is ∙ e));
           none = λ e. absurd (not_refused answer (sym status_is ∙ e));
           kept = λ e. elim e [
-            | inl ok ↦ absurd (not_ok answer end.no_row (sym status_is ∙ ok))
+            | inl ok ↦ absurd (not_given answer end.no_row (sym status_is ∙ ok))
             | inr few ↦ absurd (not_refused answer (sym status_is ∙ few))
           ];
           ends = λ _. subst (GivesFed last left) (sym status_is) (gives_none end);
@@ -264,3 +264,96 @@ module _ {M : Type 0} {step : M → List ℕ → M} {start final : SinkState M} 
               (sym (status_is ∙ kept_ends count (λ e. other (status_is ∙ e)))) (gives_refused end);
         }
   ]
+
+-- ---- A row that was read and is kept
+
+-- the answer of a row
+pub row_fed : (answer : Result Fed DecodeError) → is_fed_row answer ≡ true → answer ≡ Ok Fed.Row
+row_fed (Ok Fed.Row) is = refl
+row_fed (Ok Fed.NeedsMore) is = absurd cc
+row_fed (Ok Fed.End) is = absurd cc
+row_fed (Err error) is = absurd cc
+
+-- the settings stay
+same_settings : (kept : Bool) (old mid : RowsFed) (answer : Result Fed DecodeError) → TurnsToFed kept old mid answer
+    → mid.ctx.held.settings ≡ old.ctx.held.settings
+same_settings true old mid answer turns = ap (λ (r : RowsFed). r.ctx.held.settings) turns.0
+same_settings false old mid answer turns = turns.settings
+
+-- as wide
+pub turned_columns : (old mid : Feeding) (answer : Result Fed DecodeError) → TurnsToFed old.is_kept old.rows mid.rows answer
+    → columns_of mid ≡ columns_of old
+turned_columns old mid answer turns =
+    ap (λ (s : DecodeSettings). s.columns) (same_settings old.is_kept old.rows mid.rows answer turns)
+
+-- nothing is read where a row is kept
+none_read : (kept : Bool) (rows next : RowsFed) (answer : Result Fed DecodeError) → kept ≡ true → TurnsToFed kept rows next answer
+    → (next ≡ rows) × (answer ≡ Ok Fed.Row)
+none_read kept rows next answer is turns = subst (λ (k : Bool). TurnsToFed k rows next answer) is turns
+
+module _ (old mid : Feeding) (came : TurnsToFed old.is_kept old.rows mid.rows (Ok Fed.Row)) (kept : mid.is_kept ≡ true)
+    (layout : mid.layout ≡ old.layout) where
+  -- what is given of a row that was read and is kept is given by a call that reads it
+  given_from : {new : Feeding} {status : ℕ} → GivesFed mid new status → GivesFed old new status
+  given_from {new} {status} gives =
+      let none = none_read mid.is_kept mid.rows new.rows gives.answer kept gives.turns in
+      record {
+        answer = Ok Fed.Row;
+        turns = subst (λ (r : RowsFed). TurnsToFed old.is_kept old.rows r (Ok Fed.Row)) (sym none.0) came;
+        status_is = subst (λ (a : Result Fed DecodeError). (status ≡ status_of_fed a) ⊎ ((status ≡ REFUSED) × (a ≡ Ok Fed.Row)))
+            none.1 gives.status_is;
+        kept = gives.kept;
+        refused = gives.refused;
+        layout = gives.layout ∙ layout;
+      }
+
+  each_from : (given : List Feeding) → GivesEach mid given → GivesEach old given
+  each_from [] each = tt
+  each_from (next ∷ more) each = (given_from each.0, each.1)
+
+  last_from : (given : List Feeding) {new : Feeding} {status : ℕ} → GivesFed (feeding_after mid given) new status
+      → GivesFed (feeding_after old given) new status
+  last_from [] gives = given_from gives
+  last_from (next ∷ more) gives = gives
+
+  -- so are all rows with it
+  pub gives_from : (AreWritten : Feeding → List Row → List ℕ → List ℕ → Type 0) (need : Feeding → List Row → ℕ) {new : Feeding}
+      {before after : List ℕ} {count status : ℕ}
+      → ((rows : List Row) → AreWritten mid rows before after → AreWritten old rows before after)
+      → GivesRows AreWritten need mid new before after count status → GivesRows AreWritten need old new before after count status
+  gives_from AreWritten need same gives = record {
+    given = gives.given;
+    each = each_from gives.given gives.each;
+    count_is = gives.count_is;
+    written = same (rows_given gives.given) gives.written;
+    some = gives.some;
+    none = gives.none;
+    kept = λ e. let row = gives.kept e in record { gives = last_from gives.given row.gives; room = row.room };
+    ends = λ e. last_from gives.given (gives.ends e);
+  }
+
+-- no row is given where none is known
+pub gives_no_row : (AreWritten : Feeding → List Row → List ℕ → List ℕ → Type 0) (need : Feeding → List Row → ℕ)
+    (old new : Feeding) (answer : Result Fed DecodeError) {memory : List ℕ} {status : ℕ} → AreWritten old [] memory memory
+    → TurnsToFed old.is_kept old.rows new.rows answer → is_fed_row answer ≡ false → new.is_kept ≡ false
+    → new.layout ≡ old.layout → status ≡ status_of_fed answer → GivesRows AreWritten need old new memory memory 0 status
+gives_no_row AreWritten need old new answer {memory} {status} written turns none unkept layout is = record {
+  given = [];
+  each = tt;
+  count_is = refl;
+  written = written;
+  some = λ e. absurd (not_given answer none (sym is ∙ e));
+  none = λ e. refl;
+  kept = λ e. elim e [
+    | inl ok ↦ absurd (not_given answer none (sym is ∙ ok))
+    | inr few ↦ absurd (not_refused answer (sym is ∙ few))
+  ];
+  ends = λ _. record {
+    answer = answer;
+    turns = turns;
+    status_is = inl is;
+    kept = λ e. absurd cc;
+    refused = λ e. absurd (not_refused answer (sym is ∙ e));
+    layout = layout;
+  };
+}

@@ -173,8 +173,8 @@ impl Feeding {
         self.rows.push_rows(sink)
     }
 
-    /// Packs the next rows, as many as there is room for, each a stride behind the one before. `count` is how many.
-    pub(crate) fn pack_rows(&mut self, bytes: &mut [u8], count: &mut usize) -> u32
+    /// Packs the row that is kept and the next ones, as `pack_rows` does.
+    fn pack_kept(&mut self, bytes: &mut [u8], count: &mut usize) -> u32
         ensures { PacksRows self.old self.new bytes.old bytes.new count.new result }
     {
         let columns = self.rows.settings().columns;
@@ -186,8 +186,21 @@ impl Feeding {
         status_behind(answer, *count, self.is_kept)
     }
 
-    /// Lists the next rows, as many as there is room for. `count` is how many.
-    pub(crate) fn list_rows(&mut self, lists: &mut [u32], count: &mut usize) -> u32
+    /// Packs the next rows, as many as there is room for, each a stride behind the one before. `count` is how many.
+    pub(crate) fn pack_rows(&mut self, bytes: &mut [u8], count: &mut usize) -> u32
+        ensures { PacksRows self.old self.new bytes.old bytes.new count.new result }
+    {
+        let answer = self.come_to_row();
+        if !is_fed_row(answer) {
+            *count = 0;
+            return status_of_fed(answer);
+        }
+        self.is_kept = true;
+        self.pack_kept(bytes, count)
+    }
+
+    /// Lists the row that is kept and the next ones, as `list_rows` does.
+    fn list_kept(&mut self, lists: &mut [u32], count: &mut usize) -> u32
         ensures { ListsRows self.old self.new lists.old lists.new count.new result }
     {
         let columns = self.rows.settings().columns;
@@ -196,6 +209,19 @@ impl Feeding {
         *count = sink.rows();
         self.is_kept = sink.has_refused();
         status_behind(answer, *count, self.is_kept)
+    }
+
+    /// Lists the next rows, as many as there is room for. `count` is how many.
+    pub(crate) fn list_rows(&mut self, lists: &mut [u32], count: &mut usize) -> u32
+        ensures { ListsRows self.old self.new lists.old lists.new count.new result }
+    {
+        let answer = self.come_to_row();
+        if !is_fed_row(answer) {
+            *count = 0;
+            return status_of_fed(answer);
+        }
+        self.is_kept = true;
+        self.list_kept(lists, count)
     }
 
     /// Writes the bytes that were fed and aren't consumed if there is room for them, and returns the status. `count` is how many

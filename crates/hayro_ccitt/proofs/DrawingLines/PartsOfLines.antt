@@ -3,16 +3,15 @@ use Rattle.hayro_ccitt.proofs.Names.{◌≡◌, ◌∙◌, ◌+◌, ◌-◌, ◌
 use Rattle.hayro_ccitt.proofs.Names.{min, Ok, Err}
 use Rattle.hayro_ccitt.proofs.Names.{replicate, length-append, length-replicate, append-nil, ltb, leb, ◌&&◌, refl, sym}
 use Rattle.hayro_ccitt.proofs.Names.{ap, subst, arith}
-use Rattle.hayro_ccitt.proofs.Names.{Option, Some, None, Bits, Color, DecodeSettings, Row, is_black, paint}
+use Rattle.hayro_ccitt.proofs.Names.{Bits, Color, DecodeSettings, Row, is_black, paint}
 use Rattle.hayro_ccitt.proofs.Names.{Line, Turn, line_here}
 use Rattle.hayro_ccitt.proofs.Names.{lt-ltb, le-leb, common_steps, Mode, read_code, mode_codes, codes_of, ArePassed}
 use Rattle.hayro_ccitt.proofs.Names.{InvalidCode, List, changes}
-use Rattle.hayro_ccitt.proofs.Names.{White, line_1d, line_2d, line_by, start, not, EncodingMode, Group3_2D, BitsAt, Context}
+use Rattle.hayro_ccitt.proofs.Names.{line_1d, line_2d, line_by, start, not, EncodingMode, Group3_2D, BitsAt, Context}
 use Rattle.hayro_ccitt.proofs.Names.{here, length-drop}
 use Rattle.hayro_ccitt.proofs.Names.{Pass, Vertical, b1, b2, right_of, right_of_painted, opposite, ℤ, pos, ◌+ℤ◌, ◌∷◌}
 use Rattle.fax_bits.specs.declared.error.DecodeError.TheVariants.{Overflow}
 use Rattle.hayro_ccitt.specs.declared.line_parts.KeptPart.{KeptPart}
-use Rattle.hayro_ccitt.specs.declared.line_parts.KeptRun.{KeptRun}
 use Rattle.hayro_ccitt.specs.declared.line_parts.Word.{Word}
 use Rattle.hayro_ccitt.specs.Continuations.{is_short}
 use Rattle.hayro_ccitt.specs.Lines.{Pen, place_from}
@@ -20,7 +19,7 @@ use Rattle.hayro_ccitt.specs.LinesGoOn.{LinePart, OpenRun, left_of, line_from_pa
 use Rattle.hayro_ccitt.specs.LinesGoOn.{read_on, word_added}
 use Rattle.hayro_ccitt.specs.LineParts.{GoesOnBy, ContinuesLine, IsLawfulPart, IsPartOf, Leads, ReadsWord, EndsLine}
 use Rattle.hayro_ccitt.specs.LineParts.{LeadsToPart, PaintsTo, part_at, part_by}
-use Rattle.hayro_ccitt.specs.LineParts.{left_to_read, pen_of_part}
+use Rattle.hayro_ccitt.specs.LineParts.{first_kept, left_to_read, pen_of_part, run_of_part}
 use Rattle.fax_reading.proofs.Continuations.LinesGoOn.{LeadsOn, line_from_is, part_leads_on, part_size, word_leads}
 
 -- ---- What is painted
@@ -65,10 +64,10 @@ paints_row settings front color count painted is within gt lenient = (
 -- ---- The line that begins some bits goes on from a part of it
 
 -- a part, where more bits follow
-before_at : (more : Bits) (run : Option KeptRun) (is_2d : Bool) (pen : Pen)
-    → part_before more (part_by run is_2d pen) ≡ part_by run is_2d (record pen { rest = pen.rest ++ more })
-before_at more None is_2d pen = refl
-before_at more (Some run) is_2d pen = refl
+before_at : (more : Bits) (in_run : Bool) (run : OpenRun) (pen : Pen)
+    → part_before more (part_by in_run run pen) ≡ part_by in_run run (record pen { rest = pen.rest ++ more })
+before_at more false run pen = refl
+before_at more true run pen = refl
 
 module _ (settings : DecodeSettings) (reference : Row) {start : Bits} (old new : KeptPart) (rest after : Bits)
     (part : IsPartOf settings reference start old rest) where
@@ -79,9 +78,10 @@ module _ (settings : DecodeSettings) (reference : Row) {start : Bits} (old new :
     front = leads.0;
     painted = leads.1;
     line = λ more. part.line more
-        ∙ ap (line_from_part settings reference) (sym (before_at more old.run old.is_2d (pen_of_part old part.front rest)))
+        ∙ ap (line_from_part settings reference) (sym (before_at more old.in_run (run_of_part old)
+        (pen_of_part old part.front rest)))
         ∙ word_leads settings reference (part_at old part.front rest) (part_at new leads.0 after) leads.2 more
-        ∙ ap (line_from_part settings reference) (before_at more new.run new.is_2d (pen_of_part new leads.0 after));
+        ∙ ap (line_from_part settings reference) (before_at more new.in_run (run_of_part new) (pen_of_part new leads.0 after));
   }
 
   -- if the line ends with the word, that is the line
@@ -99,14 +99,14 @@ module _ (settings : DecodeSettings) (reference : Row) {start : Bits} (old new :
       line_of (Turn.done line) = line
 
 -- what is left to read of a part
-left_at : (run : Option KeptRun) (is_2d : Bool) (pen : Pen) → part_size (part_by run is_2d pen) ≡ left_to_read run pen.rest
-left_at None is_2d pen = refl
-left_at (Some run) is_2d pen = refl
+left_at : (in_run : Bool) (run : OpenRun) (pen : Pen) → part_size (part_by in_run run pen) ≡ left_to_read in_run pen.rest
+left_at false run pen = refl
+left_at true run pen = refl
 
 -- a word leaves less to read
 pub reads_some : (settings : DecodeSettings) (reference : Row) (old new : KeptPart) (rest after : Bits)
     → GoesOnBy settings reference (λ front. (read_on settings reference (part_at old front rest)).turn) old new after Word.GoesOn
-    → left_to_read new.run after < left_to_read old.run rest
+    → left_to_read new.in_run after < left_to_read old.in_run rest
 reads_some settings reference old new rest after goes =
     let front : Row = replicate old.painted false in
     let leads = goes.leads front (length-replicate old.painted false) in
@@ -114,8 +114,8 @@ reads_some settings reference old new rest after goes =
     omega (
       arith,
       on.1,
-      left_at old.run old.is_2d (pen_of_part old front rest),
-      left_at new.run new.is_2d (pen_of_part new leads.0 after),
+      left_at old.in_run (run_of_part old) (pen_of_part old front rest),
+      left_at new.in_run (run_of_part new) (pen_of_part new leads.0 after),
     )
 
 -- ---- What a word leads to
@@ -220,7 +220,7 @@ module _ (settings : DecodeSettings) (reference : Row) (front : Row) (color : Co
 -- ---- A part that is kept
 
 -- before a mode
-pub at_mode_is : (part : KeptPart) (row : Row) (color : Color) (rest : Bits) → part.run ≡ None → part.is_2d ≡ true
+pub at_mode_is : (part : KeptPart) (row : Row) (color : Color) (rest : Bits) → part.in_run ≡ false → part.is_2d ≡ true
     → part.color ≡ color → at_mode row color rest ≡ part_at part row rest
 at_mode_is part row color rest none is_2d same = rw (none, is_2d, same) refl
 
@@ -243,10 +243,6 @@ lawful_behind settings reference part painted passed are same more within = reco
 }
 
 -- ---- A line begins with a part
-
--- the part before any word
-abbrev first_kept : Bool → KeptPart
-first_kept is_2d = record { is_2d = is_2d; run = None; painted = 0; color = White; passed = 0 }
 
 module _ (settings : DecodeSettings) (reference : Row) (bits : Bits) where
   abbrev line_of_kind : Bool → Bits → Line
@@ -293,9 +289,9 @@ pub record WentOn (old new : KeptPart) (ctx now : Context) (before after : BitsA
   pub work : now.ticks + old.passed + 2 * length (here after) ≤ ctx.ticks + new.passed + 2 * length (here before)
 
 -- what is left of a part are the pen's bits
-bits_left_are : (run : Option KeptRun) (is_2d : Bool) (pen : Pen) → left_of (part_by run is_2d pen) ≡ pen.rest
-bits_left_are None is_2d p = refl
-bits_left_are (Some run) is_2d p = refl
+bits_left_are : (in_run : Bool) (run : OpenRun) (pen : Pen) → left_of (part_by in_run run pen) ≡ pen.rest
+bits_left_are false run p = refl
+bits_left_are true run p = refl
 
 module _ (old part new : KeptPart) (ctx : Context) (ticks : ℕ) (now : Context) (before at after : BitsAt)
     (so_far : WentOn old part ctx (record ctx { ticks = ticks }) before at) where
@@ -327,9 +323,9 @@ module _ (old part new : KeptPart) (ctx : Context) (ticks : ℕ) (now : Context)
       shorter : length (here after) ≤ length (here at)
       shorter = omega (
         arith,
-        ap length (sym (bits_left_are part.run part.is_2d (pen_of_part part front (here at))) ∙ on.0.1),
+        ap length (sym (bits_left_are part.in_run (run_of_part part) (pen_of_part part front (here at))) ∙ on.0.1),
         length-append on.0.0 (left_of (part_at new leads.0 (here after))),
-        ap length (bits_left_are new.run new.is_2d (pen_of_part new leads.0 (here after))),
+        ap length (bits_left_are new.in_run (run_of_part new) (pen_of_part new leads.0 (here after))),
       )
 
   ends_so : (short : Bool) (word : Word) → ReadsWord part new (record ctx { ticks = ticks }) now at after word

@@ -14,7 +14,8 @@ use Rattle.hayro_ccitt.specs.Continuations.{is_short}
 use Rattle.hayro_ccitt.specs.LineParts.{ContinuesLine, IsPartOf, part_at}
 use Rattle.hayro_ccitt.specs.RowsTried.{IsLeft}
 use Rattle.hayro_ccitt.proofs.Readings.FeedsOn.{none_paid}
-use Rattle.hayro_ccitt.specs.RowFeeds.{KeepsPart, Feeding, IsFeedOf, LineGoesOn, PartIsKept, ReadsInFeed, Scans, StandsIn}
+use Rattle.hayro_ccitt.specs.RowFeeds.{KeepsPart, Feeding, IsFeedOf, LineGoesOn, PartIsKept, ReadsInFeed, Scans, ScansLine}
+use Rattle.hayro_ccitt.specs.RowFeeds.{StandsIn, paid_for_line}
 use Rattle.hayro_ccitt.specs.RowFeeds.{StaysShort, fed_over, line_of_feed, most_for_line, most_to_find, paid_by}
 use Rattle.hayro_ccitt.specs.Answers.{HasBlack}
 use Rattle.hayro_ccitt.proofs.Names.{RowsRead, ReadsNext, front_of}
@@ -130,6 +131,64 @@ module _ (old new : Feeding) (part next : KeptPart) (read : ℕ) (before after :
 
   pub scan_most : new.ctx.ticks + (part.passed + 2 * read) ≤ old.ctx.ticks + most_for_line old + 2
   scan_most = omega (arith, on.work, left_before, on.lawful.passed.within)
+
+  -- the line is short, and goes on from the part that is reached
+  pub scans_short : after.place ≤ length after.bits → short ≡ true → ScansLine part.passed read old
+      (record old { ctx = new.ctx; part = Some next; line_read = after.place - old.place }) true
+  scans_short inside e = record {
+    scans = record {
+      frame = ap (λ (x : Context). record old { ctx = x; part = Some next; line_read = after.place - old.place }) on.frame;
+      counts = on.counts;
+    };
+    tried = refl;
+    said = said_short ∙ e;
+    none = λ e'. absurd (false≢true (sym e'));
+    some = λ e' none. cc;
+    kept = λ e'. (
+      within,
+      subst (λ (h : Held). next.passed + 2 * (after.place - old.place) + 2
+          ≤ length (changes h.reference) + 2 * length (drop old.place old.kept) + 2)
+          (sym (ap (λ (x : Context). x.held) on.frame)) (scan_paid inside),
+    );
+    work = λ e'. scan_work inside;
+    most = scan_most;
+  }
+
+  -- or it is whole
+  pub scans_whole : short ≡ false → ScansLine part.passed read old
+      (record old { ctx = new.ctx; part = None; line_read = 0 }) false
+  scans_whole e = record {
+    scans = record {
+      frame = ap (λ (x : Context). record old { ctx = x; part = None; line_read = 0 }) on.frame;
+      counts = on.counts;
+    };
+    tried = refl;
+    said = said_short ∙ e;
+    none = λ e'. refl;
+    some = λ e'. absurd (false≢true e');
+    kept = λ e'. absurd (false≢true e');
+    work = λ e'. absurd (false≢true e');
+    most = scan_most;
+  }
+
+-- the part that was kept is read on from
+pub stays_by : (old new : Feeding) (part : KeptPart) (short : Bool) → old.part ≡ Some part → old.finished ≡ false
+    → redrawn old.ctx.held [] White ≡ old.ctx.held → ScansLine part.passed old.line_read old new short → StaysShort old new short
+stays_by old new part short is unfinished none_drawn scans =
+    let paid : paid_for_line old ≡ part.passed + 2 * old.line_read + 2
+    = ap (λ (p : Option KeptPart). paid_by p old.line_read) is in
+    record {
+      scans = scans.scans;
+      tried = scans.tried;
+      said = λ e. (scans.said ∙ e, unfinished, none_drawn);
+      settled = λ e some. inr (scans.said ∙ e);
+      none = scans.none;
+      some = scans.some;
+      kept = scans.kept;
+      unkept = λ e. absurd cc;
+      work = λ e. omega (arith, scans.work e, paid);
+      most = omega (arith, scans.most, paid);
+    }
 
 -- ---- A line that is read on before it is read, or after it was left
 

@@ -8,4 +8,4 @@ abbrev pub invariant-words : goal.invariant-words
 invariant-words l = WentOn l.fn.part l.part l.fn.ctx l.ctx l.fn.reader l.reader
 
 abbrev pub decreases-words : goal.decreases-words
-decreases-words l = left_to_read l.part.run (here l.reader)
+decreases-words l = left_to_read l.part.in_run (here l.reader)

@@ -47,7 +47,7 @@ returns-clause-goes c = λ rest.
             goes.0,
             goes.1,
             goes.2 ∙ ap Turn.next (at_mode_is c.paint.new.part goes.0 c.args.part.now.color rest
-                (ap (λ (p : KeptPart). p.run) c.paint.ensures.frame ∙ c.requires.run)
+                (ap (λ (p : KeptPart). p.in_run) c.paint.ensures.frame ∙ c.requires.run)
                 (ap (λ (p : KeptPart). p.is_2d) c.paint.ensures.frame ∙ c.requires.mode)
                 (ap (λ (p : KeptPart). p.color) c.paint.ensures.frame)),
           );

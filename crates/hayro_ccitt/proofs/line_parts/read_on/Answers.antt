@@ -1,12 +1,11 @@
-use Rattle.hayro_ccitt.proofs.Names.{inl, ap, sym, subst, refl, arith, here, Option, DecodeSettings, false}
-use Rattle.hayro_ccitt.specs.declared.line_parts.KeptRun.{KeptRun}
-use Rattle.hayro_ccitt.specs.LineParts.{EndsLine, GoesOnBy, left_to_read, part_at, part_by, pen_of_part}
+use Rattle.hayro_ccitt.proofs.Names.{inl, ap, sym, subst, refl, arith, here, Bool, DecodeSettings, false}
+use Rattle.hayro_ccitt.specs.LineParts.{EndsLine, GoesOnBy, left_to_read, part_at, part_by, pen_of_part, run_of_part}
 use Rattle.hayro_ccitt.specs.LinesGoOn.{read_on}
 use Rattle.hayro_ccitt.proofs.DrawingLines.PartsOfLines.{full_ends, reads_some}
 use Rattle.hayro_ccitt.proofs.line_parts.read_on.Goals as goal
 
-pub returns-in-Some-clause-smaller : goal.returns-in-Some-clause-smaller
-returns-in-Some-clause-smaller c = λ e.
+pub returns-then-part-clause-smaller : goal.returns-then-part-clause-smaller
+returns-then-part-clause-smaller c = λ e.
     let held = c.args.ctx.now.held in
     reads_some held.settings held.reference c.args.part.now c.read_run.new.part (here c.args.reader.now)
     (here c.read_run.new.reader) (subst (GoesOnBy held.settings held.reference (λ front. (read_on held.settings held.reference
@@ -23,8 +22,8 @@ returns-then-part-settings-clause-reads c =
       begins = inl refl;
       reads = record {
         goes = record {
-          leads = λ front is. subst (λ (r : Option KeptRun). EndsLine false (read_on held.settings held.reference
-              (part_by r part.is_2d (pen_of_part part front before))).turn) (sym c.in_default.is)
+          leads = λ front is. subst (λ (b : Bool). EndsLine false (read_on held.settings held.reference
+              (part_by b (run_of_part part) (pen_of_part part front before))).turn) (sym c.if-part.false)
               (full_ends held.settings held.reference front part.color before part.is_2d (omega (
                 arith,
                 is,
@@ -42,8 +41,8 @@ returns-then-part-settings-clause-reads c =
       };
     }
 
-pub returns-then-part-clause-smaller : goal.returns-then-part-clause-smaller
-returns-then-part-clause-smaller c = λ e.
+pub returns-then-part-2-clause-smaller : goal.returns-then-part-2-clause-smaller
+returns-then-part-2-clause-smaller c = λ e.
     let held = c.args.ctx.now.held in
     reads_some held.settings held.reference c.args.part.now c.read_mode.new.part (here c.args.reader.now)
     (here c.read_mode.new.reader) (subst (GoesOnBy held.settings held.reference (λ front. (read_on held.settings held.reference
@@ -53,7 +52,7 @@ returns-then-part-clause-smaller c = λ e.
 pub returns-clause-smaller : goal.returns-clause-smaller
 returns-clause-smaller c = λ e.
     let held = c.args.ctx.now.held in
-    let begun = c.begin_run-run.new.part in
+    let begun = c.begin_run.new.part in
     let before = here c.args.reader.now in
     let less = reads_some held.settings held.reference begun c.read_run-2.new.part before (here c.read_run-2.new.reader)
     (subst (GoesOnBy held.settings held.reference (λ front. (read_on held.settings held.reference
@@ -62,6 +61,6 @@ returns-clause-smaller c = λ e.
     omega (
       arith,
       less,
-      ap (λ (r : Option KeptRun). left_to_read r before) c.in_default.is,
-      ap (λ (r : Option KeptRun). left_to_read r before) c.begin_run-run.ensures.run,
+      ap (λ (b : Bool). left_to_read b before) c.if-part.false,
+      ap (λ (b : Bool). left_to_read b before) c.begin_run.ensures.run,
     )

@@ -1,7 +1,6 @@
-use Rattle.hayro_ccitt.proofs.Names.{◌≡◌, ◌∙◌, ap, sym, subst, arith, here, codes_of, Option, DecodeSettings, Context}
+use Rattle.hayro_ccitt.proofs.Names.{◌≡◌, ◌∙◌, ap, sym, subst, arith, here, codes_of, Bool, DecodeSettings, Context}
 use Rattle.hayro_ccitt.proofs.Names.{ℕ}
-use Rattle.hayro_ccitt.specs.declared.line_parts.KeptRun.{KeptRun}
-use Rattle.hayro_ccitt.specs.LineParts.{Leads, part_by, pen_of_part}
+use Rattle.hayro_ccitt.specs.LineParts.{Leads, part_by, pen_of_part, run_of_part}
 use Rattle.hayro_ccitt.specs.LinesGoOn.{read_on, word_added}
 use Rattle.fax_bits.proofs.CodeWords.ReadRuns.{read_code_shorter, words_not_empty}
 use Rattle.hayro_ccitt.proofs.DrawingLines.PartsOfLines.{lawful_behind, word_is_read}
@@ -11,7 +10,6 @@ pub returns-in-Ok : goal.returns-in-Ok
 returns-in-Ok c =
     let held = c.args.ctx.now.held in
     let part = c.args.part.now in
-    let run = c.args.run in
     let new = c.add_word.new.part in
     let before = here c.args.reader.now in
     let after = here c.read_word.new.reader in
@@ -25,15 +23,15 @@ returns-in-Ok c =
       reads = record {
         goes = record {
           leads = λ front is. subst (Leads c.add_word.result new after)
-              (sym (ap (λ (r : Option KeptRun). (read_on held.settings held.reference
-              (part_by r part.is_2d (pen_of_part part front before))).turn) c.requires.run
+              (sym (ap (λ (b : Bool). (read_on held.settings held.reference
+              (part_by b (run_of_part part) (pen_of_part part front before))).turn) c.requires.run
               ∙ word_is_read held.settings held.reference front part.color before
-              (record { is_2d = part.is_2d; another = run.another; total = run.total }) n after reads))
+              (run_of_part part) n after reads))
               (subst (λ (m : ℕ). Leads c.add_word.result new after (word_added held.settings.strict held.settings.columns
-              (record { is_2d = part.is_2d; another = run.another; total = run.total }) (pen_of_part part front after) m).turn)
+              (run_of_part part) (pen_of_part part front after) m).turn)
               c.from.ensures
               (subst (λ (s : DecodeSettings). Leads c.add_word.result new after (word_added s.strict s.columns
-              (record { is_2d = part.is_2d; another = run.another; total = run.total }) (pen_of_part part front after)
+              (run_of_part part) (pen_of_part part front after)
               c.from.result).turn) same (c.add_word.ensures.goes after front is)));
           lawful = lawful_behind held.settings held.reference new part.painted part.passed c.requires.lawful.passed
               c.add_word.ensures.passed c.add_word.ensures.onward

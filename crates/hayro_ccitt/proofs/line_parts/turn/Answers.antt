@@ -80,7 +80,7 @@ returns-clause-goes c = λ rest.
             goes.1,
             goes.2 ∙ ap Turn.next (at_mode_is (record part { color = c.opposite-part.result }) goes.0
                 (opposite color) rest
-                (ap (λ (p : KeptPart). p.run) c.paint.ensures.frame ∙ c.requires.run)
+                (ap (λ (p : KeptPart). p.in_run) c.paint.ensures.frame ∙ c.requires.run)
                 (ap (λ (p : KeptPart). p.is_2d) c.paint.ensures.frame ∙ c.requires.mode)
                 (c.opposite-part.ensures ∙ ap (λ (p : KeptPart). opposite p.color) c.paint.ensures.frame)),
           );

@@ -1,9 +1,9 @@
 use Rattle.hayro_ccitt.proofs.Names.{refl}
-use Rattle.hayro_ccitt.proofs.Names.{◌≡◌, ◌∙◌, ◌+◌, ◌-◌, ◌*◌, ap, sym, subst, arith, length, length-drop, drop, false≢true}
-use Rattle.hayro_ccitt.proofs.Names.{bits_in, changes, List, ℕ, None, Some, Context, Held, BitsAt}
+use Rattle.hayro_ccitt.proofs.Names.{◌≡◌, ◌∙◌, ◌+◌, ap, sym, subst, arith, length, length-drop, drop, false≢true}
+use Rattle.hayro_ccitt.proofs.Names.{bits_in, List, ℕ, Context, Held, BitsAt}
 use Rattle.hayro_ccitt.specs.GapsSeen.{IsSeen, rules_for}
 use Rattle.hayro_ccitt.proofs.BitReading.BitLists.{length-bits_in}
-use Rattle.hayro_ccitt.proofs.Readings.PartsFed.{part_reached, said_short, scan_most, scan_paid, scan_work}
+use Rattle.hayro_ccitt.proofs.Readings.PartsFed.{part_reached, scans_short, scans_whole}
 use Rattle.hayro_ccitt.specs.RowFeeds.{Feeding, LineGoesOn, feeding_of}
 use Rattle.hayro_ccitt.proofs.Names.{◌≤◌}
 use Rattle.hayro_ccitt.proofs.row_feed.RowFeed.go_on_from.Goals.{After-deref, After-continue_line-is_short}
@@ -93,70 +93,27 @@ invariant_of-self-2 c =
       part = refl;
     }
 
+within_kept : (c : After-deref) → c.self.inside.place ≤ length (bits_in c.self.inside.order c.self.inside.«data».items)
+within_kept c = omega (arith, c.self.invariant.within, length-bits_in c.self.inside.order c.self.inside.«data».items)
+
 pub returns-then-is_short : goal.returns-then-is_short
 returns-then-is_short c =
     let at = (goal.at.returns-then-is_short c).After-continue_line-is_short in
-    let was = kept (goal.at.returns-then-is_short c).After-deref in
-    let inside = c.self.inside in
+    let there = (goal.at.returns-then-is_short c).After-deref in
     let on = c.continue_line-is_short in
-    let within : inside.place ≤ length (bits_in inside.order inside.«data».items)
-    = omega (arith, c.self.invariant.within, length-bits_in inside.order inside.«data».items) in
-    let part = on.new.part in
     rw (← c.self.view_is) (record {
-      scans = record {
-        scans = record {
-          frame = ap (λ (x : Context). record (feeding_of inside) {
-            ctx = x;
-            part = Some part;
-            line_read = on.result.1 - inside.place;
-          }) on.ensures.goes_on.frame;
-          counts = on.ensures.goes_on.counts;
-        };
-        tried = refl;
-        said = said_short (feeding_of inside) (scanned at) c.args.part part c.args.read c.scanner_at-reader.result (reached at)
-            on.result.0 (starts_at at) within on.ensures.goes_on was ∙ c.if-is_short.true;
-        none = λ e. absurd (false≢true (sym e));
-        some = λ e kept. cc;
-        kept = λ e. (
-          omega (arith, within),
-          subst (λ (h : Held). part.passed + 2 * (on.result.1 - inside.place) + 2
-              ≤ length (changes h.reference) + 2 * length (drop inside.place (bits_in inside.order inside.«data».items)) + 2)
-              (sym (ap (λ (x : Context). x.held) on.ensures.goes_on.frame))
-              (scan_paid (feeding_of inside) (scanned at) c.args.part part c.args.read c.scanner_at-reader.result (reached at)
-              on.result.0 (starts_at at) within on.ensures.goes_on was on.ensures.within),
-        );
-        work = λ e.
-            scan_work (feeding_of inside) (scanned at) c.args.part part c.args.read c.scanner_at-reader.result (reached at)
-            on.result.0 (starts_at at) within on.ensures.goes_on was on.ensures.within;
-        most = scan_most (feeding_of inside) (scanned at) c.args.part part c.args.read c.scanner_at-reader.result (reached at)
-            on.result.0 (starts_at at) within on.ensures.goes_on was;
-      };
+      scans = scans_short (feeding_of c.self.inside) (scanned at) c.args.part on.new.part c.args.read
+          c.scanner_at-reader.result (reached at) on.result.0 (starts_at at) (within_kept there) on.ensures.goes_on (kept there)
+          on.ensures.within c.if-is_short.true;
     })
 
 pub returns : goal.returns
 returns c =
     let at = (goal.at.returns c).After-continue_line-is_short in
-    let was = kept (goal.at.returns c).After-deref in
-    let inside = c.self.inside in
+    let there = (goal.at.returns c).After-deref in
     let on = c.continue_line-is_short in
-    let within : inside.place ≤ length (bits_in inside.order inside.«data».items)
-    = omega (arith, c.self.invariant.within, length-bits_in inside.order inside.«data».items) in
-    let part = on.new.part in
     rw (← c.self.view_is) (record {
-      scans = record {
-        scans = record {
-          frame = ap (λ (x : Context). record (feeding_of inside) { ctx = x; part = None; line_read = 0 })
-              on.ensures.goes_on.frame;
-          counts = on.ensures.goes_on.counts;
-        };
-        tried = refl;
-        said = said_short (feeding_of inside) (scanned at) c.args.part part c.args.read c.scanner_at-reader.result (reached at)
-            on.result.0 (starts_at at) within on.ensures.goes_on was ∙ c.if-is_short.false;
-        none = λ e. refl;
-        some = λ e. absurd (false≢true e);
-        kept = λ e. absurd (false≢true e);
-        work = λ e. absurd (false≢true e);
-        most = scan_most (feeding_of inside) (scanned at) c.args.part part c.args.read c.scanner_at-reader.result (reached at)
-            on.result.0 (starts_at at) within on.ensures.goes_on was;
-      };
+      scans = scans_whole (feeding_of c.self.inside) (scanned at) c.args.part on.new.part c.args.read
+          c.scanner_at-reader.result (reached at) on.result.0 (starts_at at) (within_kept there) on.ensures.goes_on (kept there)
+          c.if-is_short.false;
     })

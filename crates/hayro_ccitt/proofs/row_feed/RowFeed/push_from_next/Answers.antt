@@ -4,9 +4,9 @@ use Rattle.hayro_ccitt.proofs.Readings.RowsPassed.{keeps_all, passes_none, pushe
 use Rattle.hayro_ccitt.specs.Decoding.{SinkState}
 use Rattle.hayro_ccitt.specs.RowFeeds.{FeedsRow, PushesRows}
 use Rattle.hayro_ccitt.specs.declared.row_feed.Fed.{Fed}
-use Rattle.hayro_ccitt.proofs.row_feed.RowFeed.push_rows.{Given.Over}
-use Rattle.hayro_ccitt.proofs.row_feed.RowFeed.push_rows.Goals.{After-is_row}
-use Rattle.hayro_ccitt.proofs.row_feed.RowFeed.push_rows.Goals as goal
+use Rattle.hayro_ccitt.proofs.row_feed.RowFeed.push_from_next.{Given.Over}
+use Rattle.hayro_ccitt.proofs.row_feed.RowFeed.push_from_next.Goals.{After-is_row}
+use Rattle.hayro_ccitt.proofs.row_feed.RowFeed.push_from_next.Goals as goal
 
 -- what the first call leaves
 first_call : (g : Over) (c : After-is_row g) → FeedsRow c.args.self.now c.next_row-fed.new.self c.next_row-fed.result

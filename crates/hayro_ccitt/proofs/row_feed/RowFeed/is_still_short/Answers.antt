@@ -1,0 +1,107 @@
+use Rattle.hayro_ccitt.proofs.Names.{◌≡◌, ◌∙◌, ◌+◌, ◌≤◌, ap, sym, subst, arith, length, length-drop, drop}
+use Rattle.hayro_ccitt.proofs.Names.{false≢true, true, false}
+use Rattle.hayro_ccitt.proofs.Names.{bits_in, List, ℕ, Bool, Option, Context, Held, BitsAt, Stand, Bits, None, Some}
+use Rattle.hayro_ccitt.specs.declared.line_parts.KeptPart.{KeptPart}
+use Rattle.hayro_ccitt.specs.GapsSeen.{IsSeen, rules_for}
+use Rattle.hayro_ccitt.proofs.BitReading.BitLists.{length-bits_in}
+use Rattle.hayro_ccitt.proofs.Readings.PartsFed.{part_reached, scans_short, scans_whole, stays_by}
+use Rattle.hayro_ccitt.specs.RowFeeds.{Feeding, LineGoesOn, PartIsKept, feeding_of}
+use Rattle.hayro_ccitt.proofs.row_feed.RowFeed.is_still_short.Goals.{After-continue_line-is_short, After-deref}
+use Rattle.hayro_ccitt.proofs.row_feed.RowFeed.is_still_short.Goals as goal
+
+-- no more bits were read than are kept
+read_within : (part : Option KeptPart) (begun : Bool) (stand : Stand) (held : Held) (bits : Bits) (read : ℕ)
+    → PartIsKept part begun stand held bits read → read ≤ length bits
+read_within None begun stand held bits read none = omega (arith, none)
+read_within (Some part) begun stand held bits read kept = kept.within
+
+pub overflow_add-place : goal.overflow_add-place
+overflow_add-place c =
+    let inside = c.self.inside in
+    let bits = bits_in inside.order inside.«data».items in
+    omega (
+      arith,
+      c.self.invariant.fit,
+      c.self.invariant.within,
+      read_within inside.part inside.begun inside.rows.stand inside.ctx.held (drop inside.place bits) inside.line_read
+          c.self.invariant.part,
+      length-bits_in inside.order inside.«data».items,
+      length-drop inside.place bits,
+    )
+
+pub scanner_at-reader-requires-clause-within : goal.scanner_at-reader-requires-clause-within
+scanner_at-reader-requires-clause-within c =
+    let inside = c.self.inside in
+    let bits = bits_in inside.order inside.«data».items in
+    omega (
+      arith,
+      c.self.invariant.within,
+      read_within inside.part inside.begun inside.rows.stand inside.ctx.held (drop inside.place bits) inside.line_read
+          c.self.invariant.part,
+      length-bits_in inside.order inside.«data».items,
+      length-drop inside.place bits,
+      ap length c.deref.ensures.value,
+    )
+
+module _ (c : After-continue_line-is_short) where
+  -- what is seen before and after
+  abbrev old : Feeding
+  old = feeding_of c.self.inside
+
+  abbrev scanned : Feeding
+  scanned = record old { ctx = c.continue_line-is_short.new.ctx }
+
+  abbrev reached : BitsAt
+  reached = record c.scanner_at-reader.result { place = c.continue_line-is_short.result.1 }
+
+  kept : LineGoesOn old.begun old.rows.stand old.ctx.held (drop old.place old.kept) old.line_read c.in-Some.part
+  kept = subst (λ (p : Option KeptPart). PartIsKept p old.begun old.rows.stand old.ctx.held (drop old.place old.kept)
+      old.line_read)
+      c.in-Some.is c.self.invariant.part
+
+  starts_at : c.scanner_at-reader.result ≡ record { bits = old.kept; place = old.place + old.line_read }
+  starts_at = c.scanner_at-reader.ensures ∙ ap (λ (items : List ℕ). record {
+    bits = bits_in c.self.inside.order items;
+    place = old.place + old.line_read;
+  }) c.deref.ensures.value
+
+  within : old.place ≤ length old.kept
+  within = omega (arith, c.self.invariant.within, length-bits_in c.self.inside.order c.self.inside.«data».items)
+
+pub invariant_of-self-then-is_short : goal.invariant_of-self-then-is_short
+invariant_of-self-then-is_short c =
+    let at = (goal.at.invariant_of-self-then-is_short c).After-continue_line-is_short in
+    let was = kept at in
+    record {
+      within = c.self.invariant.within;
+      fit = c.self.invariant.fit;
+      fresh = λ e. absurd (false≢true (sym e ∙ was.is_begun));
+      start = λ e. absurd (false≢true (sym e ∙ was.is_begun));
+      unended = λ e. absurd (false≢true (sym e ∙ was.is_begun));
+      rows = λ e. absurd (false≢true (sym e ∙ was.is_begun));
+      seen = subst (λ (h : Held). IsSeen (rules_for c.self.inside.begun h) c.self.inside.look
+          (drop c.self.inside.place (bits_in c.self.inside.order c.self.inside.«data».items)))
+          (sym (ap (λ (x : Context). x.held) c.continue_line-is_short.ensures.goes_on.frame)) c.self.invariant.seen;
+      line = c.self.invariant.line;
+      part = part_reached (old at) (scanned at) c.in-Some.part c.continue_line-is_short.new.part c.self.inside.line_read
+          c.scanner_at-reader.result (reached at) c.continue_line-is_short.result.0 (starts_at at) (within at)
+          c.continue_line-is_short.ensures.goes_on was c.continue_line-is_short.ensures.within c.if-is_short.true;
+    }
+
+pub returns-then-is_short : goal.returns-then-is_short
+returns-then-is_short c =
+    let at = (goal.at.returns-then-is_short c).After-continue_line-is_short in
+    let was = kept at in
+    let on = c.continue_line-is_short in
+    rw (← c.self.view_is) (stays_by (old at) _ c.in-Some.part true c.in-Some.is c.if-self.false was.none_drawn
+    (scans_short (old at) (scanned at) c.in-Some.part on.new.part c.self.inside.line_read c.scanner_at-reader.result (reached at)
+    on.result.0 (starts_at at) (within at) on.ensures.goes_on was on.ensures.within c.if-is_short.true))
+
+pub returns : goal.returns
+returns c =
+    let at = (goal.at.returns c).After-continue_line-is_short in
+    let was = kept at in
+    let on = c.continue_line-is_short in
+    rw (← c.self.view_is) (stays_by (old at) _ c.in-Some.part false c.in-Some.is c.if-self.false was.none_drawn
+    (scans_whole (old at) (scanned at) c.in-Some.part on.new.part c.self.inside.line_read c.scanner_at-reader.result (reached at)
+    on.result.0 (starts_at at) (within at) on.ensures.goes_on was c.if-is_short.false))
