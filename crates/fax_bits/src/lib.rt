@@ -12,6 +12,7 @@ pub mod bit_reader;
 pub mod codes;
 mod entries;
 mod error;
+pub mod mode_groups;
 pub mod pairs;
 mod settings;
 pub mod tables;
