@@ -17,6 +17,7 @@ pub mod WhiteWordsListed
 pub mod WindowWords
 pub mod WordRanges
 pub mod WrittenEntries
+pub mod WrittenGroups
 pub mod WrittenPairs
 pub mod ZeroRuns
 pub mod ZerosInWords

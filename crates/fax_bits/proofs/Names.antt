@@ -29,6 +29,7 @@ pub use Rattle.fax_bits.specs.declared.codes.Mode.TheVariants.{Horizontal, Pass,
 pub use Rattle.fax_bits.specs.declared.entries.TheConstants.{BLACK_ENTRIES, WHITE_ENTRIES}
 pub use Rattle.fax_bits.specs.declared.error.DecodeError.{DecodeError}
 pub use Rattle.fax_bits.specs.declared.error.DecodeError.TheVariants.{InvalidCode, OutOfMemory, Overflow, Refused, UnexpectedEof}
+pub use Rattle.fax_bits.specs.declared.mode_groups.TheConstants.{GROUPS, WIDTHS}
 pub use Rattle.fax_bits.specs.declared.pairs.TheConstants.{BLACK_PAIRS, WHITE_PAIRS}
 pub use Rattle.fax_bits.specs.declared.tables.TheConstants.{BLACK_MAKEUP, BLACK_TERMINATING, COMMON_MAKEUP, WHITE_MAKEUP}
 pub use Rattle.fax_bits.specs.declared.tables.TheConstants.{WHITE_TERMINATING}

@@ -96,3 +96,13 @@ widths_for words =
 -- auxiliary: those for ten bits
 unfoldable pub group_widths : ℕ → ℕ
 group_widths number = widths_for (words_of number)
+
+-- the rows of a look-up, one for each value of ten bits
+pub record AreRows (rows : List (List ℕ)) : Type 0 where
+  pub count : length rows ≡ 1024
+  pub each : (index : ℕ) → index < 1024 → get_or rows index [] ≡ group_row index
+
+-- the widths of a look-up, one for each value of ten bits
+pub record AreWidths (widths : List ℕ) : Type 0 where
+  pub count : length widths ≡ 1024
+  pub each : (index : ℕ) → index < 1024 → get_or widths index 0 ≡ group_widths index

@@ -5,7 +5,8 @@ ghost use Rattle.std.specs.Prelude.{Ok};
 ghost use Rattle.fax_bits.specs.Bits.{here};
 ghost use Rattle.fax_bits.specs.CodeLists.{mode_codes};
 ghost use Rattle.fax_bits.specs.CodeReading.{read_code};
-ghost use Rattle.fax_bits.specs.ModeGroups.{AreNextWords, first_mode, group_row, group_widths, offset_at, width_of, words_of};
+ghost use Rattle.fax_bits.specs.ModeGroups.{AreNextWords, AreRows, AreWidths, first_mode, group_row, group_widths};
+ghost use Rattle.fax_bits.specs.ModeGroups.{offset_at, width_of, words_of};
 ghost use Rattle.fax_bits.specs.Window.{moved};
 
 use crate::bit_reader::BitsAtHand;
@@ -45,14 +46,29 @@ pub fn group_at_hand(hand: &BitsAtHand<'_>) -> ModeGroup
     ModeGroup { bits: hand.ten() }
 }
 
+/// Returns the rows of the look-up.
+#[inline(always)]
+fn rows() -> &'static [[u8; 8]]
+    ensures { AreRows result.now }
+{
+    &GROUPS
+}
+
+/// Returns the widths of the look-up.
+#[inline(always)]
+fn widths() -> &'static [u16]
+    ensures { AreWidths result.now }
+{
+    &WIDTHS
+}
+
 /// Returns the row of ten bits.
 #[inline(always)]
 fn row_of(bits: usize) -> &'static [u8; 8]
     requires { bits < 1024 }
     ensures { result.now ≡ group_row bits }
 {
-    let rows: &'static [[u8; 8]; 1024] = &GROUPS;
-    &rows[bits]
+    &rows()[bits]
 }
 
 /// Returns the widths of ten bits.
@@ -61,8 +77,7 @@ fn widths_of(bits: usize) -> u16
     requires { bits < 1024 }
     ensures { result ≡ group_widths bits }
 {
-    let widths: &'static [u16; 1024] = &WIDTHS;
-    widths[bits]
+    widths()[bits]
 }
 
 impl ModeGroup {
