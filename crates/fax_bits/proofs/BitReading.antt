@@ -4,6 +4,7 @@ pub mod BitsInWindow
 pub mod ConsecutiveEols
 pub mod EolCounts
 pub mod FilledWindows
+pub mod GroupRows
 pub mod LookUpEntries
 pub mod OnesLeft
 pub mod PeekedBits

@@ -6,7 +6,7 @@ use Rattle.fax_bits.proofs.Names.{padded, Mode, Pass, Horizontal, Vertical, Bits
 use Rattle.fax_bits.proofs.BitReading.ZerosInWords.{modes_free}
 use Rattle.fax_bits.proofs.CodeWords.ReadCodes.{read_code_again, word_at_found}
 use Rattle.fax_bits.specs.ModeGroups.{first_mode, ten_bits, words_of}
-use Rattle.fax_bits.specs.ModeGroups.{VerticalWord, distance_of, offset_of, vertical_words, width_of, IsNextWord, AreNextWords}
+use Rattle.fax_bits.specs.ModeGroups.{VerticalWord, distance_of, offset_of, vertical_words, width_of, offset_at, IsNextWord, AreNextWords}
 
 -- ---- Whether a vertical mode is first
 words_zero : (here : Bits) → vertical_words zero here ≡ []
@@ -173,6 +173,26 @@ words_have_bits (suc most) (suc count) seen h = elim (one_or_none most seen) [
       let long : suc count ≤ suc (length (vertical_words most on.rest)) = rw on.words at h in
       rw on.words (omega (arith, on.vertical.some, words_have_bits most count on.rest (omega (arith, long))))
 ]
+
+-- their offsets
+pub words_near : (most : ℕ) (seen : Bits) (k : ℕ) → offset_at (vertical_words most seen) k ≤ 6
+words_near zero seen k = rw (words_zero seen) (omega arith)
+words_near (suc most) seen k = elim (one_or_none most seen) [
+  | inl none ↦ rw none (omega arith)
+  | inr on ↦ rw on.words 
+      (by_index (vertical_words most on.rest) (length on.word) (words_near most on.rest) on.offset on.vertical.near k)
+]
+  where
+    by_index : (words : List VerticalWord) (width : ℕ) → ((k : ℕ) → offset_at words k ≤ 6) → (offset : ℕ) → offset ≤ 6 → (k : ℕ)
+        → offset_at (record { offset = offset; width = width } ∷ words) k ≤ 6
+    by_index words width near offset first zero = first
+    by_index words width near offset first (suc k) = near k
+
+-- the bits of the first ones
+pub words_part : (count : ℕ) (words : List VerticalWord) → width_of (take count words) ≤ width_of words
+words_part zero words = omega arith
+words_part (suc count) [] = omega arith
+words_part (suc count) (word ∷ words) = omega (arith, words_part count words)
 
 -- ---- Ten bits that are here
 -- the first bits, if there are as many
