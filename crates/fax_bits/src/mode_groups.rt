@@ -1,7 +1,6 @@
 //! Groups of modes: the vertical modes that ten bits begin with, four at most, by those bits (T.4, table 4).
 
-ghost use Rattle.std.specs.Prelude.{◌≡◌, ◌-◌, ◌*◌, ◌^◌, ◌+◌, ◌<◌, ◌≤◌, ℕ, Some, true, length, get_or, take};
-ghost use Rattle.std.specs.Prelude.{Ok};
+ghost use Rattle.std.specs.Prelude.{◌≡◌, ◌-◌, ◌^◌, ◌+◌, ◌<◌, ◌≤◌, ℕ, Some, true, Ok, length, get_or, take};
 ghost use Rattle.fax_bits.specs.Bits.{here};
 ghost use Rattle.fax_bits.specs.CodeLists.{mode_codes};
 ghost use Rattle.fax_bits.specs.CodeReading.{read_code};
@@ -150,8 +149,8 @@ impl ModeGroup {
 }
 
 /// The rows of the look-up, one for each ten bits, the first bit highest: the offsets of four modes, 3 where there is none; the
-/// number of bits of all; their number; a one in each of the lowest four bits whose mode there isn't; and 1 if the horizontal mode
-/// is first, 2 if the pass mode is, otherwise 0.
+/// number of bits of all; their number; a one in each of the lowest four bits whose mode there isn't; and 1 if the horizontal
+/// mode is first, 2 if the pass mode is, otherwise 0.
 #[rattlefmt::skip]
 const GROUPS: [[u8; 8]; 1024] = [
     [3, 3, 3, 3, 0, 0, 15, 0], [3, 3, 3, 3, 0, 0, 15, 0], [3, 3, 3, 3, 0, 0, 15, 0], [3, 3, 3, 3, 0, 0, 15, 0],

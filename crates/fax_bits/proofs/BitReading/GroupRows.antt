@@ -1,6 +1,6 @@
 -- What the row of ten bits says of their modes.
-use Rattle.fax_bits.proofs.Names.{◌≡◌, ℕ, suc, zero, ◌+◌, ◌*◌, ◌^◌, ◌/◌, ◌%◌, ◌-◌, ◌<◌, ◌≤◌, get_or, length, refl, arith, take, Some}
-use Rattle.fax_bits.proofs.Names.{Horizontal, Pass, Vertical, Mode, Option, None, [], ◌∷◌, ◌∙◌}
+use Rattle.fax_bits.proofs.Names.{◌≡◌, ℕ, suc, zero, ◌+◌, ◌*◌, ◌^◌, ◌/◌, ◌%◌, ◌-◌, ◌<◌, ◌≤◌, get_or, length, refl, arith, take}
+use Rattle.fax_bits.proofs.Names.{Some, Horizontal, Pass, Vertical, Mode, Option, None, [], ◌∷◌, ◌∙◌}
 use Rattle.fax_bits.proofs.BitReading.BitLists.{length-low_bits}
 use Rattle.fax_bits.proofs.CodeWords.VerticalWords.{words_few, words_within, words_have_bits, words_near, words_part}
 use Rattle.fax_bits.specs.ModeGroups.{first_mode, group_row, group_widths, mode_number, offset_at, ten_bits, width_of, words_of}
@@ -29,10 +29,6 @@ row_offset number (suc zero) d h = refl
 row_offset number (suc (suc zero)) d h = refl
 row_offset number (suc (suc (suc zero))) d h = refl
 row_offset number (suc (suc (suc (suc k)))) d h = absurd (omega arith)
-
-pub row_long : (number : ℕ) → length (group_row number) ≡ 8
-unfolding group_row
-row_long number = refl
 
 -- ---- How many modes there are, their bits and offsets
 pub four_words : (number : ℕ) → length (words_of number) ≤ 4

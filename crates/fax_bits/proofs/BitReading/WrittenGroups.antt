@@ -1,8 +1,7 @@
 -- The rows and widths of groups of modes that are written out are those of the code list.
 use Rattle.fax_bits.proofs.Names.{◌≡◌, ℕ, suc, zero, ◌+◌, ◌<◌, Bool, true, false, ◌&&◌, eqb, List, [], ◌∷◌, length, get_or, refl}
-use Rattle.fax_bits.proofs.Names.{sym, ap, ◌∙◌, arith, and_parts, eqb-true, false≢true, option_map, GROUPS, WIDTHS, low_bits}
-use Rattle.fax_bits.proofs.Names.{Option, Mode, mode_codes, word_at}
-use Rattle.fax_bits.specs.ModeGroups.{VerticalWord, vertical_words, row_for, widths_for, words_of, first_mode, group_row}
+use Rattle.fax_bits.proofs.Names.{arith, and_parts, eqb-true, false≢true, GROUPS, WIDTHS}
+use Rattle.fax_bits.specs.ModeGroups.{vertical_words, words_of, first_mode, group_row}
 use Rattle.fax_bits.specs.ModeGroups.{group_widths, ten_bits, AreRows, AreWidths}
 
 -- whether two lists are the same

@@ -1,12 +1,12 @@
 -- The vertical modes that bits begin with are next to each other.
-use Rattle.fax_bits.proofs.Names.{◌≡◌, ℕ, zero, suc, ◌+◌, ◌-◌, ◌<◌, ◌≤◌, ◌∷◌, List, [], ◌++◌, length, take, drop, Option, Some, None, Ok}
-use Rattle.fax_bits.proofs.Names.{refl, sym, ap, ◌∙◌, arith, ◌⊎◌, inl, inr, append_assoc, length-append, drop-drop, drop_at, pos}
-use Rattle.fax_bits.proofs.Names.{negsuc, subst, common_steps}
-use Rattle.fax_bits.proofs.Names.{padded, Mode, Pass, Horizontal, Vertical, Bits, BitsAt, here, mode_codes, word_at, read_code, Has, moved}
+use Rattle.fax_bits.proofs.Names.{◌≡◌, ℕ, zero, suc, ◌-◌, ◌<◌, ◌≤◌, ◌∷◌, List, [], ◌++◌, length, take, drop, Option, Some, None}
+use Rattle.fax_bits.proofs.Names.{Ok, refl, sym, ap, ◌∙◌, arith, ◌⊎◌, inl, inr, append_assoc, length-append, drop-drop, drop_at}
+use Rattle.fax_bits.proofs.Names.{pos, negsuc, subst, common_steps, padded, Mode, Pass, Horizontal, Vertical, Bits, BitsAt, here}
+use Rattle.fax_bits.proofs.Names.{mode_codes, word_at, read_code, Has, moved}
 use Rattle.fax_bits.proofs.BitReading.ZerosInWords.{modes_free}
 use Rattle.fax_bits.proofs.CodeWords.ReadCodes.{read_code_again, word_at_found}
-use Rattle.fax_bits.specs.ModeGroups.{first_mode, ten_bits, words_of}
-use Rattle.fax_bits.specs.ModeGroups.{VerticalWord, distance_of, offset_of, vertical_words, width_of, offset_at, IsNextWord, AreNextWords}
+use Rattle.fax_bits.specs.ModeGroups.{VerticalWord, distance_of, offset_of, vertical_words, width_of, offset_at}
+use Rattle.fax_bits.specs.ModeGroups.{AreNextWords, first_mode, ten_bits, words_of}
 
 -- ---- Whether a vertical mode is first
 words_zero : (here : Bits) → vertical_words zero here ≡ []
@@ -135,15 +135,15 @@ next_words zero at seen more is = rw (words_zero seen) tt
 next_words (suc most) at seen more is = elim (one_or_none most seen) [
   | inl none ↦ rw none tt
   | inr on ↦ rw on.words (
-      record {
-        read = read_on at seen more on.word on.rest on.mode is on.has on.there
-            ∙ ap (λ (m : Mode). Ok (m, here (moved (length on.word) at))) on.vertical.is;
-        some = on.vertical.some;
-        few = on.vertical.few;
-        near = on.vertical.near;
-      },
-      next_words most (moved (length on.word) at) on.rest more (behind_word at seen more on.word on.rest is on.there),
-    )
+    record {
+      read = read_on at seen more on.word on.rest on.mode is on.has on.there
+          ∙ ap (λ (m : Mode). Ok (m, here (moved (length on.word) at))) on.vertical.is;
+      some = on.vertical.some;
+      few = on.vertical.few;
+      near = on.vertical.near;
+    },
+    next_words most (moved (length on.word) at) on.rest more (behind_word at seen more on.word on.rest is on.there),
+  )
 ]
 
 -- ---- How many there are, and their bits
@@ -179,7 +179,7 @@ pub words_near : (most : ℕ) (seen : Bits) (k : ℕ) → offset_at (vertical_wo
 words_near zero seen k = rw (words_zero seen) (omega arith)
 words_near (suc most) seen k = elim (one_or_none most seen) [
   | inl none ↦ rw none (omega arith)
-  | inr on ↦ rw on.words 
+  | inr on ↦ rw on.words
       (by_index (vertical_words most on.rest) (length on.word) (words_near most on.rest) on.offset on.vertical.near k)
 ]
   where

@@ -1,4 +1,4 @@
-use Rattle.fax_bits.proofs.Names.{◌≡◌, ◌≤◌, BitsAt, arith, length, length-drop, here, Pass, Horizontal}
+use Rattle.fax_bits.proofs.Names.{◌≤◌, BitsAt, arith, length, length-drop, here, Pass, Horizontal}
 use Rattle.fax_bits.proofs.CodeWords.VerticalWords.{group_next, first_next, horizontal_wide, pass_wide}
 use Rattle.fax_bits.proofs.mode_groups.group_at_hand.Goals as goal
 

@@ -1,4 +1,4 @@
-use Rattle.fax_bits.proofs.Names.{◌≡◌, ◌∙◌, ◌<◌, ℕ, List, ap, arith, get_or}
+use Rattle.fax_bits.proofs.Names.{◌∙◌, ℕ, List, ap, arith, get_or}
 use Rattle.fax_bits.proofs.BitReading.GroupRows.{row_offset, offset_near}
 use Rattle.fax_bits.proofs.mode_groups.ModeGroup.offsets.Goals as goal
 use Rattle.fax_bits.specs.ModeGroups.{offset_at, words_of}

@@ -1,7 +1,7 @@
-use Rattle.fax_bits.proofs.Names.{◌≡◌, ◌∙◌, ◌-◌, ◌^◌, ℕ, List, ap, arith, get_or, length, pow_pos}
-use Rattle.fax_bits.proofs.BitReading.GroupRows.{row_unused, four_words, within_ten, bits_for_all}
+use Rattle.fax_bits.proofs.Names.{◌∙◌, ◌-◌, ◌^◌, ℕ, List, ap, arith, get_or, length, pow_pos}
+use Rattle.fax_bits.proofs.BitReading.GroupRows.{row_unused}
 use Rattle.fax_bits.proofs.mode_groups.ModeGroup.unused.Goals as goal
-use Rattle.fax_bits.specs.ModeGroups.{width_of, words_of}
+use Rattle.fax_bits.specs.ModeGroups.{words_of}
 
 pub returns-clause-value : goal.returns-clause-value
 returns-clause-value c = c.from.ensures ∙ ap (λ (row : List ℕ). get_or row 6 0) c.row_of.ensures ∙ row_unused c.self.inside.bits

@@ -1,5 +1,5 @@
-use Rattle.fax_bits.proofs.Names.{◌≡◌, ◌∙◌, ◌-◌, ◌^◌, ℕ, List, ap, arith, get_or, length, pow_pos}
-use Rattle.fax_bits.proofs.BitReading.GroupRows.{row_width, four_words, within_ten, bits_for_all}
+use Rattle.fax_bits.proofs.Names.{◌∙◌, ℕ, List, ap, arith, get_or}
+use Rattle.fax_bits.proofs.BitReading.GroupRows.{row_width, within_ten, bits_for_all}
 use Rattle.fax_bits.proofs.mode_groups.ModeGroup.width.Goals as goal
 use Rattle.fax_bits.specs.ModeGroups.{width_of, words_of}
 
