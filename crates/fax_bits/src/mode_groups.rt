@@ -116,7 +116,7 @@ impl ModeGroup {
         ensures near { (k d : ℕ) → k < 4 → get_or result.now k d ≤ 6 }
         ensures long { 4 ≤ length result.now }
     {
-        row_of(self.bits)
+        &row_of(self.bits)[..]
     }
 
     /// Returns the number of bits of the first `count` vertical modes.
