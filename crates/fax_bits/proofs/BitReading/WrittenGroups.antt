@@ -1,11 +1,10 @@
--- The rows and widths of groups of modes that are written out are those of the code list.
+-- When the rows and widths of groups of modes that are written out are those of the code list.
 use Rattle.fax_bits.proofs.Names.{◌≡◌, ℕ, suc, zero, ◌+◌, ◌<◌, Bool, true, false, ◌&&◌, eqb, List, [], ◌∷◌, length, get_or, refl}
-use Rattle.fax_bits.proofs.Names.{arith, and_parts, eqb-true, false≢true, GROUPS, WIDTHS}
-use Rattle.fax_bits.specs.ModeGroups.{vertical_words, words_of, first_mode, group_row}
-use Rattle.fax_bits.specs.ModeGroups.{group_widths, ten_bits, AreRows, AreWidths}
+use Rattle.fax_bits.proofs.Names.{arith, and_parts, eqb-true, false≢true}
+use Rattle.fax_bits.specs.ModeGroups.{group_row, group_widths, AreRows, AreWidths}
 
 -- whether two lists are the same
-abbrev same_items : List ℕ → List ℕ → Bool
+abbrev pub same_items : List ℕ → List ℕ → Bool
 same_items [] [] = true
 same_items [] (y ∷ ys) = false
 same_items (x ∷ xs) [] = false
@@ -22,7 +21,7 @@ same_items-true (x ∷ xs) (y ∷ ys) e =
     cc
 
 -- each of some rows, from an index on, is that of its bits
-abbrev are_rows : List (List ℕ) → ℕ → Bool
+abbrev pub are_rows : List (List ℕ) → ℕ → Bool
 are_rows [] index = true
 are_rows (row ∷ rows) index = same_items row (group_row index) && are_rows rows (suc index)
 
@@ -39,7 +38,7 @@ rows_agree_at (row ∷ rows) from (suc index) e lt =
     rw at (rows_agree_at rows (suc from) index both.1 (omega arith))
 
 -- the same of the widths
-abbrev are_widths : List ℕ → ℕ → Bool
+abbrev pub are_widths : List ℕ → ℕ → Bool
 are_widths [] index = true
 are_widths (entry ∷ entries) index = eqb entry (group_widths index) && are_widths entries (suc index)
 
@@ -55,23 +54,16 @@ widths_agree_at (entry ∷ entries) from (suc index) e lt =
     let at : from + suc index ≡ suc from + index = omega arith in
     rw at (widths_agree_at entries (suc from) index both.1 (omega arith))
 
-rows_agree : are_rows GROUPS 0 ≡ true
-unfolding group_row words_of first_mode vertical_words ten_bits
-rows_agree = refl
-
-pub rows_are : AreRows GROUPS
-rows_are = record {
-  count = refl;
-  each = λ index below. let same : 0 + index ≡ index = omega arith in rw same at (rows_agree_at GROUPS 0 index rows_agree below);
+pub rows_agree : (rows : List (List ℕ)) → length rows ≡ 1024 → are_rows rows 0 ≡ true → AreRows rows
+rows_agree rows count all = record {
+  count = count;
+  each = λ index below.
+      let same : 0 + index ≡ index = omega arith in rw same at (rows_agree_at rows 0 index all (omega (arith, count, below)));
 }
 
-widths_agree : are_widths WIDTHS 0 ≡ true
-unfolding group_widths words_of vertical_words ten_bits
-widths_agree = refl
-
-pub widths_are : AreWidths WIDTHS
-widths_are = record {
-  count = refl;
+pub widths_agree : (entries : List ℕ) → length entries ≡ 1024 → are_widths entries 0 ≡ true → AreWidths entries
+widths_agree entries count all = record {
+  count = count;
   each = λ index below.
-      let same : 0 + index ≡ index = omega arith in rw same at (widths_agree_at WIDTHS 0 index widths_agree below);
+      let same : 0 + index ≡ index = omega arith in rw same at (widths_agree_at entries 0 index all (omega (arith, count, below)));
 }
