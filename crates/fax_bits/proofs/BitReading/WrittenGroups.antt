@@ -65,5 +65,6 @@ pub widths_agree : (entries : List ℕ) → length entries ≡ 1024 → are_widt
 widths_agree entries count all = record {
   count = count;
   each = λ index below.
-      let same : 0 + index ≡ index = omega arith in rw same at (widths_agree_at entries 0 index all (omega (arith, count, below)));
+      let same : 0 + index ≡ index = omega arith in
+      rw same at (widths_agree_at entries 0 index all (omega (arith, count, below)));
 }
