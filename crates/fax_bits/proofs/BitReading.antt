@@ -4,6 +4,7 @@ pub mod BitsInWindow
 pub mod ConsecutiveEols
 pub mod EolCounts
 pub mod FilledWindows
+pub mod GroupRows
 pub mod LookUpEntries
 pub mod OnesLeft
 pub mod PeekedBits
@@ -17,6 +18,7 @@ pub mod WhiteWordsListed
 pub mod WindowWords
 pub mod WordRanges
 pub mod WrittenEntries
+pub mod WrittenGroups
 pub mod WrittenPairs
 pub mod ZeroRuns
 pub mod ZerosInWords

@@ -5,4 +5,5 @@ pub mod LooksAhead
 pub mod ReadCodes
 pub mod ReadRuns
 pub mod RunWords
+pub mod VerticalWords
 pub mod WordsHere

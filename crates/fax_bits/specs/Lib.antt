@@ -4,6 +4,7 @@ pub mod CodeReading
 pub mod EndOfLine
 pub mod Faults
 pub mod LookUps
+pub mod ModeGroups
 pub mod Ones
 pub mod Repetition
 pub mod Runs

@@ -7,6 +7,7 @@ ghost use Rattle.fax_bits.specs.Bits.{AreWholeBytes, BitsAt, BitsFit, bits_of, l
 ghost use Rattle.fax_bits.specs.Bits.{at_end, aligned, low_bits};
 ghost use Rattle.fax_bits.specs.Window.{place_in_word, ArePlaced, AtHand, HoldsNext, PassesPlaced, WordsAt, moved};
 ghost use Rattle.fax_bits.specs.LookUps.{padded, seven_bits, thirteen_bits, twelve_bits};
+ghost use Rattle.fax_bits.specs.ModeGroups.{ten_bits};
 
 use crate::{DecodeError, Result};
 use std::marker::Model;
@@ -747,6 +748,17 @@ impl<'a> BitsAtHand<'a> {
         ensures bits { twelve_bits result ≡ padded 12 (here (moved skip self.now.at)) }
     {
         (self.window << skip >> 52) as usize
+    }
+
+    /// Returns the next ten bits, as a number.
+    #[inline(always)]
+    pub fn ten(&self) -> usize
+        requires within { 10 ≤ self.now.left }
+        ensures few { result < 1024 }
+        ensures there { self.now.at.place + self.now.left ≤ length self.now.at.bits }
+        ensures bits { ten_bits result ≡ padded 10 (here self.now.at) }
+    {
+        (self.window >> 54) as usize
     }
 
     /// Returns a copy.

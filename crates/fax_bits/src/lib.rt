@@ -1,8 +1,9 @@
 //! The bits of CCITT fax data and the words among them: ITU-T T.4 (Group 3) and T.6 (Group 4).
 //!
 //! A [`bit_reader::BitReader`] is the bits of some bytes in either order and an offset among them. [`codes`] reads runs, modes and
-//! EOLs from it by the lists of [`tables`], each with its count of work, and [`words_at_hand`] and [`pairs`] read words that are in
-//! the window. The settings and the errors of decoding are here too. What of this a user calls, `hayro_ccitt` passes on.
+//! EOLs from it by the lists of [`tables`], each with its count of work, and [`words_at_hand`], [`pairs`] and [`mode_groups`]
+//! read words that are in the window. The settings and the errors of decoding are here too. What of this a user calls,
+//! `hayro_ccitt` passes on.
 #![tactic(auto)]
 
 ghost use Rattle.std.specs.Prelude.{◌↔◌, IsTrue};
@@ -12,6 +13,7 @@ pub mod bit_reader;
 pub mod codes;
 mod entries;
 mod error;
+pub mod mode_groups;
 pub mod pairs;
 mod settings;
 pub mod tables;

@@ -2,6 +2,7 @@
 use Rattle.fax_bits.proofs.Names.{◌≡◌, ℕ, zero, suc, ◌+◌, ◌-◌, ◌/◌, ◌^◌, ◌<◌, ◌≤◌, false, [], ◌∷◌, get_or, refl, sym, ap, ◌∙◌}
 use Rattle.fax_bits.proofs.Names.{arith, get_or-drop, shr-shr, Bits, BitsAt, bit_of, low_bits, here, padded, common_steps}
 use Rattle.fax_bits.specs.LookUps.{seven_bits, thirteen_bits, twelve_bits}
+use Rattle.fax_bits.specs.ModeGroups.{ten_bits}
 
 -- the low bits of a number, if they are the first ones here
 pub low_bits-padded : (n x : ℕ) (here : Bits) → ((k : ℕ) → k < n → bit_of x (n - 1 - k) ≡ get_or here k false)
@@ -54,3 +55,8 @@ pub first_twelve : (at : BitsAt) (word : ℕ) → ((k : ℕ) → k < 12 → bit_
     → twelve_bits (word / 4503599627370496) ≡ padded 12 (here at)
 unfolding twelve_bits
 first_twelve at word h = highest_bits 64 at word 12 (omega arith) h
+
+pub first_ten : (at : BitsAt) (word : ℕ) → ((k : ℕ) → k < 10 → bit_of word (63 - k) ≡ get_or at.bits (at.place + k) false)
+    → ten_bits (word / 18014398509481984) ≡ padded 10 (here at)
+unfolding ten_bits
+first_ten at word h = highest_bits 64 at word 10 (omega arith) h
