@@ -1,4 +1,5 @@
 pub mod PartsOfLines
+pub mod RegularLanes
 pub mod TwoOnes
 pub mod UsualModes
 pub mod UsualStrokes
