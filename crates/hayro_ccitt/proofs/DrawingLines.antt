@@ -1,3 +1,4 @@
+pub mod GroupMasks
 pub mod PartsOfLines
 pub mod RegularLanes
 pub mod TwoOnes
