@@ -1,6 +1,6 @@
 -- Masks of four bits, of which the lowest are of interest.
-use Rattle.hayro_ccitt.proofs.Names.{◌≡◌, ℕ, ◌+◌, ◌-◌, ◌*◌, ◌/◌, ◌%◌, ◌<◌, ◌≤◌, ◌∙◌, inl, inr, Bool, true, false, not, cond, ltb}
-use Rattle.hayro_ccitt.proofs.Names.{eqb, max, refl, sym, ap, arith, cases_lt, eqb-true, eq-eqb, lt-ltb, le-ltb}
+use Rattle.hayro_ccitt.proofs.Names.{◌≡◌, ℕ, ◌+◌, ◌-◌, ◌*◌, ◌/◌, ◌%◌, ◌<◌, ◌≤◌, ◌∙◌, inl, inr, true, not, ltb}
+use Rattle.hayro_ccitt.proofs.Names.{refl, ap, arith, cases_lt, eqb-true, eq-eqb, lt-ltb, le-ltb}
 use Rattle.std.proofs.Common.{◌^◌}
 use Rattle.std.specs.Int.{bit_at, trailing_ones, w64}
 use Rattle.std.specs.Int.RustNames.{bit_or}
@@ -40,7 +40,8 @@ set_before_count mask unused count le is all k lt =
 -- and the other way
 all_set : (mask count : ℕ) → mask < 16 → count ≤ 4 → AreSet mask count → bit_or mask (16 - 2 ^ count) ≡ 15
 all_set mask count few le set =
-    same_from_bits_below 4 (bit_or mask (16 - 2 ^ count)) 15 (or_lt 4 mask (16 - 2 ^ count) (omega (arith, few)) (omega (arith, pow_pos count))) (omega arith) (λ k lt.
+    let fits = or_lt 4 mask (16 - 2 ^ count) (omega (arith, few)) (omega (arith, pow_pos count)) in
+    same_from_bits_below 4 (bit_or mask (16 - 2 ^ count)) 15 fits (omega arith) (λ k lt.
         let four = agree_below_at (λ b. bit_of 15 b) (λ b. true) 4 k refl lt in
         let both = bit_at_or mask (16 - 2 ^ count) k in
         elim (cases_lt k count) [
@@ -63,5 +64,7 @@ pub first_before_count : (mask unused count : ℕ) → mask < 16 → count ≤ 4
     → (bit_or mask unused ≡ 15 → ⊥) → trailing_ones w64 mask < count
 first_before_count mask unused count few le is some = elim (cases_lt (trailing_ones w64 mask) count) [
   | inl before ↦ before
-  | inr behind ↦ absurd (some (ap (bit_or mask) is ∙ all_set mask count few le (λ k lt. set_before_first mask few k (omega (arith, lt, behind)))))
+  | inr behind ↦
+      let set : AreSet mask count = λ k lt. set_before_first mask few k (omega (arith, lt, behind)) in
+      absurd (some (ap (bit_or mask) is ∙ all_set mask count few le set))
 ]

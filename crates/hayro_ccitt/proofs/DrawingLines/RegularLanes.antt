@@ -1,6 +1,6 @@
 -- Vectors of four numbers of 32 bits, lane by lane.
 use Rattle.hayro_ccitt.proofs.Names.{◌≡◌, ℕ, zero, suc, ◌+◌, ◌-◌, ◌/◌, ◌%◌, ◌<◌, ◌≤◌, ◌∙◌, List, [], ◌∷◌, ◌++◌, Bool, true, false}
-use Rattle.hayro_ccitt.proofs.Names.{inl, inr, cond, ltb, eqb, map, length, get_or, replicate, refl, sym, ap, arith, w32, cases_lt}
+use Rattle.hayro_ccitt.proofs.Names.{inl, inr, cond, ltb, eqb, map, length, get_or, refl, sym, ap, arith, w32, cases_lt}
 use Rattle.hayro_ccitt.proofs.Names.{cond-true, cond-false, lt-ltb, le-ltb, eqb-true, get_or_default_zero, get_or-append_right}
 use Rattle.hayro_ccitt.proofs.Names.{get_or-replicate}
 use Rattle.std.proofs.Common.{◌^◌, ap₂}
@@ -21,6 +21,13 @@ greater xs ys = sel_l (map (top 31) (compared ltb xs ys)) ys xs
 
 abbrev pub lesser : List ℕ → List ℕ → List ℕ
 lesser xs ys = sel_l (map (top 31) (compared ltb xs ys)) xs ys
+
+-- the sum of two numbers, and their difference, as lanes have them
+abbrev plus : ℕ → ℕ → ℕ
+plus a b = (a + b) % 2 ^ 32
+
+abbrev minus : ℕ → ℕ → ℕ
+minus a b = (a + (2 ^ 32 - b)) % 2 ^ 32
 
 -- the bits of a mask
 abbrev pub mask_of : List ℕ → ℕ
@@ -43,30 +50,34 @@ is_one true e = refl
 is_one false e = absurd (omega (arith, e))
 
 module _ (xs ys : List ℕ) (long : length xs ≡ 4) (wide : length ys ≡ 4) where
-  length-compared : (test : ℕ → ℕ → Bool) → length (zip2 test xs ys) ≡ 4
-  length-compared test = length-zip2 test xs ys (long ∙ sym wide) ∙ long
+  length-tests : (test : ℕ → ℕ → Bool) → length (zip2 test xs ys) ≡ 4
+  length-tests test = length-zip2 test xs ys (long ∙ sym wide) ∙ long
 
   pub length-greater : length (greater xs ys) ≡ 4
   length-greater =
+      let all = length-tests ltb in
       ap (λ ms. length (sel_l ms ys xs)) (tops_compared w32 ltb xs ys)
-      ∙ length-sel_l (zip2 ltb xs ys) ys xs (length-compared ltb ∙ sym wide) (length-compared ltb ∙ sym long) ∙ length-compared ltb
+      ∙ length-sel_l (zip2 ltb xs ys) ys xs (all ∙ sym wide) (all ∙ sym long) ∙ all
 
   pub length-lesser : length (lesser xs ys) ≡ 4
   length-lesser =
+      let all = length-tests ltb in
       ap (λ ms. length (sel_l ms xs ys)) (tops_compared w32 ltb xs ys)
-      ∙ length-sel_l (zip2 ltb xs ys) xs ys (length-compared ltb ∙ sym long) (length-compared ltb ∙ sym wide) ∙ length-compared ltb
+      ∙ length-sel_l (zip2 ltb xs ys) xs ys (all ∙ sym long) (all ∙ sym wide) ∙ all
 
-  pub greater_above : (k : ℕ) → k < 4 → (get_or xs k 0 ≤ get_or (greater xs ys) k 0) × (get_or ys k 0 ≤ get_or (greater xs ys) k 0)
+  pub greater_above : (k : ℕ) → k < 4
+      → (get_or xs k 0 ≤ get_or (greater xs ys) k 0) × (get_or ys k 0 ≤ get_or (greater xs ys) k 0)
   greater_above k lt =
-      let all = length-compared ltb in
+      let all = length-tests ltb in
       chosen (get_or xs k 0) (get_or ys k 0) (get_or (greater xs ys) k 0) (
       ap (λ ms. get_or (sel_l ms ys xs) k 0) (tops_compared w32 ltb xs ys)
       ∙ get_or-sel_l (zip2 ltb xs ys) ys xs k 0 (omega arith) (omega arith) (omega arith)
       ∙ ap (λ t. cond t (get_or ys k 0) (get_or xs k 0)) (get_or-zip2 ltb xs ys k 0 0 false (omega arith) (omega arith)))
 
-  pub lesser_below : (k : ℕ) → k < 4 → (get_or (lesser xs ys) k 0 ≤ get_or xs k 0) × (get_or (lesser xs ys) k 0 ≤ get_or ys k 0)
+  pub lesser_below : (k : ℕ) → k < 4
+      → (get_or (lesser xs ys) k 0 ≤ get_or xs k 0) × (get_or (lesser xs ys) k 0 ≤ get_or ys k 0)
   lesser_below k lt =
-      let all = length-compared ltb in
+      let all = length-tests ltb in
       left_over (get_or xs k 0) (get_or ys k 0) (get_or (lesser xs ys) k 0) (
       ap (λ ms. get_or (sel_l ms xs ys) k 0) (tops_compared w32 ltb xs ys)
       ∙ get_or-sel_l (zip2 ltb xs ys) xs ys k 0 (omega arith) (omega arith) (omega arith)
@@ -75,14 +86,14 @@ module _ (xs ys : List ℕ) (long : length xs ≡ 4) (wide : length ys ≡ 4) wh
   mask_of_equal : mask_of (compared eqb xs ys) ≡ mask_l (zip2 eqb xs ys)
   mask_of_equal =
       ap (λ ms. mask_l ms % 2 ^ 64) (tops_compared w32 eqb xs ys)
-      ∙ mask_l-mod (zip2 eqb xs ys) 64 (omega (arith, length-compared eqb))
+      ∙ mask_l-mod (zip2 eqb xs ys) 64 (omega (arith, length-tests eqb))
 
   pub mask_fits : mask_of (compared eqb xs ys) < 16
-  mask_fits = omega (arith, mask_of_equal, length-compared eqb, mask_l-lt (zip2 eqb xs ys), ap (λ n. 2 ^ n) (length-compared eqb))
+  mask_fits = omega (arith, mask_of_equal, length-tests eqb, mask_l-lt (zip2 eqb xs ys), ap (λ n. 2 ^ n) (length-tests eqb))
 
   pub equal_where_set : (k : ℕ) → k < 4 → bit_of (mask_of (compared eqb xs ys)) k ≡ true → get_or xs k 0 ≡ get_or ys k 0
   equal_where_set k lt set =
-      let all = length-compared eqb in
+      let all = length-tests eqb in
       eqb-true _ _ (
       sym (get_or-zip2 eqb xs ys k 0 0 false (omega arith) (omega arith))
       ∙ is_one _ (
@@ -104,12 +115,12 @@ between reached least most long low high k lt set =
 module _ (painted index : ℕ) (places offsets : List ℕ) where
   -- the places that four vertical modes lead to
   abbrev pub reached_from : List ℕ
-  reached_from = zip2 (λ a b. (a + (2 ^ 32 - b)) % 2 ^ 32)
-      (zip2 (λ a b. (a + b) % 2 ^ 32) (chunk index 4 places) (map (λ a. a) (chunk 0 4 offsets))) (3 ∷ 3 ∷ 3 ∷ 3 ∷ [])
+  reached_from = zip2 minus
+      (zip2 plus (chunk index 4 places) (map (λ a. a) (chunk 0 4 offsets))) (3 ∷ 3 ∷ 3 ∷ 3 ∷ [])
 
   -- the first place right of where each of them starts
   abbrev pub right_of_start : List ℕ
-  right_of_start = zip2 (λ a b. (a + b) % 2 ^ 32)
+  right_of_start = zip2 plus
       (pick_l 0 (reached_from ++ painted ∷ painted ∷ painted ∷ painted ∷ []) (4 ∷ 0 ∷ 1 ∷ 2 ∷ [])) (1 ∷ 1 ∷ 1 ∷ 1 ∷ [])
 
   -- the least places at which they are regular, and the greatest
@@ -117,13 +128,14 @@ module _ (painted index : ℕ) (places offsets : List ℕ) where
   least_from = greater right_of_start (chunk (index - 1) 4 places)
 
   abbrev pub most_from : List ℕ
-  most_from = zip2 (λ a b. (a + (2 ^ 32 - b)) % 2 ^ 32) (chunk (index + 1) 4 places) (1 ∷ 1 ∷ 1 ∷ 1 ∷ [])
+  most_from = zip2 minus (chunk (index + 1) 4 places) (1 ∷ 1 ∷ 1 ∷ 1 ∷ [])
 
   -- which of them are regular
   abbrev pub mask_from : ℕ
   mask_from = mask_of (compared eqb (greater reached_from least_from) (lesser reached_from most_from))
 
-  module _ (within : (0 < index) × (index + 5 ≤ length places)) (near : (4 ≤ length offsets) × ((k : ℕ) → k < 4 → get_or offsets k 3 ≤ 6)) where
+  module _ (within : (0 < index) × (index + 5 ≤ length places))
+      (near : (4 ≤ length offsets) × ((k : ℕ) → k < 4 → get_or offsets k 3 ≤ 6)) where
     length-here : length (chunk index 4 places) ≡ 4
     length-here = length-chunk index 4 places (omega (arith, within.1))
 
@@ -136,20 +148,19 @@ module _ (painted index : ℕ) (places offsets : List ℕ) where
     length-offsets : length (map (λ a. a) (chunk 0 4 offsets)) ≡ 4
     length-offsets = length-map (chunk 0 4 offsets) (λ a. a) ∙ length-chunk 0 4 offsets near.0
 
-    length-sums : length (zip2 (λ a b. (a + b) % 2 ^ 32) (chunk index 4 places) (map (λ a. a) (chunk 0 4 offsets))) ≡ 4
+    length-sums : length (zip2 plus (chunk index 4 places) (map (λ a. a) (chunk 0 4 offsets))) ≡ 4
     length-sums =
-        length-zip2 (λ a b. (a + b) % 2 ^ 32) (chunk index 4 places) (map (λ a. a) (chunk 0 4 offsets)) (length-here ∙ sym length-offsets)
+        length-zip2 plus (chunk index 4 places) (map (λ a. a) (chunk 0 4 offsets)) (length-here ∙ sym length-offsets)
         ∙ length-here
 
     pub length-reached : length reached_from ≡ 4
-    length-reached = length-zip2 (λ a b. (a + (2 ^ 32 - b)) % 2 ^ 32) _ (3 ∷ 3 ∷ 3 ∷ 3 ∷ []) length-sums ∙ length-sums
+    length-reached = length-zip2 minus _ (3 ∷ 3 ∷ 3 ∷ 3 ∷ []) length-sums ∙ length-sums
 
     length-least : length least_from ≡ 4
     length-least = length-greater right_of_start (chunk (index - 1) 4 places) refl length-before
 
     length-most : length most_from ≡ 4
-    length-most =
-        length-zip2 (λ a b. (a + (2 ^ 32 - b)) % 2 ^ 32) (chunk (index + 1) 4 places) (1 ∷ 1 ∷ 1 ∷ 1 ∷ []) length-next ∙ length-next
+    length-most = length-zip2 minus (chunk (index + 1) 4 places) (1 ∷ 1 ∷ 1 ∷ 1 ∷ []) length-next ∙ length-next
 
     pub mask_from_fits : mask_from < 16
     mask_from_fits = mask_fits (greater reached_from least_from) (lesser reached_from most_from)
@@ -165,16 +176,17 @@ module _ (painted index : ℕ) (places offsets : List ℕ) where
     offset_here k lt =
         let at : 0 + k ≡ k = omega arith in
         get_or-map (λ a. a) (chunk 0 4 offsets) k 0 0 (omega (arith, length-chunk 0 4 offsets near.0))
-        ∙ get_or-chunk 0 4 offsets k 0 lt ∙ ap (λ (i : ℕ). get_or offsets i 0) at ∙ sym (get_or_default_zero offsets k 3 (omega (arith, near.0)))
+        ∙ get_or-chunk 0 4 offsets k 0 lt ∙ ap (λ (i : ℕ). get_or offsets i 0) at
+        ∙ sym (get_or_default_zero offsets k 3 (omega (arith, near.0)))
 
     reached_at : (columns k : ℕ) → k < 4
-        → get_or reached_from k 0 ≡ ((get_or places (index + k) columns + get_or offsets k 3) % 2 ^ 32 + (2 ^ 32 - 3)) % 2 ^ 32
+        → get_or reached_from k 0 ≡ minus (plus (get_or places (index + k) columns) (get_or offsets k 3)) 3
     reached_at columns k lt =
-        get_or-zip2 (λ a b. (a + (2 ^ 32 - b)) % 2 ^ 32) _ (3 ∷ 3 ∷ 3 ∷ 3 ∷ []) k 0 0 0 (omega (arith, length-sums)) lt
-        ∙ ap₂ (λ (a b : ℕ). (a + (2 ^ 32 - b)) % 2 ^ 32)
-        (get_or-zip2 (λ a b. (a + b) % 2 ^ 32) (chunk index 4 places) (map (λ a. a) (chunk 0 4 offsets)) k 0 0 0
+        get_or-zip2 minus _ (3 ∷ 3 ∷ 3 ∷ 3 ∷ []) k 0 0 0 (omega (arith, length-sums)) lt
+        ∙ ap₂ minus
+        (get_or-zip2 plus (chunk index 4 places) (map (λ a. a) (chunk 0 4 offsets)) k 0 0 0
         (omega (arith, length-here)) (omega (arith, length-offsets))
-        ∙ ap₂ (λ (a b : ℕ). (a + b) % 2 ^ 32) (change_here columns k lt) (offset_here k lt))
+        ∙ ap₂ plus (change_here columns k lt) (offset_here k lt))
         (get_or-replicate 4 k 3 0 lt)
 
     -- a place inside the row is the change and its offset, less three
@@ -183,23 +195,24 @@ module _ (painted index : ℕ) (places offsets : List ℕ) where
         → get_or places (index + k) columns + get_or offsets k 3 ≡ get_or reached_from k 0 + 3
     reached_inside columns k fit below lt inside = omega (arith, reached_at columns k lt, near.1 k lt)
 
-    start_at : (k : ℕ) → k < 4 → get_or right_of_start k 0 ≡ (get_or (painted ∷ reached_from) k 0 + 1) % 2 ^ 32
-    start_at zero lt = ap (λ (n : ℕ). (n + 1) % 2 ^ 32)
+    first_three : (k : ℕ) → k < 4
+        → get_or (reached_from ++ painted ∷ painted ∷ painted ∷ painted ∷ []) k 0 ≡ get_or reached_from k 0
+    first_three k lt = get_or_append_left reached_from _ 0 k (omega (arith, length-reached))
+
+    -- the place where a mode starts is that to which the one before leads
+    start_at : (k : ℕ) → k < 4 → get_or right_of_start k 0 ≡ plus (get_or (painted ∷ reached_from) k 0) 1
+    start_at zero lt = ap (λ n. plus n 1)
         (get_or-append_right reached_from (painted ∷ painted ∷ painted ∷ painted ∷ []) 4 4 0 length-reached (omega arith))
-    start_at (suc zero) lt = ap (λ (n : ℕ). (n + 1) % 2 ^ 32) (get_or_append_left reached_from _ 0 0 (omega (arith, length-reached)))
-    start_at (suc (suc zero)) lt =
-        ap (λ (n : ℕ). (n + 1) % 2 ^ 32) (get_or_append_left reached_from _ 0 1 (omega (arith, length-reached)))
-    start_at (suc (suc (suc zero))) lt =
-        ap (λ (n : ℕ). (n + 1) % 2 ^ 32) (get_or_append_left reached_from _ 0 2 (omega (arith, length-reached)))
+    start_at (suc zero) lt = ap (λ n. plus n 1) (first_three 0 (omega arith))
+    start_at (suc (suc zero)) lt = ap (λ n. plus n 1) (first_three 1 (omega arith))
+    start_at (suc (suc (suc zero))) lt = ap (λ n. plus n 1) (first_three 2 (omega arith))
     start_at (suc (suc (suc (suc k)))) lt = absurd (omega (arith, lt))
 
-    most_at : (columns k : ℕ) → k < 4
-        → get_or most_from k 0 ≡ (get_or places (index + k + 1) columns + (2 ^ 32 - 1)) % 2 ^ 32
+    most_at : (columns k : ℕ) → k < 4 → get_or most_from k 0 ≡ minus (get_or places (index + k + 1) columns) 1
     most_at columns k lt =
         let at : index + 1 + k ≡ index + k + 1 = omega arith in
-        get_or-zip2 (λ a b. (a + (2 ^ 32 - b)) % 2 ^ 32) (chunk (index + 1) 4 places) (1 ∷ 1 ∷ 1 ∷ 1 ∷ []) k 0 0 0
-        (omega (arith, length-next)) lt
-        ∙ ap₂ (λ (a b : ℕ). (a + (2 ^ 32 - b)) % 2 ^ 32)
+        get_or-zip2 minus (chunk (index + 1) 4 places) (1 ∷ 1 ∷ 1 ∷ 1 ∷ []) k 0 0 0 (omega (arith, length-next)) lt
+        ∙ ap₂ minus
         (get_or-chunk (index + 1) 4 places k 0 lt ∙ ap (λ (i : ℕ). get_or places i 0) at
         ∙ sym (get_or_default_zero places (index + k + 1) columns (omega (arith, within.1))))
         (get_or-replicate 4 k 1 0 lt)
