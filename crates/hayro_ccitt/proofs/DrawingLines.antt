@@ -1,4 +1,6 @@
+pub mod GroupMasks
 pub mod PartsOfLines
+pub mod RegularLanes
 pub mod TwoOnes
 pub mod UsualModes
 pub mod UsualStrokes

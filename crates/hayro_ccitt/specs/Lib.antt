@@ -6,6 +6,7 @@ pub mod FeedsPaid
 pub mod GapsSeen
 pub mod Lending
 pub mod LineParts
+pub mod RegularModes
 pub mod RowCursors
 pub mod RowFeeds
 pub mod RowsOfFeeds

@@ -44,6 +44,7 @@ mod locality;
 mod modes;
 mod push_rows;
 mod reach;
+mod regular_places;
 mod row_cursor;
 mod row_feed;
 mod row_reader;
