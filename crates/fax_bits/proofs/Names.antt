@@ -29,7 +29,7 @@ pub use Rattle.fax_bits.specs.declared.codes.Mode.TheVariants.{Horizontal, Pass,
 pub use Rattle.fax_bits.specs.declared.entries.TheConstants.{BLACK_ENTRIES, WHITE_ENTRIES}
 pub use Rattle.fax_bits.specs.declared.error.DecodeError.{DecodeError}
 pub use Rattle.fax_bits.specs.declared.error.DecodeError.TheVariants.{InvalidCode, OutOfMemory, Overflow, Refused, UnexpectedEof}
-pub use Rattle.fax_bits.specs.declared.mode_groups.TheConstants.{GROUPS, WIDTHS}
+pub use Rattle.fax_bits.specs.declared.mode_groups.TheConstants.{GROUPS}
 pub use Rattle.fax_bits.specs.declared.pairs.TheConstants.{BLACK_PAIRS, WHITE_PAIRS}
 pub use Rattle.fax_bits.specs.declared.tables.TheConstants.{BLACK_MAKEUP, BLACK_TERMINATING, COMMON_MAKEUP, WHITE_MAKEUP}
 pub use Rattle.fax_bits.specs.declared.tables.TheConstants.{WHITE_TERMINATING}
@@ -44,7 +44,7 @@ pub use Rattle.std.proofs.lemmas.Bool.{eqb-true, false≢true, le-leb, le-ltb, l
 pub use Rattle.std.proofs.lemmas.Bool.{or_cases, or_parts}
 pub use Rattle.std.proofs.lemmas.Grind.{common_steps}
 pub use Rattle.std.proofs.lemmas.List.{drop-drop, drop_at, drop_min, get_or-drop, get_or-take, get_or_append_left, get_or_past}
-pub use Rattle.std.proofs.lemmas.List.{length-replicate, length-take, replicate-append-replicate, take_rest}
+pub use Rattle.std.proofs.lemmas.List.{length-replicate, length-take, replicate-append-replicate, take_all, take_rest}
 pub use Rattle.std.proofs.lemmas.List.FromFn.{get_or-map-range_with_len}
 pub use Rattle.std.proofs.lemmas.Nat.{and_mask, div_below, leading_le, leading_length, leading_top, mod-pow-add, mul-le}
 pub use Rattle.std.proofs.lemmas.Nat.{one_shl, pow-add, shl_whole, shr-shr}

@@ -1,6 +1,6 @@
 -- Vertical modes that are next to each other, and what ten bits say of them. This is not part of the trusted specification: no
 -- contract of a public call cites it.
-use Rattle.std.specs.Prelude.{◌≡◌, ℕ, zero, suc, ◌+◌, ◌-◌, ◌*◌, ◌^◌, ◌<◌, ◌≤◌, ℤ, pos, negsuc, ◌+ℤ◌, ⊤, List, [], ◌∷◌, map, take}
+use Rattle.std.specs.Prelude.{◌≡◌, ℕ, zero, suc, ◌+◌, ◌-◌, ◌^◌, ◌<◌, ◌≤◌, ℤ, pos, negsuc, ◌+ℤ◌, ⊤, List, [], ◌∷◌, map, take}
 use Rattle.std.specs.Prelude.{Option, Some, None, option_map, Ok, length, get_or}
 use Rattle.fax_bits.specs.Bits.{Bits, BitsAt, here, low_bits}
 use Rattle.fax_bits.specs.CodeLists.{mode_codes}
@@ -81,28 +81,15 @@ mode_number (Some (Vertical distance)) = 0
 -- auxiliary: the row of a look-up for these modes, of which the first is this one
 abbrev pub row_for : List VerticalWord → Option Mode → List ℕ
 row_for words first =
-    offset_at words 0 ∷ offset_at words 1 ∷ offset_at words 2 ∷ offset_at words 3 ∷ width_of words ∷ length words
-    ∷ (16 - 2 ^ length words) ∷ mode_number first ∷ []
+    offset_at words 0 ∷ offset_at words 1 ∷ offset_at words 2 ∷ offset_at words 3
+    ∷ width_of (take 1 words) ∷ width_of (take 2 words) ∷ width_of (take 3 words) ∷ width_of (take 4 words)
+    ∷ length words ∷ (16 - 2 ^ length words) ∷ mode_number first ∷ (4 - length words) ∷ 0 ∷ 0 ∷ 0 ∷ 0 ∷ []
 
 -- auxiliary: that for ten bits
 unfoldable pub group_row : ℕ → List ℕ
 group_row number = row_for (words_of number) (first_mode number)
 
--- auxiliary: the numbers of bits of the first one, two, three and four of some modes, each in four bits
-abbrev pub widths_for : List VerticalWord → ℕ
-widths_for words =
-    width_of (take 1 words) + 16 * width_of (take 2 words) + 256 * width_of (take 3 words) + 4096 * width_of (take 4 words)
-
--- auxiliary: those for ten bits
-unfoldable pub group_widths : ℕ → ℕ
-group_widths number = widths_for (words_of number)
-
 -- the rows of a look-up, one for each value of ten bits
 pub record AreRows (rows : List (List ℕ)) : Type 0 where
   pub count : length rows ≡ 1024
   pub each : (index : ℕ) → index < 1024 → get_or rows index [] ≡ group_row index
-
--- the widths of a look-up, one for each value of ten bits
-pub record AreWidths (widths : List ℕ) : Type 0 where
-  pub count : length widths ≡ 1024
-  pub each : (index : ℕ) → index < 1024 → get_or widths index 0 ≡ group_widths index

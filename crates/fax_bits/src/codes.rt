@@ -1,7 +1,8 @@
 //! Colours, modes, and the code words and EOLs of the data.
 
 ghost use Rattle.std.specs.Prelude.{◌≡◌, ◌≢◌, ℕ, ◌+◌, ◌-◌, ◌*◌, ◌^◌, ◌<◌, ◌≤◌, ◌==◌, ◌↔◌, ◌++◌, ◌∷◌, IsTrue, IfSome, IfNone};
-ghost use Rattle.std.specs.Prelude.{IfErr, MatchResult, Ok, Err, Some, None, true, false, length, replicate, nat_le, if◌then◌else◌};
+ghost use Rattle.std.specs.Prelude.{IfErr, MatchResult, Ok, Err, Some, None, true, false, length, replicate, nat_le};
+ghost use Rattle.std.specs.Prelude.{if◌then◌else◌};
 ghost use Rattle.std.specs.Prelude.{drop, [], slice_get, is_some, min, pos};
 ghost use Rattle.std.specs.Borrow.{ftrue};
 ghost use Rattle.fax_bits.specs.Faults.{IsFault};
@@ -314,11 +315,11 @@ impl<'a> BitReader<'a> {
     {
         let mut total: u32 = 0;
         'words: loop {
-            let (last, width) = self.word_behind(0, color, tables);
+            let (last, taken) = self.word_behind(0, color, tables);
             if last < 64 {
                 ticks.tick();
                 // If the data ends inside the word these bits aren't there.
-                self.consume(width)?;
+                self.consume(taken)?;
                 return Ok(total + last);
             }
             match self.read_two_words(color, tables, ticks, total) {
@@ -816,7 +817,8 @@ pub fn is_long_pair(reader: &BitReader<'_>, skip: usize, tables: &Tables) -> boo
 /// Consumes V0 if it is here, and returns whether it is; otherwise nothing changes.
 #[inline(always)]
 pub fn pass_v0(reader: &mut BitReader<'_>) -> bool
-    ensures mode { result ≡ true → read_code mode_codes (here reader.old) ≡ Ok (Mode.Vertical (pos 0), here (moved 1 reader.old)) }
+    ensures mode { result ≡ true → read_code mode_codes (here reader.old) ≡ Ok (Mode.Vertical (pos 0), here (moved 1
+      reader.old)) }
     ensures passed { result ≡ true → reader.new ≡ moved 1 reader.old }
     ensures unchanged { result ≡ false → reader.new ≡ reader.old }
 {

@@ -1,14 +1,15 @@
 -- Modes that are drawn with the index of b1 at hand. This is not part of the trusted specification: no contract of a public
 -- call cites it.
-use Rattle.std.specs.Prelude.{◌≡◌, ◌+◌, ◌-◌, ◌*◌, ◌%◌, ◌<◌, ◌≤◌, ◌++◌, ◌∷◌, [], Bool, true, ℕ, List, length, take, get_or}
+use Rattle.std.specs.Prelude.{◌≡◌, ◌+◌, ◌-◌, ◌*◌, ◌%◌, ◌<◌, ◌≤◌, ◌++◌, Bool, true, ℕ, List, length, replicate, take, get_or}
 use Rattle.fax_bits.specs.declared.codes.Color.{Color}
 use Rattle.fax_bits.specs.declared.codes.Color.TheVariants.{White, Black}
 use Rattle.fax_reading.specs.Lines.{Pen, draw_2d, drawn, words_drawn}
 use Rattle.fax_reading.specs.Rows.{Row, AreChanges, pixels}
 
--- Places are the changes of a row, and twice its end behind them, so that b1 is always among them: the changes
+-- Places are the changes of a row, and its end six times behind them, so that b1 is always among them, with four places after it:
+-- the changes
 abbrev pub changes_in : List ℕ → List ℕ
-changes_in places = take (length places - 2) places
+changes_in places = take (length places - 6) places
 
 -- the row
 abbrev pub row_in : ℕ → List ℕ → Row
@@ -17,7 +18,7 @@ row_in columns places = pixels columns (changes_in places)
 -- that places are so
 pub record AreEnded (columns : ℕ) (places : List ℕ) : Type 0 where
   pub lawful : AreChanges columns (changes_in places)
-  pub ended : places ≡ changes_in places ++ columns ∷ columns ∷ []
+  pub ended : places ≡ changes_in places ++ replicate 6 columns
 
 -- the change at an index turns the row from this colour to the other one
 abbrev pub TurnsFrom : ℕ → Color → Type 0

@@ -1,6 +1,7 @@
 pub mod GroupMasks
 pub mod PartsOfLines
 pub mod RegularLanes
+pub mod RegularModes
 pub mod TwoOnes
 pub mod UsualModes
 pub mod UsualStrokes

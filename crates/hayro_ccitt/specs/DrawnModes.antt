@@ -1,13 +1,18 @@
 -- Modes that are drawn with bits at hand. This is not part of the trusted specification: no contract of a public call cites it.
-use Rattle.std.specs.Prelude.{◌≡◌, ℕ, ◌+◌, ◌-◌, ◌<◌, ◌≤◌, Ok, Vec, vec_len, vec_capacity}
+use Rattle.std.specs.Prelude.{◌≡◌, ℕ, ◌+◌, ◌-◌, ◌^◌, ◌<◌, ◌≤◌, ◌∷◌, Some, Ok, Vec, vec_len, vec_capacity, length, get_or}
+use Rattle.std.specs.Int.{trailing_ones, w64}
 use Rattle.fax_bits.specs.declared.codes.Mode.{Mode}
+use Rattle.fax_bits.specs.declared.codes.Mode.TheVariants.{Horizontal, Pass}
 use Rattle.fax_bits.specs.declared.codes.Color.TheVariants.{White}
 use Rattle.hayro_ccitt.specs.declared.modes.CodingLine.{CodingLine}
+use Rattle.hayro_ccitt.specs.declared.modes.ModesHere.{ModesHere}
 use Rattle.hayro_ccitt.specs.declared.modes.Stroke.{Stroke}
 use Rattle.hayro_ccitt.specs.Bits.{here}
 use Rattle.hayro_ccitt.specs.CodeLists.{mode_codes}
 use Rattle.hayro_ccitt.specs.CodeReading.{read_code}
 use Rattle.hayro_ccitt.specs.Lines.{Pen}
+use Rattle.hayro_ccitt.specs.ModeGroups.{AreNextWords, first_mode, offset_at, words_of}
+use Rattle.hayro_ccitt.specs.RegularModes.{AreSet, IsRegular}
 use Rattle.hayro_ccitt.specs.UsualModes.{AreEnded, changes_in, row_in, IsStroke, GoesOn2d}
 use Rattle.hayro_ccitt.specs.UsualRuns.{pen_at}
 use Rattle.hayro_ccitt.specs.Window.{AtHand, moved}
@@ -23,6 +28,35 @@ pub record IsNextMode (mode : Mode) (width : ℕ) (hand : AtHand) : Type 0 where
   pub few : width < 64
   pub within : width ≤ hand.left
 
+-- the mode that a group of ten bits begins with, if it isn't vertical, is next
+pub record IsFirstMode (group : ℕ) (hand : AtHand) : Type 0 where
+  pub horizontal : first_mode group ≡ Some Horizontal
+      → read_code mode_codes (here hand.at) ≡ Ok (Horizontal, here (moved 3 hand.at))
+  pub pass : first_mode group ≡ Some Pass → read_code mode_codes (here hand.at) ≡ Ok (Pass, here (moved 4 hand.at))
+
+-- Vertical modes lead from the changes of the reference row, from b1 on, to these places; and those that are marked are regular.
+pub record LeadFrom (line : CodingLine) (stroke : Stroke) (modes : ModesHere) : Type 0 where
+  pub four : length modes.places ≡ 4
+  pub mask : modes.regular < 16
+  pub named : (k : ℕ) → k < 4 → get_or modes.places k 0 ≤ line.columns
+      → get_or (changes_in line.places.now) (stroke.index + k) line.columns + offset_at (words_of modes.group) k
+      ≡ get_or modes.places k 0 + 3
+  pub regular : (k : ℕ) → k < 4 → AreSet modes.regular (k + 1) → IsRegular line.columns (changes_in line.places.now)
+      (get_or (stroke.painted ∷ modes.places) k 0) (stroke.index + k) (get_or modes.places k 0)
+
+-- the index of the first mode that isn't marked
+abbrev pub first_clear : ModesHere → ℕ
+first_clear modes = trailing_ones w64 modes.regular
+
+-- vertical modes are next, all of them at hand, and there is a change before b1
+pub record AreModesHere (line : CodingLine) (stroke : Stroke) (hand : AtHand) (modes : ModesHere) : Type 0 where
+  pub lead : LeadFrom line stroke modes
+  pub next : AreNextWords (words_of modes.group) hand.at
+  pub some : 0 < length (words_of modes.group)
+  pub few : length (words_of modes.group) ≤ 4
+  pub after : 0 < stroke.index
+  pub within : 16 ≤ hand.left
+
 module _ {A : Type 0} where
   -- a row of changes reaches the stroke
   abbrev pub IsAtStroke : CodingLine → Stroke → Vec ℕ A → Type 0
@@ -36,6 +70,7 @@ module _ {A : Type 0} where
   -- A mode can be drawn: the row isn't full, and has room for as many changes as bits are at hand.
   pub record CanDraw (line : CodingLine) (stroke : Stroke) (hand : AtHand) (row : Vec ℕ A) : Type 0 where
     pub ended : AreEnded line.columns line.places.now
+    pub fits : line.columns + 3 < 2 ^ 31
     pub inside : stroke.painted < line.columns
     pub reached : IsAtStroke line stroke row
     pub room : vec_len row + hand.left ≤ vec_capacity row

@@ -22,6 +22,7 @@ pub use Rattle.fax_bits.specs.CodeReading
 pub use Rattle.fax_bits.specs.EndOfLine
 pub use Rattle.fax_bits.specs.Faults
 pub use Rattle.fax_bits.specs.LookUps
+pub use Rattle.fax_bits.specs.ModeGroups
 pub use Rattle.fax_bits.specs.Ones
 pub use Rattle.fax_bits.specs.Repetition
 pub use Rattle.fax_bits.specs.Runs

@@ -92,6 +92,8 @@ pub struct DecoderContext {
     fault_start: Option<usize>,
     settings: DecodeSettings,
     tables: Tables,
+    /// Whether the last line of modes suits drawing by groups: it has many changes, and few bits for each.
+    suits_groups: bool,
     ticks: Ticks,
 }
 
@@ -144,6 +146,7 @@ impl DecoderContext {
             fault_start: None,
             settings,
             tables: Tables::new(alloc)?,
+            suits_groups: false,
             ticks: Ticks::new(),
         })
     }
@@ -1079,7 +1082,7 @@ impl DecoderContext {
         ensures space { self.new.space ≤ max self.old.space (room_for
             (max (length (changes self.old.held.reference)) (suc (length (changes self.new.held.front))))) }
     {
-        if self.settings.columns == 0 {
+        if self.settings.columns == 0 || self.settings.columns > (1 << 31) - 4 {
             return;
         }
         if !has_mode(hand, &mut self.coding_changes) {
@@ -1093,6 +1096,7 @@ impl DecoderContext {
             strict: self.settings.strict,
             places: self.ref_changes.as_slice(),
             tables: &self.tables,
+            by_groups: self.suits_groups,
         };
         let reached = draw_modes(hand, &mut self.coding_changes, &line, &mut self.ticks);
         take_ends(&mut self.ref_changes);
@@ -1123,9 +1127,12 @@ impl DecoderContext {
         ensures space { self.new.space ≤ max self.old.space (room_for
             (max (length (changes self.old.held.reference)) (suc (length (changes self.new.held.front))))) }
     {
+        let start = reader.bit_pos();
         let mut hand = none_at_hand(reader);
         self.draw_modes_at_hand(&mut hand);
         go_to(reader, &hand);
+        let changes = self.coding_changes.len();
+        self.suits_groups = changes > 15 && reader.bit_pos().saturating_sub(start) / 4 < changes;
     }
 
     /// Draws a white line under a white row, which is V0 alone, and returns whether there is one here; otherwise nothing

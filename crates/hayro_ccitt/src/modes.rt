@@ -2,18 +2,24 @@
 //! others.
 
 ghost use Rattle.std.specs.Prelude.{vec_len, vec_capacity, get_or, ◌≡◌, ◌≢◌, ◌+◌, ◌-◌, ◌%◌, ◌<◌, ◌≤◌, ◌⊎◌, ℕ, Some, IfSome};
-ghost use Rattle.std.specs.Prelude.{max, IfNone, true, false, pos, negsuc, length, ◌++◌, ◌∷◌, []};
+ghost use Rattle.std.specs.Prelude.{max, IfNone, IsTrue, ◌↔◌, true, false, pos, negsuc, length, replicate, take, drop};
+ghost use Rattle.std.specs.Prelude.{◌++◌, ◌∷◌, [], ◌^◌};
+ghost use Rattle.hayro_ccitt.specs.DrawnModes.{AreModesHere, IsFirstMode, LeadFrom, first_clear};
+ghost use Rattle.hayro_ccitt.specs.ModeGroups.{AreNextWords, words_of};
+ghost use Rattle.hayro_ccitt.specs.RegularModes.{AreSet};
 ghost use Rattle.hayro_ccitt.specs.DrawnModes.{IsNextMode, CanDraw, Draws, DrawsMode, DrawsNothing, KeepsRoom, line_start};
 ghost use Rattle.hayro_ccitt.specs.Rows.{AreChanges, pixels, opposite};
 ghost use Rattle.hayro_ccitt.specs.Space.{room_for};
-ghost use Rattle.hayro_ccitt.specs.UsualModes.{AreEnded, changes_in, IsNear, IsB1};
+ghost use Rattle.hayro_ccitt.specs.UsualModes.{AreEnded, changes_in, IsNear, IsB1, TurnsFrom};
 ghost use Rattle.hayro_ccitt.specs.TwoRunsHere.{AreTwoRunsHere};
 ghost use Rattle.hayro_ccitt.specs.Window.{moved, AtHand};
 
 use crate::changes::{change_or_end, make_room};
-use crate::usual::{TwoRuns, has_room, is_next, lay_down, pair_at_hand, run_at_hand, turn_at};
+use crate::regular_places::regular_places;
+use crate::usual::{TwoRuns, is_next, lay_down, pair_at_hand, run_at_hand, turn_at};
 use fax_bits::bit_reader::BitsAtHand;
 use fax_bits::codes::{Color, Mode, Ticks, mode_of, tick_times};
+use fax_bits::mode_groups::{ModeGroup, group_at_hand};
 use fax_bits::tables::Tables;
 use std::mem;
 
@@ -24,10 +30,12 @@ pub(crate) struct CodingLine<'a> {
     pub(crate) columns: u32,
     /// Whether the data is strict. Only contracts read this.
     pub(crate) strict: bool,
-    /// The changes of the reference row, and twice the row's end behind them.
+    /// The changes of the reference row, and the row's end six times behind them.
     pub(crate) places: &'a [u32],
     /// The look-up tables of runs.
     pub(crate) tables: &'a Tables,
+    /// Whether vertical modes are drawn several at a time.
+    pub(crate) by_groups: bool,
 }
 
 /// How far a line is drawn: what a mode changes.
@@ -591,6 +599,497 @@ fn draw_horizontal(
     }
 }
 
+/// Draws the vertical mode that is here. Returns `None`, and draws nothing, if it isn't of the usual kind.
+#[inline(always)]
+fn draw_vertical(
+    hand: &mut BitsAtHand<'_>,
+    row: &mut Vec<u32>,
+    line: &CodingLine<'_>,
+    stroke: Stroke,
+    ticks: &mut Ticks,
+) -> Option<Stroke>
+    requires enough { 16 ≤ hand.old.left }
+    requires can { CanDraw line.now stroke hand.old row.old }
+    ensures drawn { IfSome result (λ next. DrawsMode line.now stroke hand.old row.old ticks.old next hand.new row.new ticks.new) }
+    ensures left { IfNone result (DrawsNothing hand.old row.old ticks.old hand.new row.new ticks.new) }
+    ensures kept { KeepsRoom hand.old row.old hand.new row.new }
+{
+    let (mode, width) = mode_at_hand(hand);
+    match mode? {
+        Mode::Vertical(0) => Some(draw_v0(hand, row, line, stroke, ticks)),
+        Mode::Vertical(1) => draw_right(
+            hand,
+            row,
+            line,
+            stroke,
+            VerticalMode { distance: 1, width },
+            ticks,
+        ),
+        Mode::Vertical(2) => draw_right(
+            hand,
+            row,
+            line,
+            stroke,
+            VerticalMode { distance: 2, width },
+            ticks,
+        ),
+        Mode::Vertical(3) => draw_right(
+            hand,
+            row,
+            line,
+            stroke,
+            VerticalMode { distance: 3, width },
+            ticks,
+        ),
+        Mode::Vertical(-1) => draw_left(
+            hand,
+            row,
+            line,
+            stroke,
+            VerticalMode { distance: 1, width },
+            ticks,
+        ),
+        Mode::Vertical(-2) => draw_left(
+            hand,
+            row,
+            line,
+            stroke,
+            VerticalMode { distance: 2, width },
+            ticks,
+        ),
+        Mode::Vertical(-3) => draw_left(
+            hand,
+            row,
+            line,
+            stroke,
+            VerticalMode { distance: 3, width },
+            ticks,
+        ),
+        _ => None,
+    }
+}
+
+/// Returns the colour of the next pixels: white behind an even number of changes.
+#[inline(always)]
+fn next_color(row: &Vec<u32>) -> Color
+    ensures turns { TurnsFrom (vec_len row.now) result }
+{
+    if row.len().is_multiple_of(2) {
+        Color::White
+    } else {
+        Color::Black
+    }
+}
+
+/// Returns a stroke with the colour that the number of changes says, so that a loop needn't keep it.
+#[inline(always)]
+fn recolored(row: &Vec<u32>, stroke: Stroke) -> Stroke
+    requires colored { TurnsFrom (vec_len row.now) stroke.color }
+    ensures { result ≡ stroke }
+{
+    Stroke {
+        color: next_color(row),
+        ..stroke
+    }
+}
+
+/// Vertical modes that are next, four at most, where they lead to, and which of them are regular.
+#[derive(Clone, Copy)]
+struct ModesHere {
+    group: ModeGroup,
+    /// The places of four modes.
+    places: [u32; 4],
+    /// A bit for each mode, from the lowest: a mode is regular if its bit and those below it are set.
+    regular: u64,
+}
+
+/// Returns where the vertical modes of a group lead to, below the changes of the reference row from b1 on.
+#[inline(always)]
+fn modes_here(line: &CodingLine<'_>, stroke: Stroke, group: ModeGroup) -> ModesHere
+    requires ended { AreEnded line.now.columns line.now.places.now }
+    requires fits { line.now.columns + 3 < 2 ^ 31 }
+    requires inside { stroke.painted < line.now.columns }
+    requires within { (0 < stroke.index) × (stroke.index ≤ length (changes_in line.now.places.now) + 1) }
+    ensures same { result.group ≡ group }
+    ensures lead { LeadFrom line.now stroke result }
+{
+    let (places, regular) = regular_places(
+        line.places,
+        line.columns,
+        stroke.index,
+        group.offsets(),
+        stroke.painted,
+    );
+    ModesHere {
+        group,
+        places,
+        regular,
+    }
+}
+
+/// Returns whether all modes of a group are regular.
+#[inline(always)]
+fn are_regular(modes: &ModesHere) -> bool
+    requires mask { modes.now.regular < 16 }
+    requires few { length (words_of modes.now.group) ≤ 4 }
+    ensures all { result ≡ true → AreSet modes.now.regular (length (words_of modes.now.group)) }
+    ensures some { result ≡ false → first_clear modes.now < length (words_of modes.now.group) }
+{
+    modes.regular | modes.group.unused() == 15
+}
+
+/// Stores four places behind a row's changes.
+#[inline(always)]
+fn push_places(row: &mut Vec<u32>, places: [u32; 4])
+    requires room { vec_len row.old + 4 ≤ vec_capacity row.old }
+    ensures items { row.new.items ≡ row.old.items ++ places }
+    ensures count { vec_len row.new ≡ vec_len row.old + 4 }
+    ensures room { vec_capacity row.new ≡ vec_capacity row.old }
+{
+    turn_at(row, places[0]);
+    turn_at(row, places[1]);
+    turn_at(row, places[2]);
+    turn_at(row, places[3]);
+}
+
+/// Removes the last changes of a row, three at most. The compiler makes one subtraction of it.
+#[inline(always)]
+fn drop_last(row: &mut Vec<u32>, count: usize)
+    requires few { count ≤ 3 }
+    requires within { count ≤ vec_len row.old }
+    ensures items { row.new.items ≡ take (vec_len row.old - count) row.old.items }
+    ensures count { vec_len row.new + count ≡ vec_len row.old }
+    ensures room { vec_capacity row.new ≡ vec_capacity row.old }
+{
+    if count % 2 == 1 {
+        let _last = row.take_last();
+    }
+    if count / 2 % 2 == 1 {
+        let _last = row.take_last();
+        let _before = row.take_last();
+    }
+}
+
+/// Stores four places behind a row's changes, but the last ones of them, as many as are missing.
+#[inline(always)]
+fn turn_at_places(row: &mut Vec<u32>, places: [u32; 4], missing: usize)
+    requires few { missing ≤ 3 }
+    requires room { vec_len row.old + 4 ≤ vec_capacity row.old }
+    ensures items { row.new.items ≡ row.old.items ++ take (4 - missing) places }
+    ensures count { vec_len row.new + missing ≡ vec_len row.old + 4 }
+    ensures room { vec_capacity row.new ≡ vec_capacity row.old }
+{
+    push_places(row, places);
+    drop_last(row, missing);
+}
+
+/// Draws the modes of a group, which are all regular.
+#[inline(always)]
+fn draw_regular(
+    hand: &mut BitsAtHand<'_>,
+    row: &mut Vec<u32>,
+    _line: &CodingLine<'_>,
+    stroke: Stroke,
+    modes: &ModesHere,
+    ticks: &mut Ticks,
+) -> Stroke
+    requires can { CanDraw _line.now stroke hand.old row.old }
+    requires here { AreModesHere _line.now stroke hand.old modes.now }
+    requires all { AreSet modes.now.regular (length (words_of modes.now.group)) }
+    ensures drawn { DrawsMode _line.now stroke hand.old row.old ticks.old result hand.new row.new ticks.new }
+    ensures inside { result.painted < _line.now.columns }
+    ensures kept { KeepsRoom hand.old row.old hand.new row.new }
+{
+    let count = ModeGroup::count(modes.group);
+    turn_at_places(row, modes.places, modes.group.missing());
+    hand.pass(modes.group.width());
+    tick_times(ticks, 2 * count);
+    Stroke {
+        painted: row[row.len() - 1],
+        index: stroke.index + count,
+        color: next_color(row),
+    }
+}
+
+/// Returns the index of b1 after a vertical mode, whose place is right of a0.
+#[inline(always)]
+fn b1_after(line: &CodingLine<'_>, stroke: Stroke, place: u32, ticks: &mut Ticks) -> usize
+    requires ended { AreEnded line.now.columns line.now.places.now }
+    requires within { stroke.index ≤ length (changes_in line.now.places.now) + 1 }
+    requires at { IsB1 line.now.columns (changes_in line.now.places.now) stroke.painted stroke.index stroke.color }
+    requires inside { (stroke.painted < place) × (place < line.now.columns) }
+    ensures at { IsB1 line.now.columns (changes_in line.now.places.now) place result (opposite stroke.color) }
+    ensures work { (ticks.old ≤ ticks.new) × (ticks.new + stroke.index ≤ ticks.old + result + 1) }
+{
+    if stroke.index > 0 && change_at(line, stroke.index - 1) > place {
+        return stroke.index - 1;
+    }
+    seek_b1(line, place, stroke.index + 1, ticks)
+}
+
+/// Draws the first mode of a group if it leads to a place right of a0, in the row or at its end. Returns `None`, and draws
+/// nothing, elsewhere.
+#[inline(always)]
+fn draw_first(
+    hand: &mut BitsAtHand<'_>,
+    row: &mut Vec<u32>,
+    line: &CodingLine<'_>,
+    stroke: Stroke,
+    group: ModeGroup,
+    ticks: &mut Ticks,
+) -> Option<Stroke>
+    requires enough { 16 ≤ hand.old.left }
+    requires can { CanDraw line.now stroke hand.old row.old }
+    requires some { 0 < length (words_of group) }
+    requires words { AreNextWords (words_of group) hand.old.at }
+    ensures drawn { IfSome result (λ next. DrawsMode line.now stroke hand.old row.old ticks.old next hand.new row.new ticks.new) }
+    ensures left { IfNone result ((hand.new ≡ hand.old) × (row.new ≡ row.old) × (ticks.new ≡ ticks.old)) }
+    ensures kept { KeepsRoom hand.old row.old hand.new row.new }
+{
+    let above = change_at(line, stroke.index) + u32::from(group.offsets()[0]);
+    if above <= stroke.painted + 3 {
+        return None;
+    }
+    let place = above - 3;
+    if place > line.columns {
+        return None;
+    }
+    hand.pass(group.first_width(1));
+    tick_times(ticks, 2);
+    let color = stroke.color.opposite();
+    if place == line.columns {
+        return Some(Stroke {
+            painted: place,
+            index: stroke.index,
+            color,
+        });
+    }
+    turn_at(row, place);
+    let index = b1_after(line, stroke, place, ticks);
+    Some(Stroke {
+        painted: place,
+        index,
+        color,
+    })
+}
+
+/// Draws the mode that is here, whose group this is. Returns `None`, and draws nothing, if it isn't of the usual kind.
+#[inline(always)]
+fn draw_mode_of_group(
+    hand: &mut BitsAtHand<'_>,
+    row: &mut Vec<u32>,
+    line: &CodingLine<'_>,
+    stroke: Stroke,
+    group: ModeGroup,
+    ticks: &mut Ticks,
+) -> Option<Stroke>
+    requires enough { 16 ≤ hand.old.left }
+    requires can { CanDraw line.now stroke hand.old row.old }
+    requires first { IsFirstMode group hand.old }
+    requires words { AreNextWords (words_of group) hand.old.at }
+    ensures drawn { IfSome result (λ next. DrawsMode line.now stroke hand.old row.old ticks.old next hand.new row.new ticks.new) }
+    ensures left { IfNone result (DrawsNothing hand.old row.old ticks.old hand.new row.new ticks.new) }
+    ensures kept { KeepsRoom hand.old row.old hand.new row.new }
+{
+    if group.is_horizontal() {
+        return draw_horizontal(hand, row, line, stroke, ticks);
+    }
+    if group.is_pass() {
+        return Some(draw_pass(hand, row, line, stroke, ticks));
+    }
+    if ModeGroup::count(group) == 0 {
+        return None;
+    }
+    match draw_first(hand, row, line, stroke, group, ticks) {
+        None => draw_vertical(hand, row, line, stroke, ticks),
+        Some(reached) => Some(reached),
+    }
+}
+
+/// Returns the last of some places that are stored in a row from an index on, or what was painted before if there is none.
+#[inline(always)]
+fn painted_by(row: &Vec<u32>, start: usize, count: usize, painted: u32) -> u32
+    requires within { start + count ≤ vec_len row.now }
+    ensures { result ≡ get_or (painted ∷ drop start row.now.items) count 0 }
+{
+    if count == 0 {
+        return painted;
+    }
+    row[start + count - 1]
+}
+
+/// Draws the regular modes that a group begins with, and the mode behind them if it leads to a place right of them in the row, or
+/// to the row's end. Returns how far the row is drawn then, and whether it isn't full; or `None` if no mode is drawn.
+#[inline(always)]
+fn draw_first_modes(
+    hand: &mut BitsAtHand<'_>,
+    row: &mut Vec<u32>,
+    line: &CodingLine<'_>,
+    stroke: Stroke,
+    modes: &ModesHere,
+    ticks: &mut Ticks,
+) -> Option<(Stroke, bool)>
+    requires can { CanDraw line.now stroke hand.old row.old }
+    requires here { AreModesHere line.now stroke hand.old modes.now }
+    requires some { first_clear modes.now < length (words_of modes.now.group) }
+    ensures drawn { IfSome result
+        (λ next. DrawsMode line.now stroke hand.old row.old ticks.old next.0 hand.new row.new ticks.new) }
+    ensures open { IfSome result (λ next. IsTrue next.1 ↔ (next.0.painted < line.now.columns)) }
+    ensures left { IfNone result ((hand.new ≡ hand.old) × (row.new.items ≡ row.old.items) × (ticks.new ≡ ticks.old)) }
+    ensures kept { KeepsRoom hand.old row.old hand.new row.new }
+{
+    let count = (!modes.regular).trailing_zeros() as usize;
+    let start = row.len();
+    push_places(row, modes.places);
+    let place = row[start + count];
+    let painted = painted_by(row, start, count, stroke.painted);
+    if painted < place && place < line.columns {
+        row.truncate(start + count + 1);
+        hand.pass(modes.group.first_width(count + 1));
+        tick_times(ticks, 2 * count + 2);
+        let before = Stroke {
+            painted,
+            index: stroke.index + count,
+            color: next_color(row).opposite(),
+        };
+        let index = b1_after(line, before, place, ticks);
+        let color = next_color(row);
+        return Some((
+            Stroke {
+                painted: place,
+                index,
+                color,
+            },
+            true,
+        ));
+    }
+    row.truncate(start + count);
+    let index = stroke.index + count;
+    if place == line.columns {
+        hand.pass(modes.group.first_width(count + 1));
+        tick_times(ticks, 2 * count + 2);
+        let color = next_color(row).opposite();
+        return Some((
+            Stroke {
+                painted: place,
+                index,
+                color,
+            },
+            false,
+        ));
+    }
+    if count == 0 {
+        return None;
+    }
+    hand.pass(modes.group.first_width(count));
+    tick_times(ticks, 2 * count);
+    let color = next_color(row);
+    Some((
+        Stroke {
+            painted,
+            index,
+            color,
+        },
+        true,
+    ))
+}
+
+/// Draws the vertical modes of a group, as many as lead to places in the row, if b1 isn't the first change. Returns how far the
+/// row is drawn then, and whether it isn't full; or `None`, drawing nothing, if there is no such mode.
+#[inline(always)]
+fn draw_group(
+    hand: &mut BitsAtHand<'_>,
+    row: &mut Vec<u32>,
+    line: &CodingLine<'_>,
+    stroke: Stroke,
+    group: ModeGroup,
+    ticks: &mut Ticks,
+) -> Option<(Stroke, bool)>
+    requires enough { 16 ≤ hand.old.left }
+    requires can { CanDraw line.now stroke hand.old row.old }
+    requires words { AreNextWords (words_of group) hand.old.at }
+    ensures drawn { IfSome result
+        (λ next. DrawsMode line.now stroke hand.old row.old ticks.old next.0 hand.new row.new ticks.new) }
+    ensures open { IfSome result (λ next. IsTrue next.1 ↔ (next.0.painted < line.now.columns)) }
+    ensures left { IfNone result ((hand.new ≡ hand.old) × (row.new.items ≡ row.old.items) × (ticks.new ≡ ticks.old)) }
+    ensures kept { KeepsRoom hand.old row.old hand.new row.new }
+{
+    if ModeGroup::count(group) == 0 {
+        return None;
+    }
+    if stroke.index == 0 {
+        return None;
+    }
+    let modes = modes_here(line, stroke, group);
+    if are_regular(&modes) {
+        let next = draw_regular(hand, row, line, stroke, &modes, ticks);
+        return Some((next, true));
+    }
+    draw_first_modes(hand, row, line, stroke, &modes, ticks)
+}
+
+/// Draws modes while they are of the usual kind, and there is room. Returns the stroke that is reached then.
+#[inline(always)]
+fn draw_bits(
+    hand: &mut BitsAtHand<'_>,
+    row: &mut Vec<u32>,
+    line: &CodingLine<'_>,
+    stroke: Stroke,
+    ticks: &mut Ticks,
+) -> Stroke
+    requires can { CanDraw line.now stroke hand.old row.old }
+    ensures drawn { Draws line.now stroke hand.old row.old ticks.old result hand.new row.new ticks.new }
+    ensures same_bits { hand.new.at.bits ≡ hand.old.at.bits }
+    ensures longer { vec_len row.old ≤ vec_len row.new }
+    ensures space { vec_capacity row.new ≡ vec_capacity row.old }
+{
+    let mut now = stroke;
+    'modes: loop {
+        if !has_next_mode(hand, row) {
+            return recolored(row, now);
+        }
+        let group = group_at_hand(hand);
+        if let Some((next, is_open)) = draw_group(hand, row, line, now, group, ticks) {
+            if !is_open {
+                return next;
+            }
+            now = next;
+            continue;
+        }
+        let here = recolored(row, now);
+        match draw_mode_of_group(hand, row, line, here, group, ticks) {
+            None => return here,
+            Some(next) => {
+                if next.painted == line.columns {
+                    return next;
+                }
+                now = next;
+            }
+        }
+    }
+}
+
+/// The same with a copy of the window, so that its fields are values of this call.
+#[inline(always)]
+fn draw_groups(
+    hand: &mut BitsAtHand<'_>,
+    row: &mut Vec<u32>,
+    line: &CodingLine<'_>,
+    stroke: Stroke,
+    ticks: &mut Ticks,
+) -> Stroke
+    requires can { CanDraw line.now stroke hand.old row.old }
+    ensures drawn { Draws line.now stroke hand.old row.old ticks.old result hand.new row.new ticks.new }
+    ensures same_bits { hand.new.at.bits ≡ hand.old.at.bits }
+    ensures longer { vec_len row.old ≤ vec_len row.new }
+    ensures space { vec_capacity row.new ≡ vec_capacity row.old }
+{
+    let mut bits = hand.copy();
+    let reached = draw_bits(&mut bits, row, line, stroke, ticks);
+    *hand = bits;
+    reached
+}
+
 /// Draws the mode that is here, in a colour. Returns `None`, and draws nothing, if it isn't of the usual kind.
 #[inline(always)]
 fn draw_mode_at_hand(
@@ -813,13 +1312,17 @@ fn draw_own_row(
 {
     let mut own = Vec::new(*row.allocator());
     mem::swap(row, &mut own);
-    let reached = draw_turns(hand, &mut own, line, stroke, ticks);
+    let reached = if line.by_groups {
+        draw_groups(hand, &mut own, line, stroke, ticks)
+    } else {
+        draw_turns(hand, &mut own, line, stroke, ticks)
+    };
     mem::swap(row, &mut own);
     reached
 }
 
-/// Draws modes from a line's start on, while they are of the usual kind, and makes room as it is needed. Returns the stroke that is
-/// reached then.
+/// Draws modes from a line's start on, while they are of the usual kind, and makes room as it is needed. Returns the stroke
+/// that is reached then.
 #[inline(always)]
 pub(crate) fn draw_modes(
     hand: &mut BitsAtHand<'_>,
@@ -872,31 +1375,42 @@ pub(crate) fn lay_down_row(changes: &mut Vec<u32>, painted: u32, columns: u32)
     }
 }
 
-/// Puts a row's end twice behind its changes, so that b1 is among them, and returns whether there is room; otherwise the
-/// changes stay as they are.
+/// Returns whether there is room for a row's ends.
+#[inline(always)]
+fn has_room_for_ends(changes: &Vec<u32>) -> bool
+    ensures { result ≡ true → vec_len changes.now + 6 ≤ vec_capacity changes.now }
+{
+    changes.capacity() - changes.len() >= 6
+}
+
+/// Puts a row's end six times behind its changes, so that b1 is among them with four places after it, and returns whether there
+/// is room; otherwise the changes stay as they are.
 #[inline(always)]
 pub(crate) fn put_ends(changes: &mut Vec<u32>, columns: u32) -> bool
-    ensures ended { result ≡ true → changes.new.items ≡ changes.old.items ++ columns ∷ columns ∷ [] }
+    ensures ended { result ≡ true → changes.new.items ≡ changes.old.items ++ replicate 6 columns }
     ensures unchanged { result ≡ false → changes.new.items ≡ changes.old.items }
     ensures space { vec_capacity changes.new ≤ max (vec_capacity changes.old) (room_for (vec_len changes.old)) }
 {
-    if !has_room(changes) && !make_room(changes) {
+    if !has_room_for_ends(changes) && !make_room(changes) {
         return false;
     }
+    turn_at(changes, columns);
+    turn_at(changes, columns);
+    turn_at(changes, columns);
+    turn_at(changes, columns);
     turn_at(changes, columns);
     turn_at(changes, columns);
     true
 }
 
-/// Removes the two ends behind a row's changes.
+/// Removes the ends behind a row's changes.
 #[inline(always)]
 pub(crate) fn take_ends(changes: &mut Vec<u32>)
-    requires { 2 ≤ length changes.old.items }
+    requires { 6 ≤ length changes.old.items }
     ensures items { changes.new.items ≡ changes_in changes.old.items }
     ensures space { vec_capacity changes.new ≡ vec_capacity changes.old }
 {
-    let _end = changes.take_last();
-    let _other = changes.take_last();
+    changes.truncate(changes.len() - 6);
 }
 
 /// Returns whether the row of a list of changes is white.

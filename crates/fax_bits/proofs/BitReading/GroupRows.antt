@@ -1,26 +1,36 @@
 -- What the row of ten bits says of their modes.
-use Rattle.fax_bits.proofs.Names.{◌≡◌, ℕ, suc, zero, ◌+◌, ◌*◌, ◌^◌, ◌/◌, ◌%◌, ◌-◌, ◌<◌, ◌≤◌, get_or, length, refl, arith, take}
-use Rattle.fax_bits.proofs.Names.{Some, Horizontal, Pass, Vertical, Mode, Option, None, [], ◌∷◌, ◌∙◌}
+use Rattle.fax_bits.proofs.Names.{◌≡◌, ℕ, suc, zero, ◌+◌, ◌^◌, ◌-◌, ◌<◌, ◌≤◌, get_or, length, ap, refl, arith, take, take_all}
+use Rattle.fax_bits.proofs.Names.{Some, Horizontal, Pass, Vertical, Mode, Option, None}
 use Rattle.fax_bits.proofs.BitReading.BitLists.{length-low_bits}
 use Rattle.fax_bits.proofs.CodeWords.VerticalWords.{words_few, words_within, words_have_bits, words_near, words_part}
-use Rattle.fax_bits.specs.ModeGroups.{first_mode, group_row, group_widths, mode_number, offset_at, ten_bits, width_of, words_of}
+use Rattle.fax_bits.specs.ModeGroups.{first_mode, group_row, mode_number, offset_at, ten_bits, width_of, words_of}
 
 -- ---- The items of the row
-pub row_width : (number : ℕ) → get_or (group_row number) 4 0 ≡ width_of (words_of number)
+pub row_first_width : (number count : ℕ) → 0 < count → count ≤ 4
+    → get_or (group_row number) (3 + count) 0 ≡ width_of (take count (words_of number))
 unfolding group_row
-row_width number = refl
+row_first_width number zero some few = absurd (omega arith)
+row_first_width number (suc zero) some few = refl
+row_first_width number (suc (suc zero)) some few = refl
+row_first_width number (suc (suc (suc zero))) some few = refl
+row_first_width number (suc (suc (suc (suc zero)))) some few = refl
+row_first_width number (suc (suc (suc (suc (suc k))))) some few = absurd (omega arith)
 
-pub row_count : (number : ℕ) → get_or (group_row number) 5 0 ≡ length (words_of number)
+pub row_count : (number : ℕ) → get_or (group_row number) 8 0 ≡ length (words_of number)
 unfolding group_row
 row_count number = refl
 
-pub row_unused : (number : ℕ) → get_or (group_row number) 6 0 ≡ 16 - 2 ^ length (words_of number)
+pub row_unused : (number : ℕ) → get_or (group_row number) 9 0 ≡ 16 - 2 ^ length (words_of number)
 unfolding group_row
 row_unused number = refl
 
-pub row_first : (number : ℕ) → get_or (group_row number) 7 0 ≡ mode_number (first_mode number)
+pub row_first : (number : ℕ) → get_or (group_row number) 10 0 ≡ mode_number (first_mode number)
 unfolding group_row
 row_first number = refl
+
+pub row_missing : (number : ℕ) → get_or (group_row number) 11 0 ≡ 4 - length (words_of number)
+unfolding group_row
+row_missing number = refl
 
 pub row_offset : (number k d : ℕ) → k < 4 → get_or (group_row number) k d ≡ offset_at (words_of number) k
 unfolding group_row
@@ -35,6 +45,10 @@ pub four_words : (number : ℕ) → length (words_of number) ≤ 4
 unfolding words_of
 four_words number = words_few 4 (ten_bits number)
 
+pub row_width : (number : ℕ) → get_or (group_row number) 7 0 ≡ width_of (words_of number)
+unfolding group_row
+row_width number = ap width_of (take_all 4 (words_of number) (four_words number))
+
 pub within_ten : (number : ℕ) → width_of (words_of number) ≤ 10
 unfolding words_of ten_bits
 within_ten number = omega (arith, words_within 4 (ten_bits number), length-low_bits 10 number)
@@ -45,6 +59,9 @@ bits_for_each number count h = words_have_bits 4 count (ten_bits number) h
 
 pub part_within : (number count : ℕ) → width_of (take count (words_of number)) ≤ width_of (words_of number)
 part_within number count = words_part count (words_of number)
+
+pub few_in_part : (number count : ℕ) → width_of (take count (words_of number)) ≤ 10
+few_in_part number count = omega (arith, part_within number count, within_ten number)
 
 pub bits_for_all : (number : ℕ) → length (words_of number) ≤ width_of (words_of number)
 bits_for_all number = omega (
@@ -75,42 +92,3 @@ first_pass number e = by_mode (first_mode number) e
     by_mode (Some Horizontal) e = absurd (omega (arith, e))
     by_mode (Some Pass) e = refl
     by_mode (Some (Vertical distance)) e = absurd (omega (arith, e))
-
--- ---- The widths
--- the number of bits of the first modes
-abbrev part : ℕ → ℕ → ℕ
-part number count = width_of (take count (words_of number))
-
-pub few_in_part : (number count : ℕ) → width_of (take count (words_of number)) ≤ 10
-few_in_part number count = omega (arith, part_within number count, within_ten number)
-
-mod_small : (n : ℕ) → n ≤ 10 → n % 16 ≡ n
-mod_small n h = omega (arith, h)
-
--- one of four numbers of four bits each
-nibble : (a b c d e index : ℕ) → e ≡ a + 16 * b + 256 * c + 4096 * d → a ≤ 10 → b ≤ 10 → c ≤ 10 → index < 4
-    → (e / 2 ^ (4 * index)) % 16 ≡ get_or (a ∷ b ∷ c ∷ d % 16 ∷ []) index 0
-nibble a b c d e zero is la lb lc h = omega (arith, is, la)
-nibble a b c d e (suc zero) is la lb lc h = omega (arith, is, la, lb)
-nibble a b c d e (suc (suc zero)) is la lb lc h = omega (arith, is, la, lb, lc)
-nibble a b c d e (suc (suc (suc zero))) is la lb lc h = omega (arith, is, la, lb, lc)
-nibble a b c d e (suc (suc (suc (suc k)))) is la lb lc h = absurd (omega arith)
-
-pub first_widths : (number count : ℕ) → 0 < count → count ≤ 4
-    → (group_widths number / 2 ^ (4 * (count - 1))) % 16 ≡ width_of (take count (words_of number))
-unfolding group_widths
-first_widths number zero some few = absurd (omega arith)
-first_widths number (suc zero) some few =
-    nibble (part number 1) (part number 2) (part number 3) (part number 4) (group_widths number) 0 refl
-    (few_in_part number 1) (few_in_part number 2) (few_in_part number 3) (omega arith)
-first_widths number (suc (suc zero)) some few =
-    nibble (part number 1) (part number 2) (part number 3) (part number 4) (group_widths number) 1 refl
-    (few_in_part number 1) (few_in_part number 2) (few_in_part number 3) (omega arith)
-first_widths number (suc (suc (suc zero))) some few =
-    nibble (part number 1) (part number 2) (part number 3) (part number 4) (group_widths number) 2 refl
-    (few_in_part number 1) (few_in_part number 2) (few_in_part number 3) (omega arith)
-first_widths number (suc (suc (suc (suc zero)))) some few =
-    nibble (part number 1) (part number 2) (part number 3) (part number 4) (group_widths number) 3 refl
-    (few_in_part number 1) (few_in_part number 2) (few_in_part number 3) (omega arith)
-    ∙ mod_small (part number 4) (few_in_part number 4)
-first_widths number (suc (suc (suc (suc (suc k))))) some few = absurd (omega arith)

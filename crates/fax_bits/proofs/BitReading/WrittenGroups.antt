@@ -1,7 +1,7 @@
--- When the rows and widths of groups of modes that are written out are those of the code list.
+-- When the rows of groups of modes that are written out are those of the code list.
 use Rattle.fax_bits.proofs.Names.{◌≡◌, ℕ, suc, zero, ◌+◌, ◌<◌, Bool, true, false, ◌&&◌, eqb, List, [], ◌∷◌, length, get_or, refl}
 use Rattle.fax_bits.proofs.Names.{arith, and_parts, eqb-true, false≢true}
-use Rattle.fax_bits.specs.ModeGroups.{group_row, group_widths, AreRows, AreWidths}
+use Rattle.fax_bits.specs.ModeGroups.{group_row, AreRows}
 
 -- whether two lists are the same
 abbrev pub same_items : List ℕ → List ℕ → Bool
@@ -37,34 +37,9 @@ rows_agree_at (row ∷ rows) from (suc index) e lt =
     let at : from + suc index ≡ suc from + index = omega arith in
     rw at (rows_agree_at rows (suc from) index both.1 (omega arith))
 
--- the same of the widths
-abbrev pub are_widths : List ℕ → ℕ → Bool
-are_widths [] index = true
-are_widths (entry ∷ entries) index = eqb entry (group_widths index) && are_widths entries (suc index)
-
-widths_agree_at : (entries : List ℕ) (from index : ℕ) → are_widths entries from ≡ true → index < length entries
-    → get_or entries index 0 ≡ group_widths (from + index)
-widths_agree_at [] from index e lt = absurd (omega arith)
-widths_agree_at (entry ∷ entries) from zero e lt =
-    let both = and_parts (eqb entry (group_widths from)) (are_widths entries (suc from)) e in
-    let at : from + zero ≡ from = omega arith in
-    rw at (eqb-true entry (group_widths from) both.0)
-widths_agree_at (entry ∷ entries) from (suc index) e lt =
-    let both = and_parts (eqb entry (group_widths from)) (are_widths entries (suc from)) e in
-    let at : from + suc index ≡ suc from + index = omega arith in
-    rw at (widths_agree_at entries (suc from) index both.1 (omega arith))
-
 pub rows_agree : (rows : List (List ℕ)) → length rows ≡ 1024 → are_rows rows 0 ≡ true → AreRows rows
 rows_agree rows count all = record {
   count = count;
   each = λ index below.
       let same : 0 + index ≡ index = omega arith in rw same at (rows_agree_at rows 0 index all (omega (arith, count, below)));
-}
-
-pub widths_agree : (entries : List ℕ) → length entries ≡ 1024 → are_widths entries 0 ≡ true → AreWidths entries
-widths_agree entries count all = record {
-  count = count;
-  each = λ index below.
-      let same : 0 + index ≡ index = omega arith in
-      rw same at (widths_agree_at entries 0 index all (omega (arith, count, below)));
 }

@@ -1,5 +1,5 @@
 -- A line that isn't read is no row.
-use Rattle.fax_reading.proofs.Names.{◌≡◌, ◌≢◌, Bool, true, false, not, ◌||◌, Result, Err, refl, sym, ap, subst, ◌∙◌}
+use Rattle.fax_reading.proofs.Names.{◌≡◌, Bool, true, false, not, ◌||◌, Result, Err, refl, sym, ap, subst, ◌∙◌}
 use Rattle.fax_reading.proofs.Names.{cond-true, or_from, or_parts, not-false, not_from_true, DecodeError, kind_of}
 use Rattle.fax_reading.proofs.Names.{OutOfMemory, Refused, DrawsLine, IsFault, IsRepairable}
 use Rattle.fax_reading.proofs.Names.{RepairStoresChange, HasBlack, front_of, Bits, Held, redrawn, TakesOneRow, Line}

@@ -1,22 +1,25 @@
--- The changes of a row with its end twice behind them.
-use Rattle.fax_reading.proofs.Names.{◌≡◌, ℕ, zero, suc, ◌<◌, ◌++◌, List, [], ◌∷◌, length, get_or, refl, ap, ◌∙◌, arith}
+-- The changes of a row with its end six times behind them.
+use Rattle.fax_reading.proofs.Names.{◌≡◌, ℕ, zero, suc, ◌<◌, ◌++◌, List, [], ◌∷◌, length, replicate, get_or, refl, ap, ◌∙◌, arith}
 use Rattle.fax_reading.proofs.Names.{AreChanges, AreEnded, changes_in, inl, inr, cases_lt, get_or_past, length-append}
 use Rattle.std.proofs.lemmas.List.{take_at}
 
-ends_at : (xs : List ℕ) (end k : ℕ) → get_or (xs ++ end ∷ end ∷ []) k end ≡ get_or xs k end
-ends_at [] end zero = refl
-ends_at [] end (suc zero) = refl
-ends_at [] end (suc (suc k)) = refl
+end_at : (end count k : ℕ) → get_or (replicate count end) k end ≡ end
+end_at end zero k = refl
+end_at end (suc count) zero = refl
+end_at end (suc count) (suc k) = end_at end count k
+
+ends_at : (xs : List ℕ) (end k : ℕ) → get_or (xs ++ replicate 6 end) k end ≡ get_or xs k end
+ends_at [] end k = end_at end 6 k
 ends_at (x ∷ xs) end zero = refl
 ends_at (x ∷ xs) end (suc k) = ends_at xs end k
 
-without_ends : (xs : List ℕ) (end : ℕ) → changes_in (xs ++ end ∷ end ∷ []) ≡ xs
-without_ends xs end = take_at xs (end ∷ end ∷ []) _ (omega (arith, length-append xs (end ∷ end ∷ [])))
+without_ends : (xs : List ℕ) (end : ℕ) → changes_in (xs ++ replicate 6 end) ≡ xs
+without_ends xs end = take_at xs (replicate 6 end) _ (omega (arith, length-append xs (replicate 6 end)))
 
-pub ends_taken : (xs ended : List ℕ) (end : ℕ) → ended ≡ xs ++ end ∷ end ∷ [] → changes_in ended ≡ xs
+pub ends_taken : (xs ended : List ℕ) (end : ℕ) → ended ≡ xs ++ replicate 6 end → changes_in ended ≡ xs
 ends_taken xs ended end put = ap changes_in put ∙ without_ends xs end
 
-pub with_ends : (columns : ℕ) (xs : List ℕ) → AreChanges columns xs → AreEnded columns (xs ++ columns ∷ columns ∷ [])
+pub with_ends : (columns : ℕ) (xs : List ℕ) → AreChanges columns xs → AreEnded columns (xs ++ replicate 6 columns)
 with_ends columns xs lawful =
     let same = without_ends xs columns in
     record { lawful = rw same lawful; ended = rw same refl }

@@ -6,7 +6,7 @@ use Rattle.std.specs.Int.{bit_at, trailing_ones, w64}
 use Rattle.std.specs.Int.RustNames.{bit_or}
 use Rattle.std.proofs.lemmas.Bool.{agree_below_at, eqb-false}
 use Rattle.std.proofs.lemmas.Nat.{or_lt, pow_pos}
-use Rattle.std.proofs.lemmas.Nat.Bits.{bit_at-lt, bit_at-trailing_ones, bit_at_above, bit_at_or, same_from_bits_below}
+use Rattle.std.proofs.lemmas.Nat.Bits.{bit_at-lt, bit_at-trailing_ones, bit_at_or, same_from_bits_below}
 use Rattle.hayro_ccitt.specs.Bits.{bit_of}
 use Rattle.hayro_ccitt.specs.RegularModes.{AreSet}
 
@@ -42,22 +42,16 @@ all_set : (mask count : ℕ) → mask < 16 → count ≤ 4 → AreSet mask count
 all_set mask count few le set =
     let fits = or_lt 4 mask (16 - 2 ^ count) (omega (arith, few)) (omega (arith, pow_pos count)) in
     same_from_bits_below 4 (bit_or mask (16 - 2 ^ count)) 15 fits (omega arith) (λ k lt.
-        let four = agree_below_at (λ b. bit_of 15 b) (λ b. true) 4 k refl lt in
-        let both = bit_at_or mask (16 - 2 ^ count) k in
-        elim (cases_lt k count) [
-          | inl before ↦ omega (arith, both, eqb-true _ 1 four, eqb-true _ 1 (set k before), clear_before count k le before)
-          | inr behind ↦ omega (arith, both, eqb-true _ 1 four, set_behind count k le lt behind, bit_at-lt mask k)
-        ])
+    let four = agree_below_at (λ b. bit_of 15 b) (λ b. true) 4 k refl lt in
+    let both = bit_at_or mask (16 - 2 ^ count) k in
+    elim (cases_lt k count) [
+      | inl before ↦ omega (arith, both, eqb-true _ 1 four, eqb-true _ 1 (set k before), clear_before count k le before)
+      | inr behind ↦ omega (arith, both, eqb-true _ 1 four, set_behind count k le lt behind, bit_at-lt mask k)
+    ])
 
 -- the bits below the lowest that isn't set
 pub set_before_first : (mask : ℕ) → mask < 16 → AreSet mask (trailing_ones w64 mask)
 set_before_first mask few k lt = eq-eqb _ 1 ((bit_at-trailing_ones w64 mask (omega (arith, few))).2 k lt)
-
-pub first_within : (mask : ℕ) → mask < 16 → trailing_ones w64 mask ≤ 4
-first_within mask few = elim (cases_lt 4 (trailing_ones w64 mask)) [
-  | inl past ↦ absurd (omega (arith, (bit_at-trailing_ones w64 mask (omega (arith, few))).2 4 past, bit_at_above mask 4 4))
-  | inr within ↦ within
-]
 
 -- it is before the count, if they aren't all set before the count
 pub first_before_count : (mask unused count : ℕ) → mask < 16 → count ≤ 4 → unused ≡ 16 - 2 ^ count

@@ -24,6 +24,7 @@ modes-preserved c =
       can = recolored next
           (λ (s : Stroke). CanDraw c.args.line.now s c.draw_mode_at_hand.new.hand c.draw_mode_at_hand.new.row) same (record {
             ended = c.requires.can.ended;
+            fits = c.requires.can.fits;
             inside = omega (arith, on.drawn.reached.within, c.if-next-line.false);
             reached = on.drawn.reached;
             room = on.room;

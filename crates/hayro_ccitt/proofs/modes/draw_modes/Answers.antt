@@ -14,6 +14,7 @@ rooms-preserved c =
       drawn = on;
       can = record {
         ended = c.requires.can.ended;
+        fits = c.requires.can.fits;
         inside = omega (arith, on.reached.within, c.if-reached-line.false);
         reached = on.reached;
         room = omega (arith, len, made.room);

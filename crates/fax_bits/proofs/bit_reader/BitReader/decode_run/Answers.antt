@@ -43,17 +43,17 @@ returns-in_err-consume-clause-run c =
     ∙ ap Err (sym c.in_err-consume.ensures.only_end))
 
 -- the bits of the last word are here
-within : (c : goal.In_ok-consume) → c.words.self.place + c.word_behind-last.result.1 ≤ length c.words.self.bits
-within c = grind (arith, common_steps)
+ends_within : (c : goal.In_ok-consume) → c.words.self.place + c.word_behind-last.result.1 ≤ length c.words.self.bits
+ends_within c = grind (arith, common_steps)
 
-behind : (c : goal.In_ok-consume) → c.consume.new.self ≡ moved c.word_behind-last.result.1 c.words.self
-behind c = grind (arith, common_steps, min, within)
+moved_past : (c : goal.In_ok-consume) → c.consume.new.self ≡ moved c.word_behind-last.result.1 c.words.self
+moved_past c = grind (arith, common_steps, min, ends_within)
 
 pub returns-then-last-lt64-clause-run : goal.returns-then-last-lt64-clause-run
 returns-then-last-lt64-clause-run c =
     let some : c.word_behind-last.result.0 ≢ 4095 = λ e. absurd (omega (arith, e, c.if-last-lt64.true)) in
-    let word = c.word_behind-last.ensures.word some (omega (arith, within c)) in
-    c.words.invariant.0 ∙ rw (behind c) (run_ends_by_one c.args.color c.words.self c.words.total c.word_behind-last.result.0
+    let word = c.word_behind-last.ensures.word some (omega (arith, ends_within c)) in
+    c.words.invariant.0 ∙ rw (moved_past c) (run_ends_by_one c.args.color c.words.self c.words.total c.word_behind-last.result.0
     c.word_behind-last.result.1 word c.if-last-lt64.true (omega (arith, c.words.invariant, c.if-last-lt64.true)))
 
 pub returns-in_err-run-in-None-clause-ticks : goal.returns-in_err-run-in-None-clause-ticks

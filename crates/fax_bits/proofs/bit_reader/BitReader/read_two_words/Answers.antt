@@ -4,21 +4,21 @@ use Rattle.fax_bits.proofs.CodeWords.WordsHere.{run_ends_by_two, run_on_two, sho
 use Rattle.fax_bits.proofs.bit_reader.BitReader.read_two_words.Goals as goal
 
 -- the bits of both words are here
-within : (c : goal.After-tick_times) → c.args.self.now.place + (c.word_behind-first.result.1 + c.word_behind-second.result.1)
+both_within : (c : goal.After-tick_times) → c.args.self.now.place + (c.word_behind-first.result.1 + c.word_behind-second.result.1)
     ≤ length c.args.self.now.bits
-within c = grind (arith, common_steps)
+both_within c = grind (arith, common_steps)
 
-behind : (c : goal.After-tick_times)
+moved_past_both : (c : goal.After-tick_times)
     → c.consume.new.self ≡ moved (c.word_behind-first.result.1 + c.word_behind-second.result.1) c.args.self.now
-behind c = grind (arith, common_steps, min, within)
+moved_past_both c = grind (arith, common_steps, min, both_within)
 
 first : (c : goal.After-tick_times)
     → IsWordHere c.args.color (moved 0 c.args.self.now) c.word_behind-first.result.0 c.word_behind-first.result.1
-first c = c.word_behind-first.ensures.word c.if-first-eq4095.false (omega (arith, within c))
+first c = c.word_behind-first.ensures.word c.if-first-eq4095.false (omega (arith, both_within c))
 
 second : (c : goal.After-tick_times) → IsWordHere c.args.color (moved c.word_behind-first.result.1 c.args.self.now)
     c.word_behind-second.result.0 c.word_behind-second.result.1
-second c = c.word_behind-second.ensures.word c.if-second-eq4095.false (omega (arith, within c))
+second c = c.word_behind-second.ensures.word c.if-second-eq4095.false (omega (arith, both_within c))
 
 fits : (c : goal.After-tick_times)
     → c.args.total + c.word_behind-first.result.0 + c.word_behind-second.result.0 ≤ 4294967295
@@ -34,16 +34,17 @@ pub returns-clause-last : goal.returns-clause-last
 returns-clause-last c = λ short.
     let ends = run_ends_by_two c.args.color c.args.self.now c.args.total c.word_behind-first.result.0 c.word_behind-first.result.1
     c.word_behind-second.result.0 c.word_behind-second.result.1 (first c) (second c) (long c) (fits c) (ltb-true _ _ short) in
-    rw (behind c, c.tick_times.ensures) (ends.0, omega (arith, ends.1))
+    rw (moved_past_both c, c.tick_times.ensures) (ends.0, omega (arith, ends.1))
 
 pub returns-clause-on : goal.returns-clause-on
 returns-clause-on c = λ long_too.
-    rw (behind c, c.tick_times.ensures) (run_on_two c.args.color c.args.self.now c.args.total c.word_behind-first.result.0
+    rw (moved_past_both c, c.tick_times.ensures) (run_on_two c.args.color c.args.self.now c.args.total
+      c.word_behind-first.result.0
     c.word_behind-first.result.1 c.word_behind-second.result.0 c.word_behind-second.result.1 (first c) (second c) (long c)
     (fits c) c.args.ticks.now (not_below _ long_too))
 
 pub returns-clause-shorter : goal.returns-clause-shorter
 returns-clause-shorter c =
-    rw (behind c) (shorter_behind_two c.args.color c.args.self.now c.args.total c.word_behind-first.result.0
+    rw (moved_past_both c) (shorter_behind_two c.args.color c.args.self.now c.args.total c.word_behind-first.result.0
     c.word_behind-first.result.1 c.word_behind-second.result.0 c.word_behind-second.result.1 (first c) (second c) (long c)
     (fits c))

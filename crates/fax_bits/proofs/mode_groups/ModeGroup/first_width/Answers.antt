@@ -1,25 +1,21 @@
-use Rattle.fax_bits.proofs.Names.{◌∙◌, ◌≤◌, ◌-◌, ◌*◌, ◌/◌, ◌%◌, ◌^◌, ℕ, ap, arith, and_mask}
-use Rattle.fax_bits.proofs.BitReading.GroupRows.{first_widths, bits_for_each, few_in_part, four_words}
+use Rattle.fax_bits.proofs.Names.{◌∙◌, ◌≤◌, ◌+◌, ℕ, List, ap, arith, get_or, take}
+use Rattle.fax_bits.proofs.BitReading.GroupRows.{row_first_width, bits_for_each, few_in_part, four_words}
 use Rattle.fax_bits.proofs.mode_groups.ModeGroup.first_width.Goals as goal
-use Rattle.fax_bits.specs.ModeGroups.{group_widths}
+use Rattle.fax_bits.specs.ModeGroups.{width_of, words_of}
 
-pub overflow_mul-count : goal.overflow_mul-count
-overflow_mul-count c = omega (arith, c.requires.within, four_words c.args.self)
+pub overflow_add-count : goal.overflow_add-count
+overflow_add-count c = omega (arith, c.requires.within, four_words c.args.self)
 
-pub overflow_cast-count : goal.overflow_cast-count
-overflow_cast-count c = omega (arith, c.requires.within, four_words c.args.self)
-
-pub overflow_shr-widths_of : goal.overflow_shr-widths_of
-overflow_shr-widths_of c = omega (arith, c.requires.some, c.requires.within, four_words c.args.self)
+pub bounds-row_of-count : goal.bounds-row_of-count
+bounds-row_of-count c = omega (arith, c.requires.within, four_words c.args.self)
 
 pub returns-clause-value : goal.returns-clause-value
 returns-clause-value c =
     let count = c.args.count in
     let few : count ≤ 4 = omega (arith, c.requires.within, four_words c.args.self) in
-    c.from.ensures ∙ and_mask (c.widths_of.result / 2 ^ (4 * (count - 1))) 4
-    ∙ ap (λ (n : ℕ). (n / 2 ^ (4 * (count - 1))) % 16) c.widths_of.ensures
-    ∙ ap (λ (n : ℕ). (group_widths n / 2 ^ (4 * (count - 1))) % 16) c.self.view_is
-    ∙ first_widths c.args.self count c.requires.some few
+    c.from.ensures ∙ ap (λ (row : List ℕ). get_or row (3 + count) 0) c.row_of.ensures
+    ∙ row_first_width c.self.inside.bits count c.requires.some few
+    ∙ ap (λ (n : ℕ). width_of (take count (words_of n))) c.self.view_is
 
 pub returns-clause-few : goal.returns-clause-few
 returns-clause-few c = omega (arith, returns-clause-value c, few_in_part c.args.self c.args.count)

@@ -17,6 +17,7 @@ draw_modes-reached-requires c =
     record {
       can = record {
         ended = ended;
+        fits = omega (arith, c.if-self.false);
         inside = omega (arith, c.if-self-eq0.false);
         reached = rw (c.has_mode.ensures.same_row, empty) (start_stroke s.settings.columns _ ended.lawful);
         room = omega (arith, c.if-not-has_mode.ensures.room);

@@ -1,0 +1,13 @@
+use Rattle.fax_bits.proofs.Names.{◌∙◌, ◌-◌, ℕ, List, ap, arith, get_or, length}
+use Rattle.fax_bits.proofs.BitReading.GroupRows.{row_missing, four_words}
+use Rattle.fax_bits.proofs.mode_groups.ModeGroup.missing.Goals as goal
+use Rattle.fax_bits.specs.ModeGroups.{words_of}
+
+pub returns-clause-value : goal.returns-clause-value
+returns-clause-value c =
+    let missing = c.from.ensures ∙ ap (λ (row : List ℕ). get_or row 11 0) c.row_of.ensures ∙ row_missing c.self.inside.bits
+    ∙ ap (λ (n : ℕ). 4 - length (words_of n)) c.self.view_is in
+    omega (arith, missing, four_words c.args.self)
+
+pub returns-clause-few : goal.returns-clause-few
+returns-clause-few c = omega (arith, returns-clause-value c)

@@ -1,0 +1,12 @@
+use Rattle.std.proofs.lemmas.Bool.{eqb-true, eqb-false}
+use Rattle.hayro_ccitt.proofs.DrawingLines.GroupMasks.{set_before_count, first_before_count}
+use Rattle.hayro_ccitt.proofs.modes.are_regular.Goals as goal
+
+pub returns-clause-all : goal.returns-clause-all
+returns-clause-all c e =
+    set_before_count c.args.modes.now.regular c.unused.result _ c.requires.few c.unused.ensures.value (eqb-true _ 15 e)
+
+pub returns-clause-some : goal.returns-clause-some
+returns-clause-some c e =
+    first_before_count c.args.modes.now.regular c.unused.result _ c.requires.mask c.requires.few c.unused.ensures.value
+    (eqb-false _ 15 e)

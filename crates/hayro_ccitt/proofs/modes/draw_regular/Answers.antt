@@ -1,0 +1,64 @@
+use Rattle.std.specs.Prelude.{length, get_or, take, ◌∷◌, ◌++◌}
+use Rattle.std.proofs.Math.Seq.{take-length}
+use Rattle.std.proofs.lemmas.List.{get_or-take, length-take-le}
+use Rattle.hayro_ccitt.proofs.Names.{◌≡◌, ◌∙◌, ◌-◌, ℕ, ap, sym, refl, arith}
+use Rattle.hayro_ccitt.proofs.DrawingLines.RegularModes.{draws_first, first_inside, stored_at, after_first}
+use Rattle.hayro_ccitt.specs.ModeGroups.{width_of, words_of}
+use Rattle.hayro_ccitt.proofs.modes.draw_regular.Goals as goal
+
+-- what is stored
+stored : (c : goal.After-next_color) → c.turn_at_places.new.row.items ≡ c.args.row.now.items ++ take c.count-count.result
+    c.args.modes.now.places
+stored c =
+    let same : 4 - c.missing.result ≡ c.count-count.result = omega (
+      arith,
+      c.missing.ensures.value,
+      c.count-count.ensures.value,
+    ) in
+    rw same at c.turn_at_places.ensures.items
+
+-- the last place that is stored
+last : (c : goal.After-next_color) → c.index.result.now ≡ get_or (c.args.stroke.painted ∷ c.args.modes.now.places)
+    c.count-count.result 0
+last c =
+    let places = c.args.modes.now.places in
+    let n : ℕ = c.count-count.result in
+    let here = c.requires.here in
+    let all = c.count-count.ensures.value in
+    let turned = c.turn_at_places.ensures in
+    c.index.ensures ∙ ap (λ xs. get_or xs (c.len.result - 1) c.index.result.now) (stored c)
+    ∙ stored_at c.args.row.now.items (take n places) (c.len.result - 1) (n - 1) c.index.result.now
+    (omega (arith, all, here.some, length-take-le n places (omega (arith, all, here.few, here.lead.four))))
+    (omega (arith, c.len.ensures, turned.count, c.args.row.now.ok.0, all, here.some, c.missing.ensures.value))
+    ∙ get_or-take n places (n - 1) 0 (omega (arith, all, here.some)) ∙ after_first c.args.stroke.painted places n (omega
+    (arith, all, here.some))
+
+pub returns-clause-drawn : goal.returns-clause-drawn
+returns-clause-drawn c =
+    let a = c.args in
+    let words = words_of a.modes.now.group in
+    let n : ℕ = c.count-count.result in
+    let all : n ≡ length words = c.count-count.ensures.value in
+    let set = rw (← all) at c.requires.all in
+    let width : c.width.result ≡ width_of (take n words) = c.width.ensures.value ∙ ap width_of (rw all (sym (take-length
+    words))) in
+    let turned = c.turn_at_places.ensures in
+    draws_first c.requires.can c.requires.here n (omega (arith, all)) set
+    (omega (
+      arith,
+      c.requires.can.room,
+      turned.count,
+      turned.room,
+      c.pass.ensures.left,
+      c.width.ensures.some,
+      all,
+      c.missing.ensures.value,
+    ))
+    (omega (arith, all, c.requires.here.some)) (last c) refl c.next_color.ensures.turns (stored c)
+    (rw width at c.pass.ensures.moved) (omega (arith, c.tick_times.ensures))
+
+pub returns-clause-inside : goal.returns-clause-inside
+returns-clause-inside c =
+    let all = c.count-count.ensures.value in
+    rw (last c) (first_inside c.requires.can c.requires.here c.count-count.result (omega (arith, all)) (rw (← all) at
+    c.requires.all))
