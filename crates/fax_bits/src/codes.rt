@@ -817,8 +817,11 @@ pub fn is_long_pair(reader: &BitReader<'_>, skip: usize, tables: &Tables) -> boo
 /// Consumes V0 if it is here, and returns whether it is; otherwise nothing changes.
 #[inline(always)]
 pub fn pass_v0(reader: &mut BitReader<'_>) -> bool
-    ensures mode { result ≡ true → read_code mode_codes (here reader.old) ≡ Ok (Mode.Vertical (pos 0), here (moved 1
-      reader.old)) }
+    ensures mode { result ≡ true → read_code mode_codes (here reader.old) ≡ Ok (
+      Mode.Vertical (pos 0),
+      here (moved 1
+          reader.old),
+    ) }
     ensures passed { result ≡ true → reader.new ≡ moved 1 reader.old }
     ensures unchanged { result ≡ false → reader.new ≡ reader.old }
 {

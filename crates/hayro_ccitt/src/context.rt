@@ -92,7 +92,7 @@ pub struct DecoderContext {
     fault_start: Option<usize>,
     settings: DecodeSettings,
     tables: Tables,
-    /// Whether the last line of modes suits drawing by groups: it has many changes, and few bits for each.
+    /// Whether the last line with many changes suits drawing by groups: it has few bits for each.
     suits_groups: bool,
     ticks: Ticks,
 }
@@ -1082,17 +1082,19 @@ impl DecoderContext {
         ensures space { self.new.space ≤ max self.old.space (room_for
             (max (length (changes self.old.held.reference)) (suc (length (changes self.new.held.front))))) }
     {
-        if self.settings.columns == 0 || self.settings.columns > (1 << 31) - 4 {
+        let columns = self.settings.columns;
+        // A place and three more fit a lane of 32 bits with a sign.
+        if columns == 0 || columns > (1 << 31) - 4 {
             return;
         }
         if !has_mode(hand, &mut self.coding_changes) {
             return;
         }
-        if !put_ends(&mut self.ref_changes, self.settings.columns) {
+        if !put_ends(&mut self.ref_changes, columns) {
             return;
         }
         let line = CodingLine {
-            columns: self.settings.columns,
+            columns,
             strict: self.settings.strict,
             places: self.ref_changes.as_slice(),
             tables: &self.tables,
@@ -1100,11 +1102,7 @@ impl DecoderContext {
         };
         let reached = draw_modes(hand, &mut self.coding_changes, &line, &mut self.ticks);
         take_ends(&mut self.ref_changes);
-        lay_down_row(
-            &mut self.coding_changes,
-            reached.painted,
-            self.settings.columns,
-        );
+        lay_down_row(&mut self.coding_changes, reached.painted, columns);
         self.pixels_decoded = reached.painted;
         self.color = reached.color;
         // The change before b1 may be right of a0.
@@ -1127,12 +1125,14 @@ impl DecoderContext {
         ensures space { self.new.space ≤ max self.old.space (room_for
             (max (length (changes self.old.held.reference)) (suc (length (changes self.new.held.front))))) }
     {
-        let start = reader.bit_pos();
         let mut hand = none_at_hand(reader);
         self.draw_modes_at_hand(&mut hand);
+        let start = reader.bit_pos();
         go_to(reader, &hand);
         let changes = self.coding_changes.len();
-        self.suits_groups = changes > 15 && reader.bit_pos().saturating_sub(start) / 4 < changes;
+        if changes > 15 {
+            self.suits_groups = reader.bit_pos().saturating_sub(start) / 4 < changes;
+        }
     }
 
     /// Draws a white line under a white row, which is V0 alone, and returns whether there is one here; otherwise nothing

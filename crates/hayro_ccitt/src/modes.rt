@@ -1410,7 +1410,12 @@ pub(crate) fn take_ends(changes: &mut Vec<u32>)
     ensures items { changes.new.items ≡ changes_in changes.old.items }
     ensures space { vec_capacity changes.new ≡ vec_capacity changes.old }
 {
-    changes.truncate(changes.len() - 6);
+    let _sixth = changes.take_last();
+    let _fifth = changes.take_last();
+    let _fourth = changes.take_last();
+    let _third = changes.take_last();
+    let _second = changes.take_last();
+    let _first = changes.take_last();
 }
 
 /// Returns whether the row of a list of changes is white.

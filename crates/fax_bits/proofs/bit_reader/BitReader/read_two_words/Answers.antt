@@ -39,7 +39,7 @@ returns-clause-last c = λ short.
 pub returns-clause-on : goal.returns-clause-on
 returns-clause-on c = λ long_too.
     rw (moved_past_both c, c.tick_times.ensures) (run_on_two c.args.color c.args.self.now c.args.total
-      c.word_behind-first.result.0
+    c.word_behind-first.result.0
     c.word_behind-first.result.1 c.word_behind-second.result.0 c.word_behind-second.result.1 (first c) (second c) (long c)
     (fits c) c.args.ticks.now (not_below _ long_too))
 

@@ -17,8 +17,8 @@ draw_modes-reached-requires c =
     record {
       can = record {
         ended = ended;
-        fits = omega (arith, c.if-self.false);
-        inside = omega (arith, c.if-self-eq0.false);
+        fits = omega (arith, c.if-columns.false);
+        inside = omega (arith, c.if-columns-eq0.false);
         reached = rw (c.has_mode.ensures.same_row, empty) (start_stroke s.settings.columns _ ended.lawful);
         room = omega (arith, c.if-not-has_mode.ensures.room);
       };
@@ -47,7 +47,7 @@ invariant_of-self-2 c =
     let s = c.self.inside in
     let same = ends_taken s.ref_changes.items _ s.settings.columns (c.put_ends.ensures.ended c.if-not-put_ends.false) in
     let stroke = rw (c.as_slice.ensures.value, same) at c.draw_modes-reached.ensures.drawn.reached in
-    let some : 0 < s.settings.columns = omega (arith, c.if-self-eq0.false) in
+    let some : 0 < s.settings.columns = omega (arith, c.if-columns-eq0.false) in
     record {
       reference = rw (c.take_ends.ensures.items, same) c.self.invariant.reference;
       front = c.lay_down_row.ensures.lawful;
@@ -73,7 +73,7 @@ returns-clause-within c =
     let s = c.self.inside in
     let same = ends_taken s.ref_changes.items _ s.settings.columns (c.put_ends.ensures.ended c.if-not-put_ends.false) in
     let stroke = rw (c.as_slice.ensures.value, same) at c.draw_modes-reached.ensures.drawn.reached in
-    let some : 0 < s.settings.columns = omega (arith, c.if-self-eq0.false) in
+    let some : 0 < s.settings.columns = omega (arith, c.if-columns-eq0.false) in
     let listed = changes-pixels s.settings.columns s.ref_changes.items c.self.invariant.reference in
     rw (← c.self.view_is, listed, c.saturating_sub-self-inside.ensures)
     (are_passed some c.self.invariant.reference stroke).within
