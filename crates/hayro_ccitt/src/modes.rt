@@ -599,23 +599,27 @@ fn draw_horizontal(
     }
 }
 
-/// Draws the vertical mode that is here. Returns `None`, and draws nothing, if it isn't of the usual kind.
+/// Draws a vertical mode that is here, read with the number of its bits. Returns `None`, and draws nothing, if it isn't of the
+/// usual kind, or no vertical mode.
 #[inline(always)]
 fn draw_vertical(
     hand: &mut BitsAtHand<'_>,
     row: &mut Vec<u32>,
     line: &CodingLine<'_>,
     stroke: Stroke,
+    read: (Mode, usize),
     ticks: &mut Ticks,
 ) -> Option<Stroke>
+    requires mode { IsNextMode read.0 read.1 hand.old }
+    requires v0 { read.0 ≡ Mode.Vertical (pos 0) → read.1 ≡ 1 }
     requires enough { 16 ≤ hand.old.left }
     requires can { CanDraw line.now stroke hand.old row.old }
     ensures drawn { IfSome result (λ next. DrawsMode line.now stroke hand.old row.old ticks.old next hand.new row.new ticks.new) }
     ensures left { IfNone result (DrawsNothing hand.old row.old ticks.old hand.new row.new ticks.new) }
     ensures kept { KeepsRoom hand.old row.old hand.new row.new }
 {
-    let (mode, width) = mode_at_hand(hand);
-    match mode? {
+    let (mode, width) = read;
+    match mode {
         Mode::Vertical(0) => Some(draw_v0(hand, row, line, stroke, ticks)),
         Mode::Vertical(1) => draw_right(
             hand,
@@ -900,10 +904,11 @@ fn draw_mode_of_group(
     if ModeGroup::count(group) == 0 {
         return None;
     }
-    match draw_first(hand, row, line, stroke, group, ticks) {
-        None => draw_vertical(hand, row, line, stroke, ticks),
-        Some(reached) => Some(reached),
+    if let Some(reached) = draw_first(hand, row, line, stroke, group, ticks) {
+        return Some(reached);
     }
+    let (mode, width) = mode_at_hand(hand);
+    draw_vertical(hand, row, line, stroke, (mode?, width), ticks)
 }
 
 /// Returns the last of some places that are stored in a row from an index on, or what was painted before if there is none.
@@ -1108,58 +1113,9 @@ fn draw_mode_at_hand(
 {
     let (mode, width) = mode_at_hand(hand);
     match mode? {
-        Mode::Vertical(0) => Some(draw_v0(hand, row, line, stroke, ticks)),
-        Mode::Vertical(1) => draw_right(
-            hand,
-            row,
-            line,
-            stroke,
-            VerticalMode { distance: 1, width },
-            ticks,
-        ),
-        Mode::Vertical(2) => draw_right(
-            hand,
-            row,
-            line,
-            stroke,
-            VerticalMode { distance: 2, width },
-            ticks,
-        ),
-        Mode::Vertical(3) => draw_right(
-            hand,
-            row,
-            line,
-            stroke,
-            VerticalMode { distance: 3, width },
-            ticks,
-        ),
-        Mode::Vertical(-1) => draw_left(
-            hand,
-            row,
-            line,
-            stroke,
-            VerticalMode { distance: 1, width },
-            ticks,
-        ),
-        Mode::Vertical(-2) => draw_left(
-            hand,
-            row,
-            line,
-            stroke,
-            VerticalMode { distance: 2, width },
-            ticks,
-        ),
-        Mode::Vertical(-3) => draw_left(
-            hand,
-            row,
-            line,
-            stroke,
-            VerticalMode { distance: 3, width },
-            ticks,
-        ),
-        Mode::Vertical(_) => None,
         Mode::Pass => Some(draw_pass(hand, row, line, stroke, ticks)),
         Mode::Horizontal => draw_horizontal(hand, row, line, stroke, ticks),
+        vertical => draw_vertical(hand, row, line, stroke, (vertical, width), ticks),
     }
 }
 
