@@ -1,5 +1,5 @@
 -- Modes that are drawn with bits at hand. This is not part of the trusted specification: no contract of a public call cites it.
-use Rattle.std.specs.Prelude.{◌≡◌, ℕ, ◌+◌, ◌-◌, ◌^◌, ◌<◌, ◌≤◌, ◌∷◌, Some, Ok, Vec, vec_len, vec_capacity, length, get_or}
+use Rattle.std.specs.Prelude.{◌≡◌, ℕ, ◌+◌, ◌-◌, ◌^◌, ◌<◌, ◌≤◌, ◌∷◌, Option, None, Some, Ok, Vec, vec_len, vec_capacity, length, get_or}
 use Rattle.std.specs.Int.{trailing_ones, w64}
 use Rattle.fax_bits.specs.declared.codes.Mode.{Mode}
 use Rattle.fax_bits.specs.declared.codes.Mode.TheVariants.{Horizontal, Pass}
@@ -100,3 +100,8 @@ module _ {A : Type 0} where
     pub same_bits : rest.at.bits ≡ hand.at.bits
     pub capacity : vec_capacity longer ≡ vec_capacity row
     pub count : vec_len row ≤ vec_len longer
+
+  -- If there is a next stroke, a mode is drawn up to it; if there is none, nothing is drawn.
+  abbrev pub DrawsSome : CodingLine → Stroke → AtHand → Vec ℕ A → ℕ → Option Stroke → AtHand → Vec ℕ A → ℕ → Type 0
+  DrawsSome line stroke hand row ticks None rest longer now = DrawsNothing hand row ticks rest longer now
+  DrawsSome line stroke hand row ticks (Some next) rest longer now = DrawsMode line stroke hand row ticks next rest longer now

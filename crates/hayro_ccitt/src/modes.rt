@@ -7,7 +7,7 @@ ghost use Rattle.std.specs.Prelude.{◌++◌, ◌∷◌, [], ◌^◌};
 ghost use Rattle.hayro_ccitt.specs.DrawnModes.{AreModesHere, IsFirstMode, LeadFrom, first_clear};
 ghost use Rattle.hayro_ccitt.specs.ModeGroups.{AreNextWords, words_of};
 ghost use Rattle.hayro_ccitt.specs.RegularModes.{AreSet};
-ghost use Rattle.hayro_ccitt.specs.DrawnModes.{IsNextMode, CanDraw, Draws, DrawsMode, DrawsNothing, KeepsRoom, line_start};
+ghost use Rattle.hayro_ccitt.specs.DrawnModes.{IsNextMode, CanDraw, Draws, DrawsMode, DrawsSome, KeepsRoom, line_start};
 ghost use Rattle.hayro_ccitt.specs.Rows.{AreChanges, pixels, opposite};
 ghost use Rattle.hayro_ccitt.specs.Space.{room_for};
 ghost use Rattle.hayro_ccitt.specs.UsualModes.{AreEnded, changes_in, IsNear, IsB1, TurnsFrom};
@@ -263,8 +263,7 @@ fn draw_to_end(
     requires mode { IsNextMode (Mode.Vertical (pos mode.distance)) mode.width hand.old }
     requires some { 0 < mode.distance }
     requires can { CanDraw line.now stroke hand.old row.old }
-    ensures drawn { IfSome result (λ next. DrawsMode line.now stroke hand.old row.old ticks.old next hand.new row.new ticks.new) }
-    ensures left { IfNone result (DrawsNothing hand.old row.old ticks.old hand.new row.new ticks.new) }
+    ensures drawn { DrawsSome line.now stroke hand.old row.old ticks.old result hand.new row.new ticks.new }
     ensures kept { KeepsRoom hand.old row.old hand.new row.new }
 {
     let b1 = change_at(line, stroke.index);
@@ -293,8 +292,7 @@ fn draw_right(
     requires mode { IsNextMode (Mode.Vertical (pos mode.distance)) mode.width hand.old }
     requires some { 0 < mode.distance }
     requires can { CanDraw line.now stroke hand.old row.old }
-    ensures drawn { IfSome result (λ next. DrawsMode line.now stroke hand.old row.old ticks.old next hand.new row.new ticks.new) }
-    ensures left { IfNone result (DrawsNothing hand.old row.old ticks.old hand.new row.new ticks.new) }
+    ensures drawn { DrawsSome line.now stroke hand.old row.old ticks.old result hand.new row.new ticks.new }
     ensures kept { KeepsRoom hand.old row.old hand.new row.new }
 {
     let b1 = change_at(line, stroke.index);
@@ -327,8 +325,7 @@ fn draw_to_edge(
     requires mode { IsNextMode (Mode.Vertical (negsuc (mode.distance - 1))) mode.width hand.old }
     requires some { 0 < mode.distance }
     requires can { CanDraw line.now stroke hand.old row.old }
-    ensures drawn { IfSome result (λ next. DrawsMode line.now stroke hand.old row.old ticks.old next hand.new row.new ticks.new) }
-    ensures left { IfNone result (DrawsNothing hand.old row.old ticks.old hand.new row.new ticks.new) }
+    ensures drawn { DrawsSome line.now stroke hand.old row.old ticks.old result hand.new row.new ticks.new }
     ensures kept { KeepsRoom hand.old row.old hand.new row.new }
 {
     if stroke.painted > 0 {
@@ -364,8 +361,7 @@ fn draw_left(
     requires mode { IsNextMode (Mode.Vertical (negsuc (mode.distance - 1))) mode.width hand.old }
     requires some { 0 < mode.distance }
     requires can { CanDraw line.now stroke hand.old row.old }
-    ensures drawn { IfSome result (λ next. DrawsMode line.now stroke hand.old row.old ticks.old next hand.new row.new ticks.new) }
-    ensures left { IfNone result (DrawsNothing hand.old row.old ticks.old hand.new row.new ticks.new) }
+    ensures drawn { DrawsSome line.now stroke hand.old row.old ticks.old result hand.new row.new ticks.new }
     ensures kept { KeepsRoom hand.old row.old hand.new row.new }
 {
     let b1 = change_at(line, stroke.index);
@@ -512,8 +508,7 @@ fn draw_last_run(
     requires runs { AreTwoRunsHere stroke.color (moved 3 hand.old.at) runs }
     requires within { 3 + runs.width ≤ hand.old.left }
     requires none { runs.second ≡ 0 }
-    ensures drawn { IfSome result (λ next. DrawsMode line.now stroke hand.old row.old ticks.old next hand.new row.new ticks.new) }
-    ensures left { IfNone result (DrawsNothing hand.old row.old ticks.old hand.new row.new ticks.new) }
+    ensures drawn { DrawsSome line.now stroke hand.old row.old ticks.old result hand.new row.new ticks.new }
     ensures kept { KeepsRoom hand.old row.old hand.new row.new }
 {
     if runs.first != line.columns - stroke.painted {
@@ -541,8 +536,7 @@ fn draw_runs_of_words(
     requires mode { IsNextMode Mode.Horizontal 3 hand.old }
     requires enough { 16 ≤ hand.old.left }
     requires can { CanDraw line.now stroke hand.old row.old }
-    ensures drawn { IfSome result (λ next. DrawsMode line.now stroke hand.old row.old ticks.old next hand.new row.new ticks.new) }
-    ensures left { IfNone result (DrawsNothing hand.old row.old ticks.old hand.new row.new ticks.new) }
+    ensures drawn { DrawsSome line.now stroke hand.old row.old ticks.old result hand.new row.new ticks.new }
     ensures kept { KeepsRoom hand.old row.old hand.new row.new }
 {
     let runs = runs_at_hand(hand, row, line, stroke.color)?;
@@ -589,8 +583,7 @@ fn draw_horizontal(
     requires mode { IsNextMode Mode.Horizontal 3 hand.old }
     requires enough { 16 ≤ hand.old.left }
     requires can { CanDraw line.now stroke hand.old row.old }
-    ensures drawn { IfSome result (λ next. DrawsMode line.now stroke hand.old row.old ticks.old next hand.new row.new ticks.new) }
-    ensures left { IfNone result (DrawsNothing hand.old row.old ticks.old hand.new row.new ticks.new) }
+    ensures drawn { DrawsSome line.now stroke hand.old row.old ticks.old result hand.new row.new ticks.new }
     ensures kept { KeepsRoom hand.old row.old hand.new row.new }
 {
     match draw_short_runs(hand, row, line, stroke, ticks) {
@@ -614,8 +607,7 @@ fn draw_vertical(
     requires v0 { read.0 ≡ Mode.Vertical (pos 0) → read.1 ≡ 1 }
     requires enough { 16 ≤ hand.old.left }
     requires can { CanDraw line.now stroke hand.old row.old }
-    ensures drawn { IfSome result (λ next. DrawsMode line.now stroke hand.old row.old ticks.old next hand.new row.new ticks.new) }
-    ensures left { IfNone result (DrawsNothing hand.old row.old ticks.old hand.new row.new ticks.new) }
+    ensures drawn { DrawsSome line.now stroke hand.old row.old ticks.old result hand.new row.new ticks.new }
     ensures kept { KeepsRoom hand.old row.old hand.new row.new }
 {
     let (mode, width) = read;
@@ -891,8 +883,7 @@ fn draw_mode_of_group(
     requires can { CanDraw line.now stroke hand.old row.old }
     requires first { IsFirstMode group hand.old }
     requires words { AreNextWords (words_of group) hand.old.at }
-    ensures drawn { IfSome result (λ next. DrawsMode line.now stroke hand.old row.old ticks.old next hand.new row.new ticks.new) }
-    ensures left { IfNone result (DrawsNothing hand.old row.old ticks.old hand.new row.new ticks.new) }
+    ensures drawn { DrawsSome line.now stroke hand.old row.old ticks.old result hand.new row.new ticks.new }
     ensures kept { KeepsRoom hand.old row.old hand.new row.new }
 {
     if group.is_horizontal() {
@@ -1106,9 +1097,8 @@ fn draw_mode_at_hand(
 ) -> Option<Stroke>
     requires enough { 16 ≤ hand.old.left }
     requires can { CanDraw line.now stroke hand.old row.old }
-    ensures drawn { IfSome result (λ next. DrawsMode line.now stroke hand.old row.old ticks.old next hand.new row.new ticks.new) }
+    ensures drawn { DrawsSome line.now stroke hand.old row.old ticks.old result hand.new row.new ticks.new }
     ensures there { IfSome result (λ reached. hand.old.at.place < length hand.old.at.bits) }
-    ensures left { IfNone result (DrawsNothing hand.old row.old ticks.old hand.new row.new ticks.new) }
     ensures kept { KeepsRoom hand.old row.old hand.new row.new }
 {
     let (mode, width) = mode_at_hand(hand);
