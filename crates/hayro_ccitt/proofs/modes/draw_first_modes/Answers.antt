@@ -1,13 +1,15 @@
-use Rattle.std.specs.Prelude.{length, get_or, take, drop, ◌<◌, ◌≤◌, ◌∷◌, ◌++◌}
+use Rattle.std.specs.Prelude.{length, vec_len, vec_capacity, get_or, take, drop, ◌<◌, ◌≤◌, ◌∷◌, ◌++◌}
 use Rattle.std.proofs.Math.Seq.{take-append-add, drop-append_seam}
 use Rattle.hayro_ccitt.proofs.Names.{◌≡◌, ◌∙◌, ◌+◌, ℕ, List, Color, White, Black, TurnsFrom, opposite, suc, ap, sym, refl, arith}
-use Rattle.hayro_ccitt.proofs.Names.{length-append, moved}
+use Rattle.hayro_ccitt.proofs.Names.{BitsAt, length-append, moved}
 use Rattle.std.proofs.lemmas.List.{length-take-le}
 use Rattle.hayro_ccitt.proofs.DrawingLines.GroupMasks.{set_before_first}
 use Rattle.hayro_ccitt.proofs.DrawingLines.RegularModes.{draws_first, draws_next, draws_full, first_inside, first_reached}
 use Rattle.hayro_ccitt.proofs.DrawingLines.RegularModes.{one_color, stored_at}
 use Rattle.hayro_ccitt.specs.DrawnModes.{first_clear}
-use Rattle.hayro_ccitt.specs.ModeGroups.{width_of, words_of}
+use Rattle.hayro_ccitt.specs.ModeGroups.{VerticalWord, width_of, words_of}
+use Rattle.hayro_ccitt.specs.RegularModes.{AreSet}
+use Rattle.hayro_ccitt.proofs.modes.draw_first_modes.Goals.{After-painted_by-painted}
 use Rattle.hayro_ccitt.proofs.modes.draw_first_modes.Goals as goal
 
 -- the colour before a turn
@@ -19,179 +21,136 @@ twice : (color : Color) → opposite (opposite color) ≡ color
 twice White = refl
 twice Black = refl
 
--- what is read of places that are stored behind a row
-module _ (row places : List ℕ) {stored : List ℕ} {start count : ℕ} (put : stored ≡ row ++ places) (begin : start ≡ length row)
-    (few : count < length places) where
-  place_is : {place : ℕ} → place ≡ get_or stored (start + count) place → place ≡ get_or places count 0
-  place_is {place} at =
-      at ∙ ap (λ xs. get_or xs (start + count) place) put ∙ stored_at row places (start + count) count place few (omega (
-        arith,
-        begin,
-      ))
+-- the places are stored, and it is known which of them is the first that isn't marked
+module _ (c : After-painted_by-painted) where
+  abbrev n : ℕ
+  n = first_clear c.args.modes.now
 
-  painted_is : (painted : ℕ) {last : ℕ} → last ≡ get_or (painted ∷ drop start stored) count 0
-      → last ≡ get_or (painted ∷ places) count 0
-  painted_is painted is =
-      is ∙ ap (λ xs. get_or (painted ∷ xs) count 0) (rw (put, begin) (drop-append_seam row places))
+  abbrev words : List VerticalWord
+  words = words_of c.args.modes.now.group
 
-  kept : (k : ℕ) {n : ℕ} {new : List ℕ} → new ≡ take n stored → n ≡ start + k → new ≡ row ++ take k places
-  kept k is e = is ∙ rw (put, e, begin) (take-append-add row places k)
+  abbrev places : List ℕ
+  places = c.args.modes.now.places
 
-  -- the colour before one of them that is turned at
-  colored_before : {new : List ℕ} (color : Color) → new ≡ row ++ take (suc count) places → TurnsFrom (length new) color
-      → TurnsFrom (length (row ++ take count places)) (opposite color)
+  abbrev row : List ℕ
+  row = c.args.row.now.items
+
+  within : n ≤ length words
+  within = omega (arith, c.requires.some)
+
+  set : AreSet c.args.modes.now.regular n
+  set = set_before_first c.args.modes.now.regular c.requires.here.lead.mask
+
+  few : n < length places
+  few = omega (arith, c.requires.some, c.requires.here.few, c.requires.here.lead.four)
+
+  begin : c.len-start.result ≡ length row
+  begin = omega (arith, c.len-start.ensures, c.args.row.now.ok.0)
+
+  place_is : c.index-place.result.now ≡ get_or places n 0
+  place_is =
+      c.index-place.ensures
+      ∙ ap (λ xs. get_or xs (c.len-start.result + n) c.index-place.result.now) c.push_places.ensures.items
+      ∙ stored_at row places (c.len-start.result + n) n c.index-place.result.now few (omega (arith, begin))
+
+  painted_is : c.painted_by-painted.result ≡ get_or (c.args.stroke.painted ∷ places) n 0
+  painted_is =
+      c.painted_by-painted.ensures
+      ∙ ap (λ xs. get_or (c.args.stroke.painted ∷ drop c.len-start.result xs) n 0) c.push_places.ensures.items
+      ∙ ap (λ k. get_or (c.args.stroke.painted ∷ drop k (row ++ places)) n 0) begin
+      ∙ ap (λ xs. get_or (c.args.stroke.painted ∷ xs) n 0) (drop-append_seam row places)
+
+  -- what is kept of the places
+  kept : (k : ℕ) {m : ℕ} {new : List ℕ} → new ≡ take m c.push_places.new.row.items → m ≡ c.len-start.result + k
+      → new ≡ row ++ take k places
+  kept k {m} is e =
+      is ∙ ap (take m) c.push_places.ensures.items ∙ ap (λ j. take j (row ++ places)) (omega (arith, e, begin))
+      ∙ take-append-add row places k
+
+  room : (n < 4) × (vec_len c.push_places.new.row ≡ c.len-start.result + 4)
+      × (c.len-start.result + c.args.hand.now.left ≤ vec_capacity c.push_places.new.row)
+  room = (
+    omega (arith, few, c.requires.here.lead.four),
+    omega (arith, c.push_places.ensures.count, c.len-start.ensures),
+    omega (arith, c.requires.can.room, c.push_places.ensures.room, c.len-start.ensures),
+  )
+
+  -- the bits of one mode more are passed
+  passed : {width : ℕ} {to : BitsAt} → width ≡ width_of (take (n + 1) words) → to ≡ moved width c.args.hand.now.at
+      → to ≡ moved (width_of (take (suc n) words)) c.args.hand.now.at
+  passed is to =
+      let one : n + 1 ≡ suc n = omega arith in
+      to ∙ ap (λ (w : ℕ). moved w c.args.hand.now.at) (is ∙ ap (λ (k : ℕ). width_of (take k words)) one)
+
+  -- the colour before one of the places that is turned at
+  colored_before : {new : List ℕ} (color : Color) → new ≡ row ++ take (suc n) places → TurnsFrom (length new) color
+      → TurnsFrom (length (row ++ take n places)) (opposite color)
   colored_before {new} color items turns =
-      let len : length new ≡ length (row ++ take count places) + 1 = omega (
+      let len : length new ≡ length (row ++ take n places) + 1 = omega (
         arith,
         ap length items,
-        length-append row (take (suc count) places),
-        length-append row (take count places),
-        length-take-le (suc count) places (omega (arith, few)),
-        length-take-le count places (omega (arith, few)),
+        length-append row (take (suc n) places),
+        length-append row (take n places),
+        length-take-le (suc n) places (omega (arith, few)),
+        length-take-le n places (omega (arith, few)),
       ) in
-      turned_back (length (row ++ take count places)) color (rw len at turns)
+      turned_back (length (row ++ take n places)) color (rw len at turns)
 
 pub b1_after-index-requires-clause-within : goal.b1_after-index-requires-clause-within
 b1_after-index-requires-clause-within c =
-    let a = c.args in
-    let here = c.requires.here in
-    let set = set_before_first a.modes.now.regular here.lead.mask in
-    let begin : c.len-start.result ≡ length a.row.now.items = omega (arith, c.len-start.ensures, a.row.now.ok.0) in
-    let few : first_clear a.modes.now < length a.modes.now.places = omega (arith, c.requires.some, here.few, here.lead.four) in
-    let put = c.push_places.ensures.items in
-    let items = kept a.row.now.items a.modes.now.places put begin few (suc (first_clear a.modes.now)) c.truncate.ensures.items
-    (omega arith) in
-    let colored = colored_before a.row.now.items a.modes.now.places put begin few c.next_color.result items (rw
-    c.truncate.new.self.ok.0 at c.next_color.ensures.turns) in
-    let reached = first_reached c.requires.can here (first_clear a.modes.now) (omega (arith, c.requires.some)) set _ colored in
-    omega (arith, reached.near)
+    let at = (goal.at.b1_after-index-requires-clause-within c).After-painted_by-painted in
+    let items = kept at (suc (n at)) c.truncate.ensures.items (omega arith) in
+    let colored = colored_before at c.next_color.result items (rw c.truncate.new.self.ok.0 at c.next_color.ensures.turns) in
+    omega (arith, (first_reached c.requires.can c.requires.here (n at) (within at) (set at) _ colored).near)
 
 pub b1_after-index-requires-clause-at : goal.b1_after-index-requires-clause-at
 b1_after-index-requires-clause-at c =
-    let a = c.args in
-    let here = c.requires.here in
-    let set = set_before_first a.modes.now.regular here.lead.mask in
-    let begin : c.len-start.result ≡ length a.row.now.items = omega (arith, c.len-start.ensures, a.row.now.ok.0) in
-    let few : first_clear a.modes.now < length a.modes.now.places = omega (arith, c.requires.some, here.few, here.lead.four) in
-    let put = c.push_places.ensures.items in
-    let last = painted_is a.row.now.items a.modes.now.places put begin few a.stroke.painted c.painted_by-painted.ensures in
-    let items = kept a.row.now.items a.modes.now.places put begin few (suc (first_clear a.modes.now)) c.truncate.ensures.items
-    (omega arith) in
-    let colored = colored_before a.row.now.items a.modes.now.places put begin few c.next_color.result items (rw
-    c.truncate.new.self.ok.0 at c.next_color.ensures.turns) in
-    let within : first_clear a.modes.now ≤ length (words_of a.modes.now.group) = omega (arith, c.requires.some) in
-    rw (last, c.opposite.ensures) ((first_reached c.requires.can here (first_clear a.modes.now) within set _ colored).at
-    (first_inside c.requires.can here (first_clear a.modes.now) within set))
+    let at = (goal.at.b1_after-index-requires-clause-at c).After-painted_by-painted in
+    let items = kept at (suc (n at)) c.truncate.ensures.items (omega arith) in
+    let colored = colored_before at c.next_color.result items (rw c.truncate.new.self.ok.0 at c.next_color.ensures.turns) in
+    rw (painted_is at, c.opposite.ensures) ((first_reached c.requires.can c.requires.here (n at) (within at) (set at) _ colored).at
+    (first_inside c.requires.can c.requires.here (n at) (within at) (set at)))
 
 pub returns-then-place-line-clause-drawn : goal.returns-then-place-line-clause-drawn
 returns-then-place-line-clause-drawn c =
-    let a = c.args in
-    let n : ℕ = first_clear a.modes.now in
-    let here = c.requires.here in
-    let set = set_before_first a.modes.now.regular here.lead.mask in
-    let begin : c.len-start.result ≡ length a.row.now.items = omega (arith, c.len-start.ensures, a.row.now.ok.0) in
-    let few : n < length a.modes.now.places = omega (arith, c.requires.some, here.few, here.lead.four) in
-    let put = c.push_places.ensures.items in
-    let place = place_is a.row.now.items a.modes.now.places put begin few c.index-place.ensures in
-    let last = painted_is a.row.now.items a.modes.now.places put begin few a.stroke.painted c.painted_by-painted.ensures in
-    let items = kept a.row.now.items a.modes.now.places put begin few (suc n) c.truncate.ensures.items (omega arith) in
-    let colored = colored_before a.row.now.items a.modes.now.places put begin few c.next_color.result items (rw
-    c.truncate.new.self.ok.0 at c.next_color.ensures.turns) in
+    let at = (goal.at.returns-then-place-line-clause-drawn c).After-painted_by-painted in
+    let items = kept at (suc (n at)) c.truncate.ensures.items (omega arith) in
+    let colored = colored_before at c.next_color.result items (rw c.truncate.new.self.ok.0 at c.next_color.ensures.turns) in
     let turned = one_color _ _ _ c.next_color-color.ensures.turns c.next_color.ensures.turns in
-    let one : n + 1 ≡ suc n = omega arith in
-    draws_next c.requires.can here n (omega (arith, c.requires.some)) set
-    (omega (
-      arith,
-      c.requires.can.room,
-      c.truncate.ensures.len,
-      c.truncate.ensures.capacity,
-      c.push_places.ensures.count,
-      c.push_places.ensures.room,
-      c.pass.ensures.left,
-      c.first_width.ensures.some,
-      c.len-start.ensures,
-      few,
-      here.lead.four,
-    ))
+    draws_next c.requires.can c.requires.here (n at) (within at) (set at)
+    (omega (arith, room at, c.truncate.ensures.len, c.truncate.ensures.capacity, c.pass.ensures.left, c.first_width.ensures.some))
     (opposite c.next_color.result) c.requires.some colored (turned ∙ sym (twice c.next_color.result))
-    (c.pass.ensures.moved ∙ ap (λ (w : ℕ). moved w a.hand.now.at) (c.first_width.ensures.value ∙ ap (λ (k : ℕ). width_of (take
-    k (words_of a.modes.now.group))) one))
+    (passed at c.first_width.ensures.value c.pass.ensures.moved)
     (omega (arith, c.tick_times.ensures, c.b1_after-index.ensures.work.0))
-    (omega (arith, c.tick_times.ensures, c.b1_after-index.ensures.work.1, here.after)) place
-    (omega (arith, last, c.if-painted-place.true)) (omega (arith, c.if-place-line.true))
+    (omega (arith, c.tick_times.ensures, c.b1_after-index.ensures.work.1, c.requires.here.after)) (place_is at)
+    (omega (arith, painted_is at, c.if-painted-place.true)) (omega (arith, c.if-place-line.true))
     (rw c.opposite.ensures at c.b1_after-index.ensures.at) items
 
 pub returns-then-place-line-2-clause-drawn : goal.returns-then-place-line-2-clause-drawn
 returns-then-place-line-2-clause-drawn c =
-    let a = c.args in
-    let n : ℕ = first_clear a.modes.now in
-    let here = c.requires.here in
-    let set = set_before_first a.modes.now.regular here.lead.mask in
-    let begin : c.len-start.result ≡ length a.row.now.items = omega (arith, c.len-start.ensures, a.row.now.ok.0) in
-    let few : n < length a.modes.now.places = omega (arith, c.requires.some, here.few, here.lead.four) in
-    let put = c.push_places.ensures.items in
-    let place = place_is a.row.now.items a.modes.now.places put begin few c.index-place.ensures in
-    let items = kept a.row.now.items a.modes.now.places put begin few n c.truncate-2.ensures.items refl in
-    let colored = rw (c.truncate-2.new.self.ok.0, items) at c.next_color-then-place-line-2.ensures.turns in
-    let one : n + 1 ≡ suc n = omega arith in
-    draws_full c.requires.can here n (omega (arith, c.requires.some)) set
-    (omega (
-      arith,
-      c.requires.can.room,
-      c.truncate-2.ensures.len,
-      c.truncate-2.ensures.capacity,
-      c.push_places.ensures.count,
-      c.push_places.ensures.room,
-      c.pass-then-place-line-2.ensures.left,
-      c.first_width-then-place-line-2.ensures.some,
-      c.len-start.ensures,
-      few,
-      here.lead.four,
-    ))
-    c.next_color-then-place-line-2.result c.requires.some colored c.opposite-color.ensures
-    (c.pass-then-place-line-2.ensures.moved ∙ ap (λ (w : ℕ). moved w a.hand.now.at)
-    (c.first_width-then-place-line-2.ensures.value ∙ ap (λ (k : ℕ). width_of (take k (words_of a.modes.now.group))) one))
-    (omega (arith, c.tick_times-then-place-line-2.ensures))
-    (omega (arith, c.tick_times-then-place-line-2.ensures))
-    (omega (arith, place, c.if-place-line-2.true)) (omega (arith, c.if-place-line-2.true)) refl items
+    let at = (goal.at.returns-then-place-line-2-clause-drawn c).After-painted_by-painted in
+    let items = kept at (n at) c.truncate-2.ensures.items refl in
+    let ticks = c.tick_times-then-place-line-2.ensures in
+    let width = c.first_width-then-place-line-2.ensures in
+    let bits = c.pass-then-place-line-2.ensures in
+    draws_full c.requires.can c.requires.here (n at) (within at) (set at)
+    (omega (arith, room at, c.truncate-2.ensures.len, c.truncate-2.ensures.capacity, bits.left, width.some))
+    c.next_color-then-place-line-2.result c.requires.some
+    (rw (c.truncate-2.new.self.ok.0, items) at c.next_color-then-place-line-2.ensures.turns) c.opposite-color.ensures
+    (passed at width.value bits.moved) (omega (arith, ticks)) (omega (arith, ticks))
+    (omega (arith, place_is at, c.if-place-line-2.true)) (omega (arith, c.if-place-line-2.true)) refl items
 
 pub returns-clause-drawn : goal.returns-clause-drawn
 returns-clause-drawn c =
-    let a = c.args in
-    let n : ℕ = first_clear a.modes.now in
-    let here = c.requires.here in
-    let set = set_before_first a.modes.now.regular here.lead.mask in
-    let begin : c.len-start.result ≡ length a.row.now.items = omega (arith, c.len-start.ensures, a.row.now.ok.0) in
-    let few : n < length a.modes.now.places = omega (arith, c.requires.some, here.few, here.lead.four) in
-    let put = c.push_places.ensures.items in
-    let last = painted_is a.row.now.items a.modes.now.places put begin few a.stroke.painted c.painted_by-painted.ensures in
-    let items = kept a.row.now.items a.modes.now.places put begin few n c.truncate-2.ensures.items refl in
-    draws_first c.requires.can here n (omega (arith, c.requires.some)) set
-    (omega (
-      arith,
-      c.requires.can.room,
-      c.truncate-2.ensures.len,
-      c.truncate-2.ensures.capacity,
-      c.push_places.ensures.count,
-      c.push_places.ensures.room,
-      c.pass-2.ensures.left,
-      c.first_width-2.ensures.some,
-      c.len-start.ensures,
-      few,
-      here.lead.four,
-    ))
-    (omega (arith, c.if-count-eq0.false)) last refl c.next_color-color-2.ensures.turns items
-    (c.pass-2.ensures.moved ∙ ap (λ (w : ℕ). moved w a.hand.now.at) c.first_width-2.ensures.value)
-    (omega (arith, c.tick_times-2.ensures))
+    let at = (goal.at.returns-clause-drawn c).After-painted_by-painted in
+    let items = kept at (n at) c.truncate-2.ensures.items refl in
+    let width = c.first_width-2.ensures in
+    draws_first c.requires.can c.requires.here (n at) (within at) (set at)
+    (omega (arith, room at, c.truncate-2.ensures.len, c.truncate-2.ensures.capacity, c.pass-2.ensures.left, width.some))
+    (omega (arith, c.if-count-eq0.false)) (painted_is at) refl c.next_color-color-2.ensures.turns items
+    (c.pass-2.ensures.moved ∙ ap (λ (w : ℕ). moved w c.args.hand.now.at) width.value) (omega (arith, c.tick_times-2.ensures))
 
 pub returns-clause-open : goal.returns-clause-open
 returns-clause-open c =
-    let a = c.args in
-    let n : ℕ = first_clear a.modes.now in
-    let here = c.requires.here in
-    let set = set_before_first a.modes.now.regular here.lead.mask in
-    let begin : c.len-start.result ≡ length a.row.now.items = omega (arith, c.len-start.ensures, a.row.now.ok.0) in
-    let few : n < length a.modes.now.places = omega (arith, c.requires.some, here.few, here.lead.four) in
-    let last = painted_is a.row.now.items a.modes.now.places c.push_places.ensures.items begin few a.stroke.painted
-    c.painted_by-painted.ensures in
-    ((λ _. omega (arith, last, first_inside c.requires.can here n (omega (arith, c.requires.some)) set)), λ _. refl)
+    let at = (goal.at.returns-clause-open c).After-painted_by-painted in
+    ((λ _. omega (arith, painted_is at, first_inside c.requires.can c.requires.here (n at) (within at) (set at))), λ _. refl)
