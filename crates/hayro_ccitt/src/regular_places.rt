@@ -20,7 +20,6 @@ pub(crate) fn regular_places(
     requires within { (0 < index) × (index + 5 ≤ length places.now) }
     requires below { (k : ℕ) → get_or places.now k _columns ≤ _columns }
     requires fit { (painted ≤ _columns) × (_columns + 3 < 2 ^ 31) }
-    requires positive { (k : ℕ) → index < k → 0 < get_or places.now k _columns }
     ensures four { (length result.0 ≡ 4) × (result.1 < 16) }
     ensures place { (k : ℕ) → k < 4 → get_or result.0 k 0 ≤ _columns
         → get_or places.now (index + k) _columns + get_or offsets.now k 3 ≡ get_or result.0 k 0 + 3 }
