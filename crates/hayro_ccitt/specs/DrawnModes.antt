@@ -1,5 +1,6 @@
 -- Modes that are drawn with bits at hand. This is not part of the trusted specification: no contract of a public call cites it.
-use Rattle.std.specs.Prelude.{◌≡◌, ℕ, ◌+◌, ◌-◌, ◌^◌, ◌<◌, ◌≤◌, ◌∷◌, Option, None, Some, Ok, Vec, vec_len, vec_capacity, length, get_or}
+use Rattle.std.specs.Prelude.{◌≡◌, ℕ, ◌+◌, ◌-◌, ◌^◌, ◌<◌, ◌≤◌, ◌∷◌, Ok, Vec, vec_len, vec_capacity, length, get_or}
+use Rattle.std.specs.Prelude.{Option, None, Some}
 use Rattle.std.specs.Int.{trailing_ones, w64}
 use Rattle.fax_bits.specs.declared.codes.Mode.{Mode}
 use Rattle.fax_bits.specs.declared.codes.Mode.TheVariants.{Horizontal, Pass}

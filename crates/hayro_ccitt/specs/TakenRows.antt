@@ -7,7 +7,7 @@ use Rattle.hayro_ccitt.specs.Answers.{IsRepairable, RepairStoresChange}
 use Rattle.hayro_ccitt.specs.Context.{Context, Held}
 use Rattle.hayro_ccitt.specs.PlainReading.{behind_row}
 
--- A row was taken, and the reader is where the next line, or its EOL, begins. Nothing was counted, and no room was needed.
+-- A row was taken, and the reader is where the next line, or its EOL, begins. No tick was counted, and no room was needed.
 pub record MovesBehindRow (before after : Context) (from to : BitsAt) : Type 0 where
   pub rest : here to ≡ behind_row before.held.settings before.held.has_eols (here from)
   pub width : length after.held.reference ≡ before.held.settings.columns

@@ -83,39 +83,33 @@ module _ (c : After-painted_by-painted) where
       to ∙ ap (λ (w : ℕ). moved w c.args.hand.now.at) (is ∙ ap (λ (k : ℕ). width_of (take k words)) one)
 
   -- the colour before one of the places that is turned at
-  colored_before : {new : List ℕ} (color : Color) → new ≡ row ++ take (suc n) places → TurnsFrom (length new) color
+  colored_before : {count : ℕ} (color : Color) → count ≡ c.len-start.result + n + 1 → TurnsFrom count color
       → TurnsFrom (length (row ++ take n places)) (opposite color)
-  colored_before {new} color items turns =
-      let len : length new ≡ length (row ++ take n places) + 1 = omega (
-        arith,
-        ap length items,
-        length-append row (take (suc n) places),
-        length-append row (take n places),
-        length-take-le (suc n) places (omega (arith, few)),
-        length-take-le n places (omega (arith, few)),
-      ) in
+  colored_before {count} color e turns =
+      let taken = length-take-le n places (omega (arith, few)) in
+      let len : count ≡ length (row ++ take n places) + 1 =
+      omega (arith, e, begin, length-append row (take n places), taken) in
       turned_back (length (row ++ take n places)) color (rw len at turns)
 
 pub b1_after-index-requires-clause-within : goal.b1_after-index-requires-clause-within
 b1_after-index-requires-clause-within c =
     let at = (goal.at.b1_after-index-requires-clause-within c).After-painted_by-painted in
-    let items = kept at (suc (n at)) c.truncate.ensures.items (omega arith) in
-    let colored = colored_before at c.next_color.result items (rw c.truncate.new.self.ok.0 at c.next_color.ensures.turns) in
+    let colored = colored_before at _ (omega (arith, c.truncate.ensures.len, room at)) c.next_color.ensures.turns in
     omega (arith, (first_reached c.requires.can c.requires.here (n at) (within at) (set at) _ colored).near)
 
 pub b1_after-index-requires-clause-at : goal.b1_after-index-requires-clause-at
 b1_after-index-requires-clause-at c =
     let at = (goal.at.b1_after-index-requires-clause-at c).After-painted_by-painted in
-    let items = kept at (suc (n at)) c.truncate.ensures.items (omega arith) in
-    let colored = colored_before at c.next_color.result items (rw c.truncate.new.self.ok.0 at c.next_color.ensures.turns) in
-    rw (painted_is at, c.opposite.ensures) ((first_reached c.requires.can c.requires.here (n at) (within at) (set at) _ colored).at
-    (first_inside c.requires.can c.requires.here (n at) (within at) (set at)))
+    let colored = colored_before at _ (omega (arith, c.truncate.ensures.len, room at)) c.next_color.ensures.turns in
+    let here = c.requires.here in
+    rw (painted_is at, c.opposite.ensures) ((first_reached c.requires.can here (n at) (within at) (set at) _ colored).at
+    (first_inside c.requires.can here (n at) (within at) (set at)))
 
 pub returns-then-place-line-clause-drawn : goal.returns-then-place-line-clause-drawn
 returns-then-place-line-clause-drawn c =
     let at = (goal.at.returns-then-place-line-clause-drawn c).After-painted_by-painted in
     let items = kept at (suc (n at)) c.truncate.ensures.items (omega arith) in
-    let colored = colored_before at c.next_color.result items (rw c.truncate.new.self.ok.0 at c.next_color.ensures.turns) in
+    let colored = colored_before at _ (omega (arith, c.truncate.ensures.len, room at)) c.next_color.ensures.turns in
     let turned = one_color _ _ _ c.next_color-color.ensures.turns c.next_color.ensures.turns in
     draws_next c.requires.can c.requires.here (n at) (within at) (set at)
     (omega (arith, room at, c.truncate.ensures.len, c.truncate.ensures.capacity, c.pass.ensures.left, c.first_width.ensures.some))
