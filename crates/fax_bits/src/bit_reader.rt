@@ -848,6 +848,26 @@ fn scanner_over<'a>(data: &'a [u8], order: BitOrder, place: usize, word: u64) ->
     }
 }
 
+/// Creates a scanner at one of the last 64 bits, of eight bytes at least. All that are left are in its window.
+#[inline(always)]
+fn scanner_near_end<'a>(data: &'a [u8], order: BitOrder, place: usize) -> BitScanner<'a>
+    requires fit { BitsFit «data».now }
+    requires whole { 8 ≤ length «data».now }
+    requires near { 8 * length «data».now ≤ place + 64 }
+    requires within { place < 8 * length «data».now }
+    ensures { result ≡ record { bits = bits_in order «data».now; place = place } }
+{
+    let start = data.len() - 8;
+    let end = data.len() * 8;
+    BitScanner {
+        data,
+        window: whole_word(&data[start..], order) << (place - start * 8),
+        left: end - place,
+        limit: end,
+        order,
+    }
+}
+
 /// Creates a scanner at a bit offset.
 #[inline(always)]
 pub fn scanner_at<'a>(data: &'a [u8], order: BitOrder, place: usize) -> BitScanner<'a>
@@ -855,7 +875,11 @@ pub fn scanner_at<'a>(data: &'a [u8], order: BitOrder, place: usize) -> BitScann
     requires within { place ≤ 8 * length «data».now }
     ensures { result ≡ record { bits = bits_in order «data».now; place = place } }
 {
-    let word = word_at(data, order, place / 8);
+    let bytes = data.len();
+    if bytes >= 8 && place >= (bytes - 8) * 8 && place < bytes * 8 {
+        return scanner_near_end(data, order, place);
+    }
+    let word = later_word(data, order, place / 8);
     scanner_over(data, order, place, word)
 }
 

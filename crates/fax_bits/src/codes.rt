@@ -768,6 +768,24 @@ impl<'a> BitScanner<'a> {
         Ok(run)
     }
 
+    /// Consumes V0 if it is here, and returns whether it is; otherwise nothing changes.
+    #[inline(always)]
+    pub fn pass_v0(&mut self) -> bool
+        ensures mode { result ≡ true
+            → read_code mode_codes (here self.old) ≡ Ok (Mode.Vertical (pos 0), here self.new) }
+        ensures same_bits { self.new.bits ≡ self.old.bits }
+        ensures unchanged { result ≡ false → self.new ≡ self.old }
+    {
+        let (mode, _) = mode_of(self.seven());
+        if !is_v0(mode) {
+            return false;
+        }
+        match self.consume(1) {
+            Ok(()) => true,
+            Err(_) => false,
+        }
+    }
+
     /// Reads a mode of a two-dimensional line (T.4 table 4, T.6 table 1), which is one tick.
     ///
     /// # Errors

@@ -184,7 +184,11 @@ fn add_mode(ctx: &mut DecoderContext, part: &mut KeptPart, mode: Mode) -> Word
 
 /// Goes on behind a mode that is read here.
 #[inline(always)]
-fn read_mode(ctx: &mut DecoderContext, reader: &mut BitScanner<'_>, part: &mut KeptPart) -> Word
+fn read_any_mode(
+    ctx: &mut DecoderContext,
+    reader: &mut BitScanner<'_>,
+    part: &mut KeptPart,
+) -> Word
     requires lawful { IsLawfulPart ctx.old.held.settings ctx.old.held.reference part.old }
     requires run { part.old.in_run ≡ false }
     requires mode { part.old.is_2d ≡ true }
@@ -195,6 +199,22 @@ fn read_mode(ctx: &mut DecoderContext, reader: &mut BitScanner<'_>, part: &mut K
         Ok(mode) => add_mode(ctx, part, mode),
         Err(error) => word_of_fault(error),
     }
+}
+
+/// Goes on behind a mode that is read here: mostly V0, which is looked for first.
+#[inline(always)]
+fn read_mode(ctx: &mut DecoderContext, reader: &mut BitScanner<'_>, part: &mut KeptPart) -> Word
+    requires lawful { IsLawfulPart ctx.old.held.settings ctx.old.held.reference part.old }
+    requires run { part.old.in_run ≡ false }
+    requires mode { part.old.is_2d ≡ true }
+    requires open { part.old.painted < ctx.old.held.settings.columns }
+    ensures reads { ReadsWord part.old part.new ctx.old ctx.new reader.old reader.new result }
+{
+    if reader.pass_v0() {
+        ctx.ticks().tick();
+        return turn(ctx, part, 0);
+    }
+    read_any_mode(ctx, reader, part)
 }
 
 /// Goes on behind a word of a run (T.4, 4.1.1).

@@ -789,11 +789,11 @@ impl RowFeed {
         ensures fit { result ≡ true → fed_bits self.old + 8 * length bytes.now + 72 ≤ 2 ^ 64 }
         ensures unchanged { result ≡ false → self.new ≡ self.old }
     {
-        let kept = self.data.len();
-        if bytes.len() != 1 || self.place >= 8 || kept == self.data.capacity() {
+        if bytes.len() != 1 || self.place >= 8 {
             return false;
         }
-        if kept >= MOST_BYTES || self.dropped > (MOST_BYTES - kept - 1) * 8 {
+        let kept = self.data.len();
+        if kept == self.data.capacity() || self.dropped + kept * 8 > MOST_BYTES * 8 - 8 {
             return false;
         }
         self.data.push_reserved(bytes[0]);

@@ -17,7 +17,7 @@ invariant_of-self c =
     let longer = ap length items ∙ length-append inside.«data».items next in
     record {
       within = omega (arith, longer, old.within);
-      fit = omega (arith, longer, old.fit, c.len-kept.ensures, c.if-kept-ge-MOST_BYTES.false, c.if-self-kept.false);
+      fit = omega (arith, longer, old.fit, c.len-kept.ensures, c.if-self-kept.false);
       fresh = old.fresh;
       start = old.start;
       unended = old.unended;
@@ -57,7 +57,7 @@ returns-clause-fit c = λ e. omega (
   ap fed_bits c.self.view_is,
   length-bits_in c.self.inside.order c.self.inside.«data».items,
   c.len-kept.ensures,
-  c.if-kept-ge-MOST_BYTES.false,
+  
   c.if-self-kept.false,
   c.if-bytes-ne1.false,
 )
