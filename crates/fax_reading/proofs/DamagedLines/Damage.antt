@@ -1,22 +1,22 @@
 -- Damage to one line changes its row alone.
-use Rattle.fax_reading.proofs.Names.{◌≡◌, ℕ, suc, ◌+◌, ◌-◌, ◌*◌, ◌/◌, ◌<◌, ◌≤◌, Bool, true, false, ◌||◌, eqb, ltb, List, [], ◌∷◌}
-use Rattle.fax_reading.proofs.Names.{◌++◌, length, take, drop, replicate, set, None, Some, Result, Ok, Err, refl, sym, ap, subst}
-use Rattle.fax_reading.proofs.Names.{◌∙◌, append_assoc, arith, ◌⊎◌, inl, inr, cases_lt, cases_eq, ne_eqb, or_right, cond-false}
+use Rattle.fax_reading.proofs.Names.{◌≡◌, ℕ, suc, ◌+◌, ◌-◌, ◌*◌, ◌/◌, ◌<◌, ◌≤◌, Bool, true, false, ◌||◌, ltb, List, [], ◌∷◌}
+use Rattle.fax_reading.proofs.Names.{◌++◌, length, take, drop, set, None, Some, Result, Ok, Err, refl, sym, ap, subst}
+use Rattle.fax_reading.proofs.Names.{◌∙◌, append_assoc, arith, ◌⊎◌, inl, inr, cases_lt, cases_eq, or_right}
 use Rattle.fax_reading.proofs.Names.{length-append, length-drop, take-append-drop, append-nil, append_cancel_right}
-use Rattle.fax_reading.proofs.Names.{replicate-append-replicate, set_at, DecodeError, UnexpectedEof, EncodingMode, Group3_2D}
+use Rattle.fax_reading.proofs.Names.{set_at, DecodeError, UnexpectedEof, Group3_2D}
 use Rattle.fax_reading.proofs.Names.{DecodeSettings, Bits, AreWholeBytes, AreSettings, repeated, Reaches, Row, after_eol}
 use Rattle.fax_reading.proofs.Names.{all_eols, eols_here, line_of_turn, row_before, Progress, Ending, first_line, move_on}
-use Rattle.fax_reading.proofs.Names.{first_gap, ending_behind, end_of, bytes_before, plain, Reading, whole_reading, IsEol}
+use Rattle.fax_reading.proofs.Names.{end_of, bytes_before, plain, Reading, IsEol}
 use Rattle.fax_reading.proofs.Names.{IsLocal, ComesToLine, OneRowDiffers, EndsAt, EndAlike, DamageStaysInRow, Locality}
 use Rattle.fax_reading.proofs.Names.{IsTagOfLine, common_steps}
-use Rattle.fax_reading.proofs.Readings.GapsAndRows.{ending_t4}
+use Rattle.fax_reading.proofs.Readings.GapsAndRows.{end_t4, plain_is}
 use Rattle.fax_bits.proofs.Repetition.Repeated.{reached_follows}
 use Rattle.fax_reading.proofs.DamagedLines.EolsAlike.{Closes, RestAlike, leaves_length, all_eols_alike}
-use Rattle.fax_reading.proofs.DamagedLines.LineTails.{after_eol_is, drop_at, is_tail, stays_1d}
+use Rattle.fax_reading.proofs.DamagedLines.LineTails.{drop_at, eol_closes, is_tail, stays_1d}
 use Rattle.fax_reading.proofs.DamagedLines.LinesByEols.{past_shorter, seeks}
 use Rattle.fax_reading.proofs.DamagedLines.PastEol.{past}
 use Rattle.fax_bits.proofs.BitReading.ConsecutiveEols.{all_eols-none, all_tagged}
-use Rattle.fax_reading.proofs.DamagedLines.RunsAlike.{IsGroup3, Settles, RowsAlike, EndsAlike, RunsAlike, IsTail, moves_alike}
+use Rattle.fax_reading.proofs.DamagedLines.RunsAlike.{IsGroup3, not_group4, Settles, RowsAlike, EndsAlike, RunsAlike, IsTail, moves_alike}
 use Rattle.fax_reading.proofs.DamagedLines.SoughtTurns.{sought, rest_of, sought_line_is}
 use Rattle.fax_reading.proofs.DrawingLines.LinesLeaveBits.{LeavesBits, leaves_trans}
 use Rattle.fax_reading.proofs.Readings.TurnsMoveOn.{left_to_read, left_below, move_shrinks}
@@ -41,15 +41,12 @@ module _ (settings : DecodeSettings) (wide : 0 < settings.columns) (one two : Bi
   abbrev end_two : Ending
   end_two = end_of settings two
 
-  plain_is : (bits : Bits) → plain settings bits ≡ whole_reading bits (end_of settings bits)
-  plain_is bits = cond-false (eqb settings.columns 0) _ _ (ne_eqb settings.columns 0 (λ e. absurd (omega (arith, e, wide))))
-
   pub rows_of : (bits : Bits) → (plain settings bits).rows ≡ (end_of settings bits).rows
-  rows_of bits = ap (λ (a : Reading). a.rows) (plain_is bits)
+  rows_of bits = ap (λ (a : Reading). a.rows) (plain_is settings wide bits)
 
   outcome_of : (bits : Bits) (r : Result Bits DecodeError) → (end_of settings bits).outcome ≡ r
       → (plain settings bits).outcome ≡ bytes_before bits r
-  outcome_of bits r e = ap (λ (a : Reading). a.outcome) (plain_is bits) ∙ ap (bytes_before bits) e
+  outcome_of bits r e = ap (λ (a : Reading). a.outcome) (plain_is settings wide bits) ∙ ap (bytes_before bits) e
 
   -- in both readings the line is read after these rows
   abbrev pub Begins : List Row → Type 0
@@ -142,20 +139,8 @@ module _ (settings : DecodeSettings) (wide : 0 < settings.columns) (one two : Bi
 ends_eol : (bits : Bits) (from : ℕ) (place : ℕ) → IsEol bits place from → (front : Bits) × Closes front
     × (bits ≡ front ++ true ∷ drop from bits)
 ends_eol bits from place eol =
-    let is = after_eol_is 0 (drop place bits) (drop from bits) eol.2 in
-    let more : ℕ = is.0 - 11 in
-    let sum : more + 11 ≡ is.0 = omega (arith, is.2) in
-    let fill : replicate is.0 false ≡ replicate more false ++ replicate 11 false = ap (λ (n : ℕ). replicate n false) (sym sum)
-    ∙ sym (replicate-append-replicate more 11 false) in (
-      take place bits ++ replicate is.0 false,
-      (
-        take place bits ++ replicate more false,
-        ap (λ (b : Bits). take place bits ++ b) fill
-            ∙ sym (append_assoc (take place bits) (replicate more false) (replicate 11 false)),
-      ),
-      sym (take-append-drop place bits) ∙ ap (λ (b : Bits). take place bits ++ b) is.1
-          ∙ sym (append_assoc (take place bits) (replicate is.0 false) (true ∷ drop from bits)),
-    )
+    let f = eol_closes (take place bits) (drop place bits) (drop from bits) eol.2 in
+    (f.0, f.1, sym (take-append-drop place bits) ∙ f.2)
 
 -- what is known of two data, in both of which a line begins at a position that may be damaged
 pub record LinesDiffer (settings : DecodeSettings) (one two : Bits) (from : ℕ) (after : Bits) (lines : ℕ) : Type 0 where
@@ -288,7 +273,8 @@ module _ (settings : DecodeSettings) (one two : Bits) (from : ℕ) (after : Bits
         (end_of settings two)
     ends_alike alike =
         let late : Progress → Ending = λ run. record { rows = run.rows; has_eols = run.has_eols; outcome = Err UnexpectedEof } in
-        rw (whole one given.group3, whole two given.group3)
+        let other = not_group4 settings.encoding given.group3 in
+        rw (end_t4 settings one other, end_t4 settings two other)
         (reached_follows (move_on settings) (late (first one)) left_to_read (move_shrinks settings wide) (move_on settings)
         (late (first two)) left_to_read (move_shrinks settings wide)
         Start (EndsAlike settings Begun (suc lines) from (drop from one) (drop from two) after)
@@ -311,10 +297,6 @@ module _ (settings : DecodeSettings) (one two : Bits) (from : ℕ) (after : Bits
         (omega (arith, past_shorter 0 (drop from two) after given.tail_two.next)))
         (suc (suc (length (first one).rest))) (suc (suc (length (first two).rest))) (left_below (first one))
         (left_below (first two)) alike)
-      where
-        whole : (bits : Bits) → IsGroup3 settings.encoding → end_of settings bits ≡ ending_t4 settings bits
-        whole bits (inl e) = ap (λ (e : EncodingMode). ending_behind settings (first_gap e settings bits)) e
-        whole bits (inr e) = ap (λ (e : EncodingMode). ending_behind settings (first_gap e settings bits)) e
 
     -- so rows and results are alike
     pub damage : AreWholeBytes one → AreWholeBytes two

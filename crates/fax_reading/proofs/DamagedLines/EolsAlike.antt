@@ -1,9 +1,10 @@
 -- EOLs of two data that are equal up to one position, where an EOL ends and none begins.
 use Rattle.fax_reading.proofs.Names.{◌≡◌, ℕ, zero, suc, ◌<◌, ◌≤◌, Bool, true, false, cond, leb, [], ◌∷◌, ◌++◌, length, replicate}
 use Rattle.fax_reading.proofs.Names.{Option, Some, None, refl, sym, ap, ◌∙◌, append_assoc, arith, ◌⊎◌, inl, inr, lt-leb}
+use Rattle.fax_reading.proofs.Names.{EncodingMode, Group4, Group3_1D, Group3_2D, Row, line_by}
 use Rattle.fax_reading.proofs.Names.{length-append, Bits, after_eol, all_eols, past_tag, pass_last_tag, common_steps}
 use Rattle.fax_bits.proofs.BitReading.ZerosInWords.{scan, scan_holds}
-use Rattle.fax_reading.proofs.DamagedLines.LinesBeforeEol.{Inside}
+use Rattle.fax_reading.proofs.DamagedLines.LinesBeforeEol.{Inside, LineAlike, line_1d_alike, line_2d_alike}
 use Rattle.fax_reading.proofs.DamagedLines.PastEol.{past}
 use Rattle.fax_bits.proofs.BitReading.ConsecutiveEols.{all_tagged}
 use Rattle.fax_reading.proofs.DrawingLines.LinesLeaveBits.{LeavesBits, leaves_trans}
@@ -57,6 +58,27 @@ pub last_tag_few : (count : ℕ) (here : Bits) → count < 6 → pass_last_tag (
 last_tag_few count [] few = refl
 last_tag_few count (true ∷ here) few = rw (lt-leb 6 count few) refl
 last_tag_few count (false ∷ here) few = refl
+
+-- behind the first of bits that end with the zeros of an EOL there are enough zeros left
+pub closes_tail : (tag : Bool) (bits : Bits) → Closes (tag ∷ bits) → Inside bits
+closes_tail tag bits ([], e) =
+    let ten : bits ≡ replicate 10 false = cc in
+    record { holds = ap (scan 3) ten; last = (tag ∷ [], [], e) }
+closes_tail tag bits (b ∷ first, e) = closes_inside bits (first, cc)
+
+-- a line that begins before an EOL among the equal bits
+pub line_alike : (encoding : EncodingMode) (columns : ℕ) (reference : Row) (u v bits : Bits) → Closes bits
+    → LineAlike u v (line_by encoding false columns reference (bits ++ u)) (line_by encoding false columns reference (bits ++ v))
+line_alike Group3_1D columns reference u v bits closes =
+    line_1d_alike u v columns _ _ (bits, closes_inside bits closes, refl, refl)
+line_alike Group3_2D columns reference u v [] closes = absurd (let e = closes.1 in omega
+    (arith, ap length e, length-append closes.0 (replicate 11 false)))
+line_alike Group3_2D columns reference u v (true ∷ bits) closes =
+    line_1d_alike u v columns _ _ (bits, closes_tail true bits closes, refl, refl)
+line_alike Group3_2D columns reference u v (false ∷ bits) closes =
+    line_2d_alike u v columns reference _ _ (bits, closes_tail false bits closes, refl, refl)
+line_alike Group4 columns reference u v bits closes =
+    line_2d_alike u v columns reference _ _ (bits, closes_inside bits closes, refl, refl)
 
 module _ (x y : Bits) where
   -- what follows an EOL: within the equal bits; or just past them; or there is none

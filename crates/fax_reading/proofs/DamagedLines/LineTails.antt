@@ -4,7 +4,8 @@ use Rattle.fax_reading.proofs.Names.{replicate, Option, Some, None, refl, sym, a
 use Rattle.fax_reading.proofs.Names.{le-leb, length-append, length-take-le, length-drop, length-replicate, take-append-drop}
 use Rattle.fax_reading.proofs.Names.{drop-drop, DecodeSettings, Bits, IsPrefix, after_eol, past_tag, Reaches, Row, Line}
 use Rattle.fax_reading.proofs.Names.{first_line, row_before, line_here, line_of_turn, move_on, IsEol, IsLocal, IsTaggedBody}
-use Rattle.fax_reading.proofs.Names.{common_steps}
+use Rattle.fax_reading.proofs.Names.{common_steps, replicate-append-replicate}
+use Rattle.fax_reading.proofs.DamagedLines.EolsAlike.{Closes}
 use Rattle.fax_reading.proofs.DamagedLines.PastEol.{past, past-eol, past_later, next_eol_leaves}
 use Rattle.fax_reading.proofs.DamagedLines.RunsAlike.{IsTail}
 use Rattle.fax_reading.proofs.DamagedLines.SoughtTurns.{sought, rest_of, found_next, sought_line_is}
@@ -31,6 +32,27 @@ after_eol_is seen (false ∷ here) rest e = let f = after_eol_is (suc seen) here
     (suc f.0, ap (λ (x : Bits). false ∷ x) f.1, omega (arith, f.2))
 after_eol_is seen (true ∷ here) rest e = let f = eol_at_one seen here rest e in
     (0, ap (λ (x : Bits). true ∷ x) f.1, omega (arith, f.0))
+
+-- they are eleven zeros behind more
+pub zeros_of_eol : (here rest : Bits) → after_eol 0 here ≡ Some rest
+    → (more : ℕ) × (here ≡ (replicate more false ++ replicate 11 false) ++ true ∷ rest)
+zeros_of_eol here rest e =
+    let is = after_eol_is 0 here rest e in
+    let more : ℕ = is.0 - 11 in
+    let sum : is.0 ≡ more + 11 = omega (arith, is.2) in
+    let zeros = ap (λ (n : ℕ). replicate n false) sum ∙ sym (replicate-append-replicate more 11 false) in
+    (more, is.1 ∙ ap (λ (bits : Bits). bits ++ true ∷ rest) zeros)
+
+-- what precedes its one ends with them
+pub eol_closes : (before here rest : Bits) → after_eol 0 here ≡ Some rest → (front : Bits) × Closes front
+    × (before ++ here ≡ front ++ true ∷ rest)
+eol_closes before here rest e =
+    let is = zeros_of_eol here rest e in
+    let zeros : Bits = replicate is.0 false ++ replicate 11 false in (
+      before ++ zeros,
+      (before ++ replicate is.0 false, sym (append_assoc before (replicate is.0 false) (replicate 11 false))),
+      ap (λ (b : Bits). before ++ b) is.1 ∙ sym (append_assoc before zeros (true ∷ rest)),
+    )
 
 -- the first one is at or before any other
 pub first_one : (k : ℕ) (rest before after : Bits) → replicate k false ++ true ∷ rest ≡ before ++ true ∷ after → k ≤ length before

@@ -1,5 +1,5 @@
 -- Lines of two data that begin with the same bits.
-use Rattle.fax_reading.proofs.Names.{◌≡◌, ℕ, zero, suc, ◌<◌, Bool, true, false, leb, List, [], ◌∷◌, ◌++◌, length, replicate}
+use Rattle.fax_reading.proofs.Names.{◌≡◌, ℕ, zero, suc, ◌<◌, Bool, true, false, leb, List, [], ◌∷◌, ◌++◌, length}
 use Rattle.fax_reading.proofs.Names.{refl, sym, ap, ◌∙◌, append_assoc, arith, inl, inr, le-leb, cond-false, length-append}
 use Rattle.fax_reading.proofs.Names.{false≢true}
 use Rattle.fax_reading.proofs.Names.{append_cancel_right, EncodingMode, Group4, Group3_1D, Group3_2D, Bits, Turn, Row}
@@ -7,9 +7,6 @@ use Rattle.fax_reading.proofs.Names.{Line, Pen, Step, start, line_1d, line_2d, l
 use Rattle.fax_bits.proofs.BitReading.ZerosInWords.{holds_a_one, word_one}
 use Rattle.fax_bits.proofs.CodeWords.ReadRuns.{chosen}
 use Rattle.fax_reading.proofs.CodeWords.WordsFound.{words_synchronised}
-use Rattle.fax_reading.proofs.DamagedLines.EolsAlike.{Closes, closes_inside}
-use Rattle.fax_reading.proofs.DamagedLines.LinesBeforeEol.{LineAlike, line_1d_alike, line_2d_alike}
-use Rattle.fax_reading.proofs.DamagedLines.RunsAlike.{closes_tail}
 use Rattle.fax_reading.proofs.DrawingLines.Drawings.{run_then, drawn_by, step_1d, step_1d_is}
 use Rattle.fax_reading.proofs.DrawingLines.ReadLines.{pen_left, drawn1, step_1d_shrinks, full_by, draw_run_goes_on, TookBits}
 use Rattle.fax_reading.proofs.DrawingLines.ReadLines.{line_1d_took_bits, line_2d_took_bits}
@@ -157,18 +154,3 @@ one_in_whole Group3_2D strict columns reference (true ∷ bits) rest row wide e 
     one_in_whole Group3_1D strict columns reference bits rest row wide e
 one_in_whole Group3_2D strict columns reference (false ∷ bits) rest row wide e =
     one_in_whole Group4 strict columns reference bits rest row wide e
-
--- ---- A line that begins before an EOL among the equal bits
-
-pub line_alike : (encoding : EncodingMode) (columns : ℕ) (reference : Row) (u v bits : Bits) → Closes bits
-    → LineAlike u v (line_by encoding false columns reference (bits ++ u)) (line_by encoding false columns reference (bits ++ v))
-line_alike Group3_1D columns reference u v bits closes =
-    line_1d_alike u v columns _ _ (bits, closes_inside bits closes, refl, refl)
-line_alike Group3_2D columns reference u v [] closes = absurd (let e = closes.1 in omega
-    (arith, ap length e, length-append closes.0 (replicate 11 false)))
-line_alike Group3_2D columns reference u v (true ∷ bits) closes =
-    line_1d_alike u v columns _ _ (bits, closes_tail true bits closes, refl, refl)
-line_alike Group3_2D columns reference u v (false ∷ bits) closes =
-    line_2d_alike u v columns reference _ _ (bits, closes_tail false bits closes, refl, refl)
-line_alike Group4 columns reference u v bits closes =
-    line_2d_alike u v columns reference _ _ (bits, closes_inside bits closes, refl, refl)

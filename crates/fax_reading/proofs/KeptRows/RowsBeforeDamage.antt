@@ -2,39 +2,38 @@
 use Rattle.fax_reading.proofs.Names.{◌≡◌, ℕ, suc, ◌%◌, ◌<◌, ◌≤◌, Bool, true, false, not, ◌&&◌, ◌||◌, eqb, ltb, List, []}
 use Rattle.fax_reading.proofs.Names.{◌∷◌, ◌++◌, length, take, drop, replicate, Option, Some, None, refl, sym, ap, subst, ◌∙◌}
 use Rattle.fax_reading.proofs.Names.{append_assoc, append_cancel_left, append_cancel_right, arith, ◌⊎◌, inl, inr, cases_Bool}
-use Rattle.fax_reading.proofs.Names.{replicate-append-replicate, cond-true, cond-false, false≢true, length-append}
-use Rattle.fax_reading.proofs.Names.{take-append-drop, ne_eqb}
+use Rattle.fax_reading.proofs.Names.{cond-true, cond-false, false≢true, length-append}
+use Rattle.fax_reading.proofs.Names.{take-append-drop}
 use Rattle.fax_reading.proofs.Names.{or_parts, not-false, EncodingMode, Group4, Group3_1D, Group3_2D, DecodeSettings, Bits}
 use Rattle.fax_reading.proofs.Names.{IsPrefix, Turn, repeated, Reaches, Row, repaired, Line, after_eol, next_eol}
-use Rattle.fax_reading.proofs.Names.{all_eols, eols, eols_with_tags, eols_by, eols_here, is_over, misses_eol, limit_met}
+use Rattle.fax_reading.proofs.Names.{all_eols, eols_here, is_over, misses_eol, limit_met}
 use Rattle.fax_reading.proofs.Names.{at_end, Progress, Ending, Move, row_before, behind_row, row_of, line_by, line_here}
-use Rattle.fax_reading.proofs.Names.{DecodeError, UnexpectedEof, Err, ◌-◌, ◌+◌}
+use Rattle.fax_reading.proofs.Names.{DecodeError, UnexpectedEof, Err}
 use Rattle.fax_reading.proofs.Names.{after_line, move_on, at_front, first_line, first_gap, ending_behind, end_of}
-use Rattle.fax_reading.proofs.Names.{whole_reading, plain, Reading, RowsBefore, common_steps}
+use Rattle.fax_reading.proofs.Names.{plain, Reading, RowsBefore, common_steps}
 use Rattle.fax_bits.proofs.BitReading.ZerosInWords.{holds_a_one, prefix_of_prefix}
 use Rattle.fax_bits.proofs.CodeWords.ReadRuns.{chosen}
-use Rattle.fax_reading.proofs.DamagedLines.EolsAlike.{Closes}
+use Rattle.fax_reading.proofs.DamagedLines.EolsAlike.{Closes, line_alike}
 use Rattle.fax_reading.proofs.DamagedLines.DamageByK.{take_front}
 use Rattle.fax_reading.proofs.DamagedLines.LinesBeforeEol.{LineAlike}
-use Rattle.fax_reading.proofs.DamagedLines.LineTails.{after_eol_is}
+use Rattle.fax_reading.proofs.DamagedLines.LineTails.{eol_closes}
 use Rattle.fax_reading.proofs.DamagedLines.PastEol.{past, past-eol, past_is, then_after, eols_here-none, next_eol_leaves}
-use Rattle.fax_reading.proofs.DamagedLines.RunsAlike.{run_at}
+use Rattle.fax_reading.proofs.DamagedLines.RunsAlike.{run_at, eols_past}
 use Rattle.fax_reading.proofs.DamagedLines.SoughtTurns.{sought, rest_of, found_next, eols_here_same, sought_done, row_past}
 use Rattle.fax_reading.proofs.DamagedLines.SoughtTurns.{move_sought}
 use Rattle.fax_reading.proofs.EncodedPictures.AfterEofb.{aligned_split}
 use Rattle.fax_reading.proofs.KeptRows.EqualFronts.{one_in_line, one_in_bits, past_front, all_front, eols_by_front}
-use Rattle.fax_reading.proofs.KeptRows.LinesAgain.{line_again, one_in_whole, one_stays, one_there, line_alike}
+use Rattle.fax_reading.proofs.KeptRows.LinesAgain.{line_again, one_in_whole, one_stays, one_there}
 use Rattle.fax_reading.proofs.KeptRows.TurnsLeave.{after_row_leaves, reached_leaves}
 use Rattle.fax_bits.proofs.Repetition.Repeated.{after_turn, repeated_turn, repeated_same, next_is, not_next}
 use Rattle.fax_reading.proofs.Readings.RowsAndGaps.{unless_over, seek_from, after_row, pass_gap-is, after_whole-is}
 use Rattle.fax_reading.proofs.Readings.RowsAndGaps.{after_damage-is, unmissed}
+use Rattle.fax_reading.proofs.Readings.GapsAndRows.{plain_is}
 use Rattle.fax_reading.proofs.Readings.TurnsAddRows.{Keeps, after_row_keeps, first_gap_keeps, turn_extends, repeated_adds}
 use Rattle.fax_reading.proofs.Readings.TurnsAddRows.{move_adds}
 use Rattle.fax_reading.proofs.Readings.TurnsMoveOn.{left_to_read, left_below, move_shrinks, unless_over_next, unless_over_open}
-use Rattle.fax_bits.proofs.BitReading.ConsecutiveEols.{next_eol_found, count_past, count_shorter, counts_plain}
-use Rattle.fax_bits.proofs.BitReading.ConsecutiveEols.{counts_tagged}
+use Rattle.fax_bits.proofs.BitReading.ConsecutiveEols.{next_eol_found}
 use Rattle.fax_reading.proofs.Readings.TurnsMoveOn.{eols_here_counted}
-use Rattle.fax_bits.proofs.BitReading.ConsecutiveEols.{last_tag_shorter, eols-some, length-one_more}
 
 -- ---- The gap
 
@@ -47,19 +46,6 @@ open_bits (b ∷ here) some = refl
 some_bits : (bits : Bits) → holds_a_one bits ≡ true → 0 < length bits
 some_bits [] one = absurd (false≢true one)
 some_bits (b ∷ bits) one = omega arith
-
--- counting EOLs consumes the first
-eols_past : (settings : DecodeSettings) (here rest : Bits) → after_eol 0 here ≡ Some rest
-    → length (eols_here settings here).1 ≤ length rest
-eols_past settings here rest e = by_encoding settings.encoding settings.end_of_block
-  where
-    by_encoding : (encoding : EncodingMode) (block : Bool) → length (eols_by encoding block here).1 ≤ length rest
-    by_encoding Group3_1D block = count_past counts_plain here rest e
-    by_encoding Group3_2D block = omega
-        (arith, last_tag_shorter (eols_with_tags (length here) here), count_past counts_tagged here rest e)
-    by_encoding Group4 true = rw (eols-some 1 here rest e)
-        (omega (arith, length-one_more (eols 1 rest), count_shorter counts_plain 1 rest))
-    by_encoding Group4 false = count_past counts_plain here rest e
 
 -- where the next EOL is, if a lenient reading that seeks EOLs reaches a line and seeks them still
 past_there : (settings : DecodeSettings) → settings.strict ≡ false → (rows : List Row) (here : Bits) (t : Progress)
@@ -281,22 +267,9 @@ module _ (settings : DecodeSettings) (x y : Bits) where
     closes_front bits left e =
         let next = found_next (bits ++ x) (left ++ x) e in
         let before = next_eol_leaves (bits ++ x) next.0 next.1 in
-        let is = after_eol_is 0 next.0 (left ++ x) next.2 in
-        let more : ℕ = is.0 - 11 in
-        let sum : more + 11 ≡ is.0 = omega (arith, is.2) in
-        let fill : replicate is.0 false ≡ replicate more false ++ replicate 11 false = ap (λ (n : ℕ). replicate n false) (sym sum)
-        ∙ sym (replicate-append-replicate more 11 false) in
-        let front : Bits = before.0 ++ replicate is.0 false in
-        let whole : bits ++ x ≡ (front ++ true ∷ left) ++ x = before.1 ∙ ap (λ (b : Bits). before.0 ++ b) is.1
-        ∙ sym (append_assoc before.0 (replicate is.0 false) (true ∷ left ++ x))
-        ∙ sym (append_assoc front (true ∷ left) x) in (
-          front,
-          (
-            before.0 ++ replicate more false,
-            ap (λ (b : Bits). before.0 ++ b) fill ∙ sym (append_assoc before.0 (replicate more false) (replicate 11 false)),
-          ),
-          append_cancel_right bits (front ++ true ∷ left) x whole,
-        )
+        let f = eol_closes before.0 next.0 (left ++ x) next.2 in
+        let whole : bits ++ x ≡ (f.0 ++ true ∷ left) ++ x = before.1 ∙ f.2 ∙ sym (append_assoc f.0 (true ∷ left) x) in
+        (f.0, f.1, append_cancel_right bits (f.0 ++ true ∷ left) x whole)
 
     other_broken : (u v : Bits) (front : Row) (fault : DecodeError) (line : Line) → LineAlike u v (Line.broken front fault) line
         → (other : DecodeError) × (line ≡ Line.broken front other)
@@ -548,9 +521,7 @@ rows_before settings one whole_one two place index whole_two same reads =
     -- the rows of the reading of some bits
     front_of : (bits : Bits) → IsPrefix last.rows (end_of settings bits).rows → IsPrefix last.rows (plain settings bits).rows
     front_of bits is =
-        let reading : plain settings bits ≡ whole_reading bits (end_of settings bits) = cond-false (eqb settings.columns 0) _ _
-        (ne_eqb settings.columns 0 (λ e. absurd (omega (arith, e, reads.wide)))) in
-        subst (λ (r : Reading). IsPrefix last.rows r.rows) (sym reading) is
+        subst (λ (r : Reading). IsPrefix last.rows r.rows) (sym (plain_is settings reads.wide bits)) is
 
     -- the rows up to the line are rows of whatever continues the equal bits
     kept_by : {bits : Bits} (z : Bits) → length x % 8 ≡ length z % 8 → bits ≡ front ++ z

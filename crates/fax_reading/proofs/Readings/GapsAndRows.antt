@@ -3,7 +3,8 @@ use Rattle.fax_reading.proofs.Names.{◌≡◌, ◌≢◌, ◌<◌, suc, false, 
 use Rattle.fax_reading.proofs.Names.{DecodeError, UnexpectedEof, DecodeSettings, Group4, Bits, IsPrefix, add_row_alone}
 use Rattle.fax_reading.proofs.Names.{row_behind, gap_and_row, Progress, Ending, Move, eols_here, row_of_line, pass_gap, add_row}
 use Rattle.fax_reading.proofs.Names.{move_on, line_of_turn, at_front, first_line, first_gap, ending_from, ending_behind, end_of}
-use Rattle.fax_reading.proofs.Names.{misses_eol, cond-false, Bool, Turn, repeated, Reaches, Row, common_steps}
+use Rattle.fax_reading.proofs.Names.{misses_eol, cond-false, Bool, Turn, repeated, Reaches, Row, common_steps, eqb, ne_eqb}
+use Rattle.fax_reading.proofs.Names.{plain, whole_reading}
 use Rattle.fax_bits.proofs.Repetition.Repeated.{Follows, after_turn, repeated_follows, repeated_turn, not_next}
 use Rattle.fax_reading.proofs.Readings.RowsAndGaps.{pass_gap-is, unless_over, unmissed}
 use Rattle.fax_reading.proofs.Readings.TurnsAddRows.{move_adds, repeated_adds}
@@ -19,6 +20,16 @@ first_gap_t4 settings bits other = grind (arith, common_steps)
 -- how they end
 abbrev pub ending_t4 : DecodeSettings → Bits → Ending
 ending_t4 settings bits = ending_from (move_on settings) (first_line settings bits)
+
+pub end_t4 : (settings : DecodeSettings) (bits : Bits) → settings.encoding ≢ Group4
+    → end_of settings bits ≡ ending_t4 settings bits
+end_t4 settings bits other = ap (ending_behind settings) (first_gap_t4 settings bits other)
+
+-- with columns a reading is what its end says
+pub plain_is : (settings : DecodeSettings) → 0 < settings.columns → (bits : Bits)
+    → plain settings bits ≡ whole_reading bits (end_of settings bits)
+plain_is settings wide bits =
+    cond-false (eqb settings.columns 0) _ _ (ne_eqb settings.columns 0 (λ e. absurd (omega (arith, e, wide))))
 
 -- a gap where no EOLs are sought
 pub gap_unsought : (settings : DecodeSettings) (run : Progress) → run.has_eols ≡ false

@@ -1,7 +1,7 @@
 -- The EOLs that are consumed before a line, and the bits that are examined ahead of it.
-use Rattle.fax_reading.proofs.Names.{◌<◌, ◌≡◌, ℕ, ◌+◌, ◌-◌, ◌*◌, ◌≤◌, Bool, true, false, [], ◌∷◌, ◌++◌, length, replicate, drop}
+use Rattle.fax_reading.proofs.Names.{◌<◌, ◌≡◌, ℕ, ◌+◌, ◌*◌, ◌≤◌, Bool, true, false, [], ◌∷◌, ◌++◌, length, replicate, drop}
 use Rattle.fax_reading.proofs.Names.{Option, Some, None, Result, Ok, Err, refl, sym, ap, ◌∙◌, subst, arith, ◌⊎◌, inl, inr}
-use Rattle.fax_reading.proofs.Names.{false≢true, length-append, length-replicate, replicate-append-replicate, DecodeError}
+use Rattle.fax_reading.proofs.Names.{false≢true, length-append, length-replicate, DecodeError}
 use Rattle.fax_reading.proofs.Names.{InvalidCode, EncodingMode, Group4, Group3_1D, Group3_2D, DecodeSettings, Bits, after_eol}
 use Rattle.fax_reading.proofs.Names.{next_eol, eols_with_tags, eols, is_over, misses_eol, Gap, at_end, limit_met, eols_by}
 use Rattle.fax_reading.proofs.Names.{eols_here, behind_eols, from_next_eol, gap_behind_row, gap_said, looked, looked_ahead}
@@ -9,7 +9,7 @@ use Rattle.fax_reading.proofs.Names.{tag_tests, IfOk, OnErr}
 use Rattle.fax_reading.proofs.DamagedLines.PastEol.{eols_here-none}
 use Rattle.fax_bits.proofs.BitReading.ZeroRuns.{looked_eol}
 use Rattle.fax_bits.proofs.CodeWords.ReadRuns.{chosen}
-use Rattle.fax_reading.proofs.DamagedLines.LineTails.{after_eol_is}
+use Rattle.fax_reading.proofs.DamagedLines.LineTails.{zeros_of_eol}
 use Rattle.fax_reading.proofs.{Readings.RowsAndGaps.missed_sought, Readings.TurnsMoveOn.none_met}
 use Rattle.fax_bits.proofs.BitReading.ConsecutiveEols.{length-one_more, count_shorter, count_past, counts_plain}
 use Rattle.fax_bits.proofs.BitReading.ConsecutiveEols.{counts_tagged, eols-some, last_tag_shorter}
@@ -26,12 +26,8 @@ pub record EolWithin (here after : Bits) : Type 0 where
 -- an EOL here
 pub eol_within : (here after : Bits) → after_eol 0 here ≡ Some after → EolWithin here after
 eol_within here after e =
-    let is = after_eol_is 0 here after e in
-    let more : ℕ = is.0 - 11 in
-    let sum : is.0 ≡ more + 11 = omega (arith, is.2) in
-    let fill : replicate is.0 false ≡ replicate more false ++ replicate 11 false =
-    ap (λ (n : ℕ). replicate n false) sum ∙ sym (replicate-append-replicate more 11 false) in
-    record { fill = replicate more false; place = is.1 ∙ ap (λ (bits : Bits). bits ++ true ∷ after) fill }
+    let is = zeros_of_eol here after e in
+    record { fill = replicate is.0 false; place = is.1 }
 
 within_further : (bit : Bool) (here after : Bits) → EolWithin here after → EolWithin (bit ∷ here) after
 within_further bit here after eol = record { fill = bit ∷ eol.fill; place = ap (λ (x : Bits). bit ∷ x) eol.place }
