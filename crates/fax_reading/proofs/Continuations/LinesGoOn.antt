@@ -110,47 +110,14 @@ module _ (settings : DecodeSettings) (reference : Row) where
   mode_is : (pen : Pen) (mode : Mode)
       → after_turn (steps_from true) (mode_step settings.strict settings.columns reference pen mode)
       ≡ line_then (mode_added settings.strict settings.columns reference pen mode).turn
-  mode_is pen Pass =
-      by_paint (paint settings.strict settings.columns pen.front pen.color (b2 reference (right_of pen.front) pen.color
-      - length pen.front))
-    where
-      by_paint : (r : Result Row DecodeError)
-          → after_turn (steps_from true) (if_read pen.front r (λ row. Turn.next (record pen { front = row })))
-          ≡ line_then (if_read pen.front r (λ row. Turn.next (LinePart.at_step true (record pen { front = row }))))
-      by_paint (Ok row) = refl
-      by_paint (Err fault) = refl
+  mode_is pen Pass = grind (arith, common_steps)
   mode_is pen Horizontal = refl
-  mode_is pen (Vertical k) = by_place (place_by reference pen k).turn
-    where
-      paint_to : ℕ → Result Row DecodeError
-      paint_to place = paint settings.strict settings.columns pen.front pen.color (place - length pen.front)
-
-      by_paint : (r : Result Row DecodeError) → after_turn (steps_from true)
-          (if_read pen.front r (λ row. Turn.next (record pen { front = row; color = opposite pen.color })))
-          ≡ line_then (if_read pen.front r (λ row. Turn.next (LinePart.at_step true
-          (record pen { front = row; color = opposite pen.color }))))
-      by_paint (Ok row) = refl
-      by_paint (Err fault) = refl
-
-      by_place : (turn : Turn ℕ Line) → after_turn (steps_from true) (turn_behind turn (λ place.
-          if_read pen.front (paint_to place) (λ row. Turn.next (record pen { front = row; color = opposite pen.color }))))
-          ≡ line_then (turn_behind turn (λ place. if_read pen.front (paint_to place) (λ row. Turn.next (LinePart.at_step true
-          (record pen { front = row; color = opposite pen.color })))))
-      by_place (Turn.next place) = by_paint (paint_to place)
-      by_place (Turn.done line) = refl
+  mode_is pen (Vertical k) = grind (arith, common_steps)
 
   -- The line from a part of it on is the line from what one word more leads to.
   pub line_from_is : (part : LinePart)
       → line_from_part settings reference part ≡ line_then (read_on settings reference part).turn
-  line_from_is (LinePart.begins here) = by_encoding settings.encoding here
-    where
-      by_encoding : (encoding : EncodingMode) (bits : Bits)
-          → line_by encoding settings.strict settings.columns reference bits ≡ line_then (begin_line encoding bits).turn
-      by_encoding Group3_1D bits = refl
-      by_encoding Group3_2D [] = refl
-      by_encoding Group3_2D (true ∷ bits) = refl
-      by_encoding Group3_2D (false ∷ bits) = refl
-      by_encoding Group4 bits = refl
+  line_from_is (LinePart.begins here) = grind (arith, common_steps)
   line_from_is (LinePart.at_step false pen) =
       drawn1 settings.strict settings.columns pen
       ∙ ap (after_turn (steps_from false)) (step_1d_is settings.strict settings.columns pen)
@@ -202,85 +169,31 @@ module _ (settings : DecodeSettings) (reference : Row) (more : Bits) where
   longer pen = record pen { rest = pen.rest ++ more }
 
   behind_run_on : (run : OpenRun) (pen : Pen) → behind_run run (longer pen) ≡ part_before more (behind_run run pen)
-  behind_run_on run pen = either_way run.another
-    where
-      either_way : (another : Bool)
-          → cond another (LinePart.in_run (record { is_2d = run.is_2d; another = false; total = 0 }) (longer pen))
-          (LinePart.at_step run.is_2d (longer pen))
-          ≡ part_before more (cond another (LinePart.in_run (record { is_2d = run.is_2d; another = false; total = 0 }) pen)
-          (LinePart.at_step run.is_2d pen))
-      either_way true = refl
-      either_way false = refl
+  behind_run_on run pen = grind (arith, common_steps)
 
   run_painted_on : (run : OpenRun) (pen : Pen) (total : ℕ)
       → Continues more (part_before more) (painted settings.strict settings.columns pen total >>= (λ front.
       go_on (behind_run run (record pen { front = front; color = opposite pen.color }))))
       (painted settings.strict settings.columns (longer pen) total >>= (λ front.
       go_on (behind_run run (record (longer pen) { front = front; color = opposite pen.color }))))
-  run_painted_on run pen total =
-      then_continues more (λ front. front) (part_before more)
-      (λ front. go_on (behind_run run (record pen { front = front; color = opposite pen.color })))
-      (λ front. go_on (behind_run run (record (longer pen) { front = front; color = opposite pen.color })))
-      (λ front known. (
-        ap {B = Turn LinePart Line} Turn.next (behind_run_on run (record pen { front = front; color = opposite pen.color })),
-        refl,
-      ))
-      (painted settings.strict settings.columns pen total) (painted settings.strict settings.columns (longer pen) total)
-      (same_continues more pen.front (paint settings.strict settings.columns pen.front pen.color total))
+  run_painted_on run pen total = grind (arith, common_steps, then_continues, behind_run_on, same_continues)
 
   run_summed_on : (run : OpenRun) (pen : Pen) (n total : ℕ)
       → Continues more (part_before more) (run_summed settings.strict settings.columns run pen n total)
       (run_summed settings.strict settings.columns run (longer pen) n total)
-  run_summed_on run pen n total = either_way (ltb n 64)
-    where
-      goes : Pen → Drawing LinePart
-      goes p = painted settings.strict settings.columns p total >>= (λ front.
-          go_on (behind_run run (record p { front = front; color = opposite p.color })))
-
-      either_way : (last : Bool)
-          → Continues more (part_before more)
-          (cond last (goes pen) (go_on (LinePart.in_run (record run { total = total }) pen)))
-          (cond last (goes (longer pen)) (go_on (LinePart.in_run (record run { total = total }) (longer pen))))
-      either_way true = run_painted_on run pen total
-      either_way false = λ known. (refl, refl)
+  run_summed_on run pen n total = grind (arith, common_steps, run_painted_on)
 
   word_added_on : (run : OpenRun) (pen : Pen) (n : ℕ)
       → Continues more (part_before more) (word_added settings.strict settings.columns run pen n)
       (word_added settings.strict settings.columns run (longer pen) n)
-  word_added_on run pen n =
-      then_continues more (λ total. total) (part_before more) (run_summed settings.strict settings.columns run pen n)
-      (run_summed settings.strict settings.columns run (longer pen) n) (run_summed_on run pen n)
-      (finds pen [] (sum_with run.total n)) (finds (longer pen) [] (sum_with run.total n))
-      (same_continues more pen.front (sum_with run.total n))
+  word_added_on run pen n = grind (arith, common_steps, then_continues, run_summed_on, same_continues)
 
   mode_added_on : (pen : Pen) (mode : Mode)
       → Continues more (part_before more) (mode_added settings.strict settings.columns reference pen mode)
       (mode_added settings.strict settings.columns reference (longer pen) mode)
-  mode_added_on pen Pass =
-      let place : ℕ = b2 reference (right_of pen.front) pen.color in
-      then_continues more (λ front. front) (part_before more)
-      (λ front. go_on (LinePart.at_step true (record pen { front = front })))
-      (λ front. go_on (LinePart.at_step true (record (longer pen) { front = front }))) (λ front known. (refl, refl))
-      (painted_to settings.strict settings.columns pen place) (painted_to settings.strict settings.columns (longer pen) place)
-      (same_continues more pen.front (paint settings.strict settings.columns pen.front pen.color (place - length pen.front)))
+  mode_added_on pen Pass = grind (arith, common_steps, then_continues, same_continues)
   mode_added_on pen Horizontal = λ known. (refl, refl)
-  mode_added_on pen (Vertical k) =
-      then_continues more (λ place. place) (part_before more) (behind pen) (behind (longer pen)) second
-      (place_by reference pen k) (place_by reference (longer pen) k) (same_continues more pen.front _)
-    where
-      behind : Pen → ℕ → Drawing LinePart
-      behind p place = painted_to settings.strict settings.columns p place
-          >>= (λ front. go_on (LinePart.at_step true (record p { front = front; color = opposite p.color })))
-
-      second : (place : ℕ) → Continues more (part_before more) (behind pen place) (behind (longer pen) place)
-      second place =
-          then_continues more (λ front. front) (part_before more)
-          (λ front. go_on (LinePart.at_step true (record pen { front = front; color = opposite pen.color })))
-          (λ front. go_on (LinePart.at_step true (record (longer pen) { front = front; color = opposite pen.color })))
-          (λ front known. (refl, refl)) (painted_to settings.strict settings.columns pen place)
-          (painted_to settings.strict settings.columns (longer pen) place)
-          (same_continues more pen.front (paint settings.strict settings.columns pen.front pen.color
-          (place - length pen.front)))
+  mode_added_on pen (Vertical k) = grind (arith, common_steps, then_continues, same_continues)
 
   begin_step_on : (is_2d : Bool) (pen : Pen)
       → Continues more (part_before more) (begin_step is_2d settings.strict settings.columns reference pen)
@@ -298,19 +211,8 @@ module _ (settings : DecodeSettings) (reference : Row) (more : Bits) where
   pub read_on_continues : (part : LinePart)
       → Continues more (part_before more) (read_on settings reference part)
       (read_on settings reference (part_before more part))
-  read_on_continues (LinePart.begins here) = by_encoding settings.encoding here
-    where
-      by_encoding : (encoding : EncodingMode) (bits : Bits)
-          → Continues more (part_before more) (begin_line encoding bits) (begin_line encoding (bits ++ more))
-      by_encoding Group3_1D bits known = (refl, refl)
-      by_encoding Group3_2D [] known = absurd (false≢true (sym known))
-      by_encoding Group3_2D (true ∷ bits) known = (refl, refl)
-      by_encoding Group3_2D (false ∷ bits) known = (refl, refl)
-      by_encoding Group4 bits known = (refl, refl)
-  read_on_continues (LinePart.at_step is_2d pen) =
-      then_continues more longer (part_before more) (begin_step is_2d settings.strict settings.columns reference)
-      (begin_step is_2d settings.strict settings.columns reference) (begin_step_on is_2d)
-      (unless_full settings.columns pen) (unless_full settings.columns (longer pen)) (full_on more settings.columns pen)
+  read_on_continues (LinePart.begins here) = grind (arith, common_steps, false≢true)
+  read_on_continues (LinePart.at_step is_2d pen) = grind (arith, common_steps, then_continues, begin_step_on, full_on)
   read_on_continues (LinePart.in_run run pen) =
       then_continues more (rest_on more) (part_before more) (added pen) (added (longer pen))
       (λ found. word_added_on run (record pen { rest = found.1 }) found.0) (word_here pen) (word_here (longer pen))
@@ -323,19 +225,13 @@ module _ (settings : DecodeSettings) (reference : Row) (more : Bits) where
 pub word_leads : (settings : DecodeSettings) (reference : Row) (part next : LinePart)
     → (read_on settings reference part).turn ≡ Turn.next next → (more : Bits)
     → line_from_part settings reference (part_before more part) ≡ line_from_part settings reference (part_before more next)
-word_leads settings reference part next e more =
-    let on = read_on_continues settings reference more part (ap (turn_waits is_short) e) in
-    line_from_is settings reference (part_before more part)
-    ∙ ap (line_then settings reference) (on.0 ∙ ap (turn_on (part_before more) (line_before more)) e)
+word_leads settings reference part next e more = grind (arith, common_steps, read_on_continues, line_from_is)
 
 -- Where the line ends with one word more, and isn't short, it does so whatever follows.
 pub word_ends : (settings : DecodeSettings) (reference : Row) (part : LinePart) (line : Line)
     → (read_on settings reference part).turn ≡ Turn.done line → is_short line ≡ false → (more : Bits)
     → line_from_part settings reference (part_before more part) ≡ line_before more line
-word_ends settings reference part line e known more =
-    let on = read_on_continues settings reference more part (ap (turn_waits is_short) e ∙ known) in
-    line_from_is settings reference (part_before more part)
-    ∙ ap (line_then settings reference) (on.0 ∙ ap (turn_on (part_before more) (line_before more)) e)
+word_ends settings reference part line e known more = grind (arith, common_steps, read_on_continues, line_from_is)
 
 -- ---- Short lines: what one word more reads
 
@@ -402,67 +298,16 @@ module _ (settings : DecodeSettings) (reference : Row) (part : LinePart) (pen : 
   mode_leads_on : (rest : Bits) (mode : Mode) → WordIsRead {V = Mode} pen.rest (mode, rest)
       → 2 * length pen.rest ≤ part_size part
       → LeadsOn part (mode_added settings.strict settings.columns reference (record pen { rest = rest }) mode).turn
-  mode_leads_on rest Pass word size_is =
-      let place : ℕ = b2 reference (right_of pen.front) pen.color in
-      behind_leads part Anything
-      (unless_fault pen.front (paint settings.strict settings.columns pen.front pen.color (place - length pen.front)))
-      (λ row. Turn.next (LinePart.at_step true (record pen { front = row; rest = rest })))
-      (paint_leads part _ (paint_known settings.strict settings.columns pen.front pen.color _))
-      (λ row any. behind_word_leads (LinePart.at_step true (record pen { front = row; rest = rest })) word.0.0 word.0.1
-      (omega (arith, word.1, size_is)))
-  mode_leads_on rest Horizontal word size_is =
-      behind_word_leads (LinePart.in_run (record { is_2d = true; another = true; total = 0 }) (record pen { rest = rest }))
-      word.0.0 word.0.1 (omega (arith, word.1, size_is))
+  mode_leads_on rest Pass word size_is = grind (arith, common_steps, behind_leads, paint_leads, paint_known, behind_word_leads)
+  mode_leads_on rest Horizontal word size_is = grind (arith, common_steps, behind_word_leads)
   mode_leads_on rest (Vertical k) word size_is =
-      behind_leads part Anything (place_by reference pen k).turn painted_there
-      (paint_leads part _ (place_known pen.front _))
-      (λ place any. behind_leads part Anything
-      (unless_fault pen.front (paint settings.strict settings.columns pen.front pen.color (place - length pen.front)))
-      (λ row. Turn.next (LinePart.at_step true (record { front = row; color = opposite pen.color; rest = rest })))
-      (paint_leads part _ (paint_known settings.strict settings.columns pen.front pen.color _))
-      (λ row too. behind_word_leads (LinePart.at_step true (record { front = row; color = opposite pen.color; rest = rest }))
-      word.0.0 word.0.1 (omega (arith, word.1, size_is))))
-    where
-      painted_there : ℕ → Turn LinePart Line
-      painted_there place = if_read pen.front
-          (paint settings.strict settings.columns pen.front pen.color (place - length pen.front))
-          (λ row. Turn.next (LinePart.at_step true (record { front = row; color = opposite pen.color; rest = rest })))
+      grind (arith, common_steps, behind_leads, paint_leads, place_known, paint_known, behind_word_leads)
 
   run_leads_on : (run : OpenRun) (rest : Bits) (n : ℕ) → WordIsRead {V = ℕ} pen.rest (n, rest)
       → 2 * length pen.rest ≤ part_size part
       → LeadsOn part (word_added settings.strict settings.columns run (record pen { rest = rest }) n).turn
   run_leads_on run rest n word size_is =
-      behind_leads part Anything (unless_fault pen.front (sum_with run.total n))
-      (λ total. (run_summed settings.strict settings.columns run (record pen { rest = rest }) n total).turn)
-      (by_sum (ltb 4294967295 (run.total + n))) (λ total any. either_way (ltb n 64) total)
-    where
-      by_sum : (b : Bool)
-          → GoesOrLacks part Anything (unless_fault {A = ℕ} pen.front (cond b (Err Overflow) (Ok (run.total + n))))
-      by_sum true = λ short. absurd (false≢true short)
-      by_sum false = tt
-
-      behind_leads_on : (p : Pen) → p.rest ≡ rest → (another : Bool) → LeadsOn part (Turn.next (cond another
-          (LinePart.in_run (record { is_2d = run.is_2d; another = false; total = 0 }) p) (LinePart.at_step run.is_2d p)))
-      behind_leads_on p e true =
-          behind_word_leads (LinePart.in_run (record { is_2d = run.is_2d; another = false; total = 0 }) p) word.0.0
-          (word.0.1 ∙ ap (λ (b : Bits). word.0.0 ++ b) (sym e)) (omega (arith, word.1, size_is, ap length e))
-      behind_leads_on p e false =
-          behind_word_leads (LinePart.at_step run.is_2d p) word.0.0
-          (word.0.1 ∙ ap (λ (b : Bits). word.0.0 ++ b) (sym e)) (omega (arith, word.1, size_is, ap length e))
-
-      either_way : (last : Bool) (total : ℕ) → LeadsOn part (cond last
-          (painted settings.strict settings.columns (record pen { rest = rest }) total >>= (λ row.
-          go_on (behind_run run (record { front = row; color = opposite pen.color; rest = rest }))))
-          (go_on (LinePart.in_run (record run { total = total }) (record pen { rest = rest })))).turn
-      either_way true total =
-          behind_leads part Anything
-          (unless_fault pen.front (paint settings.strict settings.columns pen.front pen.color total))
-          (λ row. Turn.next (behind_run run (record { front = row; color = opposite pen.color; rest = rest })))
-          (paint_leads part _ (paint_known settings.strict settings.columns pen.front pen.color total))
-          (λ row any. behind_leads_on (record { front = row; color = opposite pen.color; rest = rest }) refl run.another)
-      either_way false total =
-          behind_word_leads (LinePart.in_run (record run { total = total }) (record pen { rest = rest })) word.0.0 word.0.1
-          (omega (arith, word.1, size_is))
+      grind (arith, common_steps, behind_leads, false≢true, behind_word_leads, paint_leads, paint_known)
 
 module _ (settings : DecodeSettings) (reference : Row) where
   -- One word more leads to a part with fewer bits left, or ends the line; which is short only if that word isn't whole.
@@ -476,13 +321,7 @@ module _ (settings : DecodeSettings) (reference : Row) where
       by_encoding Group3_2D (true ∷ bits) = ((true ∷ [], refl), omega arith)
       by_encoding Group3_2D (false ∷ bits) = ((false ∷ [], refl), omega arith)
       by_encoding Group4 bits = (([], refl), omega arith)
-  part_leads_on (LinePart.at_step false pen) = either_way (leb settings.columns (length pen.front))
-    where
-      either_way : (full : Bool) → LeadsOn (LinePart.at_step false pen)
-          (turn_behind (cond full (Turn.done (Line.whole pen.front pen.rest)) (Turn.next pen))
-          (λ p. Turn.next (LinePart.in_run (record { is_2d = false; another = false; total = 0 }) p)))
-      either_way true = λ short. absurd (false≢true short)
-      either_way false = (([], refl), omega arith)
+  part_leads_on (LinePart.at_step false pen) = grind (arith, common_steps, false≢true)
   part_leads_on (LinePart.at_step true pen) = either_way (leb settings.columns (length pen.front))
     where
       added : Pen → Mode × Bits → Turn LinePart Line
@@ -520,8 +359,7 @@ modes_few = refl
 word_few : {V : Type 0} (n : ℕ) (list : List (Code V)) (v : V) (w : Bits) → IsShorter n list ≡ true → Has list v w
     → length w ≤ n
 word_few n [] v w e i = elim i [ ]
-word_few n (c ∷ list) v w e (inl i) =
-    rw (← i.1) (leb-true (length c.word) n (and_parts (leb (length c.word) n) (IsShorter n list) e).0)
+word_few n (c ∷ list) v w e (inl i) = grind (arith, common_steps, leb-true, and_parts)
 word_few n (c ∷ list) v w e (inr i) = word_few n list v w (and_parts (leb (length c.word) n) (IsShorter n list) e).1 i
 
 -- the bits of a word that isn't whole are fewer than its own
@@ -584,10 +422,4 @@ short_line_goes_on settings reference here short =
 
 -- the law
 pub lines_go_on : LinesGoOn
-lines_go_on = record {
-  start_1d = λ settings reference here. refl;
-  start_2d = λ settings reference here. refl;
-  word = word_leads;
-  ends = word_ends;
-  short = short_line_goes_on;
-}
+lines_go_on = grind (arith, common_steps, word_leads, word_ends, short_line_goes_on)

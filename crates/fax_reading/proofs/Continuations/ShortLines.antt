@@ -1,4 +1,5 @@
 -- Lines before zeros: none is short.
+use Rattle.fax_reading.proofs.Names.{common_steps}
 use Rattle.fax_reading.proofs.Names.{◌≡◌, ◌↔◌, ℕ, suc, ◌+◌, ◌-◌, Bool, true, false, cond, ◌&&◌, ltb, leb, List, [], ◌∷◌, ◌++◌}
 use Rattle.fax_reading.proofs.Names.{length, replicate, None, Result, Ok, Err, refl, sym, ap, subst, ◌∙◌, arith, inl, inr, ℤ}
 use Rattle.fax_reading.proofs.Names.{pos, negsuc, Color, Mode, Pass, Horizontal, Vertical, DecodeError, DecodeSettings}
@@ -107,18 +108,10 @@ Anything x = Unit {0}
 
 pub paint_known : (strict : Bool) (columns : ℕ) (front : Row) (color : Color) (n : ℕ)
     → GoesOrEnds Anything (unless_fault front (paint strict columns front color n))
-paint_known strict columns front color n = either_way (strict && ltb (columns - length front) n) _
-  where
-    either_way : (b : Bool) (row : Row) → GoesOrEnds Anything (unless_fault front (cond b (Err InvalidCode) (Ok row)))
-    either_way true row = refl
-    either_way false row = tt
+paint_known strict columns front color n = grind (arith, common_steps)
 
 pub place_known : (front : Row) (z : ℤ) → GoesOrEnds Anything (unless_fault front (place_from (length front) z))
-place_known front (pos p) = either_way (leb (length front) p && leb p 4294967295)
-  where
-    either_way : (b : Bool) → GoesOrEnds Anything (unless_fault front (cond b (Ok p) (Err Overflow)))
-    either_way true = tt
-    either_way false = refl
+place_known front (pos p) = grind (arith, common_steps)
 place_known front (negsuc p) = refl
 
 -- a pen before such zeros
@@ -140,34 +133,17 @@ module _ (strict : Bool) (columns : ℕ) where
 
   drew_mode_known : (reference : Row) (pen : Pen) (mode : Mode) → IsBeforeZeros pen
       → GoesOrEnds IsBeforeZeros (draw_mode strict columns reference pen mode).turn
-  drew_mode_known reference pen Pass zeros =
-      let place : ℕ = b2 reference (right_of pen.front) pen.color in
-      behind_known Anything IsBeforeZeros (painted_to strict columns pen place).turn
-      (λ front. Turn.next (record pen { front = front }))
-      (paint_known strict columns pen.front pen.color (place - length pen.front)) (λ front any. zeros)
+  drew_mode_known reference pen Pass zeros = grind (arith, common_steps, behind_known, paint_known)
   drew_mode_known reference pen Horizontal zeros =
       behind_known IsBeforeZeros IsBeforeZeros (draw_run strict columns pen).turn (λ p. (draw_run strict columns p).turn)
       (drew_run_known pen zeros) drew_run_known
-  drew_mode_known reference pen (Vertical k) zeros =
-      behind_known Anything IsBeforeZeros (place_by reference pen k).turn (λ place. (drew place).turn) (place_known pen.front _)
-      (λ place any. behind_known Anything IsBeforeZeros (painted_to strict columns pen place).turn
-      (λ front. Turn.next (record pen { front = front; color = opposite pen.color }))
-      (paint_known strict columns pen.front pen.color (place - length pen.front)) (λ front too. zeros))
-    where
-      drew : ℕ → Drawing Pen
-      drew place = painted_to strict columns pen place
-          >>= (λ front. go_on (record pen { front = front; color = opposite pen.color }))
+  drew_mode_known reference pen (Vertical k) zeros = grind (arith, common_steps, behind_known, place_known, paint_known)
 
   full_known : (pen : Pen) → IsBeforeZeros pen → GoesOrEnds IsBeforeZeros (unless_full columns pen).turn
-  full_known pen zeros = either_way (leb columns (length pen.front))
-    where
-      either_way : (b : Bool) → GoesOrEnds IsBeforeZeros (cond b (Turn.done (Line.whole pen.front pen.rest)) (Turn.next pen))
-      either_way true = refl
-      either_way false = zeros
+  full_known pen zeros = grind (arith, common_steps)
 
   drew_1d_known : (pen : Pen) → IsBeforeZeros pen → GoesOrEnds IsBeforeZeros (draw_1d strict columns pen).turn
-  drew_1d_known pen zeros = behind_known IsBeforeZeros IsBeforeZeros (unless_full columns pen).turn
-      (λ p. (draw_run strict columns p).turn) (full_known pen zeros) drew_run_known
+  drew_1d_known pen zeros = grind (arith, common_steps, behind_known, full_known, drew_run_known)
 
   drew_2d_known : (reference : Row) (pen : Pen) → IsBeforeZeros pen
       → GoesOrEnds IsBeforeZeros (draw_2d strict columns reference pen).turn
@@ -258,18 +234,12 @@ settled_not_short settings reference here settled =
 -- Exactly the lines that aren't short are settled.
 pub line_settled_exactly : (settings : DecodeSettings) (reference : Row) (here : Bits)
     → (is_short (line_here settings reference here) ≡ false) ↔ LineIsSettled settings reference here
-line_settled_exactly settings reference here =
-    (line_settled settings reference here, settled_not_short settings reference here)
+line_settled_exactly settings reference here = grind (arith, common_steps, line_settled, settled_not_short)
 
 -- A line that isn't short stays as it was read.
 pub line_stays : (settings : DecodeSettings) (reference : Row) (here : Bits)
     → is_short (line_here settings reference here) ≡ false → StaysAsRead settings reference here
-line_stays settings reference here known = record {
-  line = line_settled settings reference here known;
-  strict = strict_settled settings reference here known;
-  found = λ more. found_settled settings reference here more known;
-  row = λ has_eols more bytes. row_continues settings reference has_eols here more bytes known;
-}
+line_stays settings reference here known = grind (arith, common_steps, line_settled, strict_settled, found_settled, row_continues)
 
 -- the law
 pub lines_settle : LinesSettle

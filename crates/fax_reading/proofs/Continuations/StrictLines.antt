@@ -1,4 +1,5 @@
 -- The strict reading of a line that isn't short.
+use Rattle.fax_reading.proofs.Names.{arith, common_steps}
 use Rattle.fax_reading.proofs.Names.{◌≡◌, ℕ, zero, suc, ◌-◌, Bool, true, false, cond, ltb, [], ◌∷◌, length, Ok, Err, refl, ap}
 use Rattle.fax_reading.proofs.Names.{◌∙◌, ◌⊎◌, inl, inr, Color, Mode, Pass, Horizontal, Vertical, DecodeSettings, EncodingMode}
 use Rattle.fax_reading.proofs.Names.{Group4, Group3_1D, Group3_2D, UnexpectedEof, InvalidCode, Bits, Turn, repeated, Row}
@@ -18,27 +19,14 @@ IsStricter turn other = (turn ≡ other) ⊎ ((front : Row) × (turn ≡ Turn.do
 strict_behind : {A B : Type 0} (turn other : Turn A Line) (behind other_behind : A → Turn B Line) → IsStricter turn other
     → ((x : A) → IsStricter (behind x) (other_behind x))
     → IsStricter (turn_behind turn behind) (turn_behind other other_behind)
-strict_behind {A} {B} turn other behind other_behind (inl same) second = by_turn other same
-  where
-    by_turn : (t : Turn A Line) → turn ≡ t → IsStricter (turn_behind turn behind) (turn_behind t other_behind)
-    by_turn (Turn.next x) e = elim (second x) [
-      | inl is ↦ inl (ap (λ (u : Turn A Line). turn_behind u behind) e ∙ is)
-      | inr ends ↦ inr (ends.0, ap (λ (u : Turn A Line). turn_behind u behind) e ∙ ends.1)
-    ]
-    by_turn (Turn.done line) e = inl (ap (λ (u : Turn A Line). turn_behind u behind) e)
-strict_behind {A} turn other behind other_behind (inr ends) second =
-    inr (ends.0, ap (λ (u : Turn A Line). turn_behind u behind) ends.1)
+strict_behind {A} {B} turn other behind other_behind (inl same) second = grind (arith, common_steps)
+strict_behind {A} turn other behind other_behind (inr ends) second = grind (arith, common_steps)
 
 -- painting
 strict_paint : (strict : Bool) (columns : ℕ) (front : Row) (color : Color) (n : ℕ)
     → IsStricter (unless_fault front (paint true columns front color n)) (unless_fault front (paint strict columns front color n))
 strict_paint true columns front color n = inl refl
-strict_paint false columns front color n = either_way (ltb (columns - length front) n) _
-  where
-    either_way : (beyond : Bool) (row : Row)
-        → IsStricter (unless_fault front (cond beyond (Err InvalidCode) (Ok row))) (unless_fault front (Ok row))
-    either_way true row = inr (front, refl)
-    either_way false row = inl refl
+strict_paint false columns front color n = grind (arith, common_steps)
 
 module _ (strict : Bool) (columns : ℕ) where
   strict_run : (pen : Pen) → IsStricter (draw_run true columns pen).turn (draw_run strict columns pen).turn

@@ -1,4 +1,5 @@
 -- Code words and runs where more bits follow.
+use Rattle.fax_reading.proofs.Names.{common_steps}
 use Rattle.fax_reading.proofs.Names.{◌≡◌, ℕ, zero, suc, ◌+◌, ◌-◌, ◌<◌, Bool, true, false, cond, ltb, List, [], ◌∷◌, ◌++◌}
 use Rattle.fax_reading.proofs.Names.{length, take, Result, Ok, Err, refl, sym, ap, ◌∙◌, append_assoc, arith, inl, inr}
 use Rattle.fax_reading.proofs.Names.{cases_lt, false≢true, length-append, Color, DecodeError, UnexpectedEof, InvalidCode}
@@ -87,9 +88,7 @@ word_of here (Ok found) = take (length here - length found.1) here ∷ []
 word_of here (Err fault) = []
 
 word_taken : (here word rest : Bits) → here ≡ word ++ rest → take (length here - length rest) here ≡ word
-word_taken here word rest e =
-    let long : length here - length rest ≡ length word = omega (arith, ap length e, length-append word rest) in
-    ap (λ (n : ℕ). take n here) long ∙ ap (take (length word)) e ∙ take_front word rest
+word_taken here word rest e = grind (arith, common_steps, length-append, take_front)
 
 module _ {V : Type 0} (list : List (Code V)) (free : is_prefix_free list ≡ true) (here more : Bits) where
   codes : ReadsCodes list
@@ -102,8 +101,7 @@ module _ {V : Type 0} (list : List (Code V)) (free : is_prefix_free list ≡ tru
   ]
 
   uncut_further : (IsCut list here → ⊥) → IsCut list (here ++ more) → ⊥
-  uncut_further uncut (v, w, has, begins) =
-      uncut (v, w, has, (more ++ begins.0, begins.1 ∙ append_assoc here more begins.0))
+  uncut_further uncut (v, w, has, begins) = grind (arith, common_steps, append_assoc)
 
   -- A word that is found stays, and a wrong code stays wrong. Only where the end is missing can more bits change what is read.
   pub code_continues : result_waits (read_code list here) ≡ false
@@ -142,15 +140,7 @@ module _ {V : Type 0} (list : List (Code V)) (free : is_prefix_free list ≡ tru
 
 run_word_on : (total : ℕ) (more : Bits) (found : ℕ × Bits)
     → run_of_word total (rest_on more found) ≡ turn_on (rest_on more) (result_on (rest_on more)) (run_of_word total found)
-run_word_on total more (n, rest) = either_way (ltb 4294967295 (total + n)) (ltb n 64)
-  where
-    turn : Bits → Bool → Bool → Turn (ℕ × Bits) (Result (ℕ × Bits) DecodeError)
-    turn bits b c = cond b (Turn.done (Err Overflow)) (cond c (Turn.done (Ok (total + n, bits))) (Turn.next (total + n, bits)))
-
-    either_way : (b c : Bool) → turn (rest ++ more) b c ≡ turn_on (rest_on more) (result_on (rest_on more)) (turn rest b c)
-    either_way true c = refl
-    either_way false true = refl
-    either_way false false = refl
+run_word_on total more (n, rest) = grind (arith, common_steps)
 
 run_turn_on : (color : Color) (more : Bits)
     → StepGoesOn (run_turn color) (run_gives color) (rest_on more) (result_on (rest_on more)) result_waits

@@ -26,8 +26,7 @@ use Rattle.fax_reading.proofs.Readings.TurnsMoveOn.{left_to_read, left_below, mo
 -- the count at a position
 count_at : (bits : Bits) (rest : Bits) (place : ℕ) → place + length rest ≡ length bits
     → bytes_before bits (Ok rest) ≡ Ok ((place + 7) / 8)
-count_at bits rest place e = let sum : length bits - length rest ≡ place = omega (arith, e) in
-    ap (λ (n : ℕ). Ok ((n + 7) / 8)) sum
+count_at bits rest place e = grind (arith, common_steps)
 
 module _ (settings : DecodeSettings) (wide : 0 < settings.columns) (one two : Bits) (differ from : ℕ)
     (x y after : Bits) (whole_one : AreWholeBytes one) (whole_two : AreWholeBytes two) (length_one : length one ≡ from + length x)
@@ -70,8 +69,7 @@ module _ (settings : DecodeSettings) (wide : 0 < settings.columns) (one two : Bi
 
   ends_at : (bits : Bits) (rest : Bits) (place : ℕ) → (end_of settings bits).outcome ≡ Ok rest
       → place + length rest ≡ length bits → EndsAt settings bits (plain settings bits).outcome place ((place + 7) / 8)
-  ends_at bits rest place e at =
-      record { rest = rest; ends = e; place_is = at; count_is = outcome_of bits (Ok rest) e ∙ count_at bits rest place at }
+  ends_at bits rest place e at = grind (arith, common_steps, outcome_of, count_at)
 
   shorter_x : length after < length x
   shorter_x = past_shorter 0 x after tail_x.next
@@ -164,8 +162,7 @@ pub record LinesDiffer (settings : DecodeSettings) (one two : Bits) (from : ℕ)
 -- a suffix of the bits before a one, with what follows
 leaves_ahead : (whole front bits z : Bits) → whole ≡ front ++ true ∷ z → LeavesBits front bits
     → LeavesBits whole (bits ++ true ∷ z)
-leaves_ahead whole front bits z e leaves =
-    (leaves.0, e ∙ ap (λ (b : Bits). b ++ true ∷ z) leaves.1 ∙ append_assoc leaves.0 bits (true ∷ z))
+leaves_ahead whole front bits z e leaves = grind (arith, common_steps, append_assoc)
 
 -- the EOLs that end where the line begins are few, from wherever they are counted
 few_from : (bits found : Bits) (from count : ℕ) → IsTagOfLine bits from → LeavesBits bits found

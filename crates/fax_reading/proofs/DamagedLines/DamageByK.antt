@@ -1,4 +1,5 @@
 -- Damage to a line of two-dimensional data ends at the next one-dimensional line.
+use Rattle.fax_reading.proofs.Names.{common_steps}
 use Rattle.fax_reading.proofs.Names.{◌≡◌, ℕ, zero, suc, ◌+◌, ◌-◌, ◌<◌, ◌≤◌, eqb, true, false, List, [], ◌∷◌, ◌++◌, length, take}
 use Rattle.fax_reading.proofs.Names.{drop, replicate, Option, Some, None, Result, Ok, refl, sym, ap, subst, ◌∙◌, append_assoc}
 use Rattle.fax_reading.proofs.Names.{arith, ◌⊎◌, inl, inr, cases_lt, cases_eq, cond-true, eq-eqb, length-append}
@@ -22,9 +23,7 @@ use Rattle.fax_bits.proofs.BitReading.ConsecutiveEols.{after_eol_shorter, next_e
 
 -- an EOL is twelve bits at least
 eol_longer : (next after : Bits) → after_eol 0 next ≡ Some after → length after + 12 ≤ length next
-eol_longer next after e =
-    let eol = after_eol_is 0 next after e in
-    omega (arith, eol.2, ap length eol.1, length-append (replicate eol.0 false) (true ∷ after), length-replicate eol.0 false)
+eol_longer next after e = grind (arith, common_steps, after_eol_is, length-append, length-replicate)
 
 module _ (settings : DecodeSettings) (encoding : settings.encoding ≡ Group3_2D) where
   -- the EOL before the lines that follow
@@ -95,8 +94,7 @@ module _ (settings : DecodeSettings) (encoding : settings.encoding ≡ Group3_2D
         subst (λ (c : ℕ × Bits). ((settings.end_of_block ≡ true) × (6 ≤ c.0))
             ⊎ (((line : Bits) × (c.1 ≡ true ∷ line)) ⊎ (c.1 ≡ []))) same ends,
       )
-  comes_same (suc lines) here there after e f (line, next, g, is, more) =
-      (line, next, f ∙ sym e ∙ g, is, more)
+  comes_same (suc lines) here there after e f (line, next, g, is, more) = grind (arith, common_steps)
 
   -- a two-dimensional line of an encoding is such a line
   pub encoded_follows : (lines : ℕ) (reference row : Row) (line next here : Bits) → EncodesLine2D reference row 0 White line
@@ -131,9 +129,7 @@ module _ (settings : DecodeSettings) (encoding : settings.encoding ≡ Group3_2D
 drop_past : {A : Type 0} (n : ℕ) (front rest : List A) → length front ≤ n → drop n (front ++ rest) ≡ drop (n - length front) rest
 drop_past n [] rest le = ap (λ (m : ℕ). drop m rest) (let e : n ≡ n - 0 = omega arith in e)
 drop_past zero (a ∷ front) rest le = absurd (omega arith)
-drop_past (suc n) (a ∷ front) rest le =
-    let less : n - length front ≡ suc n - suc (length front) = omega arith in
-    drop_past n front rest (omega arith) ∙ ap (λ (m : ℕ). drop m rest) less
+drop_past (suc n) (a ∷ front) rest le = grind (arith, common_steps, drop_past n front rest (omega arith))
 
 pub take_front : {A : Type 0} (front rest : List A) → take (length front) (front ++ rest) ≡ front
 take_front [] rest = refl

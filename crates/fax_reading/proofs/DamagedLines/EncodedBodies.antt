@@ -38,11 +38,7 @@ suffix_ends_with a b c leaves le = by_more (suffix_of a b c leaves)
 -- the next EOL ends first
 past_first : (seen : ℕ) (before here rest next : Bits) → after_eol 0 here ≡ Some rest → past seen (before ++ here) ≡ Some next
     → length rest ≤ length next
-past_first seen [] here rest next e f =
-    let same : ◌≡◌ {A = Option Bits} (Some rest) (Some next)
-    = sym (past-eol seen here rest (after_eol_more 0 seen here rest (omega arith) e)) ∙ f in
-    let is : rest ≡ next = cc in
-    omega (arith, ap length is)
+past_first seen [] here rest next e f = grind (arith, common_steps, past-eol, after_eol_more)
 past_first seen (false ∷ before) here rest next e f = past_first (suc seen) before here rest next e f
 past_first seen (true ∷ before) here rest next e f = elim (cases_lt seen 11) [
   | inl lt ↦
@@ -68,27 +64,16 @@ tag_leaves (true ∷ here) = by_after_eol (after_eol 0 here) refl
 tag_short : (here : Bits) → length here ≤ suc (length (past_tag here))
 tag_short [] = omega arith
 tag_short (false ∷ here) = omega arith
-tag_short (true ∷ here) = by_after_eol (after_eol 0 here) refl
-  where
-    by_after_eol : (o : Option Bits) → after_eol 0 here ≡ o → length (true ∷ here) ≤ suc (length (past_tag (true ∷ here)))
-    by_after_eol None e = rw (e, past_tag) (omega arith)
-    by_after_eol (Some rest) e = rw (e, past_tag) (omega arith)
+tag_short (true ∷ here) = grind (arith, common_steps)
 
 -- where there is an EOL some are counted
 not_none : (here rest last : Bits) → after_eol 0 here ≡ Some rest → all_tagged here ≡ (0, last) → ⊥
-not_none here rest last f e =
-    let g : one_more (all_tagged (past_tag rest)) ≡ (0, last) = sym (all_tagged-some here rest f) ∙ e in
-    let count : suc (all_tagged (past_tag rest)).0 ≡ 0 = ap (λ (c : ℕ × Bits). c.0) g in
-    omega (arith, count)
+not_none here rest last f e = grind (arith, common_steps, all_tagged-some)
 
 -- where no more EOLs are counted behind a tag there was no tag
 no_tag : (here last : Bits) → all_tagged (past_tag here) ≡ (0, last) → here ≡ last
 no_tag [] last e = ap (λ (f : ℕ × Bits). f.1) e
-no_tag (false ∷ here) last e = by_after_eol (after_eol 0 (false ∷ here)) refl
-  where
-    by_after_eol : (o : Option Bits) → after_eol 0 (false ∷ here) ≡ o → (false ∷ here) ≡ last
-    by_after_eol None f = ap (λ (c : ℕ × Bits). c.1) (sym (all_tagged-none (false ∷ here) f) ∙ e)
-    by_after_eol (Some rest) f = absurd (not_none (false ∷ here) rest last f e)
+no_tag (false ∷ here) last e = grind (arith, common_steps, all_tagged-none, not_none)
 no_tag (true ∷ here) last e = by_after_eol (after_eol 0 here) refl
   where
     by_after_eol : (o : Option Bits) → after_eol 0 here ≡ o → (true ∷ here) ≡ last
@@ -158,11 +143,7 @@ module _ (front words next : Bits) (tag : Bool) (fill : ℕ) (quiet : Quiet word
   behind = words ++ (eol fill ++ next)
 
   next_is : past 0 (tag ∷ behind) ≡ Some next
-  next_is = past_before 0 (tag ∷ words) (eol fill ++ next) next (none tag) (eol_stands fill next)
-    where
-      none : (tag : Bool) → past 0 (tag ∷ words) ≡ None
-      none true = let q = quiet 0 (omega arith) in scan_past 0 q.0 words (omega arith) q.1
-      none false = let q = quiet 1 (omega arith) in scan_past 1 q.0 words (omega arith) q.1
+  next_is = grind (arith, common_steps, past_before, eol_stands, scan_past)
 
   -- two consecutive EOLs don't end there
   not_two : (found rest : Bits) → LeavesBits (front ++ true ∷ (tag ∷ behind)) found → after_eol 0 found ≡ Some rest
@@ -346,16 +327,10 @@ module _ (settings : DecodeSettings) (encoding : settings.encoding ≡ Group3_2D
 
   -- the next EOL behind its start
   next_from : past 0 (line ++ next) ≡ Some after
-  next_from = rw is.is (past_before 0 (is.tag ∷ is.words) next after (none is.tag) eol_next)
-    where
-      none : (tag : Bool) → past 0 (tag ∷ is.words) ≡ None
-      none true = let q = is.quiet 0 (omega arith) in scan_past 0 q.0 is.words (omega arith) q.1
-      none false = let q = is.quiet 1 (omega arith) in scan_past 1 q.0 is.words (omega arith) q.1
+  next_from = grind (arith, common_steps, past_before, scan_past)
 
   longer : length after + 12 ≤ length next
-  longer =
-      let eol = after_eol_is 0 next after eol_next in
-      omega (arith, eol.2, ap length eol.1, length-append (replicate eol.0 false) (true ∷ after), length-replicate eol.0 false)
+  longer = grind (arith, common_steps, after_eol_is, length-append, length-replicate)
 
   no_eol_in : (place end : ℕ) → from ≤ place → end ≤ to → IsEol whole place end → ⊥
   no_eol_in place end le le2 (lt, within, stands) =

@@ -28,10 +28,7 @@ later_below seen (true ∷ here) =
 later_descends : (seen : ℕ) (here : Bits) → Descends (later_starts seen here)
 later_descends seen [] = tt
 later_descends seen (false ∷ here) = later_descends (suc seen) here
-later_descends seen (true ∷ here) = either_way (leb 11 seen && begins_line here) (later_descends 0 here)
-  where
-    either_way : (b : Bool) → Descends (later_starts 0 here) → Descends (cond b (here ∷ []) [] ++ later_starts 0 here)
-    either_way b d = grind (arith, common_steps, later_below)
+later_descends seen (true ∷ here) = grind (arith, common_steps, later_below, later_descends 0 here)
 
 -- ---- An EOL ends at each, and none begins
 
@@ -259,7 +256,4 @@ module _ (bits : Bits) where
 
 -- the law
 pub starts_are : StartsAre
-starts_are bits = (
-  λ place le. (is_start bits place le, has_start bits place le),
-  (later_below 0 (all_eols bits).1, later_descends 0 (all_eols bits).1),
-)
+starts_are bits = grind (arith, common_steps, is_start, has_start, later_below, later_descends)

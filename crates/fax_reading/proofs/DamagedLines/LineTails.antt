@@ -30,8 +30,7 @@ pub after_eol_is : (seen : ℕ) (here rest : Bits) → after_eol seen here ≡ S
 after_eol_is seen [] rest e = absurd cc
 after_eol_is seen (false ∷ here) rest e = let f = after_eol_is (suc seen) here rest e in
     (suc f.0, ap (λ (x : Bits). false ∷ x) f.1, omega (arith, f.2))
-after_eol_is seen (true ∷ here) rest e = let f = eol_at_one seen here rest e in
-    (0, ap (λ (x : Bits). true ∷ x) f.1, omega (arith, f.0))
+after_eol_is seen (true ∷ here) rest e = grind (arith, common_steps, eol_at_one)
 
 -- they are eleven zeros behind more
 pub zeros_of_eol : (here rest : Bits) → after_eol 0 here ≡ Some rest
@@ -65,16 +64,14 @@ pub after_eol_more : (seen more : ℕ) (here rest : Bits) → seen ≤ more → 
     → after_eol more here ≡ Some rest
 after_eol_more seen more [] rest le e = absurd cc
 after_eol_more seen more (false ∷ here) rest le e = after_eol_more (suc seen) (suc more) here rest (omega arith) e
-after_eol_more seen more (true ∷ here) rest le e = let f = eol_at_one seen here rest e in
-    rw (le-leb 11 more (omega (arith, f.0))) (ap Some f.1)
+after_eol_more seen more (true ∷ here) rest le e = grind (arith, common_steps, eol_at_one, le-leb)
 
 -- an EOL stays one, whatever follows
 pub after_eol-append : (seen : ℕ) (here rest z : Bits) → after_eol seen here ≡ Some rest
     → after_eol seen (here ++ z) ≡ Some (rest ++ z)
 after_eol-append seen [] rest z e = absurd cc
 after_eol-append seen (false ∷ here) rest z e = after_eol-append (suc seen) here rest z e
-after_eol-append seen (true ∷ here) rest z e = let f = eol_at_one seen here rest e in
-    rw (le-leb 11 seen f.0) (ap (λ (b : Bits). Some (b ++ z)) f.1)
+after_eol-append seen (true ∷ here) rest z e = grind (arith, common_steps, eol_at_one, le-leb)
 
 -- if no EOL ends within some bits, the next is the one after them
 pub past_before : (seen : ℕ) (bits z after : Bits) → past seen bits ≡ None → after_eol 0 z ≡ Some after
@@ -197,8 +194,7 @@ line_past_by settings reference here after next stays =
 -- the body of a one-dimensional line
 pub body_1d : (settings : DecodeSettings) (bits : Bits) (from to : ℕ) (local : IsLocal settings bits from to)
     → IsBody bits from to local.closes.0
-body_1d settings bits from to local =
-    record { order = local.order; within = local.within; one = local.one; no_eol = local.no_eol; eol = local.closes.1 }
+body_1d settings bits from to local = grind (arith, common_steps)
 
 -- a local body begins such a tail
 pub is_tail : (settings : DecodeSettings) (bits : Bits) (from to : ℕ) (local : IsLocal settings bits from to)
@@ -225,24 +221,12 @@ stays_1d settings bits from to local reference =
 -- the tag and the body of a line of two-dimensional data
 body_2d : (settings : DecodeSettings) (bits : Bits) (from to : ℕ) (local : IsTaggedBody settings bits from to)
     → IsBody bits from to local.closes.0
-body_2d settings bits from to local = record {
-  order = omega (arith, local.one.1, local.one.2);
-  within = local.within;
-  one = (local.one.0, omega (arith, local.one.1), local.one.2, local.one.3);
-  no_eol = local.no_eol;
-  eol = local.closes.1;
-}
+body_2d settings bits from to local = grind (arith, common_steps)
 
 -- the body alone
 body_behind_tag : (settings : DecodeSettings) (bits : Bits) (from to : ℕ) (local : IsTaggedBody settings bits from to)
     → IsBody bits (suc from) to local.closes.0
-body_behind_tag settings bits from to local = record {
-  order = omega (arith, local.one.1, local.one.2);
-  within = local.within;
-  one = (local.one.0, local.one.1, local.one.2, local.one.3);
-  no_eol = λ place end le le2 eol. local.no_eol place end (omega (arith, le)) le2 eol;
-  eol = local.closes.1;
-}
+body_behind_tag settings bits from to local = grind (arith, common_steps)
 
 -- it begins such a tail
 pub is_tagged_tail : (settings : DecodeSettings) (bits : Bits) (from to : ℕ) (local : IsTaggedBody settings bits from to)

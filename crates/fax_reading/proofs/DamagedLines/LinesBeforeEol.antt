@@ -105,8 +105,7 @@ module _ {V : Type 0} (list : List (Code V)) (free : is_prefix_free list ≡ tru
 
 read_code_alike : (color : Color) (bits x y : Bits) → Inside bits
     → FoundAlike x y (read_code (codes_of color) (bits ++ x)) (read_code (codes_of color) (bits ++ y))
-read_code_alike color bits x y inside = words_alike (codes_of color) (codes_free color)
-    (λ n word has. inl (color, n, has)) bits x y inside
+read_code_alike color bits x y inside = grind (arith, common_steps, words_alike, codes_free)
 
 read_mode_alike : (x y here there : Bits) → InFront x y here there
     → FoundAlike x y (read_code mode_codes here) (read_code mode_codes there)
@@ -220,16 +219,7 @@ module _ (x y : Bits) where
         second : (s t : Pen) → Pens s t → Both (run_then false columns s Turn.next) (run_then false columns t Turn.next)
         second s t (more, color2, here2, there2, a, b, still) = rw (a, b)
             (run_then_alike more color2 here2 there2 Turn.next still (λ u v pens. pens))
-    mode_alike front color here there (Vertical k) infront = by_result
-        (place_from (length front) (pos (b1 reference (right_of front) color) +ℤ k))
-      where
-        by_result : (r : Result ℕ DecodeError)
-            → Both (try front r (λ place. try front (paint false columns front color (place - length front))
-            (λ more. Turn.next (record { front = more; color = opposite color; rest = here }))))
-            (try front r (λ place. try front (paint false columns front color (place - length front))
-            (λ more. Turn.next (record { front = more; color = opposite color; rest = there }))))
-        by_result (Ok place) = (_, opposite color, here, there, refl, refl, infront)
-        by_result (Err fault) = refl
+    mode_alike front color here there (Vertical k) infront = grind (arith, common_steps)
 
     step_2d_alike : (s t : Pen) → Pens s t → Both (step_2d false columns reference s) (step_2d false columns reference t)
     step_2d_alike s t (front, color, here, there, a, b, infront) =

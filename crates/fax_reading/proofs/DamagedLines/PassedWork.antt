@@ -1,4 +1,5 @@
 -- What passing lines counts.
+use Rattle.fax_reading.proofs.Names.{common_steps}
 use Rattle.fax_reading.proofs.Names.{◌≡◌, ℕ, suc, ◌+◌, ◌*◌, ◌<◌, ◌≤◌, true, false, List, [], ◌∷◌, ◌++◌, length, drop, Option}
 use Rattle.fax_reading.proofs.Names.{Some, None, Result, Ok, Err, refl, sym, ap, subst, ◌∙◌, arith, none-some, inr, length-append}
 use Rattle.fax_reading.proofs.Names.{Color, Mode, Pass, Horizontal, Vertical, DecodeError, Bits, mode_codes, read_code, opposite}
@@ -126,14 +127,8 @@ looked_before_eol : (seen : ℕ) (here next : Bits) → after_eol seen here ≡ 
     → looked here + length next ≤ length here
 looked_before_eol seen [] next none sought = absurd cc
 looked_before_eol seen (true ∷ here) next none sought = omega (arith, (next_eol_found here next sought).0)
-looked_before_eol seen (false ∷ here) next none sought = by_after_eol (looked_before_eol (suc seen) here next none)
-    (after_eol 0 (false ∷ here)) refl
-  where
-    by_after_eol : (next_eol here ≡ Some next → looked here + length next ≤ length here) → (o : Option Bits)
-        → after_eol 0 (false ∷ here) ≡ o → looked (false ∷ here) + length next ≤ length (false ∷ here)
-    by_after_eol on None is = omega (arith, on (rw (is, next_eol) at sought))
-    by_after_eol on (Some after) is =
-        absurd (none-some after (sym none ∙ after_eol_more 0 seen (false ∷ here) after (omega arith) is))
+looked_before_eol seen (false ∷ here) next none sought =
+    grind (arith, common_steps, none-some, after_eol_more, looked_before_eol (suc seen) here next none)
 
 -- behind the tag the next EOL is the same
 pub next_behind_tag : (line next : Bits) → after_eol 0 (false ∷ line) ≡ None → next_eol (false ∷ line) ≡ Some next

@@ -33,26 +33,11 @@ then_after (Some found) = after_eol 0 found
 pub past_is : (here : Bits) → past 0 here ≡ then_after (next_eol here)
 past_is [] = refl
 past_is (true ∷ here) = past_is here
-past_is (false ∷ here) = by_after_eol (past_is here) (after_eol 0 (false ∷ here)) refl
-  where
-    by_after_eol : past 0 here ≡ then_after (next_eol here) → (o : Option Bits) → after_eol 0 (false ∷ here) ≡ o
-        → past 0 (false ∷ here) ≡ then_after (next_eol (false ∷ here))
-    by_after_eol same given e = grind (arith, common_steps, past-eol, past-none)
+past_is (false ∷ here) = grind (arith, common_steps, past-eol, past-none, past_is here)
 
 -- no EOL is counted where there is none
 pub eols_here-none : (settings : DecodeSettings) (here : Bits) → after_eol 0 here ≡ None → eols_here settings here ≡ (0, here)
-eols_here-none settings here e = by_encoding settings.encoding settings.end_of_block
-  where
-    no_tag : (bits : Bits) → pass_last_tag (0, bits) ≡ (0, bits)
-    no_tag [] = refl
-    no_tag (true ∷ bits) = refl
-    no_tag (false ∷ bits) = refl
-
-    by_encoding : (encoding : EncodingMode) (block : Bool) → eols_by encoding block here ≡ (0, here)
-    by_encoding Group3_1D block = all_eols-none here e
-    by_encoding Group3_2D block = ap pass_last_tag (all_tagged-none here e) ∙ no_tag here
-    by_encoding Group4 true = eols-none 2 here e
-    by_encoding Group4 false = all_eols-none here e
+eols_here-none settings here e = grind (arith, common_steps, all_eols-none, all_tagged-none, eols-none)
 
 -- the next EOL is further on in the same bits
 pub next_eol_leaves : (here found : Bits) → next_eol here ≡ Some found → (before : Bits) × (here ≡ before ++ found)

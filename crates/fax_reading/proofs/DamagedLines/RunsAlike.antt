@@ -1,4 +1,5 @@
 -- Two runs over data that differ in one line.
+use Rattle.fax_reading.proofs.Names.{common_steps}
 use Rattle.fax_reading.proofs.Names.{◌≡◌, ℕ, zero, suc, ◌+◌, ◌%◌, ◌<◌, ◌≤◌, Bool, true, false, cond, not, ◌&&◌, ◌||◌, eqb}
 use Rattle.fax_reading.proofs.Names.{List, [], ◌∷◌, ◌++◌, length, Option, Some, None, Ok, Err, refl, sym, ap, subst}
 use Rattle.fax_reading.proofs.Names.{◌∙◌, append_assoc, arith, ◌⊎◌, inl, inr, cases_Bool, and_parts, eqb-true, length-append}
@@ -37,16 +38,7 @@ RowsAlike differ Begins xs ys = (xs ≡ ys)
 rows_length : (differ : ℕ) (Begins : List Row → Type 0) (xs ys : List Row) → RowsAlike differ Begins xs ys → length xs ≡ length ys
 rows_length differ Begins xs ys (inl e) = ap length e
 rows_length differ Begins xs ys (inr (before, these, those, more, same, few, e, f, begins)) =
-    omega (
-      arith,
-      ap length e,
-      ap length f,
-      same,
-      length-append before (these ++ more),
-      length-append before (those ++ more),
-      length-append these more,
-      length-append those more,
-    )
+    grind (arith, common_steps, length-append)
 
 rows_more : (differ : ℕ) (Begins : List Row → Type 0) (xs ys : List Row) (row : Row) → RowsAlike differ Begins xs ys
     → RowsAlike differ Begins (xs ++ row ∷ []) (ys ++ row ∷ [])
@@ -166,11 +158,7 @@ module _ (settings : DecodeSettings) (most : ℕ) (Alike : List Row → List Row
 
   pub move_beyond : (xs ys : List Row) (h : Bool) (here : Bits) → Alike xs ys → length here ≤ most
       → SameLine settings xs ys here → Together (move_on settings (run_at xs h here)) (move_on settings (run_at ys h here))
-  move_beyond xs ys h here alike short same =
-      let line : Line = line_here settings (row_before settings.columns xs) here in
-      subst (λ (other : Line). Together (after_line settings (run_at xs h here) line)
-      (after_line settings (run_at ys h here) other)) same (line_beyond xs ys h here line alike short
-      (line_by_leaves settings.encoding settings.strict settings.columns (row_before settings.columns xs) here))
+  move_beyond xs ys h here alike short same = grind (arith, common_steps, line_beyond, line_by_leaves)
 
 -- how two runs end: with one fault; at one position among the equal bits; past the EOL after the line; or at the limit
 pub data EndsAlike (settings : DecodeSettings) (Begins : List Row → Type 0) (differ from : ℕ) (x y after : Bits)
@@ -401,8 +389,7 @@ module _ (settings : DecodeSettings) (group3 : IsGroup3 settings.encoding) (leni
   -- a line that begins before is the same
   line_in_front : (reference : Row) (bits : Bits) → Closes bits → LineAlike (true ∷ x) (true ∷ y)
       (line_here settings reference (bits ++ true ∷ x)) (line_here settings reference (bits ++ true ∷ y))
-  line_in_front reference bits closes =
-      rw lenient (line_alike settings.encoding settings.columns reference (true ∷ x) (true ∷ y) bits closes)
+  line_in_front reference bits closes = grind (arith, common_steps, line_alike)
 
   line_ahead : (rows : List Row) (bits : Bits) → Closes bits → Within bits
       → Both (move_on settings (sought rows (bits ++ true ∷ x))) (move_on settings (sought rows (bits ++ true ∷ y)))

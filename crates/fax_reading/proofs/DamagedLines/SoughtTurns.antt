@@ -123,6 +123,4 @@ module _ (settings : DecodeSettings) (encoding : settings.encoding ≡ Group3_1D
   pub move_line : (rows : List Row) (here : Bits)
       → move_on settings (sought rows here) ≡ after_row settings
       (sought (rows ++ row_at settings.columns here ∷ []) (rest_of (line_1d false settings.columns here) here))
-  move_line rows here = move_sought settings lenient rows here
-      ∙ ap (λ (line : Line). after_row settings (sought (rows ++ row_of settings.columns line ∷ []) (rest_of line here)))
-      (sought_line_is (row_before settings.columns rows) here)
+  move_line rows here = grind (arith, common_steps, move_sought, sought_line_is)

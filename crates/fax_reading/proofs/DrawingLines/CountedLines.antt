@@ -1,4 +1,5 @@
 -- The words that a line finds, step by step.
+use Rattle.fax_reading.proofs.Names.{common_steps}
 use Rattle.fax_reading.proofs.Names.{◌≡◌, ℕ, ◌+◌, ◌*◌, ◌<◌, ◌≤◌, Bool, true, false, cond, leb, List, [], ◌++◌, length, Result, Ok}
 use Rattle.fax_reading.proofs.Names.{Err, refl, sym, ap, subst, ◌∙◌, arith, false≢true, lt-leb, length-append, append-nil, Mode}
 use Rattle.fax_reading.proofs.Names.{DecodeError, Bits, Line, Pen, turn_behind, words_behind, unless_fault, painted, draw_run}
@@ -98,17 +99,7 @@ pub found_2d_on : (strict : Bool) (columns : ℕ) (reference : Row) (pen : Pen) 
     ≡ 1 + length (draw_mode strict columns reference (record pen { rest = rest }) mode).words + length (found_after
     (found_2d_from strict columns reference) (draw_mode strict columns reference (record pen { rest = rest }) mode).turn)
 found_2d_on strict columns reference pen mode rest open_row reads =
-    let drawing = draw_mode strict columns reference (record pen { rest = rest }) mode in
-    let behind : List Bits = found_after (found_2d_from strict columns reference) drawing.turn in
-    let turn : found_2d_from strict columns reference pen ≡ (word_found mode_codes pen.rest ++ drawing.words) ++ behind
-    = found_2d_turn strict columns reference pen open_row ∙ rw reads refl in
-    omega (
-      arith,
-      ap length turn,
-      length-append (word_found mode_codes pen.rest ++ drawing.words) behind,
-      length-append (word_found mode_codes pen.rest) drawing.words,
-      one_word mode_codes pen.rest (mode, rest) reads,
-    )
+    grind (arith, common_steps, found_2d_turn, length-append, one_word)
 
 -- ---- What the calls that draw a step need of them.
 
@@ -139,9 +130,7 @@ counted_by_mode before now at rest mode kept open_row reads =
 -- a step that ends in a fault of the data is the last to find words
 pub none_after_fault : (rest : Pen → List Bits) (step : Step) (fault : DecodeError) (pen : Pen) → IsFault fault
     → DrawsStep step (Err fault) pen → length (found_after rest step) ≡ 0
-none_after_fault rest step fault pen is draws =
-    let ends : step ≡ Turn.done (Line.broken pen.front fault) = at_fault_kind (kind_of fault) _ _ _ is draws in
-    rw ends refl
+none_after_fault rest step fault pen is draws = grind (arith, common_steps)
 
 -- Between two modes of a line, of whose words some are found and some are still to come: each word found was counted,
 -- as were the changes passed and three more for each word, and nothing if there are no words.

@@ -1,4 +1,5 @@
 -- What a step of a line paints, and what that says of the finished line.
+use Rattle.fax_reading.proofs.Names.{common_steps}
 use Rattle.fax_reading.proofs.Names.{◌≡◌, ◌≢◌, ℕ, zero, suc, ◌-◌, ◌<◌, ◌≤◌, Bool, true, false, cond, ◌&&◌, ltb, leb, [], ◌∷◌}
 use Rattle.fax_reading.proofs.Names.{◌++◌, length, replicate, append_assoc, w32, Option, Some, Result, Ok, Err, refl, sym}
 use Rattle.fax_reading.proofs.Names.{subst, ap, ◌∙◌, arith, ◌⊎◌, inl, inr, ◌↔◌, IsTrue, IfErr, OnOk, OnErr, SomeIff, min, ℤ, pos}
@@ -23,14 +24,7 @@ use Rattle.fax_bits.proofs.ErrorKinds.{kind_weaker, of_fault_kind}
 -- what was painted is the front and some more pixels of the colour
 pub paint_ok : (strict : Bool) (columns : ℕ) (front : Row) (color : Color) (n : ℕ) (row : Row)
     → paint strict columns front color n ≡ Ok row → (k : ℕ) × (front ++ replicate k (is_black color) ≡ row)
-paint_ok strict columns front color n row e = elim (chosen (strict && ltb (columns - length front) n) _ _ _ e) [
-  | inl a ↦ absurd (let f : ◌≡◌ {A = Result Row DecodeError} (Err InvalidCode) (Ok row) = a.1 in cc)
-  | inr a ↦ (
-    min n (columns - length front),
-    let f : ◌≡◌ {A = Result Row DecodeError} (Ok (front ++ replicate (min n (columns - length front)) (is_black color)))
-        (Ok row) = a.1 in cc,
-  )
-]
+paint_ok strict columns front color n row e = grind (arith, common_steps, chosen)
 
 -- ---- A front that ends at a change.
 
@@ -95,11 +89,7 @@ pub record IsUnpainted (held : Held) (count : ℕ) (e : DecodeError) : Type 0 wh
 pub unpainted : (held : Held) (count : ℕ) (r : Result (Unit {0}) DecodeError) (e : DecodeError) → r ≡ Err e → ((r
     ≡ Err InvalidCode) ↔ (paint held.settings.strict held.settings.columns held.front held.color count ≡ Err InvalidCode)) → (r
     ≡ Err OutOfMemory → StoresChange held count) → IfErr r (λ e. (e ≡ InvalidCode) ⊎ (e ≡ OutOfMemory)) → IsUnpainted held count e
-unpainted held count r e is too_many memory only = record {
-  too_many = λ f. too_many.0 (is ∙ f);
-  memory = λ f. memory (is ∙ f);
-  only = subst (λ (r : Result (Unit {0}) DecodeError). IfErr r (λ e. (e ≡ InvalidCode) ⊎ (e ≡ OutOfMemory))) is only;
-}
+unpainted held count r e is too_many memory only = grind (arith, common_steps)
 
 -- an error of painting is that of the step that paints and continues
 pub paint_fails : (held : Held) (count : ℕ) (go_on : Row → Step) (e : DecodeError) (pen : Pen) → pen.front ≡ held.front
@@ -117,8 +107,7 @@ pub paint_draws : (held new : Held) (count : ℕ) (rest : Bits) (r : Result (Uni
     (new ≡ redrawn held new.front held.color) → OnErr r (new ≡ held) → ((e : DecodeError) → r ≡ Err e → IsUnpainted held count e)
     → DrawsStep (try held.front (paint held.settings.strict held.settings.columns held.front held.color count)
     (λ front. Turn.next (record (pen_of held rest) { front = front }))) r (pen_of new rest)
-paint_draws held new count rest (Ok x) painted kept same unpainted = let color : new.color ≡ held.color =
-    ap (λ (h : Held). h.color) kept in rw (painted, color) refl
+paint_draws held new count rest (Ok x) painted kept same unpainted = grind (arith, common_steps)
 paint_draws held new count rest (Err e) painted kept same unpainted =
     paint_fails held count (λ front. Turn.next (record (pen_of held rest) { front = front })) e (pen_of new rest)
     (ap (λ (h : Held). h.front) same) (unpainted e refl) (λ row stops. stops)
@@ -184,9 +173,7 @@ KeepsFront P go_on = (pen : Pen) → P pen.front → P (front_after (go_on pen))
 -- painting keeps what was painted
 paint_keeps : (P : Row → Type 0) → Stays P → (strict : Bool) (columns : ℕ) (front : Row) (color : Color) (n : ℕ) (row : Row)
     → paint strict columns front color n ≡ Ok row → P front → P row
-paint_keeps P on strict columns front color n row e holds =
-    let p = paint_ok strict columns front color n row e in
-    subst P p.1 (on front (replicate p.0 (is_black color)) holds)
+paint_keeps P on strict columns front color n row e holds = grind (arith, common_steps, paint_ok)
 
 try_keeps : {A : Type 0} (P : Row → Type 0) (front : Row) (r : Result A DecodeError) (go_on : A → Step) → P front
     → ((x : A) → r ≡ Ok x → P (front_after (go_on x))) → P (front_after (try front r go_on))
@@ -203,21 +190,12 @@ draw_run_keeps P on strict columns pen go_on keeps holds =
 
 draw_mode_keeps : (P : Row → Type 0) → Stays P → (strict : Bool) (columns : ℕ) (reference : Row) (pen : Pen) (mode : Mode)
     → P pen.front → P (front_after (mode_step strict columns reference pen mode))
-draw_mode_keeps P on strict columns reference pen Pass holds =
-    let n : ℕ = b2 reference (right_of pen.front) pen.color - length pen.front in
-    try_keeps P pen.front (paint strict columns pen.front pen.color n) (λ front. Turn.next (record pen { front = front }))
-    holds (λ front f. paint_keeps P on strict columns pen.front pen.color n front f holds)
+draw_mode_keeps P on strict columns reference pen Pass holds = grind (arith, common_steps, try_keeps, paint_keeps)
 draw_mode_keeps P on strict columns reference pen Horizontal holds =
     subst (λ (step : Step). P (front_after step)) (horizontal_is strict columns reference pen)
     (draw_run_keeps P on strict columns pen (λ pen. run_then strict columns pen Turn.next)
     (λ p h. draw_run_keeps P on strict columns p Turn.next (λ q g. g) h) holds)
-draw_mode_keeps P on strict columns reference pen (Vertical k) holds =
-    let paints : ℕ → Step = λ place. try pen.front (paint strict columns pen.front pen.color (place - length pen.front))
-    (λ front. Turn.next (record { front = front; color = opposite pen.color; rest = pen.rest })) in
-    try_keeps P pen.front (place_from (length pen.front) (pos (b1 reference (right_of pen.front) pen.color) +ℤ k))
-    paints holds (λ place e. try_keeps P pen.front (paint strict columns pen.front pen.color (place - length pen.front))
-    (λ front. Turn.next (record { front = front; color = opposite pen.color; rest = pen.rest })) holds
-    (λ front f. paint_keeps P on strict columns pen.front pen.color (place - length pen.front) front f holds))
+draw_mode_keeps P on strict columns reference pen (Vertical k) holds = grind (arith, common_steps, try_keeps, paint_keeps)
 
 keeps_either : (P : Row → Type 0) (b : Bool) (x y : Step) → P (front_after x) → P (front_after y)
     → P (front_after (cond b x y))
@@ -277,20 +255,12 @@ keeps_after P step shrinks keeps (Turn.done line) holds = holds
 -- a line that isn't full continues with a run, or with a mode
 pub run_open : (strict : Bool) (columns : ℕ) (pen : Pen) → length pen.front < columns → drawn_by (step_1d strict columns) pen
     ≡ after_turn (drawn_by (step_1d strict columns)) (run_then strict columns pen Turn.next)
-run_open strict columns pen open_row =
-    let on : step_unless_full columns pen (run_then strict columns pen Turn.next) ≡ run_then strict columns pen Turn.next =
-    rw (lt-leb columns (length pen.front) open_row) refl in
-    drawn1 strict columns pen ∙ ap (after_turn (drawn_by (step_1d strict columns))) (step_1d_is strict columns pen ∙ on)
+run_open strict columns pen open_row = grind (arith, common_steps, lt-leb, drawn1, step_1d_is)
 
 line_open : (strict : Bool) (columns : ℕ) (reference : Row) (pen : Pen) → length pen.front < columns
     → drawn_by (step_2d strict columns reference) pen ≡ after_turn (drawn_by (step_2d strict columns reference)) (try pen.front
     (read_code mode_codes pen.rest) (λ mode. mode_step strict columns reference (record pen { rest = mode.1 }) mode.0))
-line_open strict columns reference pen open_row =
-    let step : Step = try pen.front (read_code mode_codes pen.rest)
-    (λ mode. mode_step strict columns reference (record pen { rest = mode.1 }) mode.0) in
-    let on : step_unless_full columns pen step ≡ step = rw (lt-leb columns (length pen.front) open_row) refl in
-    drawn2 strict columns reference pen
-    ∙ ap (after_turn (drawn_by (step_2d strict columns reference))) (step_2d_is strict columns reference pen ∙ on)
+line_open strict columns reference pen open_row = grind (arith, common_steps, lt-leb, drawn2, step_2d_is)
 
 -- after a mode is read, the line is what comes of the step that draws it
 pub line_mode : (strict : Bool) (columns : ℕ) (reference : Row) (pen : Pen) (mode : Mode) (rest : Bits) → length pen.front

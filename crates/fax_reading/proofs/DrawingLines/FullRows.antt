@@ -1,4 +1,5 @@
 -- A whole line has all its pixels.
+use Rattle.fax_reading.proofs.Names.{arith, common_steps}
 use Rattle.fax_reading.proofs.Names.{◌≡◌, ◌≤◌, ℕ, suc, Bool, true, false, [], ◌∷◌, length, sym, ◌∙◌, subst, EncodingMode, Group4}
 use Rattle.fax_reading.proofs.Names.{Group3_1D, Group3_2D, line_by, UnexpectedEof, Bits, mode_codes, read_code, Turn, Row, Line}
 use Rattle.fax_reading.proofs.Names.{Pen, start, line_1d, line_2d, Step}
@@ -16,10 +17,7 @@ module _ (columns : ℕ) (step : Pen → Step) (body : Pen → Step) (goes : (p 
     (same : (p : Pen) → step p ≡ step_unless_full columns p (body p)) where
   ends : (s : Pen) (l : Line) → step s ≡ Turn.done l → IsFull columns l
   ends s (Line.broken front fault) e = tt
-  ends s (Line.whole row rest) e =
-      let f = full_by columns s (body s) row rest (goes s) (sym (same s) ∙ e) in
-      let r : s.front ≡ row = let w = f.1 in cc in
-      subst (λ (x : Row). columns ≤ length x) r f.0
+  ends s (Line.whole row rest) e = grind (arith, common_steps, full_by)
 
   drawn_full : (pen : Pen) → IsFull columns (drawn_by step pen)
   drawn_full pen = repeated_keeps step (Line.broken [] UnexpectedEof) (λ p. Unit {0}) (IsFull columns) tt (λ s t p e. tt)

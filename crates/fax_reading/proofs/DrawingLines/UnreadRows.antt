@@ -1,4 +1,5 @@
 -- A line that isn't read is no row.
+use Rattle.fax_reading.proofs.Names.{arith, common_steps}
 use Rattle.fax_reading.proofs.Names.{◌≡◌, Bool, true, false, not, ◌||◌, Result, Err, refl, sym, ap, subst, ◌∙◌}
 use Rattle.fax_reading.proofs.Names.{cond-true, or_from, or_parts, not-false, not_from_true, DecodeError, kind_of}
 use Rattle.fax_reading.proofs.Names.{OutOfMemory, Refused, DrawsLine, IsFault, IsRepairable}
@@ -12,13 +13,7 @@ module _ (line strict : Line) (row : Result (Row × Bits) DecodeError) (old new 
     (rest : Bits) where
   -- a fault of the data is the row's
   pub at_fault : (e : DecodeError) → IsFault e → row ≡ Err e → TakesOneRow line strict row old new (Err e) rest
-  at_fault e fault is = record {
-    taken = tt;
-    fault = λ f. is;
-    held = held;
-    memory = λ k. absurd (let no : e ≡ OutOfMemory = cc in subst IsFault no fault);
-    not_refused = λ k. let no : e ≡ Refused = cc in subst IsFault no fault;
-  }
+  at_fault e fault is = grind (arith, common_steps)
 
   -- an allocation fails only if the line, or what is repaired of it, paints a black pixel
   wants_rest : HasBlack (front_of line) → TakesOneRow line strict row old new (Err OutOfMemory) rest

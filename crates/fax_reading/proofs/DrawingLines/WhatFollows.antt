@@ -1,4 +1,5 @@
 -- What is read doesn't depend on what follows it.
+use Rattle.fax_reading.proofs.Names.{common_steps}
 use Rattle.fax_reading.proofs.Names.{◌≡◌, ℕ, zero, suc, ◌+◌, ◌-◌, ◌<◌, Bool, leb, [], ◌++◌, length, Result, Ok, Err, refl, sym}
 use Rattle.fax_reading.proofs.Names.{ap, subst, ◌∙◌, append_assoc, arith, inl, inr, pos, ◌+ℤ◌, cases_lt, le-leb, Color, Mode}
 use Rattle.fax_reading.proofs.Names.{Pass, Horizontal, Vertical, DecodeError, Bits, mode_codes, Has, read_code, Turn, Row}
@@ -67,9 +68,7 @@ Carries f = (pen t : Pen) → f pen ≡ Turn.next t → (w : Bits) × (pen.rest 
     × ((more : Bits) → f (record pen { rest = w ++ more }) ≡ Turn.next (record t { rest = more }))
 
 pub next_carries : Carries Turn.next
-next_carries pen t e =
-    let same = next_is pen t e in
-    ([], ap (λ (p : Pen). p.rest) same, λ more. ap (λ (p : Pen). Turn.next (record p { rest = more })) same)
+next_carries pen t e = grind (arith, common_steps)
 
 -- what keeps the bits is preserved
 keeps_carries : (f : Pen → Step) → ((pen t : Pen) → f pen ≡ Turn.next t → (pen.rest ≡ t.rest)
@@ -93,15 +92,7 @@ draw_run_carries strict columns g carries pen t e =
 
 mode_carries : (strict : Bool) (columns : ℕ) (reference : Row) (mode : Mode)
     → Carries (λ pen. mode_step strict columns reference pen mode)
-mode_carries strict columns reference Pass = keeps_carries (λ pen. mode_step strict columns reference pen Pass) (λ pen t e.
-    let painted = paint strict columns pen.front pen.color (b2 reference (right_of pen.front) pen.color - length pen.front) in
-    let a = try_next pen.front painted (λ front. Turn.next (record pen { front = front })) t e in
-    let same : record pen { front = a.0 } ≡ t = next_is _ t a.2 in (
-      ap (λ (p : Pen). p.rest) same,
-      λ more. ap (λ (r : Result Row DecodeError).
-          try pen.front r (λ front. Turn.next (record { front = front; color = pen.color; rest = more }))) a.1
-          ∙ ap (λ (p : Pen). Turn.next (record p { rest = more })) same,
-    ))
+mode_carries strict columns reference Pass = grind (arith, common_steps, keeps_carries, try_next)
 mode_carries strict columns reference Horizontal = λ pen t e.
     let two = draw_run_carries strict columns (λ pen. run_then strict columns pen Turn.next)
     (draw_run_carries strict columns Turn.next next_carries) pen t (horizontal_is strict columns reference pen ∙ e) in
@@ -211,5 +202,4 @@ line_found_by (suc fuel) strict columns reference pen row rest lt e =
 -- a line that was read is read again, whatever follows
 pub line_2d_found : (strict : Bool) (columns : ℕ) (reference : Row) (here : Bits) (row : Row) (rest : Bits)
     → line_2d strict columns reference here ≡ Line.whole row rest → LineFound strict columns reference (start here) row rest
-line_2d_found strict columns reference here row rest e =
-    line_found_by (suc (length here)) strict columns reference (start here) row rest (omega arith) e
+line_2d_found strict columns reference here row rest e = grind (arith, common_steps, line_found_by)

@@ -97,12 +97,10 @@ module _ (settings : DecodeSettings) (four : settings.encoding ≡ Group4) (bloc
     (wide : 0 < settings.columns) where
   -- the EOLs that are counted, at most two, and the line after them
   counts_two : (here : Bits) → eols_here settings here ≡ eols 2 here
-  counts_two here =
-      ap (λ (e : EncodingMode). eols_by e settings.end_of_block here) four ∙ ap (λ (b : Bool). eols_by Group4 b here) block
+  counts_two here = grind (arith, common_steps)
 
   line_is : (run : Progress) (here : Bits) → line_of_turn settings (record run { rest = here }) ≡ reader settings run here
-  line_is run here =
-      ap (λ (e : EncodingMode). line_by e settings.strict settings.columns (row_before settings.columns run.rows) here) four
+  line_is run here = grind (arith, common_steps)
 
   by_line : (run after : Progress) (count : ℕ) (t : Bits) (line : Line) → run.has_eols ≡ false → eols 2 run.rest ≡ (count, t)
       → is_over settings (length run.rows) (count, t) ≡ false → reader settings run t ≡ line → add_row_alone

@@ -35,9 +35,7 @@ module _ (settings : DecodeSettings) where
   -- so does EOFB
   pub gap_at_eofb : (run : Progress) (rest : Bits) → run.has_eols ≡ false → settings.encoding ≡ Group4
       → settings.end_of_block ≡ true → eols 2 run.rest ≡ (2, rest) → pass_gap settings run ≡ ends_with run (Ok rest)
-  gap_at_eofb run rest unsought four block two =
-      gap_unsought settings run unsought ∙ ap (unless_over settings run) (rw (four, block) two)
-      ∙ cond-true (is_over settings (length run.rows) (2, rest)) _ _ (rw ((eols_end settings 2).3 block four (omega arith)) refl)
+  gap_at_eofb run rest unsought four block two = grind (arith, common_steps, gap_unsought, cond-true, eols_end)
 
 -- ---- Lines
 

@@ -181,10 +181,8 @@ power_doubles n = omega arith
 value_below : (bits : Bits) → value bits < 2 ^ length bits
 unfolding value
 value_below [] = omega arith
-value_below (true ∷ bits) =
-    subst (λ (n : ℕ). 1 * 2 ^ length bits + value bits < n) (sym (power_doubles (length bits))) (omega (arith, value_below bits))
-value_below (false ∷ bits) =
-    subst (λ (n : ℕ). 0 * 2 ^ length bits + value bits < n) (sym (power_doubles (length bits))) (omega (arith, value_below bits))
+value_below (true ∷ bits) = grind (arith, common_steps, power_doubles, value_below bits)
+value_below (false ∷ bits) = grind (arith, common_steps, power_doubles, value_below bits)
 
 digit_bit : (bit : Bool) → bit_of (digit bit) 0 ≡ bit
 digit_bit bit = grind (arith, common_steps)
@@ -224,8 +222,7 @@ byte_of LowestFirst front eight =
 -- one byte more
 bits_more : (order : BitOrder) (front rest bits : Bits) (byte : ℕ) (bytes : List ℕ) → bits_of_byte order byte ≡ front
     → bits_in order bytes ≡ rest → bits ≡ front ++ rest → bits_in order (byte ∷ bytes) ≡ bits
-bits_more order front rest bits byte bytes one more is =
-    ap (λ (b : Bits). b ++ bits_in order bytes) one ∙ ap (λ (b : Bits). front ++ b) more ∙ sym is
+bits_more order front rest bits byte bytes one more is = grind (arith, common_steps)
 
 bytes_of : (order : BitOrder) (n : ℕ) (bits : Bits) → length bits ≡ 8 * n → (bytes : List ℕ) × All (λ byte. byte < 256) bytes
     × (bits_in order bytes ≡ bits)

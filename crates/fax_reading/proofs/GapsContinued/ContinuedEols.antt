@@ -1,4 +1,5 @@
 -- EOLs with more bits behind.
+use Rattle.fax_reading.proofs.Names.{common_steps}
 use Rattle.fax_reading.proofs.Names.{◌≡◌, ℕ, zero, suc, ◌<◌, ◌≤◌, Bool, true, false, cond, leb, [], ◌∷◌, ◌++◌, length}
 use Rattle.fax_reading.proofs.Names.{Option, Some, None, refl, sym, ap, ◌∙◌, ◌⊎◌, inl, inr, arith, length-append, Bits}
 use Rattle.fax_reading.proofs.Names.{after_eol, one_more, eols, all_eols, next_eol}
@@ -26,11 +27,7 @@ pub after_eol-more : (more : Bits) (seen : ℕ) (here : Bits) → holds_one here
     → after_eol seen (here ++ more) ≡ then_more more (after_eol seen here)
 after_eol-more more seen [] one = absurd cc
 after_eol-more more seen (false ∷ here) one = after_eol-more more (suc seen) here one
-after_eol-more more seen (true ∷ here) one = either_way (leb 11 seen)
-  where
-    either_way : (b : Bool) → cond b (Some (here ++ more)) None ≡ then_more more (cond b (Some here) None)
-    either_way true = refl
-    either_way false = refl
+after_eol-more more seen (true ∷ here) one = grind (arith, common_steps)
 
 -- an EOL has a one
 pub eol_holds_one : (seen : ℕ) (here rest : Bits) → after_eol seen here ≡ Some rest → holds_one here ≡ true
@@ -68,12 +65,7 @@ eol_may_come seen (true ∷ here) none = absurd cc
 pub next_eol_holds_one : (here found : Bits) → next_eol here ≡ Some found → holds_one here ≡ true
 next_eol_holds_one [] found e = absurd cc
 next_eol_holds_one (true ∷ here) found e = refl
-next_eol_holds_one (false ∷ here) found e = by_after_eol (next_eol_holds_one here found) (after_eol 0 (false ∷ here)) refl
-  where
-    by_after_eol : (next_eol here ≡ Some found → holds_one here ≡ true) → (o : Option Bits) → after_eol 0 (false ∷ here) ≡ o
-        → holds_one here ≡ true
-    by_after_eol on None f = on (rw (f, next_eol) at e)
-    by_after_eol on (Some rest) f = eol_holds_one 1 here rest f
+next_eol_holds_one (false ∷ here) found e = grind (arith, common_steps, eol_holds_one, next_eol_holds_one here found)
 
 -- the next EOL stays the next
 pub next_eol-more : (more here found : Bits) → next_eol here ≡ Some found → next_eol (here ++ more) ≡ Some (found ++ more)
@@ -149,10 +141,7 @@ eols-more more (suc most) here settled = by_after_eol (λ rest. eols-more more m
 
 pub all_eols-more : (more here : Bits) → holds_one (all_eols here).1 ≡ true
     → all_eols (here ++ more) ≡ count_then_more more (all_eols here)
-all_eols-more more here one =
-    let most = length (here ++ more) in
-    let enough : eols most here ≡ all_eols here = eols_enough most here (omega (arith, length-append here more)) in
-    eols-more more most here (inr (ap (λ (found : ℕ × Bits). holds_one found.1) enough ∙ one)) ∙ ap (count_then_more more) enough
+all_eols-more more here one = grind (arith, common_steps, eols_enough, length-append, eols-more)
 
 -- where neither is so, an EOL more may come
 pub eols_may_come : (most : ℕ) (here : Bits) → (eols most here).0 < most → holds_one (eols most here).1 ≡ false
@@ -177,10 +166,4 @@ eols_may_come (suc most) here few none = by_after_eol (λ rest. eols_may_come mo
 
 pub all_eols_may_come : (here : Bits) → holds_one (all_eols here).1 ≡ false
     → all_eols (here ++ bytes_of_eol) ≡ (suc (all_eols here).0, [])
-all_eols_may_come here none =
-    let most = length (here ++ bytes_of_eol) in
-    let long = length-append here bytes_of_eol in
-    let enough : eols most here ≡ all_eols here = eols_enough most here (omega (arith, long)) in
-    let few : (eols most here).0 < most = omega (arith, long, eols_fewer most here) in
-    eols_may_come most here few (ap (λ (found : ℕ × Bits). holds_one found.1) enough ∙ none)
-    ∙ ap (λ (found : ℕ × Bits). (suc found.0, [])) enough
+all_eols_may_come here none = grind (arith, common_steps, length-append, eols_enough, eols_fewer, eols_may_come)

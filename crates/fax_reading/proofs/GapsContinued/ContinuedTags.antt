@@ -1,4 +1,5 @@
 -- EOLs with tags between them, with more bits behind.
+use Rattle.fax_reading.proofs.Names.{common_steps}
 use Rattle.fax_reading.proofs.Names.{◌≡◌, ℕ, zero, suc, ◌<◌, ◌≤◌, Bool, true, false, cond, leb, ltb, ◌&&◌, [], ◌∷◌, ◌++◌}
 use Rattle.fax_reading.proofs.Names.{length, Option, Some, None, refl, sym, ap, ◌∙◌, inl, inr, cases_lt, arith, length-append}
 use Rattle.fax_reading.proofs.Names.{le-leb, lt-leb, lt-ltb, le-ltb, Bits, after_eol, one_more, past_tag}
@@ -26,33 +27,19 @@ one_behind_one (true ∷ here) one = refl
 past_tag-more : (more here : Bits) → holds_one (behind_one here) ≡ true → past_tag (here ++ more) ≡ past_tag here ++ more
 past_tag-more more [] one = absurd cc
 past_tag-more more (false ∷ here) one = refl
-past_tag-more more (true ∷ here) one = by_after_eol (after_eol 0 here) refl
-  where
-    by_after_eol : (o : Option Bits) → after_eol 0 here ≡ o → past_tag (true ∷ here ++ more) ≡ past_tag (true ∷ here) ++ more
-    by_after_eol None e =
-        let still : after_eol 0 (here ++ more) ≡ None = after_eol-more more 0 here one ∙ ap (then_more more) e in
-        rw (e, still, past_tag) refl
-    by_after_eol (Some rest) e = rw (e, eol-more more here rest e, past_tag) refl
+past_tag-more more (true ∷ here) one = grind (arith, common_steps, after_eol-more, eol-more)
 
 -- a one is left behind the tag if one is left behind the next tag
 one_behind_past : (here : Bits) → holds_one (behind_one (past_tag here)) ≡ true → holds_one (behind_one here) ≡ true
 one_behind_past [] one = one
 one_behind_past (false ∷ here) one = one
-one_behind_past (true ∷ here) one = by_after_eol (after_eol 0 here) refl
-  where
-    by_after_eol : (o : Option Bits) → after_eol 0 here ≡ o → holds_one here ≡ true
-    by_after_eol None e = rw (e, past_tag) at one
-    by_after_eol (Some rest) e = eol_holds_one 0 here rest e
+one_behind_past (true ∷ here) one = grind (arith, common_steps, eol_holds_one)
 
 -- or if an EOL is behind the tag
 one_in_eol : (here rest : Bits) → after_eol 0 (past_tag here) ≡ Some rest → holds_one (behind_one here) ≡ true
 one_in_eol [] rest f = absurd cc
 one_in_eol (false ∷ here) rest f = eol_holds_one 0 (false ∷ here) rest f
-one_in_eol (true ∷ here) rest f = by_after_eol (after_eol 0 here) refl
-  where
-    by_after_eol : (o : Option Bits) → after_eol 0 here ≡ o → holds_one here ≡ true
-    by_after_eol None e = let g : after_eol 0 (true ∷ here) ≡ Some rest = rw (e, past_tag) at f in absurd cc
-    by_after_eol (Some after) e = eol_holds_one 0 here after e
+one_in_eol (true ∷ here) rest f = grind (arith, common_steps, eol_holds_one)
 
 -- where no one is left behind the tag, an EOL may come
 tag_may_come : (here : Bits) → holds_one (behind_one here) ≡ false → after_eol 0 (past_tag (here ++ bytes_of_eol)) ≡ Some []
@@ -65,11 +52,7 @@ none_behind_past : (here : Bits) → after_eol 0 (past_tag here) ≡ None → ho
     → holds_one (behind_one here) ≡ false
 none_behind_past [] f none = none
 none_behind_past (false ∷ here) f none = none
-none_behind_past (true ∷ here) f none = by_after_eol (after_eol 0 here) refl
-  where
-    by_after_eol : (o : Option Bits) → after_eol 0 here ≡ o → holds_one here ≡ false
-    by_after_eol None e = rw (e, past_tag) at none
-    by_after_eol (Some rest) e = let g : after_eol 0 here ≡ None = rw (e, past_tag) at f in absurd cc
+none_behind_past (true ∷ here) f none = grind (arith, common_steps)
 
 -- ---- The EOLs after an EOL
 -- the EOLs behind a tag
@@ -141,25 +124,8 @@ eols_with_tags-more : (more : Bits) (most : ℕ) (here : Bits) → 0 < most
     → holds_one (behind_first_tag (eols_with_tags most here)) ≡ true
     → eols_with_tags most (here ++ more) ≡ count_then_more more (eols_with_tags most here)
 eols_with_tags-more more zero here some one = absurd (omega arith)
-eols_with_tags-more more (suc most) here some one = by_after_eol (after_eol 0 here) refl
-  where
-    inside : (found : ℕ × Bits) → holds_one (behind_first_tag (one_more found)) ≡ holds_one (behind_one found.1)
-    inside (count, rest) = refl
-
-    by_after_eol : (o : Option Bits) → after_eol 0 here ≡ o
-        → eols_with_tags (suc most) (here ++ more) ≡ count_then_more more (eols_with_tags (suc most) here)
-    by_after_eol None e =
-        let is = eols_with_tags-none (suc most) here e in
-        let left : holds_one here ≡ true = sym (ap (λ (found : ℕ × Bits). holds_one (behind_first_tag found)) is) ∙ one in
-        eols_with_tags-none (suc most) (here ++ more) (after_eol-more more 0 here left ∙ ap (then_more more) e)
-        ∙ sym (ap (count_then_more more) is)
-    by_after_eol (Some rest) e =
-        let is = eols_with_tags-some most here rest e in
-        let left : holds_one (behind_one (tagged_past most rest).1) ≡ true =
-        sym (inside (tagged_past most rest)) ∙ sym (ap (λ (found : ℕ × Bits). holds_one (behind_first_tag found)) is) ∙ one in
-        eols_with_tags-some most (here ++ more) (rest ++ more) (eol-more more here rest e)
-        ∙ ap one_more (tagged_past-more more most rest left) ∙ one_then_more more (tagged_past most rest)
-        ∙ sym (ap (count_then_more more) is)
+eols_with_tags-more more (suc most) here some one = grind
+    (arith, common_steps, eols_with_tags-none, after_eol-more, eols_with_tags-some, eol-more, tagged_past-more, one_then_more)
 
 eols_with_tags_may_come : (most : ℕ) (here : Bits) → (eols_with_tags most here).0 < most
     → holds_one (behind_first_tag (eols_with_tags most here)) ≡ false
@@ -205,11 +171,7 @@ tagged_at_most (suc most) here = by_after_eol (λ rest. tagged_at_most most rest
 no_line_tag : (count : ℕ) (rest : Bits) → 6 ≤ count → behind_line_tag (count, rest) ≡ rest
 no_line_tag count [] many = refl
 no_line_tag count (false ∷ rest) many = refl
-no_line_tag count (true ∷ rest) many = rw (le-ltb count 6 many) (either_way (ltb 0 count))
-  where
-    either_way : (b : Bool) → cond (b && false) rest (true ∷ rest) ≡ true ∷ rest
-    either_way true = refl
-    either_way false = refl
+no_line_tag count (true ∷ rest) many = grind (arith, common_steps, le-ltb)
 
 -- the bits behind the last tag, whether it is a line's or that of RTC
 pub last_tag_tested : (found : ℕ × Bits) → behind_line_tag (pass_last_tag found) ≡ behind_first_tag found
@@ -218,10 +180,7 @@ last_tag_tested (suc count, []) = refl
 last_tag_tested (zero, false ∷ rest) = refl
 last_tag_tested (suc count, false ∷ rest) = refl
 last_tag_tested (zero, true ∷ rest) = refl
-last_tag_tested (suc count, true ∷ rest) = elim (cases_lt (suc count) 6) [
-  | inl few ↦ rw (lt-leb 6 (suc count) few, lt-ltb (suc count) 6 few, lt-ltb 0 (suc count) (omega arith)) refl
-  | inr many ↦ rw (le-leb 6 (suc count) many) (no_line_tag (suc count) rest many)
-]
+last_tag_tested (suc count, true ∷ rest) = grind (arith, common_steps, cases_lt, lt-leb, lt-ltb, le-leb, no_line_tag)
 
 -- where a bit is left, more bits make no difference to whether the tag is that of RTC
 last_tag-more : (more : Bits) (found : ℕ × Bits) → holds_one (behind_first_tag found) ≡ true
@@ -229,12 +188,7 @@ last_tag-more : (more : Bits) (found : ℕ × Bits) → holds_one (behind_first_
 last_tag-more more (zero, []) one = absurd cc
 last_tag-more more (suc count, []) one = absurd cc
 last_tag-more more (count, false ∷ rest) one = refl
-last_tag-more more (count, true ∷ rest) one = either_way (leb 6 count)
-  where
-    either_way : (b : Bool) → cond {A = ℕ × Bits} b (count, rest ++ more) (count, true ∷ rest ++ more)
-        ≡ count_then_more more (cond {A = ℕ × Bits} b (count, rest) (count, true ∷ rest))
-    either_way true = refl
-    either_way false = refl
+last_tag-more more (count, true ∷ rest) one = grind (arith, common_steps)
 
 -- where a one is left behind the tag, more bits make no difference
 pub tagged_eols-more : (more here : Bits) → holds_one (behind_line_tag (tagged_eols here)) ≡ true

@@ -1,4 +1,5 @@
 -- Gaps with more bits behind.
+use Rattle.fax_reading.proofs.Names.{common_steps}
 use Rattle.fax_reading.proofs.Names.{◌≡◌, ◌≢◌, ℕ, suc, Bool, true, false, not, ◌&&◌, ◌||◌, cond, leb, eqb}
 use Rattle.fax_reading.proofs.Names.{[], ◌∷◌, ◌++◌, length, Option, Some, None, Result, Ok, Err, refl, sym, ap, ◌∙◌}
 use Rattle.fax_reading.proofs.Names.{inl, inr, arith, length-append, and_parts, or_parts, cases_Bool, not-false}
@@ -73,25 +74,13 @@ last_eol_counted settings here e = by_encoding settings.encoding settings.end_of
 
 -- without bits nothing is settled
 none_is_settled : (settings : DecodeSettings) → eols_here_are_settled settings [] ≡ false
-none_is_settled settings = by_encoding settings.encoding settings.end_of_block
-  where
-    by_encoding : (encoding : EncodingMode) (block : Bool) → eols_are_settled encoding block (eols_by encoding block []) ≡ false
-    by_encoding Group3_1D block = refl
-    by_encoding Group3_2D block = refl
-    by_encoding Group4 true = refl
-    by_encoding Group4 false = refl
+none_is_settled settings = grind (arith, common_steps)
 
 -- ---- What follows them
 -- where no bit is left and the EOLs are settled, they are the end
 settled_end : (settings : DecodeSettings) (count : ℕ)
     → eols_are_settled settings.encoding settings.end_of_block (count, []) ≡ true → is_end_of_block settings count ≡ true
-settled_end settings count settled = by_encoding settings.encoding settings.end_of_block settled
-  where
-    by_encoding : (encoding : EncodingMode) (block : Bool) → eols_are_settled encoding block (count, []) ≡ true
-        → (block && leb (eols_of_end encoding) count) ≡ true
-    by_encoding Group3_1D block is = absurd cc
-    by_encoding Group3_2D block is = absurd cc
-    by_encoding Group4 block is = elim (or_cases (block && leb 2 count) false is) [ inl both ↦ both | inr none ↦ absurd cc ]
+settled_end settings count settled = grind (arith, common_steps)
 
 -- what follows settled EOLs is the same with more bits behind
 behind_eols-more : (more : Bits) (settings : DecodeSettings) (taken : ℕ) (has_eols : Bool) (found : ℕ × Bits)
@@ -99,23 +88,12 @@ behind_eols-more : (more : Bits) (settings : DecodeSettings) (taken : ℕ) (has_
     → behind_eols settings taken has_eols (count_then_more more found)
     ≡ gap_before more (behind_eols settings taken has_eols found)
 behind_eols-more more settings taken has_eols (count, []) settled = rw (settled_end settings count settled) refl
-behind_eols-more more settings taken has_eols (count, bit ∷ rest) settled = either_way
-    (is_over settings taken (count, bit ∷ rest))
-  where
-    either_way : (b : Bool) → cond b (Gap.over (Ok (bit ∷ rest ++ more))) (Gap.line_at has_eols (bit ∷ rest ++ more))
-        ≡ gap_before more (cond b (Gap.over (Ok (bit ∷ rest))) (Gap.line_at has_eols (bit ∷ rest)))
-    either_way true = refl
-    either_way false = refl
+behind_eols-more more settings taken has_eols (count, bit ∷ rest) settled = grind (arith, common_steps)
 
 -- where no bit is left the reading ends
 behind_eols-end : (settings : DecodeSettings) (taken : ℕ) (has_eols : Bool) (count : ℕ)
     → behind_eols settings taken has_eols (count, []) ≡ Gap.over (Ok [])
-behind_eols-end settings taken has_eols count = either_way (is_end_of_block settings count) (limit_met settings taken)
-  where
-    either_way : (a b : Bool) → cond (a || b || true) (Gap.over (Ok [])) (Gap.line_at has_eols []) ≡ Gap.over (Ok [])
-    either_way true b = refl
-    either_way false true = refl
-    either_way false false = refl
+behind_eols-end settings taken has_eols count = grind (arith, common_steps)
 
 -- ---- The gap
 -- whether an EOL is missed
@@ -230,26 +208,19 @@ gap_unsettled settings taken has_eols here fails = (
 -- so each settled gap passes it
 gap_passes : (settings : DecodeSettings) (taken : ℕ) (has_eols : Bool) (here : Bits)
     → GapIsSettled settings taken has_eols here → gap_is_settled settings taken has_eols here ≡ true
-gap_passes settings taken has_eols here settled = elim (cases_Bool (gap_is_settled settings taken has_eols here)) [
-  | inl passes ↦ passes
-  | inr fails ↦ let changed = gap_unsettled settings taken has_eols here fails in absurd (changed.2 (settled changed.0))
-]
+gap_passes settings taken has_eols here settled = grind (arith, common_steps, cases_Bool, gap_unsettled)
 
 -- whether an EOL is missed is the same at a settled gap
 missed_settled : (settings : DecodeSettings) (taken : ℕ) (has_eols : Bool) (here more : Bits)
     → gap_is_settled settings taken has_eols here ≡ true
     → misses_eol settings taken has_eols (here ++ more) ≡ misses_eol settings taken has_eols here
-missed_settled settings taken has_eols here more passes = misses_eol-more more settings taken has_eols here (and_parts
-    (eols_here_are_settled settings here)
-    (not (misses_eol settings taken has_eols here) || settings.strict || next_eols_are_settled settings (next_eol here)) passes).0
+missed_settled settings taken has_eols here more passes = grind (arith, common_steps, misses_eol-more, and_parts)
 
 -- so what is counted is the same
 pub repairs_behind-more : (held : Held) (here more : Bits)
     → gap_is_settled held.settings held.taken held.has_eols here ≡ true
     → repairs_behind held (here ++ more) ≡ repairs_behind held here
-repairs_behind-more held here more passes =
-    ap (λ (b : Bool). cond (b && not held.settings.strict) (with_missed held.taken held.repairs) held.repairs)
-    (missed_settled held.settings held.taken held.has_eols here more passes)
+repairs_behind-more held here more passes = grind (arith, common_steps, missed_settled)
 
 -- ---- The first gap
 -- a gap after no row, with more bits behind
@@ -260,15 +231,7 @@ at_gap-more more bits (Gap.over outcome) = refl
 
 first_settled : (settings : DecodeSettings) (bits : Bits) → first_gap_is_settled settings.encoding settings bits ≡ true
     → FirstGapIsSettled settings bits
-first_settled settings bits passes more = by_encoding settings.encoding passes
-  where
-    by_encoding : (encoding : EncodingMode) → first_gap_is_settled encoding settings bits ≡ true
-        → first_gap encoding settings (bits ++ more) ≡ move_before more (first_gap encoding settings bits)
-    by_encoding Group4 is =
-        ap (at_gap (at_front (bits ++ more))) (gap_settled settings 0 false bits is more)
-        ∙ at_gap-more more bits (gap_behind_row settings 0 false bits)
-    by_encoding Group3_1D is = rw (all_eols-more more bits is) refl
-    by_encoding Group3_2D is = rw (all_eols-more more bits is) refl
+first_settled settings bits passes more = grind (arith, common_steps, gap_settled, at_gap-more, all_eols-more)
 
 -- how a reading ended at the first gap, and the bits that are left there where it didn't
 abbrev outcome_at : Move → Option (Result Bits DecodeError)
@@ -282,10 +245,8 @@ left_at (Turn.done end) = []
 -- a first gap with more bits behind it isn't the end of the data
 done_differs : (bits more : Bits) (gap : Gap)
     → at_gap (at_front more) (Gap.over (Ok [])) ≢ move_before bytes_of_eol (at_gap (at_front bits) gap)
-done_differs bits more (Gap.line_at has_eols rest) e =
-    let f : ◌≡◌ {A = Option (Result Bits DecodeError)} (Some (Ok [])) None = ap outcome_at e in absurd cc
-done_differs bits more (Gap.over (Err fault)) e =
-    let f : ◌≡◌ {A = Option (Result Bits DecodeError)} (Some (Ok [])) (Some (Err fault)) = ap outcome_at e in absurd cc
+done_differs bits more (Gap.line_at has_eols rest) e = grind (arith, common_steps)
+done_differs bits more (Gap.over (Err fault)) e = grind (arith, common_steps)
 done_differs bits more (Gap.over (Ok rest)) e =
     let f : ◌≡◌ {A = Option (Result Bits DecodeError)} (Some (Ok [])) (Some (Ok (rest ++ bytes_of_eol))) = ap outcome_at e in
     let same : [] ≡ rest ++ bytes_of_eol = cc in
@@ -311,10 +272,7 @@ first_unsettled settings bits fails = (bytes_of_eol, refl, by_encoding settings.
 
 first_passes : (settings : DecodeSettings) (bits : Bits) → FirstGapIsSettled settings bits
     → first_gap_is_settled settings.encoding settings bits ≡ true
-first_passes settings bits settled = elim (cases_Bool (first_gap_is_settled settings.encoding settings bits)) [
-  | inl passes ↦ passes
-  | inr fails ↦ let changed = first_unsettled settings bits fails in absurd (changed.2 (settled changed.0))
-]
+first_passes settings bits settled = grind (arith, common_steps, cases_Bool, first_unsettled)
 
 -- exactly the settled gaps pass the test
 pub gaps_settle : GapsSettle

@@ -1,4 +1,5 @@
 -- Lines of two data that begin with the same bits.
+use Rattle.fax_reading.proofs.Names.{common_steps}
 use Rattle.fax_reading.proofs.Names.{◌≡◌, ℕ, zero, suc, ◌<◌, Bool, true, false, leb, List, [], ◌∷◌, ◌++◌, length}
 use Rattle.fax_reading.proofs.Names.{refl, sym, ap, ◌∙◌, append_assoc, arith, inl, inr, le-leb, cond-false, length-append}
 use Rattle.fax_reading.proofs.Names.{false≢true}
@@ -113,17 +114,13 @@ one_in_words (word ∷ words) are some = one_stays word (joined words) (word_one
 
 -- a whole line consumed bits
 took_bits : (line : Line) (n : ℕ) (row : Row) (rest : Bits) → TookBits n line → line ≡ Line.whole row rest → length rest < n
-took_bits (Line.whole row rest) n row2 rest2 took e =
-    let same : rest ≡ rest2 = cc in omega (arith, took, ap length same)
+took_bits (Line.whole row rest) n row2 rest2 took e = grind (arith, common_steps)
 took_bits (Line.broken front fault) n row rest took e = absurd cc
 
 -- the bits of words that were consumed
 words_consumed : (words : List Bits) (bits rest : Bits) → AreWords words → bits ++ rest ≡ joined words ++ rest
     → length rest < length (bits ++ rest) → holds_a_one bits ≡ true
-words_consumed words bits rest are is took =
-    let same : bits ≡ joined words = append_cancel_right bits (joined words) rest is in
-    ap holds_a_one same
-    ∙ one_in_words words are (omega (arith, ap length is, length-append (joined words) rest, took))
+words_consumed words bits rest are is took = grind (arith, common_steps, append_cancel_right, one_in_words, length-append)
 
 pub one_in_whole : (encoding : EncodingMode) (strict : Bool) (columns : ℕ) (reference : Row) (bits rest : Bits) (row : Row)
     → 0 < columns → line_by encoding strict columns reference (bits ++ rest) ≡ Line.whole row rest
@@ -141,15 +138,10 @@ one_in_whole Group4 strict columns reference bits rest row wide e =
     (took_bits (line_2d strict columns reference (bits ++ rest)) (length (bits ++ rest)) row rest
     (line_2d_took_bits strict columns reference (bits ++ rest) wide) e)
 one_in_whole Group3_2D strict columns reference [] [] row wide e = absurd cc
-one_in_whole Group3_2D strict columns reference [] (true ∷ rest) row wide e = absurd (omega (
-  arith,
-  took_bits (line_1d strict columns rest) (length rest) row (true ∷ rest) (line_1d_took_bits strict columns rest wide) e,
-))
-one_in_whole Group3_2D strict columns reference [] (false ∷ rest) row wide e = absurd (omega (
-  arith,
-  took_bits (line_2d strict columns reference rest) (length rest) row (false ∷ rest)
-      (line_2d_took_bits strict columns reference rest wide) e,
-))
+one_in_whole Group3_2D strict columns reference [] (true ∷ rest) row wide e =
+    grind (arith, common_steps, took_bits, line_1d_took_bits)
+one_in_whole Group3_2D strict columns reference [] (false ∷ rest) row wide e =
+    grind (arith, common_steps, took_bits, line_2d_took_bits)
 one_in_whole Group3_2D strict columns reference (true ∷ bits) rest row wide e =
     one_in_whole Group3_1D strict columns reference bits rest row wide e
 one_in_whole Group3_2D strict columns reference (false ∷ bits) rest row wide e =

@@ -106,11 +106,7 @@ module _ (settings : DecodeSettings) (x y : Bits) where
       → unless_over settings (run_at rows has_eols u) (count, more ++ x) ≡ Turn.next t
       → unless_over settings (run_at rows has_eols v) (count, more ++ y) ≡ Turn.next (run_at rows has_eols (more ++ y))
   unless_front rows has_eols u v [] count t some e = absurd (omega (arith, some))
-  unless_front rows has_eols u v (b ∷ more) count t some e =
-      elim (chosen (is_over settings (length rows) (count, b ∷ more ++ x)) _ _ _ e) [
-        | inl over ↦ absurd (not_next _ t over.1)
-        | inr open_end ↦ cond-false (is_over settings (length rows) (count, b ∷ more ++ y)) _ _ open_end.0
-      ]
+  unless_front rows has_eols u v (b ∷ more) count t some e = grind (arith, common_steps, chosen, not_next, cond-false)
 
   -- the EOLs from one on that ends among the equal bits
   eols_from_front : (found other left more : Bits) (count : ℕ) → after_eol 0 found ≡ Some (left ++ x)
@@ -242,9 +238,7 @@ module _ (settings : DecodeSettings) (x y : Bits) where
         → line_here settings (row_before settings.columns rows) here ≡ Line.broken front fault
         → move_on settings (sought rows here)
         ≡ after_row settings (sought (rows ++ repaired settings.columns front ∷ []) here)
-    repaired_turn rows here front fault lenient is =
-        move_sought settings lenient rows here
-        ∙ ap (λ (line : Line). after_row settings (sought (rows ++ row_of settings.columns line ∷ []) (rest_of line here))) is
+    repaired_turn rows here front fault lenient is = grind (arith, common_steps, move_sought)
 
     more_in_line : (encoding : EncodingMode) (front rest : Bits) → one_in_line encoding front ≡ true
         → one_in_line encoding (front ++ rest) ≡ true
@@ -474,10 +468,7 @@ first_front settings x y front bits first rest_is one begins = by_encoding setti
 -- rows that are the first of some
 first_rows : (rows all : List Row) (index : ℕ) → IsPrefix rows all → length rows ≡ index
     → (index ≤ length all) × (take index all ≡ rows)
-first_rows rows all index front is = (
-  omega (arith, is, ap length front.1, length-append rows front.0),
-  ap (λ (n : ℕ). take n all) (sym is) ∙ ap (take (length rows)) front.1 ∙ take_front rows front.0,
-)
+first_rows rows all index front is = grind (arith, common_steps, length-append, take_front)
 
 -- the law
 pub rows_before : RowsBefore

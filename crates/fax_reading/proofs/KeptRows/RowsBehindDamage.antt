@@ -1,4 +1,5 @@
 -- Data that are the same from an EOL on have the same rows behind the next, whatever comes before.
+use Rattle.fax_reading.proofs.Names.{common_steps}
 use Rattle.fax_reading.proofs.Names.{◌≡◌, ℕ, zero, suc, ◌+◌, ◌-◌, ◌/◌, ◌<◌, ◌≤◌, Bool, true, false, ◌&&◌, ◌||◌}
 use Rattle.fax_reading.proofs.Names.{leb, List, [], ◌∷◌, ◌++◌, length, take, drop, Option, Some, None, Result}
 use Rattle.fax_reading.proofs.Names.{Ok, Err, refl, sym, ap, subst, ◌∙◌, append_assoc, append_cancel_right, append-nil, arith}
@@ -40,19 +41,11 @@ use Rattle.fax_bits.proofs.BitReading.ConsecutiveEols.{count_some, counts_plain,
 -- fewer than six EOLs end no data of Group 3
 few_end_none : (settings : DecodeSettings) (count : ℕ) → IsGroup3 settings.encoding → count < 6
     → is_end_of_block settings count ≡ false
-few_end_none settings count group3 few = by_encoding settings.encoding group3
-  where
-    by_encoding : (encoding : EncodingMode) → IsGroup3 encoding
-        → (settings.end_of_block && leb (eols_of_end encoding) count) ≡ false
-    by_encoding Group3_1D is = rw (lt-leb 6 count few) (and-false settings.end_of_block)
-    by_encoding Group3_2D is = rw (lt-leb 6 count few) (and-false settings.end_of_block)
-    by_encoding Group4 (inl is) = absurd cc
-    by_encoding Group4 (inr is) = absurd cc
+few_end_none settings count group3 few = grind (arith, common_steps, lt-leb, and-false)
 
 -- the same bits follow
 with_tail : (bits rest z : Bits) → LeavesBits bits rest → LeavesBits (bits ++ true ∷ z) (rest ++ true ∷ z)
-with_tail bits rest z leaves =
-    (leaves.0, ap (λ (b : Bits). b ++ true ∷ z) leaves.1 ∙ append_assoc leaves.0 rest (true ∷ z))
+with_tail bits rest z leaves = grind (arith, common_steps, append_assoc)
 
 -- ---- One reading comes to the EOL behind the line
 
@@ -93,9 +86,7 @@ module _ (settings : DecodeSettings) (group3 : IsGroup3 settings.encoding) (leni
   -- the reading isn't over where few EOLs were counted and bits are left
   not_over : (rows : List Row) (u : Bits) (found : ℕ × Bits) → found.0 < 6 → at_end found.1 ≡ false
       → unless_over settings (sought rows u) found ≡ Turn.next (sought rows found.1)
-  not_over rows u (count, rest) few open_end =
-      cond-false (is_over settings (length rows) (count, rest)) _ _
-      (rw (few_end_none settings count group3 few, open_limit (length rows), open_end) refl)
+  not_over rows u (count, rest) few open_end = grind (arith, common_steps, cond-false, few_end_none, open_limit)
 
   module _ (whole : Bits) (no_rtc : (found : Bits) → LeavesBits whole found → length x < length found
       → (eols_here settings found).0 < 6) where

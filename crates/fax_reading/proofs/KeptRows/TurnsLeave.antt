@@ -1,4 +1,5 @@
 -- A turn leaves a suffix of the bits that it begins with, and seeks EOLs as before or has given them up.
+use Rattle.fax_reading.proofs.Names.{arith, common_steps}
 use Rattle.fax_reading.proofs.Names.{◌≡◌, ℕ, zero, suc, ◌%◌, Bool, true, false, cond, not, ◌&&◌, ◌||◌, leb, [], ◌∷◌, ◌++◌, length}
 use Rattle.fax_reading.proofs.Names.{replicate, take, Option, Some, None, refl, sym, subst, ◌∙◌, append_assoc}
 use Rattle.fax_reading.proofs.Names.{◌⊎◌, inl, inr, take-append-drop, DecodeSettings, EncodingMode, Group4, Group3_1D}
@@ -82,8 +83,7 @@ counted_leaves settings run t here leaves e =
 
 seek_leaves : (settings : DecodeSettings) (run t : Progress) (o : Option Bits) → next_eol run.rest ≡ o
     → seek_from settings run o ≡ Turn.next t → TurnLeavesBits run.has_eols run.rest t
-seek_leaves settings run t None e f =
-    subst (TurnLeavesBits run.has_eols run.rest) (next_is (record run { has_eols = false }) t f) (([], refl), inr refl)
+seek_leaves settings run t None e f = grind (arith, common_steps)
 seek_leaves settings run t (Some found) e f = counted_leaves settings run t found (next_eol_leaves run.rest found e) f
 
 pub after_row_leaves : (settings : DecodeSettings) (run t : Progress) → after_row settings run ≡ Turn.next t

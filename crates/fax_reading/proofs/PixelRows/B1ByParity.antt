@@ -1,4 +1,5 @@
 -- The index of b1, by its parity, and how it moves from mode to mode.
+use Rattle.fax_reading.proofs.Names.{common_steps}
 use Rattle.fax_reading.proofs.Names.{◌≡◌, ℕ, zero, suc, ◌+◌, ◌-◌, ◌%◌, ◌<◌, ◌≤◌, ◌⊎◌, false, not, List, [], ◌∷◌, length, get_or}
 use Rattle.fax_reading.proofs.Names.{refl, sym, ap, ◌∙◌, arith, inl, inr, cases_lt, cases_eq, get_or_past, get_or_default_zero}
 use Rattle.fax_reading.proofs.Names.{Color, White, Black, Row, AreChanges, pixels, is_black, opposite, right_of, b1, b2}
@@ -77,19 +78,12 @@ module _ (columns : ℕ) (places : List ℕ) (ascend : AreChanges columns places
 
   -- it is the number of changes and one more at most
   pub near_within : (painted index : ℕ) → painted < columns → IsNear columns places painted index → index ≤ length places + 1
-  near_within painted index inside near = elim (cases_lt index 2) [
-    | inl lt ↦ omega arith
-    | inr ge ↦
-        let at : get_or places (index - 2) columns ≤ painted = (near.left (index - 2) (omega arith)).1 in
-        let in_list : index - 2 < length places = in_list_if_below columns places ascend (index - 2) (omega arith) in
-        omega arith
-  ]
+  near_within painted index inside near = grind (arith, common_steps, cases_lt, in_list_if_below)
 
   -- it stays one when a0 goes right
   pub near_later : (painted later index : ℕ) → painted ≤ later → IsNear columns places painted index
       → IsNear columns places later index
-  near_later painted later index le near =
-      record { left = λ k l. (let at = near.left k l in (omega (arith, at.0), omega (arith, at.1))) }
+  near_later painted later index le near = grind (arith, common_steps)
 
   -- where its change is not right of a0, the second next index is one
   pub near_up : (painted index : ℕ) → 0 < painted → get_or places index columns ≤ painted
@@ -150,16 +144,13 @@ module _ (columns : ℕ) (places : List ℕ) (ascend : AreChanges columns places
 
   pub b2_by_parity : (painted index : ℕ) (color : Color) → painted < columns → IsB1 columns places painted index color
       → b2 (pixels columns places) (right_of_painted painted) color ≡ get_or places (index + 1) columns
-  b2_by_parity painted index color inside at =
-      b2_after_b1 columns places (right_of_painted painted) index color ascend (b1_by_parity painted index color inside at)
+  b2_by_parity painted index color inside at = grind (arith, common_steps, b2_after_b1, b1_by_parity)
 
   -- the same of a front, which says where a0 is
   pub b1_of_front : (front : Row) (painted index : ℕ) (color : Color) → length front ≡ painted → painted < columns → IsB1
       columns places painted index color → (b1 (pixels columns places) (right_of front) color ≡ get_or places index columns)
       × (b2 (pixels columns places) (right_of front) color ≡ get_or places (index + 1) columns)
-  b1_of_front front painted index color len inside at =
-      rw (right_of_length front painted len)
-      (b1_by_parity painted index color inside at, b2_by_parity painted index color inside at)
+  b1_of_front front painted index color len inside at = grind (arith, common_steps, right_of_length, b1_by_parity, b2_by_parity)
 
   -- ---- Where b1 is after a mode.
   -- at a line's start

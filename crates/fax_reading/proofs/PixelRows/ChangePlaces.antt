@@ -18,12 +18,7 @@ first_step test from bound t rest e lt least = grind (arith, common_steps)
 
 first : (test : ℕ → Bool) (from n bound : ℕ) → from + n ≡ bound
     → IsLeast from bound test (unwrap_or (find test (range_with_len from n)) bound)
-first test from zero bound e = record {
-  above = omega arith;
-  within = omega arith;
-  before = λ q le l. absurd (omega arith);
-  there = λ l. absurd (omega arith);
-}
+first test from zero bound e = grind (arith, common_steps)
 first test from (suc n) bound e = grind (arith, common_steps, first_step, first test (from + 1) n bound (omega arith))
 
 -- the search finds the least position

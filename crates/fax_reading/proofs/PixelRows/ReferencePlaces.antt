@@ -59,16 +59,14 @@ ascend_bounds : (first width : ℕ) (places : List ℕ) → AscendFrom first wid
 ascend_bounds first width [] ascend j lt = absurd (omega arith)
 ascend_bounds first width (place ∷ places) ascend zero lt = (ascend.0, ascend.1)
 ascend_bounds first width (place ∷ places) ascend (suc j) lt =
-    let rest = ascend_bounds (suc place) width places ascend.2 j (omega arith) in
-    (omega (arith, ascend.0, rest.0), rest.1)
+    grind (arith, common_steps, ascend_bounds (suc place) width places ascend.2 j (omega arith))
 
 -- and of two of them the later one is greater
 ascend_order : (first width : ℕ) (places : List ℕ) → AscendFrom first width places
     → (j k : ℕ) → j < k → k < length places → get_or places j 0 < get_or places k 0
 ascend_order first width [] ascend j k lt l = absurd (omega arith)
 ascend_order first width (place ∷ places) ascend j zero lt l = absurd (omega arith)
-ascend_order first width (place ∷ places) ascend zero (suc k) lt l =
-    omega (arith, (ascend_bounds (suc place) width places ascend.2 k (omega arith)).0)
+ascend_order first width (place ∷ places) ascend zero (suc k) lt l = grind (arith, common_steps, ascend_bounds)
 ascend_order first width (place ∷ places) ascend (suc j) (suc k) lt l =
     ascend_order (suc place) width places ascend.2 j k (omega arith) (omega arith)
 
@@ -77,8 +75,7 @@ ascend_order first width (place ∷ places) ascend (suc j) (suc k) lt l =
 pixels_from-pixel : (place first : ℕ) (color : Bool) (width : ℕ) (places : List ℕ) (p j : ℕ)
     → AscendFrom first width places → place ≤ first → place ≤ p → p < width → IsSplit places (suc p) j
     → get_or (pixels_from place color width places) (p - place) false ≡ turned j color
-pixels_from-pixel place first color width [] p zero ascend le lep lt split =
-    get_or-replicate (width - place) (p - place) color false (omega arith)
+pixels_from-pixel place first color width [] p zero ascend le lep lt split = grind (arith, common_steps, get_or-replicate)
 pixels_from-pixel place first color width [] p (suc j) ascend le lep lt split = absurd (omega (arith, split.within))
 pixels_from-pixel place first color width (change ∷ places) p zero ascend le lep lt split =
     grind (arith, common_steps, get_or-replicate, get_or_append_left, length-replicate)

@@ -28,15 +28,12 @@ end_t4 settings bits other = ap (ending_behind settings) (first_gap_t4 settings 
 -- with columns a reading is what its end says
 pub plain_is : (settings : DecodeSettings) → 0 < settings.columns → (bits : Bits)
     → plain settings bits ≡ whole_reading bits (end_of settings bits)
-plain_is settings wide bits =
-    cond-false (eqb settings.columns 0) _ _ (ne_eqb settings.columns 0 (λ e. absurd (omega (arith, e, wide))))
+plain_is settings wide bits = grind (arith, common_steps, cond-false, ne_eqb)
 
 -- a gap where no EOLs are sought
 pub gap_unsought : (settings : DecodeSettings) (run : Progress) → run.has_eols ≡ false
     → pass_gap settings run ≡ unless_over settings run (eols_here settings run.rest)
-gap_unsought settings run unsought =
-    pass_gap-is settings run ∙ cond-false (misses_eol settings (length run.rows) run.has_eols run.rest) _ _
-    (ap (λ (h : Bool). misses_eol settings (length run.rows) h run.rest) unsought ∙ unmissed settings (length run.rows) run.rest)
+gap_unsought settings run unsought = grind (arith, common_steps, pass_gap-is, cond-false, unmissed)
 
 -- ---- Gaps and rows lead on as turns do
 

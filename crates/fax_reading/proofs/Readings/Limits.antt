@@ -49,8 +49,7 @@ module _ (settings : DecodeSettings) (limit : ℕ) (some : 0 < limit) (wide : 0 
     cut_turn : (run : Progress) (found : ℕ × Bits) (m : Move) → length run.rows ≡ limit → Keeps run.rows m
         → Follows Same Cut rest (unless_over limited run found) m
     cut_turn run (count, here) m full k =
-        let extended = turn_extends rest extends in
-        grind (arith, common_steps, after_turn, cond-true, cut_rows, is_met, or_left, or_right, extended, unless_over)
+        grind (arith, common_steps, turn_extends, cond-true, cut_rows, is_met, or_left, or_right)
 
     seek_from_open : (run : Progress) (o : Option Bits) → limit_met limited (length run.rows) ≡ false
         → seek_from limited run o ≡ seek_from unlimited run o

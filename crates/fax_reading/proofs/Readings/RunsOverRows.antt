@@ -1,4 +1,5 @@
 -- A run over the rows of the plain reading: what is known of a state that it reaches, and the turns from there on.
+use Rattle.fax_reading.proofs.Names.{common_steps}
 use Rattle.fax_reading.proofs.Names.{◌≡◌, ℕ, zero, suc, ◌+◌, ◌<◌, ◌≤◌, List, [], ◌∷◌, ◌++◌, length, drop}
 use Rattle.fax_reading.proofs.Names.{get_or, Some, Result, Ok, Err, refl, sym, ap, ◌∙◌, subst, append-nil, arith, slice_get}
 use Rattle.fax_reading.proofs.Names.{length-append, DecodeError, UnexpectedEof}
@@ -38,11 +39,7 @@ get_or-behind (y ∷ xs) x more other = get_or-behind xs x more other
 pub context_at-more : (settings : DecodeSettings) (so_far : Progress) (row : Row) (rest : Bits) (before now : Repairs)
     → record (with_row_taken (context_at settings so_far before) row) { repairs = now }
     ≡ context_at settings (with_row so_far row rest) now
-context_at-more settings so_far row rest before now =
-    let more : length so_far.rows + 1 ≡ length (so_far.rows ++ row ∷ []) = omega (arith, length-append so_far.rows (row ∷ [])) in
-    ap (λ (r : Row). record (context_at settings so_far now) { reference = r; taken = length so_far.rows + 1 })
-    (sym (row_before_push settings.columns so_far.rows row))
-    ∙ ap (λ (n : ℕ). record (context_at settings (with_row so_far row rest) now) { taken = n }) more
+context_at-more settings so_far row rest before now = grind (arith, common_steps, length-append, row_before_push)
 
 -- ---- One turn
 
@@ -60,8 +57,7 @@ module _ (settings : DecodeSettings) (so_far : Progress) where
 
   pub row_adds : (taken : Row) (rest : Bits) → row_of_turn ≡ Ok (taken, rest)
       → Adds (so_far.rows ++ taken ∷ []) (move_on settings so_far)
-  row_adds taken rest is =
-      subst (Adds (so_far.rows ++ taken ∷ [])) (sym (ap (add_row settings so_far) is)) (behind_adds taken rest)
+  row_adds taken rest is = grind (arith, common_steps, behind_adds)
 
   -- the reading continues, or ends, as what follows its row says
   pub turn_is : (taken : Row) (rest : Bits) (gap : Gap) → row_of_turn ≡ Ok (taken, rest) → gap_behind_row settings (length

@@ -1,5 +1,6 @@
 -- What is known of a state that a reading reaches: it is the one of its index in the list of its turns, so what it gives is
 -- that of its index in every list over them.
+use Rattle.fax_reading.proofs.Names.{common_steps}
 use Rattle.fax_reading.proofs.Names.{◌≡◌, ◌+◌, ◌<◌, ℕ, List, [], ◌∷◌, length, drop, map, take, get_or, Some, ap, ◌∙◌, sym, subst}
 use Rattle.fax_reading.proofs.Names.{arith, slice_get, cond-false, ne_eqb, sum_by, eqb, DecodeSettings, Bits, Progress, Ending}
 use Rattle.fax_reading.proofs.Names.{first_gap, move_on, turns_of, turns_from, turns_behind, Turn, Reaches, get_or-drop}
@@ -15,9 +16,7 @@ module _ (settings : DecodeSettings) (wide : 0 < settings.columns) (bits : Bits)
   none_first = subst (Keeps []) begins (first_gap_keeps settings settings.encoding bits)
 
   turns_are : turns_of settings bits ≡ turns_from (move_on settings) first
-  turns_are =
-      cond-false (eqb settings.columns 0) _ _ (ne_eqb settings.columns 0 (λ none. absurd (omega (arith, wide, none))))
-      ∙ ap (turns_behind settings) begins
+  turns_are = grind (arith, common_steps, cond-false, ne_eqb)
 
   module _ {so_far : Progress} (reaches : Reaches (move_on settings) first so_far) where
     pub comes : Comes settings first so_far
@@ -44,8 +43,7 @@ module _ (settings : DecodeSettings) (wide : 0 < settings.columns) (bits : Bits)
       -- where its turn is the last, it is the last
       module _ {end : Ending} (ends : move_on settings so_far ≡ Turn.done end) where
         given_last : drop (length so_far.rows) given ≡ gives so_far ∷ []
-        given_last = given_on
-            ∙ ap (λ (turn : Move). gives so_far ∷ map gives (gathered_after (turns_left settings) turn)) ends
+        given_last = grind (arith, common_steps, given_on)
 
         pub none_given : (other : A) → get_or given (length so_far.rows + 1) other ≡ other
         none_given other = sym (get_or-drop (length so_far.rows) given 1 other)

@@ -1,4 +1,5 @@
 -- A run only adds rows.
+use Rattle.fax_reading.proofs.Names.{arith, common_steps}
 use Rattle.fax_bits.proofs.Repetition.Repeated.{after_turn}
 use Rattle.fax_reading.proofs.Names.{◌≡◌, ℕ, ◌-◌, ◌<◌, Bool, true, false, cond, not, ◌&&◌, ◌||◌, List, [], ◌∷◌, ◌++◌, length}
 use Rattle.fax_reading.proofs.Names.{replicate, Option, Some, None, Ok, Err, refl, sym, ap, subst, ◌∙◌, append_assoc, append-nil}
@@ -22,9 +23,7 @@ either_has P false x y p q = q
 -- the rows so far don't change
 pub unless_over_keeps : (settings : DecodeSettings) (run : Progress) (found : ℕ × Bits)
     → Keeps run.rows (unless_over settings run found)
-unless_over_keeps settings run (count, rest) =
-    either_has (Keeps run.rows) (is_over settings (length run.rows) (count, rest)) (ends_with run (Ok rest))
-    (Turn.next (record run { rest = rest })) refl refl
+unless_over_keeps settings run (count, rest) = grind (arith, common_steps, either_has)
 
 -- and where an EOL is looked for
 pub seek_from_keeps : (settings : DecodeSettings) (run : Progress) (o : Option Bits) → Keeps run.rows (seek_from settings run o)
@@ -42,8 +41,7 @@ after_row_keeps settings run =
 -- the first gap leaves no rows
 pub first_gap_keeps : (settings : DecodeSettings) (encoding : EncodingMode) (bits : Bits)
     → Keeps [] (first_gap encoding settings bits)
-first_gap_keeps settings Group4 bits =
-    subst (Keeps []) (sym (pass_gap-is settings (at_front bits))) (after_row_keeps settings (at_front bits))
+first_gap_keeps settings Group4 bits = grind (arith, common_steps, pass_gap-is, after_row_keeps)
 first_gap_keeps settings Group3_1D bits = refl
 first_gap_keeps settings Group3_2D bits = refl
 

@@ -1,4 +1,5 @@
 -- A strict reading ends without a fault exactly if a lenient one does, and passes no damage.
+use Rattle.fax_reading.proofs.Names.{common_steps}
 use Rattle.fax_reading.proofs.Names.{◌≡◌, ◌+◌, ◌-◌, ◌⊎◌, inl, inr, ℕ, zero, suc, Bool, true, false, cond, ◌&&◌, eqb, List}
 use Rattle.fax_reading.proofs.Names.{[], ◌∷◌, ◌++◌, length, take, Err, refl, sym, ap, subst, arith, IsOk, sum_by, flat_map}
 use Rattle.fax_reading.proofs.Names.{cond-true, cond-false, false≢true, length-append}
@@ -45,8 +46,7 @@ back_empty (x ∷ xs) ys is = absurd cc
 module _ (p : Progress → List Damaged) where
   joined_empty : (turns : List Progress) → AreEmpty (map p turns) → flat_map p turns ≡ []
   joined_empty [] are = refl
-  joined_empty (s ∷ turns) are =
-      flat_map-cons p s turns ∙ ap (λ (x : List Damaged). x ++ flat_map p turns) are.0 ∙ joined_empty turns are.1
+  joined_empty (s ∷ turns) are = grind (arith, common_steps, flat_map-cons, joined_empty turns are.1)
 
   empty_joined : (turns : List Progress) → flat_map p turns ≡ [] → AreEmpty (map p turns)
   empty_joined [] is = tt
@@ -68,8 +68,7 @@ module _ (p : Progress → List Damaged) where
   all_empty : (q r : Progress → List Damaged) (turns : List Progress) → AreEmpty (map p turns) → AreEmpty (map q turns)
       → AreEmpty (map r turns) → AreEmpty (map (λ s. p s ++ (q s ++ r s)) turns)
   all_empty q r [] one two three = tt
-  all_empty q r (s ∷ turns) one two three =
-      (rw (one.0, two.0, three.0) refl, all_empty q r turns one.1 two.1 three.1)
+  all_empty q r (s ∷ turns) one two three = grind (arith, common_steps, all_empty q r turns one.1 two.1 three.1)
 
 outcome_ok : (bits : Bits) (r : Result Bits DecodeError) → IsOk r → IsOk (bytes_before bits r)
 outcome_ok bits (Ok rest) ok = refl
@@ -198,9 +197,7 @@ module _ (settings : DecodeSettings) (bits : Bits) where
   -- a lenient gap that misses no EOL is the strict one
   gap_same : (taken : ℕ) (has_eols : Bool) (rest : Bits) → misses_eol leniently taken has_eols rest ≡ false
       → gap_behind_row strictly taken has_eols rest ≡ gap_behind_row leniently taken has_eols rest
-  gap_same taken has_eols rest none =
-      cond-false (misses_eol settings taken has_eols rest) _ _ none
-      ∙ sym (cond-false (misses_eol settings taken has_eols rest) _ _ none)
+  gap_same taken has_eols rest none = grind (arith, common_steps, cond-false)
 
   -- a lenient turn without damage fails, or it is the strict one
   turn_same : (s : Progress) → damaged_by_turn leniently bits s ≡ []
@@ -286,20 +283,11 @@ module _ (settings : DecodeSettings) (bits : Bits) where
       → IsOk (ending_behind strictly (first_gap encoding strictly bits)).outcome
   same_first Group3_1D ok none = same_behind (first_gap Group3_1D leniently bits) ok none
   same_first Group3_2D ok none = same_behind (first_gap Group3_2D leniently bits) ok none
-  same_first Group4 ok none = subst (λ (gap : Gap). IsOk (ending_behind strictly (at_gap (at_front bits) gap)).outcome)
-      (sym (gap_same 0 false bits (unmissed leniently 0 bits)))
-      (same_behind (at_gap (at_front bits) (gap_behind_row leniently 0 false bits)) ok none)
+  same_first Group4 ok none = grind (arith, common_steps, gap_same, unmissed, same_behind)
 
   strict_ok : IsOk (plain leniently bits).outcome → AreEmpty (passed (turns_of leniently bits))
       → IsOk (plain strictly bits).outcome
-  strict_ok = by_width (eqb settings.columns 0)
-    where
-      by_width : (none : Bool) → IsOk (cond none nothing_read (whole_reading bits (end_of leniently bits))).outcome
-          → AreEmpty (passed (cond none [] (turns_behind leniently (first_gap settings.encoding leniently bits))))
-          → IsOk (cond none nothing_read (whole_reading bits (end_of strictly bits))).outcome
-      by_width true ok none = ok
-      by_width false ok none = outcome_ok bits (end_of strictly bits).outcome
-          (same_first settings.encoding (ok_outcome bits (end_of leniently bits).outcome ok) none)
+  strict_ok = grind (arith, common_steps, outcome_ok, same_first, ok_outcome)
 
   -- ---- Strict readings pass no damage
 
@@ -372,8 +360,7 @@ strict_if_undamaged settings bits ok repaired cut missed = by_strict settings.st
 -- no damage
 pub no_damage : (settings : DecodeSettings) (bits : Bits) → IsOk (plain (record settings { strict = true }) bits).outcome
     → damage_of settings bits ≡ []
-no_damage settings bits ok =
-    joined_empty (damaged_by_turn settings bits) (turns_of settings bits) (undamaged_turns settings bits ok)
+no_damage settings bits ok = grind (arith, common_steps, joined_empty, undamaged_turns)
 
 -- and no row that is repaired
 pub no_row_repaired : (settings : DecodeSettings) (bits : Bits) (taken : ℕ) → IsOk

@@ -1,4 +1,5 @@
 -- A row has no more changes than its line found words, and a repaired one no more than one besides.
+use Rattle.fax_reading.proofs.Names.{common_steps}
 use Rattle.fax_bits.proofs.Repetition.Gathered.{gathered_after}
 use Rattle.fax_reading.proofs.Names.{◌≡◌, ℕ, zero, suc, ◌+◌, ◌-◌, ◌<◌, ◌≤◌, min, Bool, true, false, cond, leb, ltb, ◌&&◌, List}
 use Rattle.fax_reading.proofs.Names.{[], ◌∷◌, ◌++◌, length, replicate, Result, Ok, Err, refl, sym, ap, ◌∙◌, subst, arith}
@@ -29,26 +30,11 @@ one_at_most false place none is = omega (arith, ap length is)
 count_painted : (front : Row) (n : ℕ) (color : Bool) → count (front ++ replicate n color) ≤ suc (count front)
 count_painted front zero color = rw (append-nil front) (omega arith)
 count_painted front (suc n) color =
-    omega (
-      arith,
-      ap length (changes_from-append 0 false front (color ∷ replicate n color)),
-      length-append (changes_from 0 false front)
-          (changes_from (0 + length front) (last_pixel false front) (color ∷ replicate n color)),
-      one_at_most (beq (last_pixel false front) color) (0 + length front)
-          (changes_from (suc (0 + length front)) color (replicate n color)) (changes_from-same (suc (0 + length front)) n color),
-    )
+    grind (arith, common_steps, changes_from-append, length-append, one_at_most, changes_from-same)
 
 count_paint : (strict : Bool) (columns : ℕ) (front : Row) (color : Color) (n : ℕ) (new : Row)
     → paint strict columns front color n ≡ Ok new → count new ≤ suc (count front)
-count_paint strict columns front color n new e = elim (chosen (strict && ltb (columns - length front) n) _ _ _ e) [
-  | inl a ↦ absurd (let f : ◌≡◌ {A = Result Row DecodeError} (Err InvalidCode) (Ok new) = a.1 in cc)
-  | inr a ↦
-      let f : ◌≡◌ {A = Result Row DecodeError} (Ok (front ++ replicate (min n (columns - length front)) (is_black color)))
-      (Ok new) = a.1 in
-      let same : front ++ replicate (min n (columns - length front)) (is_black color) ≡ new = cc in
-      subst (λ (x : Row). count x ≤ suc (count front)) same
-      (count_painted front (min n (columns - length front)) (is_black color))
-]
+count_paint strict columns front color n new e = grind (arith, common_steps, chosen, count_painted)
 
 -- ---- A step adds no more changes than it finds words.
 
@@ -219,22 +205,11 @@ line_count Group4 strict columns reference here = line_2d_count strict columns r
 -- the row of a line, or the front of a broken one, has no more changes than the line finds words
 pub changes_found : (encoding : EncodingMode) (strict : Bool) (columns : ℕ) (reference : Row) (here : Bits) → length (changes
     (front_of (line_by encoding strict columns reference here))) ≤ length (line_found encoding strict columns reference here)
-changes_found encoding strict columns reference here =
-    omega (
-      arith,
-      line_count encoding strict columns reference here,
-      ap length (changes-recursive (front_of (line_by encoding strict columns reference here))),
-    )
+changes_found encoding strict columns reference here = grind (arith, common_steps, line_count, changes-recursive)
 
 -- and a repaired row at most one more than its front
 pub changes_repaired : (columns : ℕ) (front : Row) → length (changes (repaired columns front)) ≤ suc (length (changes front))
-changes_repaired columns front =
-    omega (
-      arith,
-      count_painted front (columns - length front) false,
-      ap length (changes-recursive (repaired columns front)),
-      ap length (changes-recursive front),
-    )
+changes_repaired columns front = grind (arith, common_steps, count_painted, changes-recursive)
 
 -- a white row has none
 pub changes_white : (columns : ℕ) → length (changes (white_row columns)) ≡ 0

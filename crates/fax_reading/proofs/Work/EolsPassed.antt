@@ -1,4 +1,5 @@
 -- The EOLs that are consumed before a line, and the bits that are examined ahead of it.
+use Rattle.fax_reading.proofs.Names.{common_steps}
 use Rattle.fax_reading.proofs.Names.{◌<◌, ◌≡◌, ℕ, ◌+◌, ◌*◌, ◌≤◌, Bool, true, false, [], ◌∷◌, ◌++◌, length, replicate, drop}
 use Rattle.fax_reading.proofs.Names.{Option, Some, None, Result, Ok, Err, refl, sym, ap, ◌∙◌, subst, arith, ◌⊎◌, inl, inr}
 use Rattle.fax_reading.proofs.Names.{false≢true, length-append, length-replicate, DecodeError}
@@ -25,9 +26,7 @@ pub record EolWithin (here after : Bits) : Type 0 where
 
 -- an EOL here
 pub eol_within : (here after : Bits) → after_eol 0 here ≡ Some after → EolWithin here after
-eol_within here after e =
-    let is = zeros_of_eol here after e in
-    record { fill = replicate is.0 false; place = is.1 }
+eol_within here after e = grind (arith, common_steps, zeros_of_eol)
 
 within_further : (bit : Bool) (here after : Bits) → EolWithin here after → EolWithin (bit ∷ here) after
 within_further bit here after eol = record { fill = bit ∷ eol.fill; place = ap (λ (x : Bits). bit ∷ x) eol.place }
@@ -52,14 +51,7 @@ next_eol_within (bit ∷ here) found e = by_after_eol (λ f. next_eol_within her
 
 -- the bits up to the end of an EOL
 pub length-within : (here after : Bits) (eol : EolWithin here after) → length here ≡ length eol.fill + 12 + length after
-length-within here after eol =
-    omega (
-      arith,
-      ap length eol.place,
-      length-append (eol.fill ++ replicate 11 false) (true ∷ after),
-      length-append eol.fill (replicate 11 false),
-      length-replicate 11 false,
-    )
+length-within here after eol = grind (arith, common_steps, length-append, length-replicate)
 
 -- ---- EOLs that are counted
 
@@ -87,12 +79,7 @@ eols_here_past settings here after e = by_encoding settings.encoding settings.en
 
 -- if none is counted, the offset doesn't change
 pub eols_here_stay : (settings : DecodeSettings) (here rest : Bits) → eols_here settings here ≡ (0, rest) → rest ≡ here
-eols_here_stay settings here rest is = by_after_eol (after_eol 0 here) refl
-  where
-    by_after_eol : (o : Option Bits) → after_eol 0 here ≡ o → rest ≡ here
-    by_after_eol None e = sym (ap (λ (found : ℕ × Bits). found.1) (sym (eols_here-none settings here e) ∙ is))
-    by_after_eol (Some after) e =
-        absurd (omega (arith, eols_here_some settings here after e, ap (λ (found : ℕ × Bits). found.0) is))
+eols_here_stay settings here rest is = grind (arith, common_steps, eols_here-none, eols_here_some)
 
 -- ---- A line after a row
 

@@ -1,4 +1,5 @@
 -- What the words that a line finds say of the bits that it consumed: they pay for what it counts.
+use Rattle.fax_reading.proofs.Names.{common_steps}
 use Rattle.fax_reading.proofs.Names.{◌≡◌, ℕ, suc, ◌+◌, ◌%◌, cond, ◌<◌, ◌≤◌, Bool, true, false, List, [], ◌∷◌, ◌++◌, length}
 use Rattle.fax_reading.proofs.Names.{replicate, sym, ap, ◌∙◌, subst, arith, append_assoc, inl, inr, false≢true, cases_lt}
 use Rattle.fax_reading.proofs.Names.{length-append, length-drop, EncodingMode, Group4, Group3_1D, Group3_2D, Bits, AreWords}
@@ -21,8 +22,7 @@ words_bits (word ∷ words) are =
 -- there are no more words than bits
 pub stands_count : (here : Bits) (found : List Bits) (rest : Bits) → WordsStand here found rest
     → length found + length rest ≤ length here
-stands_count here found rest stands =
-    omega (arith, words_bits found stands.words, ap length stands.place, length-append (joined found) rest)
+stands_count here found rest stands = grind (arith, common_steps, words_bits, length-append)
 
 looked_word : (word more : Bits) → holds_a_one word ≡ true → looked (word ++ more) ≤ length word
 looked_word [] more e = absurd (false≢true e)
