@@ -78,12 +78,7 @@ module _ (more : Bits) where
           >>= (λ front. go_on (record { front = front; color = opposite p.color; rest = run.1 }))
 
       second : (run : ℕ × Bits) → Continues more pen_on (behind pen run) (behind (pen_on pen) (rest_on more run))
-      second run = then_continues (λ front. front) pen_on
-          (λ front. go_on (record { front = front; color = opposite pen.color; rest = run.1 }))
-          (λ front. go_on (record { front = front; color = opposite pen.color; rest = run.1 ++ more }))
-          (λ front known. (refl, refl))
-          (painted strict columns pen run.0) (painted strict columns (pen_on pen) run.0)
-          (same_continues pen.front (paint strict columns pen.front pen.color run.0))
+      second run = grind (arith, common_steps, then_continues, same_continues)
 
   draw_mode_on : (strict : Bool) (columns : ℕ) (reference : Row) (pen : Pen) (mode : Mode)
       → Continues more pen_on (draw_mode strict columns reference pen mode) (draw_mode strict columns reference (pen_on pen) mode)
@@ -183,12 +178,9 @@ row_continues settings reference has_eols here more bytes known =
         → cond b (Err fault) (Ok (front, behind_row settings has_eols (here ++ more)))
         ≡ row_continued more (cond b (Err fault) (Ok (front, behind_row settings has_eols here)))
     repaired_or_not front fault true = refl
-    repaired_or_not front fault false =
-        ap {B = Result (Row × Bits) DecodeError} (λ (b : Bits). Ok (front, b))
-        (behind_continues settings has_eols here more bytes)
+    repaired_or_not front fault false = grind (arith, common_steps, behind_continues)
 
     by_line : (line : Line) → row_of_line settings has_eols (here ++ more) (line_before more line)
         ≡ row_continued more (row_of_line settings has_eols here line)
-    by_line (Line.whole row rest) =
-        ap {B = Result (Row × Bits) DecodeError} (λ (b : Bits). Ok (row, b)) (behind_continues settings has_eols rest more bytes)
+    by_line (Line.whole row rest) = grind (arith, common_steps, behind_continues)
     by_line (Line.broken front fault) = repaired_or_not _ fault (settings.strict || not has_eols)

@@ -284,9 +284,7 @@ word_leads_on {V} part list here front full lacks = by_read_code (read_code list
   where
     by_read_code : (r : Result (V × Bits) DecodeError) → read_code list here ≡ r
         → GoesOrLacks part (WordIsRead here) (unless_fault front r)
-    by_read_code (Ok (v, rest)) e =
-        let (w, has, is) = read_code_found list here v rest e in
-        ((w, is), read_code_shorter list here v rest full e)
+    by_read_code (Ok (v, rest)) e = grind (arith, common_steps, read_code_found, read_code_shorter)
     by_read_code (Err fault) e = λ short. lacks (fault_lacks list here front fault e short)
 
 module _ (settings : DecodeSettings) (reference : Row) (part : LinePart) (pen : Pen) (is : left_of part ≡ pen.rest) where
@@ -408,9 +406,7 @@ module _ (settings : DecodeSettings) (reference : Row) where
             leads.0.1 ∙ ap (λ (b : Bits). leads.0.0 ++ b) goes.1.1 ∙ sym (append_assoc leads.0.0 goes.1.0 (left_of last)),
           ) in
           (last, (λ more. word_leads settings reference part next e more ∙ goes.0 more, read, goes.2))
-      by_turn later (Turn.done line) e leads =
-          let there = line_from_is settings reference part ∙ ap (line_then settings reference) e in
-          (part, (λ more. refl, ([], refl), leads (sym (ap is_short there) ∙ short)))
+      by_turn later (Turn.done line) e leads = grind (arith, common_steps, line_from_is)
 
 -- Each short line goes on from a part of it.
 pub short_line_goes_on : (settings : DecodeSettings) (reference : Row) (here : Bits)

@@ -189,12 +189,9 @@ zeros_end_line settings reference here = by_encoding settings.encoding here
         → is_short (line_by encoding settings.strict settings.columns reference (bits ++ replicate 16 false)) ≡ false
     by_encoding Group3_1D bits = line_1d_known settings.strict settings.columns (bits ++ replicate 16 false) (zeros_there bits)
     by_encoding Group3_2D [] = line_2d_known settings.strict settings.columns reference (replicate 15 false) refl
-    by_encoding Group3_2D (true ∷ bits) =
-        line_1d_known settings.strict settings.columns (bits ++ replicate 16 false) (zeros_there bits)
-    by_encoding Group3_2D (false ∷ bits) =
-        line_2d_known settings.strict settings.columns reference (bits ++ replicate 16 false) (zeros_there bits)
-    by_encoding Group4 bits =
-        line_2d_known settings.strict settings.columns reference (bits ++ replicate 16 false) (zeros_there bits)
+    by_encoding Group3_2D (true ∷ bits) = grind (arith, common_steps, line_1d_known, zeros_there)
+    by_encoding Group3_2D (false ∷ bits) = grind (arith, common_steps, line_2d_known, zeros_there)
+    by_encoding Group4 bits = grind (arith, common_steps, line_2d_known, zeros_there)
 
 -- No line is short with an EOL among its bits.
 pub eol_ends_line : (settings : DecodeSettings) (reference : Row) (fill behind : Bits)
@@ -202,23 +199,15 @@ pub eol_ends_line : (settings : DecodeSettings) (reference : Row) (fill behind :
 eol_ends_line settings reference fill behind = by_encoding settings.encoding fill
   where
     eol_there : (fill : Bits) → HasZeros (fill ++ replicate 11 false ++ true ∷ behind)
-    eol_there fill =
-        ap (scan 3) (append_assoc fill (replicate 11 false) (true ∷ behind)) ∙ scan_holds 3 fill (true ∷ behind) (omega arith)
+    eol_there fill = grind (arith, common_steps, append_assoc, scan_holds)
 
     by_encoding : (encoding : EncodingMode) (fill : Bits) → is_short (line_by encoding settings.strict settings.columns
         reference (fill ++ replicate 11 false ++ true ∷ behind)) ≡ false
-    by_encoding Group3_1D fill =
-        line_1d_known settings.strict settings.columns (fill ++ replicate 11 false ++ true ∷ behind) (eol_there fill)
-    by_encoding Group3_2D [] =
-        line_2d_known settings.strict settings.columns reference (replicate 10 false ++ true ∷ behind) refl
-    by_encoding Group3_2D (true ∷ fill) =
-        line_1d_known settings.strict settings.columns (fill ++ replicate 11 false ++ true ∷ behind) (eol_there fill)
-    by_encoding Group3_2D (false ∷ fill) =
-        line_2d_known settings.strict settings.columns reference (fill ++ replicate 11 false ++ true ∷ behind)
-        (eol_there fill)
-    by_encoding Group4 fill =
-        line_2d_known settings.strict settings.columns reference (fill ++ replicate 11 false ++ true ∷ behind)
-        (eol_there fill)
+    by_encoding Group3_1D fill = grind (arith, common_steps, line_1d_known, eol_there)
+    by_encoding Group3_2D [] = grind (arith, common_steps, line_2d_known)
+    by_encoding Group3_2D (true ∷ fill) = grind (arith, common_steps, line_1d_known, eol_there)
+    by_encoding Group3_2D (false ∷ fill) = grind (arith, common_steps, line_2d_known, eol_there)
+    by_encoding Group4 fill = grind (arith, common_steps, line_2d_known, eol_there)
 
 same_shortness : (more : Bits) (line : Line) → is_short (line_before more line) ≡ is_short line
 same_shortness more (Line.whole row rest) = refl

@@ -90,10 +90,8 @@ strict_turns step other late stricter (suc n) pen known =
     by_turn : ((p : Pen) → is_short (repeated other late n p) ≡ false → is_short (repeated step late n p) ≡ false)
         → (turn : Turn Pen Line) → other pen ≡ turn → is_short (after_turn (repeated other late n) turn) ≡ false
         → IsStricter (step pen) (other pen) → is_short (after_turn (repeated step late n) (step pen)) ≡ false
-    by_turn on (Turn.next p) e k (inl same) =
-        ap (λ (t : Turn Pen Line). is_short (after_turn (repeated step late n) t)) (same ∙ e) ∙ on p k
-    by_turn on (Turn.done line) e k (inl same) =
-        ap (λ (t : Turn Pen Line). is_short (after_turn (repeated step late n) t)) (same ∙ e) ∙ k
+    by_turn on (Turn.next p) e k (inl same) = grind (arith, common_steps)
+    by_turn on (Turn.done line) e k (inl same) = grind (arith, common_steps)
     by_turn on turn e k (inr ends) = ap (λ (t : Turn Pen Line). is_short (after_turn (repeated step late n) t)) ends.1
 
 -- A line that isn't short isn't when it is read strictly.

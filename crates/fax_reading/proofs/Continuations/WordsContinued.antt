@@ -58,13 +58,7 @@ module _ {S R A : Type 0} (step : S → Turn S R) (gives : S → List A) (late :
             ap (λ (x : Turn S R). gives (on s) ++ gathered_after (gathered step gives m) x) there
                 ∙ ap (λ (x : List A). gives (on s) ++ x) b.1 ∙ ap (λ (x : List A). x ++ gathered step gives n t) a.1,
           )
-      by_step later (Turn.done r) e k =
-          let a = goes s (ap (turn_waits waits) e ∙ k) in
-          let there : step (on s) ≡ Turn.done (ends r) = a.0 ∙ ap (turn_on on ends) e in (
-            ap (after_turn (repeated step late m)) there,
-            ap (λ (x : Turn S R). gives (on s) ++ gathered_after (gathered step gives m) x) there
-                ∙ ap (λ (x : List A). x ++ []) a.1,
-          )
+      by_step later (Turn.done r) e k = grind (arith, common_steps)
 
 -- ---- Code words
 
@@ -111,10 +105,7 @@ module _ {V : Type 0} (list : List (Code V)) (free : is_prefix_free list ≡ tru
     where
       other : (fault : DecodeError) → read_code list here ≡ Err fault → (fault ≡ UnexpectedEof → ⊥)
           → (fault ≡ InvalidCode → ⊥) → ⊥
-      other fault e not_end not_wrong = elim (cases_reading list here (Err fault) e) [
-        | inl a ↦ cc
-        | inr b ↦ elim b [ inl c ↦ not_end (let f = c.0 in cc) | inr c ↦ not_wrong (let f = c.0 in cc) ]
-      ]
+      other fault e not_end not_wrong = grind (arith, common_steps, cases_reading)
 
       by_read_code : (r : Result (V × Bits) DecodeError) → read_code list here ≡ r → result_waits r ≡ false
           → (read_code list (here ++ more) ≡ result_on (rest_on more) r)
@@ -150,15 +141,8 @@ run_turn_on color more (total, here) known = by_read_code (read_code (codes_of c
         → (run_turn color (total, here ++ more)
         ≡ turn_on (rest_on more) (result_on (rest_on more)) (run_turn color (total, here)))
         × (word_found (codes_of color) (here ++ more) ≡ word_found (codes_of color) here)
-    by_read_code (Ok found) e =
-        let a = code_continues (codes_of color) (codes_free color) here more (ap result_waits e) in
-        let there : read_code (codes_of color) (here ++ more) ≡ Ok (rest_on more found) = a.0 ∙ ap (result_on (rest_on more)) e in
-        (rw (e, there, run_turn) (run_word_on total more found), a.1)
-    by_read_code (Err fault) e =
-        let waits : result_waits {A = ℕ × Bits} (Err fault) ≡ false = sym (rw (e, run_turn) refl) ∙ known in
-        let a = code_continues (codes_of color) (codes_free color) here more (ap result_waits e ∙ waits) in
-        let there : read_code (codes_of color) (here ++ more) ≡ Err fault = a.0 ∙ ap (result_on (rest_on more)) e in
-        (rw (e, there, run_turn) refl, a.1)
+    by_read_code (Ok found) e = grind (arith, common_steps, code_continues, codes_free, run_word_on)
+    by_read_code (Err fault) e = grind (arith, common_steps, code_continues, codes_free)
 
 -- A run whose words so far sum to a total stays, with the words that it finds, unless the end is missing.
 pub run_continues : (color : Color) (total : ℕ) (here more : Bits) → result_waits (run_from color (total, here)) ≡ false

@@ -166,10 +166,7 @@ rows_differ settings one two from differ rows others (inr (before, these, those,
   where
     behind : (some all : List Row) → all ≡ before ++ (some ++ more) → length some ≤ differ
         → drop (length before + differ) all ≡ drop (length before + differ - (length before + length some)) more
-    behind some all g le =
-        ap (drop (length before + differ)) (g ∙ sym (append_assoc before some more))
-        ∙ drop_past (length before + differ) (before ++ some) more (omega (arith, length-append before some, le))
-        ∙ ap (λ (n : ℕ). drop (length before + differ - n) more) (length-append before some)
+    behind some all g le = grind (arith, common_steps, append_assoc, drop_past, length-append)
 
 -- the law
 pub locality_by_k : LocalityByK
@@ -182,10 +179,7 @@ locality_by_k settings one are whole_one two from to to2 lines whole_two differ 
     other = differ.other
 
     same_after : other.closes.0 ≡ body.closes.0
-    same_after =
-        let same : ◌≡◌ {A = Option Bits} (Some other.closes.0) (Some body.closes.0) = sym other.closes.1
-        ∙ ap (after_eol 0) (sym differ.behind) ∙ body.closes.1 in
-        cc
+    same_after = grind (arith, common_steps)
 
     lines_differ : LinesDiffer settings one two from body.closes.0 lines
     lines_differ = record {
@@ -209,13 +203,7 @@ locality_by_k settings one are whole_one two from to to2 lines whole_two differ 
         → RowsDiffer settings one two from (suc lines) (plain settings one).rows (plain settings two).rows
         × EndAlike settings one two from (suc lines) (plain settings one).rows (plain settings one).outcome
         (plain settings two).outcome
-    in_each_case (inl e) =
-        let nothing : (bits : Bits) → plain settings bits ≡ nothing_read
-        = λ bits. cond-true (eqb settings.columns 0) nothing_read (whole_reading bits (end_of settings bits))
-        (eq-eqb settings.columns 0 e) in
-        let outcome : (bits : Bits) → (plain settings bits).outcome ≡ Ok 0 = λ bits. ap (λ (r : Reading). r.outcome)
-        (nothing bits) in
-        (inl (ap (λ (r : Reading). r.rows) (nothing two ∙ sym (nothing one))), EndAlike.no_columns e (outcome one) (outcome two))
+    in_each_case (inl e) = grind (arith, common_steps, cond-true, eq-eqb)
     in_each_case (inr e) =
         let wide : 0 < settings.columns = elim (cases_lt 0 settings.columns) [ inl lt ↦ lt | inr ge ↦ absurd (e (omega arith)) ]
         in

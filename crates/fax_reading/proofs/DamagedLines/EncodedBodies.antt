@@ -77,9 +77,7 @@ no_tag (false ∷ here) last e = grind (arith, common_steps, all_tagged-none, no
 no_tag (true ∷ here) last e = by_after_eol (after_eol 0 here) refl
   where
     by_after_eol : (o : Option Bits) → after_eol 0 here ≡ o → (true ∷ here) ≡ last
-    by_after_eol None f =
-        let same : past_tag (true ∷ here) ≡ true ∷ here = rw (f, past_tag) refl in
-        ap (λ (c : ℕ × Bits). c.1) (sym (all_tagged-none (true ∷ here) refl) ∙ ap all_tagged (sym same) ∙ e)
+    by_after_eol None f = grind (arith, common_steps, all_tagged-none)
     by_after_eol (Some rest) f =
         let same : past_tag (true ∷ here) ≡ here = rw (f, past_tag) refl in
         absurd (not_none here rest last f (ap all_tagged (sym same) ∙ e))
@@ -89,8 +87,7 @@ one_left : (here last : Bits) → all_tagged here ≡ (1, last) → after_eol 0 
 one_left here last e = by_after_eol (after_eol 0 here) refl
   where
     by_after_eol : (o : Option Bits) → after_eol 0 here ≡ o → after_eol 0 here ≡ Some last
-    by_after_eol None f =
-        absurd (let g : 0 ≡ 1 = ap (λ (c : ℕ × Bits). c.0) (sym (all_tagged-none here f) ∙ e) in omega (arith, g))
+    by_after_eol None f = grind (arith, common_steps, all_tagged-none)
     by_after_eol (Some rest) f =
         let g : one_more (all_tagged (past_tag rest)) ≡ (1, last) = sym (all_tagged-some here rest f) ∙ e in
         let none : all_tagged (past_tag rest) ≡ (0, last) = grind (arith, common_steps) in
@@ -109,8 +106,7 @@ last_two (suc n) count here last lt e =
 
     by_after_eol : ((c : ℕ) (next : Bits) → length next < n → all_tagged next ≡ (suc (suc c), last) → Two next) → (count : ℕ)
         → all_tagged here ≡ (suc (suc count), last) → (o : Option Bits) → after_eol 0 here ≡ o → Two here
-    by_after_eol on count e None f = absurd (let g : 0 ≡ suc (suc count) = ap (λ (c : ℕ × Bits). c.0)
-        (sym (all_tagged-none here f) ∙ e) in omega (arith, g))
+    by_after_eol on count e None f = grind (arith, common_steps, all_tagged-none)
     by_after_eol on zero e (Some rest) f =
         let g : one_more (all_tagged (past_tag rest)) ≡ (2, last) = sym (all_tagged-some here rest f) ∙ e in
         let one : all_tagged (past_tag rest) ≡ (1, last) = grind (arith, common_steps) in
@@ -396,22 +392,13 @@ module _ (settings : DecodeSettings) (encoding : settings.encoding ≡ Group3_2D
   }
     where
       sizes : from ≡ length front + (12 + fill)
-      sizes = omega (
-        arith,
-        length-append front (eol fill),
-        length-append (replicate (11 + fill) false) (true ∷ []),
-        length-replicate (11 + fill) false,
-      )
+      sizes = grind (arith, common_steps, length-append, length-replicate)
 
       stands : after_eol 0 (drop (length front) whole) ≡ Some (drop from whole)
-      stands =
-          ap (λ (b : Bits). after_eol 0 (drop (length front) b)) (append_assoc front (eol fill) (line ++ next))
-          ∙ ap (after_eol 0) (drop_front front (eol fill ++ (line ++ next))) ∙ eol_stands fill (line ++ next)
-          ∙ ap Some (sym line_on)
+      stands = grind (arith, common_steps, append_assoc, drop_front, eol_stands, line_on)
 
       line_is : line ++ next ≡ (is.tag ∷ is.one.0) ++ true ∷ (is.one.1 ++ next)
-      line_is = ap (λ (b : Bits). b ++ next) is.is ∙ ap (λ (b : Bits). (is.tag ∷ b) ++ next) is.one.2
-          ∙ ap (λ (b : Bits). is.tag ∷ b) (append_assoc is.one.0 (true ∷ is.one.1) next)
+      line_is = grind (arith, common_steps, append_assoc)
 
       one_there : drop (from + (1 + length is.one.0)) whole ≡ true ∷ (is.one.1 ++ next)
       one_there =
@@ -446,15 +433,7 @@ few_tags front line fill (inr (before, last, fill2, split, is)) here count leave
   where
     same : (front ++ eol fill) ++ line ≡ (before ++ replicate (11 + fill2) false)
         ++ true ∷ (is.tag ∷ (is.words ++ (eol fill ++ line)))
-    same =
-        append_assoc front (eol fill) line
-        ∙ ap (λ (b : Bits). b ++ (eol fill ++ line)) (split ∙ ap (λ (b : Bits). before ++ (eol fill2 ++ b)) is.is)
-        ∙ append_assoc before (eol fill2 ++ (is.tag ∷ is.words)) (eol fill ++ line)
-        ∙ ap (λ (b : Bits). before ++ (b ++ (eol fill ++ line)))
-        (append_assoc (replicate (11 + fill2) false) (true ∷ []) (is.tag ∷ is.words))
-        ∙ ap (λ (b : Bits). before ++ b) (append_assoc (replicate (11 + fill2) false) (true ∷ (is.tag ∷ is.words))
-        (eol fill ++ line))
-        ∙ sym (append_assoc before (replicate (11 + fill2) false) (true ∷ (is.tag ∷ (is.words ++ (eol fill ++ line)))))
+    same = grind (arith, common_steps, append_assoc)
 
 -- the law
 pub encoded_lines_are_bodies : EncodedLinesAreBodies

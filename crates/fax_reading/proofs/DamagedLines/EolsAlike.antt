@@ -187,9 +187,7 @@ module _ (x y : Bits) where
                 none x none_x,
                 none y none_y,
               ) (refl, inr (refl, refl))
-          by_after_eol on o p e f (inr (inr a)) =
-              rw (none (bits ++ true ∷ x) (e ∙ a.0), none (bits ++ true ∷ y) (f ∙ a.1))
-              (refl, inl (bits, ([], refl), λ closes. closes, refl, refl))
+          by_after_eol on o p e f (inr (inr a)) = grind (arith, common_steps)
 
       -- the consecutive EOLs are alike in both
       pub count_alike : (bits : Bits) → CountAlike bits (all (bits ++ true ∷ x)) (all (bits ++ true ∷ y))

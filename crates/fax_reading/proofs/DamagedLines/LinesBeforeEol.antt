@@ -235,8 +235,7 @@ module _ (x y : Bits) where
             (record { front = front; color = color; rest = mode.1 }) mode.0)
 
         by_result : (r q : Result (Mode × Bits) DecodeError) → FoundAlike x y r q → Both (step r) (step q)
-        by_result (Ok (mode, left)) (Ok (same_mode, other)) (same, still) =
-            rw (← same) (mode_alike front color left other mode still)
+        by_result (Ok (mode, left)) (Ok (same_mode, other)) (same, still) = grind (arith, common_steps, mode_alike)
         by_result (Ok found) (Err fault) alike = absurd alike
         by_result (Err fault) (Ok found) alike = absurd alike
         by_result (Err fault) (Err other) alike = refl

@@ -65,10 +65,7 @@ further start color here next rest so_far found = (
 
     by_last : (last : Bits) → ReadsModes color here last ⊎ (length here ≤ length last)
         → ReadsModes next rest last ⊎ (length rest ≤ length last)
-    by_last last (inl reads) = elim (subst (LeftBehind here last) found (left_behind color here last reads)) [
-      | inl e ↦ inr (omega (arith, less, ap length e))
-      | inr more ↦ inl more
-    ]
+    by_last last (inl reads) = grind (arith, common_steps, left_behind, less)
     by_last last (inr le) = inr (omega (arith, less, le))
 
 -- where no more is read all were
@@ -140,12 +137,7 @@ counted_on settings start here line next rows so_far e is = (
     by_left : (lines : ℕ) → (left : ℕ) × (lines ≡ left + (rows - 1)) × ComeBefore1D settings left here
         → (left : ℕ) × (lines ≡ left + (rows + 1 - 1)) × ComeBefore1D settings left next
     by_left lines (zero, same, comes) = absurd (line_not_before_1d settings here line next e is comes)
-    by_left lines (suc left, same, (other, found, f, is2, more)) = (
-      left,
-      omega (arith, same, so_far.0),
-      subst (ComeBefore1D settings left)
-          (same_next other line found next (same_line other line (after_eol 0 here) f e) is2.next_is is.next_is) more,
-    )
+    by_left lines (suc left, same, (other, found, f, is2, more)) = grind (arith, common_steps, same_next, same_line)
 
 pub last_line_counted : (settings : DecodeSettings) (start here : Bits) (rows : ℕ) → CountsRows settings start rows here
     → ComesBefore1D settings here → (lines : ℕ) → (Some rows ≡ Some (suc lines)) ↔ ComeBefore1D settings lines start
@@ -158,8 +150,7 @@ last_line_counted settings start here rows so_far comes lines = (
     less e = let same : rows ≡ suc lines = cc in omega (arith, same)
 
     by_left : (left : ℕ) × (lines ≡ left + (rows - 1)) × ComeBefore1D settings left here → Some rows ≡ Some (suc lines)
-    by_left (zero, same, again) =
-        ap (λ (n : ℕ). Some n) (let rows_are : rows ≡ suc lines = omega (arith, same, so_far.0) in rows_are)
+    by_left (zero, same, again) = grind (arith, common_steps)
     by_left (suc left, same, (line, next, e, is, more)) = absurd (line_not_before_1d settings here line next e is comes)
 
 -- if none of these is here, there is no number of lines

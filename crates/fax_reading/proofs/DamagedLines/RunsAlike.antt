@@ -47,8 +47,7 @@ rows_more differ Begins xs ys row (inr (before, these, those, more, same, few, e
     inr (before, these, those, more ++ row ∷ [], same, few, moved these xs e, moved those ys f, begins)
   where
     moved : (some all : List Row) → all ≡ before ++ (some ++ more) → all ++ row ∷ [] ≡ before ++ (some ++ (more ++ row ∷ []))
-    moved some all g = ap (λ (x : List Row). x ++ row ∷ []) g ∙ append_assoc before (some ++ more) (row ∷ [])
-        ∙ ap (λ (x : List Row). before ++ x) (append_assoc some more (row ∷ []))
+    moved some all g = grind (arith, common_steps, append_assoc)
 
 -- a state between lines
 abbrev pub run_at : List Row → Bool → Bits → Progress
@@ -410,9 +409,7 @@ module _ (settings : DecodeSettings) (group3 : IsGroup3 settings.encoding) (leni
           rw (← is, e, f) (row_ahead (rows ++ row ∷ []) a inside (within_later bits a within suffix))
       by_line (Line.whole row here) (Line.broken front fault) alike leaves = absurd alike
       by_line (Line.broken front fault) (Line.whole row here) alike leaves = absurd alike
-      by_line (Line.broken front fault) (Line.broken same other) is leaves =
-          rw (← is) (row_ahead (rows ++ row_of settings.columns (Line.broken front fault) ∷ []) bits
-          (closes_inside bits closes) within)
+      by_line (Line.broken front fault) (Line.broken same other) is leaves = grind (arith, common_steps, row_ahead, closes_inside)
 
   -- ---- At the line, and at those that are read against its row
   -- after a row that may differ, if the next EOL is the same
@@ -427,26 +424,14 @@ module _ (settings : DecodeSettings) (group3 : IsGroup3 settings.encoding) (leni
       as_many = omega (arith, same, length-append before these, length-append before those)
 
       limit_is : limit_met settings (length (before ++ these)) ≡ true → settings.rows ≡ length before + length these
-      limit_is met = eqb-true settings.rows (length (before ++ these))
-          (and_parts (not (eqb settings.rows 0)) (eqb settings.rows (length (before ++ these))) met).1
-          ∙ length-append before these
+      limit_is met = grind (arith, common_steps, eqb-true, and_parts, length-append)
 
       nil : (rows : List Row) → rows ++ [] ≡ rows
       nil [] = refl
       nil (row ∷ rows) = ap (λ (r : List Row). row ∷ r) (nil rows)
 
       alike : Alike (before ++ these) (before ++ those)
-      alike = inr (
-        before,
-        these,
-        those,
-        [],
-        same,
-        omega arith,
-        ap (λ (r : List Row). before ++ r) (sym (nil these)),
-        ap (λ (r : List Row). before ++ r) (sym (nil those)),
-        begins,
-      )
+      alike = grind (arith, common_steps, nil)
 
       settle : (n : ℕ) → length these + n ≤ differ → Settles settings n z → (found : Bits) → after_eol 0 found ≡ Some z
           → Both (unless_over settings (sought (before ++ these) u) (eols_here settings found))

@@ -63,12 +63,7 @@ module _ (settings : DecodeSettings) where
         by_after_eol : (o : Option Bits) → after_eol 0 here ≡ o → (found : Bits) × LeavesBits here found
             × (after_eol 0 found ≡ Some after)
             × (after_row settings (sought rows here) ≡ unless_over settings (sought rows here) (eols_here settings found))
-        by_after_eol (Some next) f =
-            let same : ◌≡◌ {A = Option Bits} (Some next) (Some after) = sym (past-eol 0 here next f) ∙ e in
-            let counts = eols_here_some settings here next f in
-            let none : misses_eol settings (length rows) true here ≡ false =
-            rw (ne_eqb (eols_here settings here).0 0 (λ z. absurd (omega (arith, z, counts)))) refl in
-            (here, ([], refl), f ∙ same, cond-false (misses_eol settings (length rows) true here) _ _ none)
+        by_after_eol (Some next) f = grind (arith, common_steps, past-eol, eols_here_some, ne_eqb, cond-false)
         by_after_eol None f =
             let next = found_next here after e in
             let none : eqb (eols_here settings here).0 0 ≡ true =
@@ -91,8 +86,7 @@ module _ (settings : DecodeSettings) where
       where
         unaligned : (row : Row) (rest : Bits) → row_added settings (sought rows here) row rest
             ≡ after_row settings (sought (rows ++ row ∷ []) rest)
-        unaligned row rest = ap (λ (x : Bits). after_row settings (sought (rows ++ row ∷ []) x))
-            (behind_with_eols settings.rows_are_byte_aligned rest)
+        unaligned row rest = grind (arith, common_steps, behind_with_eols)
 
         by_line : (line : Line) → after_line settings (sought rows here) line ≡ after_row settings
             (sought (rows ++ row_of settings.columns line ∷ []) (rest_of line here))

@@ -27,9 +27,7 @@ words_run strict columns pen = by_result (run_from pen.color (0, pen.rest))
     by_result : (result : Result (ℕ × Bits) DecodeError)
         → run_found pen.color (0, pen.rest) ++ words_behind (unless_fault pen.front result)
         (λ run. [] ++ words_behind (painted strict columns pen run.0).turn (λ front. [])) ≡ run_found pen.color (0, pen.rest)
-    by_result (Ok run) =
-        ap (λ (words : List Bits). run_found pen.color (0, pen.rest) ++ words)
-        (none_painted pen.front (paint strict columns pen.front pen.color run.0)) ∙ append-nil (run_found pen.color (0, pen.rest))
+    by_result (Ok run) = grind (arith, common_steps, none_painted, append-nil)
     by_result (Err fault) = append-nil (run_found pen.color (0, pen.rest))
 
 -- ---- The words that are found from a pen on.

@@ -58,19 +58,10 @@ module _ (line strict : Line) (start : Bits) (old new : Held) (held : new ≡ re
           (is_unread line strict row old new held rest e fails draws)
 
       stores : line ≡ Line.broken new.front e → IsRepairable new e → TakesOneRow line strict row old new (Err answer) rest
-      stores is repairable =
-          let wants : ◌≡◌ {A = Result (Unit {0}) DecodeError} (Err answer) (Err OutOfMemory) =
-          ap (λ (x : DecodeError). Err x) (only_memory repairable) in
-          let change = memory repairable wants in
-          let black : HasBlack new.front =
-          last_black false new.front refl (λ none. absurd (let both : true ≡ false = sym change.1 ∙ none in cc)) in
-          subst (λ (r : Result (Unit {0}) DecodeError). TakesOneRow line strict row old new r rest) (sym wants)
-          (wants_rest line strict row old new held rest (subst (λ (l : Line). HasBlack (front_of l)) (sym is) black))
+      stores is repairable = grind (arith, common_steps, last_black, wants_rest)
 
       repairs : (e : DecodeError) → IsFault e → (old.settings.strict || not old.has_eols) ≡ false → IsRepairable new e
-      repairs e fault is =
-          let parts = or_parts old.settings.strict (not old.has_eols) is in
-          record { lenient = same_strict ∙ parts.0; has_eols = same_eols ∙ not-false old.has_eols parts.1; fault = fault }
+      repairs e fault is = grind (arith, common_steps, or_parts, same_strict, same_eols, not-false)
 
       broken : (e : DecodeError) → DrawsLine line (Err e) new.front rest → IsFault e → line ≡ Line.broken new.front e
       broken e draws fault = at_fault_kind (kind_of e) _ _ _ fault draws

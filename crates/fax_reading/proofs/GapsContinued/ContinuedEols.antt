@@ -74,11 +74,7 @@ next_eol-more more (bit ∷ here) found e = by_after_eol (next_eol-more more her
   where
     by_after_eol : (next_eol here ≡ Some found → next_eol (here ++ more) ≡ Some (found ++ more)) → (o : Option Bits)
         → after_eol 0 (bit ∷ here) ≡ o → next_eol ((bit ∷ here) ++ more) ≡ Some (found ++ more)
-    by_after_eol on None f =
-        let none : after_eol 0 (bit ∷ here ++ more) ≡ None =
-        after_eol-more more 0 (bit ∷ here) (next_eol_holds_one (bit ∷ here) found e) ∙ ap (then_more more) f in
-        let later : next_eol here ≡ Some found = rw (f, next_eol) at e in
-        rw (none, next_eol) (on later)
+    by_after_eol on None f = grind (arith, common_steps, after_eol-more, next_eol_holds_one)
     by_after_eol on (Some rest) f =
         let same : ◌≡◌ {A = Option Bits} (Some (bit ∷ here)) (Some found) = rw (f, next_eol) at e in
         rw (eol-more more (bit ∷ here) rest f, next_eol) (ap (then_more more) same)
@@ -92,11 +88,7 @@ next_eol_may_come (bit ∷ here) e = by_after_eol (next_eol_may_come here) (afte
     by_one : (b : Bool) → holds_one (bit ∷ here) ≡ b → after_eol 0 (bit ∷ here) ≡ None → next_eol here ≡ None
         → (next_eol here ≡ None → (found : Bits) × (next_eol (here ++ bytes_of_eol) ≡ Some found) × (after_eol 0 found ≡ Some []))
         → (found : Bits) × (next_eol (bit ∷ here ++ bytes_of_eol) ≡ Some found) × (after_eol 0 found ≡ Some [])
-    by_one true one f none on =
-        let still : after_eol 0 (bit ∷ here ++ bytes_of_eol) ≡ None =
-        after_eol-more bytes_of_eol 0 (bit ∷ here) one ∙ ap (then_more bytes_of_eol) f in
-        let later = on none in
-        (later.0, rw (still, next_eol) later.1, later.2)
+    by_one true one f none on = grind (arith, common_steps, after_eol-more)
     by_one false zeros f none on =
         let comes = eol_may_come 0 (bit ∷ here) zeros in (bit ∷ here ++ bytes_of_eol, rw (comes, next_eol) refl, comes)
 
@@ -104,8 +96,7 @@ next_eol_may_come (bit ∷ here) e = by_after_eol (next_eol_may_come here) (afte
         × (after_eol 0 found ≡ Some [])) → (o : Option Bits) → after_eol 0 (bit ∷ here) ≡ o
         → (found : Bits) × (next_eol (bit ∷ here ++ bytes_of_eol) ≡ Some found) × (after_eol 0 found ≡ Some [])
     by_after_eol on None f = by_one (holds_one (bit ∷ here)) refl f (rw (f, next_eol) at e) on
-    by_after_eol on (Some rest) f =
-        let same : ◌≡◌ {A = Option Bits} (Some (bit ∷ here)) None = rw (f, next_eol) at e in absurd cc
+    by_after_eol on (Some rest) f = grind (arith, common_steps)
 
 -- ---- Consecutive EOLs without tags
 -- as many as were sought are settled, and so are those before a one
@@ -118,16 +109,7 @@ eols-more more (suc most) here settled = by_after_eol (λ rest. eols-more more m
     by_after_eol : ((rest : Bits) → (most ≤ (eols most rest).0) ⊎ (holds_one (eols most rest).1 ≡ true)
         → eols most (rest ++ more) ≡ count_then_more more (eols most rest)) → (o : Option Bits) → after_eol 0 here ≡ o
         → eols (suc most) (here ++ more) ≡ count_then_more more (eols (suc most) here)
-    by_after_eol on None e = elim settled [
-      | inl all ↦
-          let none : (eols (suc most) here).0 ≡ 0 = ap (λ (found : ℕ × Bits). found.0) (eols-none (suc most) here e) in
-          absurd (omega (arith, all, none))
-      | inr one ↦
-          let left : holds_one here ≡ true =
-          sym (ap (λ (found : ℕ × Bits). holds_one found.1) (eols-none (suc most) here e)) ∙ one in
-          eols-none (suc most) (here ++ more) (after_eol-more more 0 here left ∙ ap (then_more more) e)
-          ∙ sym (ap (count_then_more more) (eols-none (suc most) here e))
-    ]
+    by_after_eol on None e = grind (arith, common_steps, eols-none, after_eol-more)
     by_after_eol on (Some rest) e =
         let stepped : eols (suc most) here ≡ one_more (eols most rest) = eols-some most here rest e in
         let inside : (most ≤ (eols most rest).0) ⊎ (holds_one (eols most rest).1 ≡ true) = elim settled [
@@ -152,17 +134,8 @@ eols_may_come (suc most) here few none = by_after_eol (λ rest. eols_may_come mo
     by_after_eol : ((rest : Bits) → (eols most rest).0 < most → holds_one (eols most rest).1 ≡ false
         → eols most (rest ++ bytes_of_eol) ≡ (suc (eols most rest).0, [])) → (o : Option Bits) → after_eol 0 here ≡ o
         → eols (suc most) (here ++ bytes_of_eol) ≡ (suc (eols (suc most) here).0, [])
-    by_after_eol on None e =
-        let is : eols (suc most) here ≡ (0, here) = eols-none (suc most) here e in
-        let zeros : holds_one here ≡ false = sym (ap (λ (found : ℕ × Bits). holds_one found.1) is) ∙ none in
-        eols-some most (here ++ bytes_of_eol) [] (eol_may_come 0 here zeros) ∙ ap one_more (eols-none most [] refl)
-        ∙ ap (λ (found : ℕ × Bits). (suc found.0, [])) (sym is)
-    by_after_eol on (Some rest) e =
-        let is : eols (suc most) here ≡ one_more (eols most rest) = eols-some most here rest e in
-        let count : (eols (suc most) here).0 ≡ suc (eols most rest).0 = ap (λ (found : ℕ × Bits). found.0) is in
-        eols-some most (here ++ bytes_of_eol) (rest ++ bytes_of_eol) (eol-more bytes_of_eol here rest e)
-        ∙ ap one_more (on rest (omega (arith, few, count)) (sym (ap (λ (found : ℕ × Bits). holds_one found.1) is) ∙ none))
-        ∙ ap (λ (n : ℕ). (suc n, [])) (sym count)
+    by_after_eol on None e = grind (arith, common_steps, eols-none, eols-some, eol_may_come)
+    by_after_eol on (Some rest) e = grind (arith, common_steps, eols-some, eol-more)
 
 pub all_eols_may_come : (here : Bits) → holds_one (all_eols here).1 ≡ false
     → all_eols (here ++ bytes_of_eol) ≡ (suc (all_eols here).0, [])

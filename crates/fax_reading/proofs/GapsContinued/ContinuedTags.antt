@@ -71,13 +71,7 @@ tagged_past-more more (suc most) here one = by_after_eol (λ rest. tagged_past-m
         → after_eol 0 (past_tag here) ≡ o
         → tagged_past (suc most) (here ++ more) ≡ count_then_more more (tagged_past (suc most) here)
     by_after_eol on None e =
-        let is = eols_with_tags-none (suc most) (past_tag here) e in
-        let left : holds_one (behind_one (past_tag here)) ≡ true =
-        sym (ap (λ (found : ℕ × Bits). holds_one (behind_one found.1)) is) ∙ one in
-        let none : after_eol 0 (past_tag here ++ more) ≡ None =
-        after_eol-more more 0 (past_tag here) (one_behind_one (past_tag here) left) ∙ ap (then_more more) e in
-        ap (eols_with_tags (suc most)) (past_tag-more more here (one_behind_past here left))
-        ∙ eols_with_tags-none (suc most) (past_tag here ++ more) none ∙ sym (ap (count_then_more more) is)
+        grind (arith, common_steps, eols_with_tags-none, after_eol-more, one_behind_one, past_tag-more, one_behind_past)
     by_after_eol on (Some rest) e =
         let is = eols_with_tags-some most (past_tag here) rest e in
         let left : holds_one (behind_one (tagged_past most rest).1) ≡ true =
@@ -98,21 +92,8 @@ tagged_past_may_come (suc most) here few none = by_after_eol (λ rest. tagged_pa
         → tagged_past most (rest ++ bytes_of_eol) ≡ (suc (tagged_past most rest).0, [])) → (o : Option Bits)
         → after_eol 0 (past_tag here) ≡ o
         → tagged_past (suc most) (here ++ bytes_of_eol) ≡ (suc (tagged_past (suc most) here).0, [])
-    by_after_eol on None e =
-        let is = eols_with_tags-none (suc most) (past_tag here) e in
-        let left : holds_one (behind_one (past_tag here)) ≡ false =
-        sym (ap (λ (found : ℕ × Bits). holds_one (behind_one found.1)) is) ∙ none in
-        eols_with_tags-some most (past_tag (here ++ bytes_of_eol)) [] (tag_may_come here (none_behind_past here e left))
-        ∙ ap one_more (eols_with_tags-none most [] refl) ∙ ap (λ (found : ℕ × Bits). (suc found.0, [])) (sym is)
-    by_after_eol on (Some rest) e =
-        let is = eols_with_tags-some most (past_tag here) rest e in
-        let count : (tagged_past (suc most) here).0 ≡ suc (tagged_past most rest).0 = ap (λ (found : ℕ × Bits). found.0) is in
-        let left : holds_one (behind_one (tagged_past most rest).1) ≡ false =
-        sym (ap (λ (found : ℕ × Bits). holds_one (behind_one found.1)) is) ∙ none in
-        ap (eols_with_tags (suc most)) (past_tag-more bytes_of_eol here (one_in_eol here rest e))
-        ∙ eols_with_tags-some most (past_tag here ++ bytes_of_eol) (rest ++ bytes_of_eol)
-        (eol-more bytes_of_eol (past_tag here) rest e)
-        ∙ ap one_more (on rest (omega (arith, few, count)) left) ∙ ap (λ (n : ℕ). (suc n, [])) (sym count)
+    by_after_eol on None e = grind (arith, common_steps, eols_with_tags-none, eols_with_tags-some, tag_may_come, none_behind_past)
+    by_after_eol on (Some rest) e = grind (arith, common_steps, eols_with_tags-some, past_tag-more, one_in_eol, eol-more)
 
 -- ---- The EOLs here
 -- the bits behind the tag that EOLs are before
@@ -138,11 +119,7 @@ eols_with_tags_may_come (suc most) here few none = by_after_eol (after_eol 0 her
 
     by_after_eol : (o : Option Bits) → after_eol 0 here ≡ o
         → eols_with_tags (suc most) (here ++ bytes_of_eol) ≡ (suc (eols_with_tags (suc most) here).0, [])
-    by_after_eol None e =
-        let is = eols_with_tags-none (suc most) here e in
-        let zeros : holds_one here ≡ false = sym (ap (λ (found : ℕ × Bits). holds_one (behind_first_tag found)) is) ∙ none in
-        eols_with_tags-some most (here ++ bytes_of_eol) [] (eol_may_come 0 here zeros)
-        ∙ ap one_more (eols_with_tags-none most [] refl) ∙ ap (λ (found : ℕ × Bits). (suc found.0, [])) (sym is)
+    by_after_eol None e = grind (arith, common_steps, eols_with_tags-none, eols_with_tags-some, eol_may_come)
     by_after_eol (Some rest) e =
         let is = eols_with_tags-some most here rest e in
         let count : (eols_with_tags (suc most) here).0 ≡ suc (tagged_past most rest).0 = ap (λ (found : ℕ × Bits). found.0) is in
@@ -158,13 +135,8 @@ tagged_at_most (suc most) here = by_after_eol (λ rest. tagged_at_most most rest
   where
     by_after_eol : ((rest : Bits) → (eols_with_tags most rest).0 ≤ most) → (o : Option Bits) → after_eol 0 here ≡ o
         → (eols_with_tags (suc most) here).0 ≤ suc most
-    by_after_eol on None e =
-        let none : (eols_with_tags (suc most) here).0 ≡ 0 =
-        ap (λ (found : ℕ × Bits). found.0) (eols_with_tags-none (suc most) here e) in omega (arith, none)
-    by_after_eol on (Some rest) e =
-        let count : (eols_with_tags (suc most) here).0 ≡ suc (tagged_past most rest).0 =
-        ap (λ (found : ℕ × Bits). found.0) (eols_with_tags-some most here rest e) in
-        omega (arith, count, on (past_tag rest))
+    by_after_eol on None e = grind (arith, common_steps, eols_with_tags-none)
+    by_after_eol on (Some rest) e = grind (arith, common_steps, eols_with_tags-some)
 
 -- ---- The tag of RTC
 -- from six EOLs on no tag is a line's

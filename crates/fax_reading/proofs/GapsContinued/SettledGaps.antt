@@ -112,9 +112,7 @@ gap_settled settings taken has_eols here passes more = by_missed (misses_eol set
   where
     parts : (eols_here_are_settled settings here ≡ true) × ((not (misses_eol settings taken has_eols here)
         || settings.strict || next_eols_are_settled settings (next_eol here)) ≡ true)
-    parts =
-        and_parts (eols_here_are_settled settings here) (not (misses_eol settings taken has_eols here) || settings.strict
-        || next_eols_are_settled settings (next_eol here)) passes
+    parts = grind (arith, common_steps, and_parts)
 
     by_next : (o : Option Bits) → next_eol here ≡ o → next_eols_are_settled settings o ≡ true
         → from_next_eol settings taken (here ++ more) (next_eol (here ++ more))
@@ -135,15 +133,8 @@ gap_settled settings taken has_eols here passes more = by_missed (misses_eol set
         → (not (misses_eol settings taken has_eols here) || settings.strict || next_eols_are_settled settings (next_eol here))
         ≡ true
         → gap_behind_row settings taken has_eols (here ++ more) ≡ gap_before more (gap_behind_row settings taken has_eols here)
-    by_missed true e is =
-        let still : misses_eol settings taken has_eols (here ++ more) ≡ true =
-        misses_eol-more more settings taken has_eols here parts.0 ∙ e in
-        rw (still, e) (by_strict settings.strict (rw e at is))
-    by_missed false e is =
-        let still : misses_eol settings taken has_eols (here ++ more) ≡ false =
-        misses_eol-more more settings taken has_eols here parts.0 ∙ e in
-        rw (still, e) (ap (behind_eols settings taken has_eols) (eols_here-more more settings here parts.0)
-        ∙ behind_eols-more more settings taken has_eols (eols_here settings here) parts.0)
+    by_missed true e is = grind (arith, common_steps, misses_eol-more, parts, by_strict)
+    by_missed false e is = grind (arith, common_steps, misses_eol-more, parts, eols_here-more, behind_eols-more)
 
 -- behind one that doesn't, an EOL may come with which the data ends
 pub gap_may_end : (settings : DecodeSettings) (taken : ℕ) (has_eols : Bool) (here : Bits)
@@ -153,11 +144,7 @@ gap_may_end settings taken has_eols here fails = by_eols (eols_here_are_settled 
   where
     by_next : (o : Option Bits) → next_eol here ≡ o → next_eols_are_settled settings o ≡ false
         → from_next_eol settings taken (here ++ bytes_of_eol) (next_eol (here ++ bytes_of_eol)) ≡ Gap.over (Ok [])
-    by_next None e is =
-        let comes = next_eol_may_come here e in
-        ap (from_next_eol settings taken (here ++ bytes_of_eol)) comes.1
-        ∙ ap (behind_eols settings taken true) (last_eol_counted settings comes.0 comes.2)
-        ∙ behind_eols-end settings taken true 1
+    by_next None e is = grind (arith, common_steps, next_eol_may_come, last_eol_counted, behind_eols-end)
     by_next (Some found) e is =
         ap (from_next_eol settings taken (here ++ bytes_of_eol)) (next_eol-more bytes_of_eol here found e)
         ∙ ap (behind_eols settings taken true) (eols_here_may_come settings found is)
@@ -166,24 +153,8 @@ gap_may_end settings taken has_eols here fails = by_eols (eols_here_are_settled 
     by_eols : (b : Bool) → eols_here_are_settled settings here ≡ b → (b && (not (misses_eol settings taken has_eols here)
         || settings.strict || next_eols_are_settled settings (next_eol here))) ≡ false
         → gap_behind_row settings taken has_eols (here ++ bytes_of_eol) ≡ Gap.over (Ok [])
-    by_eols false e is =
-        let comes = eols_here_may_come settings here e in
-        let found : misses_eol settings taken has_eols (here ++ bytes_of_eol) ≡ false =
-        ap (λ (f : ℕ × Bits). (eqb f.0 0) && has_eols && not (limit_met settings taken)
-        && not (at_end (here ++ bytes_of_eol))) comes
-        ∙ ap (λ (b : Bool). b && has_eols && not (limit_met settings taken) && not (at_end (here ++ bytes_of_eol)))
-        (ne_eqb (suc (eols_here settings here).0) 0 (λ none. omega (arith, none))) in
-        rw found (ap (behind_eols settings taken has_eols) comes
-        ∙ behind_eols-end settings taken has_eols (suc (eols_here settings here).0))
-    by_eols true e is =
-        let each =
-        or_parts (not (misses_eol settings taken has_eols here) || settings.strict)
-        (next_eols_are_settled settings (next_eol here)) is in
-        let lenient = or_parts (not (misses_eol settings taken has_eols here)) settings.strict each.0 in
-        let missed : misses_eol settings taken has_eols (here ++ bytes_of_eol) ≡ true =
-        misses_eol-more bytes_of_eol settings taken has_eols here e
-        ∙ not-false (misses_eol settings taken has_eols here) lenient.0 in
-        rw (missed, lenient.1) (by_next (next_eol here) refl each.1)
+    by_eols false e is = grind (arith, common_steps, eols_here_may_come, ne_eqb, behind_eols-end)
+    by_eols true e is = grind (arith, common_steps, or_parts, misses_eol-more, not-false, by_next)
 
 -- ---- The law
 -- bits that are left with more behind them aren't the end of the data
@@ -265,10 +236,8 @@ first_unsettled settings bits fails = (bytes_of_eol, refl, by_encoding settings.
     by_encoding Group4 is same =
         done_differs bits (bits ++ bytes_of_eol) (gap_behind_row settings 0 false bits)
         (sym (ap (at_gap (at_front (bits ++ bytes_of_eol))) (gap_may_end settings 0 false bits is)) ∙ same)
-    by_encoding Group3_1D is same =
-        left_over (all_eols bits).1 (sym (ap (λ (found : ℕ × Bits). found.1) (all_eols_may_come bits is)) ∙ ap left_at same)
-    by_encoding Group3_2D is same =
-        left_over (all_eols bits).1 (sym (ap (λ (found : ℕ × Bits). found.1) (all_eols_may_come bits is)) ∙ ap left_at same)
+    by_encoding Group3_1D is same = grind (arith, common_steps, left_over, all_eols_may_come)
+    by_encoding Group3_2D is same = grind (arith, common_steps, left_over, all_eols_may_come)
 
 first_passes : (settings : DecodeSettings) (bits : Bits) → FirstGapIsSettled settings bits
     → first_gap_is_settled settings.encoding settings bits ≡ true

@@ -66,10 +66,7 @@ past_there settings lenient rows here t e seeks = by_limit (cases_Bool (limit_me
       where
         no_next : (o : Option Bits) → next_eol here ≡ o → o ≡ None
         no_next None g = refl
-        no_next (Some found) g =
-            let stands = next_eol_found here found g in
-            absurd (let both : ◌≡◌ {A = Option Bits} None (Some stands.1.0) =
-            sym f ∙ past_is here ∙ ap then_after g ∙ stands.1.1 in cc)
+        no_next (Some found) g = grind (arith, common_steps, next_eol_found, past_is)
 
         by_eol : (o : Option Bits) → after_eol 0 here ≡ o → ⊥
         by_eol (Some rest) g = let both : ◌≡◌ {A = Option Bits} None (Some rest) = sym f ∙ past-eol 0 here rest g in cc
@@ -499,20 +496,11 @@ rows_before settings one whole_one two place index whole_two same reads =
     two_is = sym (take-append-drop place two) ∙ ap (λ (b : Bits). b ++ y) same
 
     bytes : length x % 8 ≡ length y % 8
-    bytes = omega (
-      arith,
-      whole_one,
-      whole_two,
-      ap length one_is,
-      ap length two_is,
-      length-append front x,
-      length-append front y,
-    )
+    bytes = grind (arith, common_steps, one_is, two_is, length-append)
 
     -- the rows of the reading of some bits
     front_of : (bits : Bits) → IsPrefix last.rows (end_of settings bits).rows → IsPrefix last.rows (plain settings bits).rows
-    front_of bits is =
-        subst (λ (r : Reading). IsPrefix last.rows r.rows) (sym (plain_is settings reads.wide bits)) is
+    front_of bits is = grind (arith, common_steps, plain_is)
 
     -- the rows up to the line are rows of whatever continues the equal bits
     kept_by : {bits : Bits} (z : Bits) → length x % 8 ≡ length z % 8 → bits ≡ front ++ z

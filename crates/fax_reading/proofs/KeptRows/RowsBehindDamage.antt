@@ -171,8 +171,7 @@ module _ (settings : DecodeSettings) (group3 : IsGroup3 settings.encoding) (leni
         read here = line_here settings above here
 
         read_is : read (bits ++ true ∷ x) ≡ line_by settings.encoding false settings.columns above (bits ++ true ∷ x)
-        read_is =
-            ap (λ (s : Bool). line_by settings.encoding s settings.columns above (bits ++ true ∷ x)) lenient
+        read_is = grind (arith, common_steps)
 
         moved : move_on settings (sought rows (bits ++ true ∷ x)) ≡ after_row settings
             (sought (rows ++ row_of settings.columns (read (bits ++ true ∷ x)) ∷ []) (rest_of (read (bits ++ true ∷ x))
@@ -320,8 +319,7 @@ module _ (settings : DecodeSettings) (here line behind : Bits) (step : PutsInSte
         bits_is = sym (take-append-drop place bits) ∙ ap (λ (b : Bits). take place bits ++ b) at ∙ front.2
 
         first_is : (rest : Bits) → (all_eols bits).1 ≡ rest → first_line settings bits ≡ sought [] rest
-        first_is rest e = ap (λ (h : Bool). record { rows = []; has_eols = h; rest = (all_eols bits).1 })
-            (seeks bits settings.end_of_line sought_by) ∙ ap (sought []) e
+        first_is rest e = grind (arith, common_steps, seeks)
 
 module _ (settings : DecodeSettings) (wide : 0 < settings.columns) where
   -- the end from a state that is reached
@@ -419,23 +417,18 @@ rows_behind settings one whole_one two line behind to to2 whole_two alike = by_o
     turn_is s rows u e = e ∙ ap (unless_over settings (sought rows u)) step.behind_is
 
     over_as : (b : Bool) → is_over settings 0 found ≡ b → (n : ℕ) → is_over settings n found ≡ b
-    over_as b e n = ap (λ (met : Bool). (is_end_of_block settings step.count || met) || at_end behind) (same_limit n) ∙ e
-      where
-        same_limit : (n : ℕ) → limit_met settings n ≡ limit_met settings 0
-        same_limit n = rw alike.unlimited refl
+    over_as b e n = grind (arith, common_steps)
 
     -- both are over there
     over_end : (bits : Bits) (rows : List Row) (u : Bits) → is_over settings 0 found ≡ true
         → end_of settings bits ≡ after_turn (goes settings alike.wide) (unless_over settings (sought rows u) found)
         → end_of settings bits ≡ record { rows = rows; has_eols = true; outcome = Ok behind }
-    over_end bits rows u over e = e ∙ ap (after_turn (goes settings alike.wide))
-        (cond-true (is_over settings (length rows) found) _ _ (over_as true over (length rows)))
+    over_end bits rows u over e = grind (arith, common_steps, cond-true, over_as)
 
     -- or a line follows in both
     line_next : (rows : List Row) (u : Bits) → is_over settings 0 found ≡ false
         → unless_over settings (sought rows u) found ≡ Turn.next (sought rows behind)
-    line_next rows u open_end =
-        cond-false (is_over settings (length rows) found) _ _ (over_as false open_end (length rows))
+    line_next rows u open_end = grind (arith, common_steps, cond-false, over_as)
 
     pair : (a b : List Row) → is_over settings 0 found ≡ false
         → InStep settings alike.unlimited a b (length behind) (goes settings alike.wide) (sought a behind) (sought b behind)

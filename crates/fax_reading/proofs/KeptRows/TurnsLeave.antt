@@ -42,8 +42,7 @@ module _ {pass : Bits → Bits} {count : ℕ → Bits → ℕ × Bits} (counts :
     where
       by_after_eol : ((rest : Bits) → LeavesBits rest (count most rest).1) → (o : Option Bits) → after_eol 0 here ≡ o
           → LeavesBits here (count (suc most) here).1
-      by_after_eol on None e =
-          subst (λ (found : ℕ × Bits). LeavesBits here found.1) (sym (counts.none (suc most) here e)) ([], refl)
+      by_after_eol on None e = grind (arith, common_steps)
       by_after_eol on (Some rest) e =
           subst (λ (found : ℕ × Bits). LeavesBits here found.1) (sym (counts.some most here rest e))
           (one_more_leaves here (count most (pass rest)) (leaves_trans here rest (count most (pass rest)).1

@@ -130,11 +130,7 @@ missed_counts settings bits so_far (Line.whole pixels behind) strict row rest be
     by_b : (now : Repairs) → now.last ≡ before.last → now.missed ≡ before.missed → (b c : Bool) → b ≡ c → (taken : ℕ)
         → taken ≡ length so_far.rows + 1 → (x : Damaged)
         → (cond b (with_missed taken now) now).missed ≡ before.missed + length (cond {A = List Damaged} c (x ∷ []) [])
-    by_b now at kept true true same taken more x = omega (
-      arith,
-      kept,
-      missed_by_one_more now taken (omega (arith, last, more, at)) (omega (arith, few, more, kept)),
-    )
+    by_b now at kept true true same taken more x = grind (arith, common_steps, missed_by_one_more)
     by_b now at kept true false same taken more x = absurd cc
     by_b now at kept false true same taken more x = absurd cc
     by_b now at kept false false same taken more x = omega (arith, kept)
@@ -145,8 +141,7 @@ missed_counts settings bits so_far (Line.broken front fault) strict row rest bef
   where
     by_length : (now : Repairs) → now.last ≡ length so_far.rows + 1 → now.missed ≡ before.missed → (b : Bool) (taken : ℕ)
         → length so_far.rows + 1 ≡ taken → (cond b (with_missed taken now) now).missed ≡ before.missed + 0
-    by_length now last kept true taken more =
-        omega (arith, kept, ap (λ (r : Repairs). r.missed) (missed_same now taken (last ∙ more)))
+    by_length now last kept true taken more = grind (arith, common_steps, missed_same)
     by_length now last kept false taken more = omega (arith, kept)
 
 -- it is one EOL at most

@@ -56,8 +56,7 @@ module _ (settings : DecodeSettings) (wide : 0 < settings.columns) where
       turn_same rest turn = grind (arith, common_steps)
 
       same : (s t : Progress) → s ≡ t → Follows (λ s t. s ≡ t) (λ r q. r ≡ q) goes (move_on settings s) (move_on settings t)
-      same s t e = subst (λ (r : Progress). Follows (λ s t. s ≡ t) (λ r q. r ≡ q) goes (move_on settings s) (move_on settings r))
-          e (turn_same goes (move_on settings s))
+      same s t e = grind (arith, common_steps, turn_same)
 
   ending_behind_goes : (gap : Move) → ending_behind settings gap ≡ after_turn goes gap
   ending_behind_goes gap = grind (arith, common_steps, ending_goes)

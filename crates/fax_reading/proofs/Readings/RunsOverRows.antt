@@ -76,8 +76,7 @@ module _ (settings : DecodeSettings) (so_far : Progress) where
           at : (gap : Gap) → at_gap (with_row so_far row rest) gap ≡ Turn.next after
               → length after.rows ≡ suc (length so_far.rows)
           at (Gap.over outcome) e = absurd (not_next _ after e)
-          at (Gap.line_at has_eols here) e =
-              omega (arith, ap (λ (p : Progress). length p.rows) (next_is _ after e), length-append so_far.rows (row ∷ []))
+          at (Gap.line_at has_eols here) e = grind (arith, common_steps, length-append)
 
 -- ---- The turns from a state on
 

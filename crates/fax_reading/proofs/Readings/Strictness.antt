@@ -121,10 +121,7 @@ module _ (settings : DecodeSettings) (wide : 0 < settings.columns) where
         by_missed : (b : Bool) (found : ℕ × Bits) → Follows SameRun Precedes rest
             (cond b (seek_eol strictly run) (unless_over strictly run found))
             (cond b (seek_eol leniently run) (unless_over leniently run found))
-        by_missed true found = (
-          turn_extends rest extends run.rows _ (seek_from_keeps leniently run (next_eol run.rest)),
-          λ ok. absurd (false≢true ok),
-        )
+        by_missed true found = grind (arith, common_steps, turn_extends, seek_from_keeps, false≢true)
         by_missed false (count, here) = same_turn (unless_over settings run (count, here))
 
     after_line_follows : (run : Progress) (line other : Line) → Agrees line other → Adds run.rows (after_line leniently run other)

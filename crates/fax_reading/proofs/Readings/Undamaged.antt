@@ -93,11 +93,7 @@ module _ (settings : DecodeSettings) (bits : Bits) where
           ≡ Gap.over (Err InvalidCode)) ⊎ ((misses_eol leniently taken has_eols rest ≡ false)
           × (gap_behind_row strictly taken has_eols rest ≡ gap_behind_row leniently taken has_eols rest))
       by_misses_eol true e = inl (cond-true (misses_eol settings taken has_eols rest) _ _ e)
-      by_misses_eol false e = inr (
-        e,
-        cond-false (misses_eol settings taken has_eols rest) _ _ e
-            ∙ sym (cond-false (misses_eol settings taken has_eols rest) _ _ e),
-      )
+      by_misses_eol false e = grind (arith, common_steps, cond-false)
 
   -- a turn that ends with a fault
   abbrev Fails : Move → Type 0
@@ -218,20 +214,12 @@ module _ (settings : DecodeSettings) (bits : Bits) where
           by_sought : (b : Bool) → s.has_eols ≡ b → repaired_in leniently s.has_eols (length s.rows)
               (length bits - length s.rest) (Line.broken front fault) ≡ []
               → Fails (move_on leniently s) ⊎ (move_on strictly s ≡ move_on leniently s)
-          by_sought true sought none =
-              let one : not s.has_eols ≡ false = ap not sought in
-              let wrong = sym (cond-false {A = List Damaged} (not s.has_eols) [] (record
-              { row = length s.rows; start = length bits - length s.rest; fault = fault } ∷ []) one) ∙ none in
-              absurd cc
+          by_sought true sought none = grind (arith, common_steps, cond-false)
           by_sought false sought none =
               let one : not s.has_eols ≡ true = ap not sought in
               inl (fault, _, ap (after_line leniently s) e ∙ ap (add_row leniently s) (cond-true (not s.has_eols) _ _ one), refl)
       by_lines (Line.whole row rest) (Line.broken front fault) e f agrees repaired cut missed =
-          let both : cuts_run (line_of_turn leniently s) (line_of_turn strictly s) ≡ true =
-          ap (λ (l : Line). cuts_run l (line_of_turn strictly s)) e ∙ ap is_broken f in
-          let wrong = sym (cond-true {A = List Damaged} (cuts_run (line_of_turn leniently s) (line_of_turn strictly s))
-          (record { row = length s.rows; start = length bits - length s.rest; fault = InvalidCode } ∷ []) [] both) ∙ cut in
-          absurd cc
+          grind (arith, common_steps, cond-true)
       by_lines (Line.whole row rest) (Line.whole other behind) e f agrees repaired cut missed =
           let same : line_of_turn leniently s ≡ Line.whole other behind =
           subst (λ (l : Line). Agrees l (line_of_turn leniently s)) f agrees in
@@ -301,8 +289,7 @@ module _ (settings : DecodeSettings) (bits : Bits) where
       by_line : (line : Line) → repaired_in strictly s.has_eols (length s.rows) (length bits - length s.rest) line
           ++ (cut_of s (cuts_run line line) ++ missed_behind strictly bits s line) ≡ []
       by_line (Line.broken front fault) = refl
-      by_line (Line.whole row rest) =
-          missed (misses_eol strictly (length s.rows + 1) s.has_eols (behind_row strictly s.has_eols rest)) _
+      by_line (Line.whole row rest) = grind (arith, common_steps)
 
 -- ---- The laws
 

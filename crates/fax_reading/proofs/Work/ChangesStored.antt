@@ -136,10 +136,7 @@ read_mode_count strict columns reference pen = by_read_code (read_code mode_code
     by_read_code : (r : Result (Mode × Bits) DecodeError) → read_code mode_codes pen.rest ≡ r → StepCount (count pen.front
         + length (word_found mode_codes pen.rest ++ words_behind (unless_fault pen.front r) (λ mode. (on mode).words)))
         (turn_behind (unless_fault pen.front r) (λ mode. (on mode).turn))
-    by_read_code (Ok mode) e =
-        step_more (count pen.front + suc (length (on mode).words)) _ (on mode).turn
-        (omega (arith, one_word mode_codes pen.rest mode e, length-append (word_found mode_codes pen.rest) (on mode).words))
-        (mode_count strict columns reference (record pen { rest = mode.1 }) mode.0)
+    by_read_code (Ok mode) e = grind (arith, common_steps, step_more, one_word, length-append, mode_count)
     by_read_code (Err fault) e = omega arith
 
 -- a step, unless the row is full

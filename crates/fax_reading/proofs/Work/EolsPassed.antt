@@ -40,10 +40,7 @@ next_eol_within (bit ∷ here) found e = by_after_eol (λ f. next_eol_within her
     by_after_eol : (next_eol here ≡ Some found → (after : Bits) × (after_eol 0 found ≡ Some after) × EolWithin here after)
         → (o : Option Bits) → after_eol 0 (bit ∷ here) ≡ o → (after : Bits) × (after_eol 0 found ≡ Some after)
         × EolWithin (bit ∷ here) after
-    by_after_eol on None is =
-        let f : next_eol here ≡ Some found = rw (is, next_eol) at e in
-        let more = on f in
-        (more.0, more.1, within_further bit here more.0 more.2)
+    by_after_eol on None is = grind (arith, common_steps, within_further)
     by_after_eol on (Some after) is =
         let f : ◌≡◌ {A = Option Bits} (Some (bit ∷ here)) (Some found) = rw (is, next_eol) at e in
         let same : bit ∷ here ≡ found = cc in
@@ -146,9 +143,7 @@ line_behind settings taken h k here rest e =
     by_next_eol sought (Some found) next f =
         let is = behind_line settings taken true k (eols_here settings found) rest f in
         inl (record { sought = sought; kept = sym is.0; found = found; next = next; place = is.1 })
-    by_next_eol sought None next f =
-        let same = lines_same false k here rest f in
-        inr (record { sought = sought; given_up = sym same.0; place = same.1 })
+    by_next_eol sought None next f = grind (arith, common_steps, lines_same)
 
 -- if EOLs are still sought, one was here or further on, and the line begins after it
 pub line_past_eol : (settings : DecodeSettings) (taken : ℕ) (here rest : Bits) → gap_behind_row settings taken true here
@@ -168,11 +163,7 @@ line_past_eol settings taken here rest e = elim (line_behind settings taken true
       eol_within here after f,
       subst (λ (x : Bits). length x ≤ length after) is.place (eols_here_past settings here after f),
     )
-    by_after_eol is None f =
-        let none = eols_here-none settings here f in
-        let open_end : at_end here ≡ false = let g = is.open_end in rw none at g in
-        let seeks : misses_eol settings taken true here ≡ true = rw (none, is.open_limit, open_end) refl in
-        absurd (false≢true (sym is.unsought ∙ seeks))
+    by_after_eol is None f = grind (arith, common_steps, eols_here-none, false≢true)
 
 -- if EOLs are no longer sought, the line is here
 pub line_given_up : (settings : DecodeSettings) (taken : ℕ) (here rest : Bits)
@@ -268,8 +259,7 @@ looked_to_eol here after eol = rw eol.place (by_fill eol.fill)
         ≤ length (fill ++ replicate 11 false ++ true ∷ after)) × (looked (drop 1 (fill ++ replicate 11 false ++ true ∷ after))
         + length after ≤ length (fill ++ replicate 11 false ++ true ∷ after))
     by_fill [] = (looked_to_one (replicate 11 false) after, omega (arith, looked_to_one (replicate 10 false) after))
-    by_fill (bit ∷ fill) =
-        (looked_to_one (bit ∷ fill ++ replicate 11 false) after, omega (arith, looked_to_one (fill ++ replicate 11 false) after))
+    by_fill (bit ∷ fill) = grind (arith, common_steps, looked_to_one)
 
 -- If the next EOL is found and counted, no bit after it is examined: not where none was before, and not where it was
 -- found.

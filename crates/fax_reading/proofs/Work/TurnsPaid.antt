@@ -65,8 +65,7 @@ row_shorter settings h reference here rest row wide is = by_line_here (line_here
         let pays = whole_pays settings.encoding settings.strict settings.columns reference here whole behind wide e in
         let same : behind_row settings h behind ≡ rest = ap rest_of_row given in
         omega (arith, pays.some, ap length same, behind_shorter settings h behind)
-    by_line_here (Line.broken front fault) e given =
-        omega (arith, ap length (broken_row settings h here rest front row fault given).1)
+    by_line_here (Line.broken front fault) e given = grind (arith, common_steps, broken_row)
 
 -- a row after which the reading continues, seeking EOLs as before, is paid by the bits up to there
 turn_pays : (settings : DecodeSettings) (h : Bool) (taken : ℕ) (reference : Row) (here rest next : Bits) (row : Row) → 0 <
