@@ -1,15 +1,12 @@
 -- Lines where more bits follow.
-use Rattle.fax_reading.proofs.Names.{common_steps}
-use Rattle.fax_reading.proofs.Names.{◌≡◌, ℕ, suc, ◌-◌, ◌%◌, Bool, true, false, cond, ◌&&◌, ◌||◌, not, leb, List, [], ◌∷◌, ◌++◌}
-use Rattle.fax_reading.proofs.Names.{length, drop, Result, Ok, Err, refl, sym, ap, ◌∙◌, arith, false≢true, length-append, Mode}
-use Rattle.fax_reading.proofs.Names.{Pass, Horizontal, Vertical, DecodeError, DecodeSettings, EncodingMode, Group4, Group3_1D}
+use Rattle.fax_reading.proofs.Names.{common_steps, ◌≡◌, ℕ, suc, Bool, true, false, cond, ◌||◌, not, List, [], ◌∷◌, ◌++◌, length}
+use Rattle.fax_reading.proofs.Names.{Result, Ok, Err, refl, sym, ap, ◌∙◌, arith, false≢true, length-append, Mode, Pass}
+use Rattle.fax_reading.proofs.Names.{Horizontal, Vertical, DecodeError, DecodeSettings, EncodingMode, Group4, Group3_1D}
 use Rattle.fax_reading.proofs.Names.{Group3_2D, UnexpectedEof, Bits, AreWholeBytes, mode_codes, read_code, Turn, Row, opposite}
-use Rattle.fax_reading.proofs.Names.{right_of, b2, paint, run_from, run_found, word_found, Line, Pen, Drawing, start, draw_1d}
-use Rattle.fax_reading.proofs.Names.{draw_2d, draw_mode, draw_run, go_on, mode_here, run_here, painted, painted_to, place_by}
-use Rattle.fax_reading.proofs.Names.{unless_fault, unless_full, turn_behind, ◌>>=◌, words_behind, line_by, line_here}
-use Rattle.fax_reading.proofs.Names.{line_found, found_here, line_1d, line_2d, found_1d, found_2d, behind_row, row_of_line}
-use Rattle.fax_reading.proofs.Names.{aligned, LineIsSettled, is_short, line_before, row_continued}
-use Rattle.std.proofs.lemmas.List.{drop-append-le}
+use Rattle.fax_reading.proofs.Names.{run_from, run_found, word_found, Line, Pen, Drawing, start, draw_1d, draw_2d, draw_mode}
+use Rattle.fax_reading.proofs.Names.{draw_run, go_on, mode_here, run_here, painted, unless_fault, unless_full, turn_behind, ◌>>=◌}
+use Rattle.fax_reading.proofs.Names.{words_behind, line_by, line_here, line_found, found_here, line_1d, line_2d, found_1d}
+use Rattle.fax_reading.proofs.Names.{found_2d, behind_row, row_of_line, LineIsSettled, is_short, line_before, row_continued}
 use Rattle.fax_bits.proofs.BitReading.ZerosInWords.{modes_free}
 use Rattle.fax_reading.proofs.Continuations.WordsContinued.{turn_on, turn_waits, repeated_on, rest_on, result_on, result_waits}
 use Rattle.fax_reading.proofs.Continuations.WordsContinued.{code_continues, run_continues}

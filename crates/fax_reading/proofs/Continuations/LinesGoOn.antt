@@ -1,29 +1,27 @@
 -- Lines that go on from a part of them.
-use Rattle.fax_reading.proofs.Names.{◌≡◌, ℕ, zero, suc, ◌+◌, ◌*◌, ◌-◌, ◌<◌, ◌≤◌, Bool, true, false, cond, ltb, leb, List, [], ◌∷◌}
+use Rattle.fax_reading.proofs.Names.{◌≡◌, ℕ, zero, suc, ◌+◌, ◌*◌, ◌<◌, ◌≤◌, Bool, true, false, cond, ltb, leb, List, [], ◌∷◌}
 use Rattle.fax_reading.proofs.Names.{◌++◌, length, Result, Ok, Err, refl, sym, ap, ◌∙◌, arith, false≢true, length-append}
 use Rattle.fax_reading.proofs.Names.{append_assoc, append-nil, and_parts, leb-true, inl, inr, Color, Mode, Pass, Horizontal}
 use Rattle.fax_reading.proofs.Names.{Vertical, DecodeError, DecodeSettings, EncodingMode, Group4, Group3_1D, Group3_2D}
 use Rattle.fax_reading.proofs.Names.{UnexpectedEof, InvalidCode, Overflow, OutOfMemory, Refused, Bits, Code, Has, mode_codes}
-use Rattle.fax_reading.proofs.Names.{read_code, codes_of, Turn, run_turn, run_from, run_of_word, word_found, Row}
-use Rattle.fax_reading.proofs.Names.{opposite, right_of, b2, paint, Line, Pen, Drawing, Step, drawn, draw_run, go_on}
-use Rattle.fax_reading.proofs.Names.{mode_here, finds, painted, painted_to, place_by, unless_fault, unless_full}
-use Rattle.fax_reading.proofs.Names.{turn_behind, ◌>>=◌, line_by, line_here, is_short, line_before, common_steps, is_prefix_free}
+use Rattle.fax_reading.proofs.Names.{read_code, codes_of, Turn, run_turn, run_from, run_of_word, word_found, Row, opposite, paint}
+use Rattle.fax_reading.proofs.Names.{Line, Pen, Drawing, Step, drawn, draw_run, go_on, mode_here, painted, unless_fault}
+use Rattle.fax_reading.proofs.Names.{turn_behind, ◌>>=◌, line_here, is_short, line_before, common_steps, is_prefix_free, OpenRun}
+use Rattle.fax_reading.proofs.Names.{LinePart, left_of, part_before, draw_step, line_after_turn, line_from_part, word_here}
+use Rattle.fax_reading.proofs.Names.{behind_run, run_summed, word_added, mode_added, begin_step, begin_line, read_on, LacksWord}
+use Rattle.fax_reading.proofs.Names.{GoesOnFrom, LinesGoOn}
 use Rattle.std.specs.List.{list_all}
 use Rattle.fax_bits.specs.CodeReading.{NoneStands}
-use Rattle.fax_reading.proofs.Names.{OpenRun, LinePart, left_of, part_before, draw_step, line_after_turn}
-use Rattle.fax_reading.proofs.Names.{line_from_part, word_here, sum_with, behind_run, run_summed, word_added, mode_added}
-use Rattle.fax_reading.proofs.Names.{begin_step, begin_line, read_on, LacksWord, GoesOnFrom, LinesGoOn}
 use Rattle.fax_bits.proofs.BitReading.ZerosInWords.{codes_free, modes_free}
 use Rattle.fax_bits.proofs.CodeWords.CodeReadings.{reads_codes}
 use Rattle.fax_bits.proofs.CodeWords.ReadCodes.{read_code_found}
 use Rattle.fax_bits.proofs.CodeWords.ReadRuns.{read_code_shorter, words_not_empty, has_no_empty_word, run_shrinks, size}
 use Rattle.fax_bits.proofs.Repetition.Repeated.{after_turn, repeated_turn}
-use Rattle.fax_reading.proofs.Continuations.LinesContinued.{Continues, then_continues, finds_continue}
-use Rattle.fax_reading.proofs.Continuations.LinesContinued.{same_continues, mode_goes_on, full_on}
+use Rattle.fax_reading.proofs.Continuations.LinesContinued.{Continues, then_continues, finds_continue, same_continues}
+use Rattle.fax_reading.proofs.Continuations.LinesContinued.{mode_goes_on, full_on}
 use Rattle.fax_reading.proofs.Continuations.ShortLines.{GoesOrEnds, Anything, paint_known, place_known}
-use Rattle.fax_reading.proofs.Continuations.WordsContinued.{code_continues, rest_on, turn_on, turn_waits}
-use Rattle.fax_reading.proofs.DrawingLines.Drawings.{run_then, mode_step}
-use Rattle.fax_reading.proofs.DrawingLines.Drawings.{step_1d_is, step_2d_is}
+use Rattle.fax_reading.proofs.Continuations.WordsContinued.{code_continues, rest_on}
+use Rattle.fax_reading.proofs.DrawingLines.Drawings.{run_then, mode_step, step_1d_is, step_2d_is}
 use Rattle.fax_reading.proofs.DrawingLines.ReadLines.{drawn1, drawn2, modes_not_empty}
 
 -- ---- A line from a part of it on is what one word more leads to

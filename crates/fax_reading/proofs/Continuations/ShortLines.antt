@@ -1,18 +1,15 @@
 -- Lines before zeros: none is short.
-use Rattle.fax_reading.proofs.Names.{common_steps}
-use Rattle.fax_reading.proofs.Names.{◌≡◌, ◌↔◌, ℕ, suc, ◌+◌, ◌-◌, Bool, true, false, cond, ◌&&◌, ltb, leb, List, [], ◌∷◌, ◌++◌}
-use Rattle.fax_reading.proofs.Names.{length, replicate, None, Result, Ok, Err, refl, sym, ap, subst, ◌∙◌, arith, inl, inr, ℤ}
-use Rattle.fax_reading.proofs.Names.{pos, negsuc, Color, Mode, Pass, Horizontal, Vertical, DecodeError, DecodeSettings}
-use Rattle.fax_reading.proofs.Names.{EncodingMode, Group4, Group3_1D, Group3_2D, UnexpectedEof, InvalidCode, Overflow}
-use Rattle.fax_reading.proofs.Names.{OutOfMemory, Refused, Bits, Code, mode_codes, Has, is_prefix_free, read_code, IsWord}
-use Rattle.fax_reading.proofs.Names.{Turn, Row, opposite, right_of, b2, paint, codes_of, run_turn, run_from, Line, Pen}
-use Rattle.fax_reading.proofs.Names.{Drawing, start, draw_1d, draw_2d, draw_mode, draw_run, go_on, mode_here, run_here}
-use Rattle.fax_reading.proofs.Names.{painted, painted_to, place_by, place_from, unless_fault, unless_full, turn_behind, ◌>>=◌}
-use Rattle.fax_reading.proofs.Names.{line_by, line_here, line_1d, line_2d, LineIsSettled, LinesSettle, StaysAsRead, is_short}
-use Rattle.fax_reading.proofs.Names.{append_assoc, line_before, misses_end}
+use Rattle.fax_reading.proofs.Names.{common_steps, ◌≡◌, ◌↔◌, ℕ, suc, ◌+◌, Bool, true, false, cond, ltb, List, [], ◌∷◌, ◌++◌}
+use Rattle.fax_reading.proofs.Names.{length, replicate, None, Result, Ok, Err, refl, sym, ap, subst, ◌∙◌, arith, inl, inr, ℤ, pos}
+use Rattle.fax_reading.proofs.Names.{negsuc, Color, Mode, Pass, Horizontal, Vertical, DecodeError, DecodeSettings, EncodingMode}
+use Rattle.fax_reading.proofs.Names.{Group4, Group3_1D, Group3_2D, UnexpectedEof, InvalidCode, Overflow, OutOfMemory, Refused}
+use Rattle.fax_reading.proofs.Names.{Bits, Code, mode_codes, Has, is_prefix_free, read_code, IsWord, Turn, Row, opposite, paint}
+use Rattle.fax_reading.proofs.Names.{codes_of, run_turn, run_from, Line, Pen, Drawing, start, draw_1d, draw_2d, draw_mode}
+use Rattle.fax_reading.proofs.Names.{draw_run, go_on, mode_here, run_here, painted, place_from, unless_fault, unless_full}
+use Rattle.fax_reading.proofs.Names.{turn_behind, ◌>>=◌, line_by, line_here, line_1d, line_2d, LineIsSettled, LinesSettle}
+use Rattle.fax_reading.proofs.Names.{StaysAsRead, is_short, append_assoc, line_before, misses_end}
 use Rattle.fax_bits.specs.CodeReading.{IsCut}
-use Rattle.fax_bits.proofs.BitReading.ZerosInWords.{scan, scan-append, scan_holds, quiet_is, word_quiet, codes_free}
-use Rattle.fax_bits.proofs.BitReading.ZerosInWords.{modes_free}
+use Rattle.fax_bits.proofs.BitReading.ZerosInWords.{scan, scan-append, scan_holds, quiet_is, word_quiet, codes_free, modes_free}
 use Rattle.fax_bits.proofs.CodeWords.CodeReadings.{reads_codes}
 use Rattle.fax_bits.proofs.CodeWords.ReadCodes.{read_code_found}
 use Rattle.fax_bits.proofs.CodeWords.ReadRuns.{run_shrinks, size}

@@ -1,12 +1,10 @@
 -- The strict reading of a line that isn't short.
-use Rattle.fax_reading.proofs.Names.{arith, common_steps}
-use Rattle.fax_reading.proofs.Names.{◌≡◌, ℕ, zero, suc, ◌-◌, Bool, true, false, cond, ltb, [], ◌∷◌, length, Ok, Err, refl, ap}
-use Rattle.fax_reading.proofs.Names.{◌∙◌, ◌⊎◌, inl, inr, Color, Mode, Pass, Horizontal, Vertical, DecodeSettings, EncodingMode}
-use Rattle.fax_reading.proofs.Names.{Group4, Group3_1D, Group3_2D, UnexpectedEof, InvalidCode, Bits, Turn, repeated, Row}
-use Rattle.fax_reading.proofs.Names.{opposite, right_of, b2, paint, Line, Pen, Drawing, start, draw_1d, draw_2d, draw_mode}
-use Rattle.fax_reading.proofs.Names.{draw_run, go_on, mode_here, run_here, painted, painted_to, place_by, unless_fault}
-use Rattle.fax_reading.proofs.Names.{unless_full, turn_behind, ◌>>=◌, line_by, line_here, line_1d, line_2d, LineIsSettled}
-use Rattle.fax_reading.proofs.Names.{is_short}
+use Rattle.fax_reading.proofs.Names.{arith, common_steps, ◌≡◌, ℕ, zero, suc, ◌-◌, Bool, true, false, [], ◌∷◌, length, refl, ap}
+use Rattle.fax_reading.proofs.Names.{◌⊎◌, inl, inr, Color, Mode, Pass, Horizontal, Vertical, DecodeSettings, EncodingMode, Group4}
+use Rattle.fax_reading.proofs.Names.{Group3_1D, Group3_2D, UnexpectedEof, InvalidCode, Bits, Turn, repeated, Row, opposite}
+use Rattle.fax_reading.proofs.Names.{right_of, b2, paint, Line, Pen, Drawing, start, draw_1d, draw_2d, draw_mode, draw_run, go_on}
+use Rattle.fax_reading.proofs.Names.{mode_here, run_here, painted, painted_to, place_by, unless_fault, unless_full, turn_behind}
+use Rattle.fax_reading.proofs.Names.{◌>>=◌, line_by, line_here, line_1d, line_2d, LineIsSettled, is_short}
 use Rattle.fax_reading.specs.Laws.{strictly}
 use Rattle.fax_reading.proofs.Continuations.LinesContinued.{line_settled}
 use Rattle.fax_bits.proofs.Repetition.Repeated.{after_turn}

@@ -1,11 +1,9 @@
 -- Code words and runs where more bits follow.
-use Rattle.fax_reading.proofs.Names.{common_steps}
-use Rattle.fax_reading.proofs.Names.{◌≡◌, ℕ, zero, suc, ◌+◌, ◌-◌, ◌<◌, Bool, true, false, cond, ltb, List, [], ◌∷◌, ◌++◌}
-use Rattle.fax_reading.proofs.Names.{length, take, Result, Ok, Err, refl, sym, ap, ◌∙◌, append_assoc, arith, inl, inr}
-use Rattle.fax_reading.proofs.Names.{cases_lt, false≢true, length-append, Color, DecodeError, UnexpectedEof, InvalidCode}
-use Rattle.fax_reading.proofs.Names.{Overflow, OutOfMemory, Refused, Bits, Code, is_prefix_free, read_code, Turn, repeated}
-use Rattle.fax_reading.proofs.Names.{gathered, codes_of, run_of_word, run_turn, run_from, run_found, run_gives, word_found}
-use Rattle.fax_reading.proofs.Names.{misses_end}
+use Rattle.fax_reading.proofs.Names.{common_steps, ◌≡◌, ℕ, zero, suc, ◌-◌, ◌<◌, Bool, true, false, List, [], ◌∷◌, ◌++◌, length}
+use Rattle.fax_reading.proofs.Names.{take, Result, Ok, Err, refl, sym, ap, ◌∙◌, append_assoc, arith, inl, inr, cases_lt}
+use Rattle.fax_reading.proofs.Names.{false≢true, length-append, Color, DecodeError, UnexpectedEof, InvalidCode, Overflow}
+use Rattle.fax_reading.proofs.Names.{OutOfMemory, Refused, Bits, Code, is_prefix_free, read_code, Turn, repeated, gathered}
+use Rattle.fax_reading.proofs.Names.{codes_of, run_of_word, run_turn, run_from, run_found, run_gives, word_found, misses_end}
 use Rattle.fax_bits.specs.CodeReading.{NoneStands, IsCut, ReadsCodes}
 use Rattle.fax_bits.proofs.BitReading.ZerosInWords.{prefix_of_prefix, codes_free}
 use Rattle.fax_bits.proofs.CodeWords.CodeReadings.{reads_codes}

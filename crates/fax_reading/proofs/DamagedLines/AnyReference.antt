@@ -11,15 +11,13 @@ use Rattle.fax_reading.proofs.Names.{EncodesLine2D, after_eol, ReadsModes, behin
 use Rattle.fax_reading.proofs.Names.{behind_second_run, common_steps}
 use Rattle.fax_reading.proofs.DamagedLines.PastEol.{past}
 use Rattle.fax_bits.proofs.CodeWords.ReadCodes.{read_code_again}
-use Rattle.fax_bits.proofs.Repetition.Repeated.{repeated_keeps}
+use Rattle.fax_bits.proofs.Repetition.Repeated.{repeated_keeps, next_is}
 use Rattle.fax_bits.proofs.BitReading.ZerosInWords.{scan, is_quiet, scan_below, scan-append, quiet_is, word_quiet, codes_free}
 use Rattle.fax_bits.proofs.BitReading.ZerosInWords.{modes_free}
 use Rattle.fax_bits.proofs.CodeWords.ReadRuns.{run_passes, run_ends, run_goes_on}
 use Rattle.fax_reading.proofs.DamagedLines.LineTails.{after_eol_is}
 use Rattle.fax_reading.proofs.DrawingLines.Drawings.{try, run_then, mode_step, step_2d, step_2d_is, horizontal_is}
-use Rattle.fax_reading.proofs.DrawingLines.ReadLines.{try_next, unless_full_next, try_goes_on, draw_mode_goes_on}
-use Rattle.fax_reading.proofs.DrawingLines.ReadLines.{full_by}
-use Rattle.fax_bits.proofs.Repetition.Repeated.{next_is}
+use Rattle.fax_reading.proofs.DrawingLines.ReadLines.{try_next, unless_full_next, try_goes_on, draw_mode_goes_on, full_by}
 
 -- ---- Words contain no EOL
 

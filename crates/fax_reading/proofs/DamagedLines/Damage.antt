@@ -1,14 +1,12 @@
 -- Damage to one line changes its row alone.
-use Rattle.fax_reading.proofs.Names.{◌≡◌, ℕ, suc, ◌+◌, ◌-◌, ◌*◌, ◌/◌, ◌<◌, ◌≤◌, Bool, true, false, ◌||◌, ltb, List, [], ◌∷◌}
-use Rattle.fax_reading.proofs.Names.{◌++◌, length, take, drop, set, None, Some, Result, Ok, Err, refl, sym, ap, subst}
-use Rattle.fax_reading.proofs.Names.{◌∙◌, append_assoc, arith, ◌⊎◌, inl, inr, cases_lt, cases_eq, or_right}
-use Rattle.fax_reading.proofs.Names.{length-append, length-drop, take-append-drop, append-nil, append_cancel_right}
-use Rattle.fax_reading.proofs.Names.{set_at, DecodeError, UnexpectedEof, Group3_2D}
-use Rattle.fax_reading.proofs.Names.{DecodeSettings, Bits, AreWholeBytes, AreSettings, repeated, Reaches, Row, after_eol}
-use Rattle.fax_reading.proofs.Names.{all_eols, eols_here, line_of_turn, row_before, Progress, Ending, first_line, move_on}
-use Rattle.fax_reading.proofs.Names.{end_of, bytes_before, plain, Reading, IsEol}
-use Rattle.fax_reading.proofs.Names.{IsLocal, ComesToLine, OneRowDiffers, EndsAt, EndAlike, DamageStaysInRow, Locality}
-use Rattle.fax_reading.proofs.Names.{IsTagOfLine, common_steps}
+use Rattle.fax_reading.proofs.Names.{◌≡◌, ℕ, suc, ◌+◌, ◌-◌, ◌*◌, ◌/◌, ◌<◌, ◌≤◌, Bool, true, false, ◌||◌, ltb, List, [], ◌∷◌, ◌++◌}
+use Rattle.fax_reading.proofs.Names.{length, take, drop, set, None, Some, Result, Ok, Err, refl, sym, ap, subst, ◌∙◌}
+use Rattle.fax_reading.proofs.Names.{append_assoc, arith, ◌⊎◌, inl, inr, cases_lt, cases_eq, or_right, length-append, length-drop}
+use Rattle.fax_reading.proofs.Names.{take-append-drop, append-nil, append_cancel_right, set_at, DecodeError, UnexpectedEof}
+use Rattle.fax_reading.proofs.Names.{Group3_2D, DecodeSettings, Bits, AreWholeBytes, AreSettings, repeated, Reaches, Row}
+use Rattle.fax_reading.proofs.Names.{after_eol, all_eols, eols_here, line_of_turn, row_before, Progress, Ending, first_line}
+use Rattle.fax_reading.proofs.Names.{move_on, end_of, bytes_before, plain, Reading, IsEol, IsLocal, ComesToLine, OneRowDiffers}
+use Rattle.fax_reading.proofs.Names.{EndsAt, EndAlike, DamageStaysInRow, Locality, IsTagOfLine, common_steps}
 use Rattle.fax_reading.proofs.Readings.GapsAndRows.{end_t4, plain_is}
 use Rattle.fax_bits.proofs.Repetition.Repeated.{reached_follows}
 use Rattle.fax_reading.proofs.DamagedLines.EolsAlike.{Closes, RestAlike, leaves_length, all_eols_alike}
@@ -16,7 +14,8 @@ use Rattle.fax_reading.proofs.DamagedLines.LineTails.{drop_at, eol_closes, is_ta
 use Rattle.fax_reading.proofs.DamagedLines.LinesByEols.{past_shorter, seeks}
 use Rattle.fax_reading.proofs.DamagedLines.PastEol.{past}
 use Rattle.fax_bits.proofs.BitReading.ConsecutiveEols.{all_eols-none, all_tagged}
-use Rattle.fax_reading.proofs.DamagedLines.RunsAlike.{IsGroup3, not_group4, Settles, RowsAlike, EndsAlike, RunsAlike, IsTail, moves_alike}
+use Rattle.fax_reading.proofs.DamagedLines.RunsAlike.{IsGroup3, not_group4, Settles, RowsAlike, EndsAlike, RunsAlike, IsTail}
+use Rattle.fax_reading.proofs.DamagedLines.RunsAlike.{moves_alike}
 use Rattle.fax_reading.proofs.DamagedLines.SoughtTurns.{sought, rest_of, sought_line_is}
 use Rattle.fax_reading.proofs.DrawingLines.LinesLeaveBits.{LeavesBits, leaves_trans}
 use Rattle.fax_reading.proofs.Readings.TurnsMoveOn.{left_to_read, left_below, move_shrinks}

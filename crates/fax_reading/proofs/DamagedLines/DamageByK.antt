@@ -1,23 +1,20 @@
 -- Damage to a line of two-dimensional data ends at the next one-dimensional line.
-use Rattle.fax_reading.proofs.Names.{common_steps}
-use Rattle.fax_reading.proofs.Names.{◌≡◌, ℕ, zero, suc, ◌+◌, ◌-◌, ◌<◌, ◌≤◌, eqb, true, false, List, [], ◌∷◌, ◌++◌, length, take}
-use Rattle.fax_reading.proofs.Names.{drop, replicate, Option, Some, None, Result, Ok, refl, sym, ap, subst, ◌∙◌, append_assoc}
-use Rattle.fax_reading.proofs.Names.{arith, ◌⊎◌, inl, inr, cases_lt, cases_eq, cond-true, eq-eqb, length-append}
-use Rattle.fax_reading.proofs.Names.{length-replicate, White, DecodeError, EncodingMode, Group3_2D, DecodeSettings, Bits}
-use Rattle.fax_reading.proofs.Names.{AreWholeBytes, AreSettings, Reaches, Row, EncodesLine2D, after_eol, one_more, pass_last_tag}
-use Rattle.fax_reading.proofs.Names.{tagged_eols, first_line, move_on, line_by, eols_by, line_here, eols_here, plain, Reading}
-use Rattle.fax_reading.proofs.Names.{nothing_read, whole_reading, end_of, IsEolAt, EndAlike, IsTaggedBody, ComesBefore1D}
-use Rattle.fax_reading.proofs.Names.{IsLine2D, ComeBefore1D, RowsDiffer, DamageEndsAt1D, LocalityByK}
+use Rattle.fax_reading.proofs.Names.{common_steps, ◌≡◌, ℕ, zero, suc, ◌+◌, ◌-◌, ◌<◌, ◌≤◌, true, false, List, [], ◌∷◌, ◌++◌}
+use Rattle.fax_reading.proofs.Names.{length, take, drop, Option, Some, None, Result, refl, sym, ap, subst, ◌∙◌, append_assoc}
+use Rattle.fax_reading.proofs.Names.{arith, ◌⊎◌, inl, inr, cases_lt, cases_eq, cond-true, eq-eqb, length-append, length-replicate}
+use Rattle.fax_reading.proofs.Names.{White, DecodeError, EncodingMode, Group3_2D, DecodeSettings, Bits, AreWholeBytes}
+use Rattle.fax_reading.proofs.Names.{AreSettings, Reaches, Row, EncodesLine2D, after_eol, one_more, pass_last_tag, tagged_eols}
+use Rattle.fax_reading.proofs.Names.{first_line, move_on, line_by, eols_by, line_here, eols_here, plain, IsEolAt, EndAlike}
+use Rattle.fax_reading.proofs.Names.{IsTaggedBody, ComesBefore1D, IsLine2D, ComeBefore1D, RowsDiffer, DamageEndsAt1D, LocalityByK}
 use Rattle.fax_reading.proofs.DamagedLines.AnyReference.{quiet_line, scan_past, modes_read, encoded_ends}
 use Rattle.fax_reading.proofs.DamagedLines.Damage.{LinesDiffer, damage}
 use Rattle.fax_reading.proofs.DamagedLines.LineTails.{after_eol_is, past_before, line_past_by, is_tagged_tail, stays_2d}
 use Rattle.fax_reading.proofs.DamagedLines.PastEol.{past, past_is, then_after}
-use Rattle.fax_bits.proofs.BitReading.ConsecutiveEols.{all_tagged-some, all_tagged-none}
+use Rattle.fax_bits.proofs.BitReading.ConsecutiveEols.{all_tagged-some, all_tagged-none, after_eol_shorter, next_eol_found}
 use Rattle.fax_reading.proofs.DamagedLines.RunsAlike.{RowsAlike, Settles, Unreferred, IsTail}
 use Rattle.fax_reading.proofs.DamagedLines.SoughtTurns.{sought, rest_of, found_next, eols_here_same}
 use Rattle.fax_reading.proofs.EncodedPictures.PicturesT4.{line_2d_after_tag}
 use Rattle.fax_reading.proofs.Readings.TurnsMoveOn.{eols_end}
-use Rattle.fax_bits.proofs.BitReading.ConsecutiveEols.{after_eol_shorter, next_eol_found}
 
 -- ---- The lines that follow
 

@@ -1,14 +1,13 @@
 -- EOLs of two data that are equal up to one position, where an EOL ends and none begins.
 use Rattle.fax_reading.proofs.Names.{◌≡◌, ℕ, zero, suc, ◌<◌, ◌≤◌, Bool, true, false, cond, leb, [], ◌∷◌, ◌++◌, length, replicate}
 use Rattle.fax_reading.proofs.Names.{Option, Some, None, refl, sym, ap, ◌∙◌, append_assoc, arith, ◌⊎◌, inl, inr, lt-leb}
-use Rattle.fax_reading.proofs.Names.{EncodingMode, Group4, Group3_1D, Group3_2D, Row, line_by}
-use Rattle.fax_reading.proofs.Names.{length-append, Bits, after_eol, all_eols, past_tag, pass_last_tag, common_steps}
+use Rattle.fax_reading.proofs.Names.{EncodingMode, Group4, Group3_1D, Group3_2D, Row, line_by, length-append, Bits, after_eol}
+use Rattle.fax_reading.proofs.Names.{all_eols, past_tag, pass_last_tag, common_steps}
 use Rattle.fax_bits.proofs.BitReading.ZerosInWords.{scan, scan_holds}
 use Rattle.fax_reading.proofs.DamagedLines.LinesBeforeEol.{Inside, LineAlike, line_1d_alike, line_2d_alike}
 use Rattle.fax_reading.proofs.DamagedLines.PastEol.{past}
-use Rattle.fax_bits.proofs.BitReading.ConsecutiveEols.{all_tagged}
+use Rattle.fax_bits.proofs.BitReading.ConsecutiveEols.{all_tagged, CountsEols, count_all-some, counts_plain, counts_tagged}
 use Rattle.fax_reading.proofs.DrawingLines.LinesLeaveBits.{LeavesBits, leaves_trans}
-use Rattle.fax_bits.proofs.BitReading.ConsecutiveEols.{CountsEols, count_all-some, counts_plain, counts_tagged}
 
 -- bits that end with the zeros of an EOL
 abbrev pub Closes : Bits → Type 0

@@ -1,6 +1,6 @@
 -- Where lines begin, by positions.
 use Rattle.fax_reading.proofs.Readings.TurnsMoveOn.{at_end_length}
-use Rattle.fax_bits.proofs.BitReading.ConsecutiveEols.{after_eol_shorter, eol_of}
+use Rattle.fax_bits.proofs.BitReading.ConsecutiveEols.{after_eol_shorter, eol_of, all_eols-some, all_eols-none}
 use Rattle.fax_reading.proofs.Names.{◌≡◌, ℕ, zero, suc, ◌+◌, ◌<◌, ◌≤◌, Bool, true, false, cond, not, ◌&&◌, leb, List, [], ◌∷◌}
 use Rattle.fax_reading.proofs.Names.{◌++◌, length, take, drop, replicate, Option, Some, None, refl, sym, ap, subst, ◌∙◌}
 use Rattle.fax_reading.proofs.Names.{append_assoc, arith, ◌⊎◌, inl, inr, Contains, All, is_some, cases_lt, le-leb, leb-true}
@@ -11,7 +11,6 @@ use Rattle.fax_reading.proofs.Names.{begins_line, later_starts, starts, IsStart,
 use Rattle.fax_reading.proofs.DrawingLines.LinesLeaveBits.{LeavesBits}
 use Rattle.fax_bits.proofs.BitReading.ZerosInWords.{prefix_of_prefix}
 use Rattle.fax_reading.proofs.DamagedLines.LineTails.{after_eol_is, first_one, drop_at}
-use Rattle.fax_bits.proofs.BitReading.ConsecutiveEols.{all_eols-some, all_eols-none}
 
 -- ---- Later starts come in order
 later_below : (seen : ℕ) (here : Bits) → All (λ other. length other < length here) (later_starts seen here)

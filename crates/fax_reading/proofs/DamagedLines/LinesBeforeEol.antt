@@ -1,10 +1,10 @@
 -- A line that begins before the zeros of an EOL ends before their end, whatever comes after them.
-use Rattle.fax_reading.proofs.Names.{◌≡◌, ℕ, suc, ◌-◌, ◌≤◌, Bool, true, false, cond, leb, List, [], ◌∷◌, ◌++◌, length, replicate}
-use Rattle.fax_reading.proofs.Names.{Option, Some, None, Result, Ok, Err, refl, sym, ap, ◌∙◌, append_assoc, arith, inl, inr, pos}
-use Rattle.fax_reading.proofs.Names.{◌+ℤ◌, cases_lt, lt-ltb, le-ltb, append_cancel_left, Color, Mode, Pass, Horizontal, Vertical}
+use Rattle.fax_reading.proofs.Names.{◌≡◌, ℕ, suc, ◌≤◌, Bool, true, false, cond, leb, List, [], ◌∷◌, ◌++◌, length, replicate}
+use Rattle.fax_reading.proofs.Names.{Option, Some, None, Result, Ok, Err, refl, sym, ap, ◌∙◌, append_assoc, arith, inl, inr}
+use Rattle.fax_reading.proofs.Names.{cases_lt, lt-ltb, le-ltb, append_cancel_left, Color, Mode, Pass, Horizontal, Vertical}
 use Rattle.fax_reading.proofs.Names.{DecodeError, UnexpectedEof, Bits, Code, mode_codes, Has, is_prefix_free, read_code, IsWord}
-use Rattle.fax_reading.proofs.Names.{Turn, Row, opposite, right_of, b1, paint, codes_of, run_turn, run_from, Line, Pen, start}
-use Rattle.fax_reading.proofs.Names.{line_1d, line_2d, place_from, Step, common_steps}
+use Rattle.fax_reading.proofs.Names.{Turn, Row, opposite, paint, codes_of, run_turn, run_from, Line, Pen, start}
+use Rattle.fax_reading.proofs.Names.{line_1d, line_2d, Step, common_steps}
 use Rattle.fax_bits.proofs.BitReading.ZerosInWords.{scan, is_quiet, scan_below, scan-append, quiet_is, word_quiet}
 use Rattle.fax_bits.proofs.BitReading.ZerosInWords.{prefix_of_prefix, codes_free, modes_free}
 use Rattle.fax_bits.proofs.CodeWords.ReadCodes.{read_code_found, read_code_again}

@@ -8,14 +8,12 @@ use Rattle.fax_reading.proofs.Names.{line_1d, after_eol, all_eols, Progress, End
 use Rattle.fax_reading.proofs.Names.{begins_line, later_starts, starts, row_at, StaysBefore, IsEolAt, LinesByEols, common_steps}
 use Rattle.fax_reading.proofs.{Readings.GapsAndRows.ending_t4, Readings.RowsAndGaps.after_row, Readings.RowsAndGaps.unless_over}
 use Rattle.fax_reading.proofs.DamagedLines.PastEol.{past, past-eol}
-use Rattle.fax_bits.proofs.BitReading.ConsecutiveEols.{all_eols-some}
+use Rattle.fax_bits.proofs.BitReading.ConsecutiveEols.{all_eols-some, after_eol_shorter, count_shorter, counts_plain}
 use Rattle.fax_reading.proofs.DamagedLines.LineTails.{line_past_of}
 use Rattle.fax_reading.proofs.DamagedLines.SoughtTurns.{sought, rest_of, found_next, after_row_past, move_line}
 use Rattle.fax_reading.proofs.DrawingLines.LinesLeaveBits.{line_1d_leaves}
 use Rattle.fax_bits.proofs.Repetition.Repeated.{after_turn, repeated_turn, repeated_same}
-use Rattle.fax_reading.proofs.Readings.TurnsMoveOn.{eols_end, left_to_read}
-use Rattle.fax_bits.proofs.BitReading.ConsecutiveEols.{after_eol_shorter, count_shorter, counts_plain}
-use Rattle.fax_reading.proofs.Readings.TurnsMoveOn.{left_below, move_shrinks}
+use Rattle.fax_reading.proofs.Readings.TurnsMoveOn.{eols_end, left_to_read, left_below, move_shrinks}
 
 -- what follows the next EOL is shorter
 pub past_shorter : (seen : ℕ) (here after : Bits) → past seen here ≡ Some after → length after < length here

@@ -1,13 +1,12 @@
 -- Two-dimensional lines that are passed without their reference rows.
-use Rattle.fax_reading.proofs.Names.{common_steps}
-use Rattle.fax_reading.proofs.Names.{◌≡◌, ℕ, zero, suc, ◌+◌, ◌-◌, ◌<◌, ◌≤◌, ◌⊎◌, Bool, cond, true, false, [], ◌∷◌, length, drop}
-use Rattle.fax_reading.proofs.Names.{Option, Some, None, Result, Ok, Err, refl, sym, ap, subst, ◌∙◌, arith, inl, inr, ◌↔◌, Color}
-use Rattle.fax_reading.proofs.Names.{White, Mode, Pass, Horizontal, Vertical, DecodeError, DecodeSettings, Group3_2D, Bits}
-use Rattle.fax_reading.proofs.Names.{mode_codes, read_code, after_eol, next_eol, one_more, pass_last_tag, tagged_eols, ReadsModes}
-use Rattle.fax_reading.proofs.Names.{IsLine2D, ComesBefore1D, ComeBefore1D, IsFollowedBy, behind_mode, behind_read, behind_word}
-use Rattle.fax_reading.proofs.Names.{behind_first_run, behind_second_run, opposite, read_run}
+use Rattle.fax_reading.proofs.Names.{common_steps, ◌≡◌, ℕ, zero, suc, ◌+◌, ◌-◌, ◌<◌, ◌≤◌, ◌⊎◌, Bool, cond, true, false, [], ◌∷◌}
+use Rattle.fax_reading.proofs.Names.{length, drop, Option, Some, None, Result, Ok, Err, refl, sym, ap, subst, ◌∙◌, arith, inl}
+use Rattle.fax_reading.proofs.Names.{inr, ◌↔◌, Color, White, Mode, Pass, Horizontal, Vertical, DecodeError, DecodeSettings}
+use Rattle.fax_reading.proofs.Names.{Group3_2D, Bits, mode_codes, read_code, after_eol, next_eol, one_more, pass_last_tag}
+use Rattle.fax_reading.proofs.Names.{tagged_eols, ReadsModes, IsLine2D, ComesBefore1D, ComeBefore1D, IsFollowedBy, behind_mode}
+use Rattle.fax_reading.proofs.Names.{behind_read, behind_word, behind_first_run, behind_second_run, opposite, read_run}
 use Rattle.fax_bits.proofs.CodeWords.ReadRuns.{read_code_shorter, run_shorter}
-use Rattle.fax_reading.proofs.DamagedLines.AnyReference.{LeftBehind, left_behind}
+use Rattle.fax_reading.proofs.DamagedLines.AnyReference.{left_behind}
 use Rattle.fax_bits.proofs.BitReading.ConsecutiveEols.{all_tagged-some, all_tagged-none}
 use Rattle.fax_reading.proofs.DrawingLines.ReadLines.{modes_not_empty}
 

@@ -1,18 +1,16 @@
 -- What passing lines counts.
-use Rattle.fax_reading.proofs.Names.{common_steps}
-use Rattle.fax_reading.proofs.Names.{◌≡◌, ℕ, suc, ◌+◌, ◌*◌, ◌<◌, ◌≤◌, true, false, List, [], ◌∷◌, ◌++◌, length, drop, Option}
-use Rattle.fax_reading.proofs.Names.{Some, None, Result, Ok, Err, refl, sym, ap, subst, ◌∙◌, arith, none-some, inr, length-append}
-use Rattle.fax_reading.proofs.Names.{Color, Mode, Pass, Horizontal, Vertical, DecodeError, Bits, mode_codes, read_code, opposite}
-use Rattle.fax_reading.proofs.Names.{read_run, after_eol, next_eol, one_more, pass_last_tag, tagged_eols, behind_mode}
-use Rattle.fax_reading.proofs.Names.{behind_read, behind_word, behind_first_run, behind_second_run, looked, mode_found}
-use Rattle.fax_reading.proofs.Names.{runs_found, runs_found_behind, second_run_found, run_found, word_found, most_for_lines}
-use Rattle.fax_reading.proofs.Names.{IsLine2D}
+use Rattle.fax_reading.proofs.Names.{common_steps, ◌≡◌, ℕ, suc, ◌+◌, ◌*◌, ◌<◌, ◌≤◌, true, false, List, [], ◌∷◌, ◌++◌, length}
+use Rattle.fax_reading.proofs.Names.{drop, Option, Some, None, Result, Ok, Err, refl, sym, ap, subst, ◌∙◌, arith, none-some, inr}
+use Rattle.fax_reading.proofs.Names.{length-append, Color, Mode, Pass, Horizontal, Vertical, DecodeError, Bits, mode_codes}
+use Rattle.fax_reading.proofs.Names.{read_code, opposite, read_run, after_eol, next_eol, one_more, pass_last_tag, tagged_eols}
+use Rattle.fax_reading.proofs.Names.{behind_mode, behind_read, behind_word, behind_first_run, behind_second_run, looked}
+use Rattle.fax_reading.proofs.Names.{mode_found, runs_found, runs_found_behind, second_run_found, run_found, word_found}
+use Rattle.fax_reading.proofs.Names.{most_for_lines, IsLine2D}
 use Rattle.fax_bits.proofs.BitReading.ZeroRuns.{looked_eol}
 use Rattle.fax_reading.proofs.CodeWords.WordsFound.{WordsStand, RunEnds, stands_none, stands_append, word_stands, no_word_stands}
 use Rattle.fax_reading.proofs.CodeWords.WordsFound.{run_stands}
 use Rattle.fax_reading.proofs.DamagedLines.LineTails.{after_eol_more}
-use Rattle.fax_bits.proofs.BitReading.ConsecutiveEols.{all_tagged-some, all_tagged-none}
-use Rattle.fax_bits.proofs.BitReading.ConsecutiveEols.{next_eol_found}
+use Rattle.fax_bits.proofs.BitReading.ConsecutiveEols.{all_tagged-some, all_tagged-none, next_eol_found}
 use Rattle.fax_reading.proofs.Work.EolsPassed.{looked_most, next_eol_within}
 use Rattle.fax_reading.proofs.Work.WordsPay.{stands_count, stands_before_eol}
 

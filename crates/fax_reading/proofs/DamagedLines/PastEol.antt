@@ -1,10 +1,8 @@
 -- What follows the next EOL.
 use Rattle.fax_reading.proofs.Names.{◌≡◌, ℕ, suc, ◌+◌, ◌≤◌, true, false, cond, leb, [], ◌∷◌, ◌++◌, length, Option, Some, None}
-use Rattle.fax_reading.proofs.Names.{refl, ap, arith, cases_lt, lt-leb, le-leb, length-append, Bits, after_eol}
-use Rattle.fax_reading.proofs.Names.{next_eol, common_steps, Bool, DecodeSettings}
-use Rattle.fax_reading.proofs.Names.{EncodingMode, Group4, Group3_1D, Group3_2D, pass_last_tag, eols_by, eols_here, ◌∙◌}
-use Rattle.fax_bits.proofs.BitReading.ConsecutiveEols.{eols-none}
-use Rattle.fax_bits.proofs.BitReading.ConsecutiveEols.{all_eols-none, all_tagged-none}
+use Rattle.fax_reading.proofs.Names.{refl, ap, arith, cases_lt, lt-leb, le-leb, length-append, Bits, after_eol, next_eol}
+use Rattle.fax_reading.proofs.Names.{common_steps, DecodeSettings, eols_here}
+use Rattle.fax_bits.proofs.BitReading.ConsecutiveEols.{eols-none, all_eols-none, all_tagged-none}
 
 -- what follows the next EOL that ends further on, given the number of zeros just before
 abbrev pub past : ℕ → Bits → Option Bits

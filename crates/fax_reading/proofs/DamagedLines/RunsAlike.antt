@@ -1,31 +1,28 @@
 -- Two runs over data that differ in one line.
-use Rattle.fax_reading.proofs.Names.{common_steps}
-use Rattle.fax_reading.proofs.Names.{◌≡◌, ℕ, zero, suc, ◌+◌, ◌%◌, ◌<◌, ◌≤◌, Bool, true, false, cond, not, ◌&&◌, ◌||◌, eqb}
-use Rattle.fax_reading.proofs.Names.{List, [], ◌∷◌, ◌++◌, length, Option, Some, None, Ok, Err, refl, sym, ap, subst}
+use Rattle.fax_reading.proofs.Names.{common_steps, ◌≡◌, ℕ, zero, suc, ◌+◌, ◌%◌, ◌<◌, ◌≤◌, Bool, true, false, cond, not, ◌&&◌}
+use Rattle.fax_reading.proofs.Names.{◌||◌, eqb, List, [], ◌∷◌, ◌++◌, length, Option, Some, None, Ok, Err, refl, sym, ap, subst}
 use Rattle.fax_reading.proofs.Names.{◌∙◌, append_assoc, arith, ◌⊎◌, inl, inr, cases_Bool, and_parts, eqb-true, length-append}
 use Rattle.fax_reading.proofs.Names.{length-drop, append_cancel_right, DecodeError, InvalidCode, EncodingMode, Group4, Group3_1D}
 use Rattle.fax_reading.proofs.Names.{Group3_2D, DecodeSettings, Bits, Turn, Row, Line, after_eol, next_eol, past_tag}
 use Rattle.fax_reading.proofs.Names.{is_end_of_block, is_over, misses_eol, Progress, Ending, Move, row_before, aligned, limit_met}
-use Rattle.fax_reading.proofs.Names.{at_end, ends_with, eols_by, eols_here, line_here, line_of_turn, after_line, move_on}
-use Rattle.fax_reading.proofs.Names.{row_of, repaired}
+use Rattle.fax_reading.proofs.Names.{at_end, ends_with, eols_by, eols_here, line_here, line_of_turn, after_line, move_on, row_of}
+use Rattle.fax_reading.proofs.Names.{repaired, eols, eols_with_tags, ◌≢◌}
 use Rattle.fax_bits.proofs.Repetition.Repeated.{Follows}
 use Rattle.fax_reading.proofs.DamagedLines.EolsAlike.{Closes, closes_inside, inside_after, leaves_after, leaves_length}
 use Rattle.fax_reading.proofs.DamagedLines.EolsAlike.{past_alike, PastAlike, CountAlike, RestAlike, all_eols_alike, eols_found}
 use Rattle.fax_reading.proofs.DamagedLines.EolsAlike.{all_tagged_alike, tagged_found, last_tag_alike, last_tag_few, line_alike}
 use Rattle.fax_reading.proofs.DamagedLines.LinesBeforeEol.{Inside, LineAlike}
 use Rattle.fax_reading.proofs.DamagedLines.PastEol.{past}
-use Rattle.fax_bits.proofs.BitReading.ConsecutiveEols.{all_eols-some, all_eols-none, all_tagged, all_tagged-some}
-use Rattle.fax_bits.proofs.BitReading.ConsecutiveEols.{all_tagged-none}
+use Rattle.fax_bits.proofs.BitReading.ConsecutiveEols.{all_eols-some, all_eols-none, all_tagged, all_tagged-some, all_tagged-none}
+use Rattle.fax_bits.proofs.BitReading.ConsecutiveEols.{cond_le, length-one_more, count_shorter, counts_plain, counts_tagged}
+use Rattle.fax_bits.proofs.BitReading.ConsecutiveEols.{last_tag_shorter, next_eol_found, count_past, eols-some}
 use Rattle.fax_reading.proofs.DamagedLines.SoughtTurns.{sought, rest_of, not_past_end, eols_here_same, row_past, move_sought}
 use Rattle.fax_reading.proofs.DamagedLines.SoughtTurns.{sought_done}
 use Rattle.fax_reading.proofs.DrawingLines.LinesLeaveBits.{LeavesBits, LineLeaves, line_by_leaves}
 use Rattle.fax_reading.proofs.EncodedPictures.PictureLines.{row_before_push}
 use Rattle.fax_reading.proofs.Readings.RowsAndGaps.{unless_over, seek_from, seek_eol, after_row, row_added, after_whole-is}
 use Rattle.fax_reading.proofs.Readings.RowsAndGaps.{after_damage-is}
-use Rattle.fax_bits.proofs.BitReading.ConsecutiveEols.{cond_le, length-one_more, count_shorter, counts_plain, counts_tagged}
 use Rattle.fax_reading.proofs.Readings.TurnsMoveOn.{eols_here_counted}
-use Rattle.fax_bits.proofs.BitReading.ConsecutiveEols.{last_tag_shorter, next_eol_found, count_past, eols-some}
-use Rattle.fax_reading.proofs.Names.{eols, eols_with_tags, ◌≢◌}
 
 -- ---- Rows of which some may differ
 

@@ -1,19 +1,16 @@
 -- A turn of a lenient run that seeks EOLs.
-use Rattle.fax_reading.proofs.Names.{◌≡◌, ℕ, Bool, true, false, not, eqb, List, [], ◌∷◌, ◌++◌, length, Option, Some, None}
-use Rattle.fax_reading.proofs.Names.{Ok, refl, sym, ap, ◌∙◌, arith, and_from, not_from_false, cond-true, cond-false, ne_eqb}
+use Rattle.fax_reading.proofs.Names.{◌≡◌, ℕ, Bool, true, false, not, eqb, List, [], ◌∷◌, ◌++◌, length, Option, Some, None, Ok}
+use Rattle.fax_reading.proofs.Names.{refl, sym, ap, ◌∙◌, arith, and_from, not_from_false, cond-true, cond-false, ne_eqb}
 use Rattle.fax_reading.proofs.Names.{EncodingMode, Group4, Group3_1D, Group3_2D, DecodeSettings, Bits, Row, Line, line_1d}
-use Rattle.fax_reading.proofs.Names.{after_eol, one_more, all_eols, next_eol, pass_last_tag, Progress, row_before, line_by}
-use Rattle.fax_reading.proofs.Names.{eols_by, line_here, limit_met, at_end, ends_with, eols_here, after_line, move_on}
-use Rattle.fax_reading.proofs.Names.{line_of_turn, row_of, row_at, misses_eol, repaired, ◌||◌, common_steps}
-use Rattle.fax_reading.proofs.DamagedLines.PastEol.{past, past-eol, past_is, then_after, eols_here-none}
-use Rattle.fax_bits.proofs.BitReading.ConsecutiveEols.{all_eols-some}
-use Rattle.fax_reading.proofs.DamagedLines.PastEol.{next_eol_leaves}
-use Rattle.fax_bits.proofs.BitReading.ConsecutiveEols.{all_tagged-some}
+use Rattle.fax_reading.proofs.Names.{after_eol, one_more, all_eols, next_eol, pass_last_tag, Progress, line_by, eols_by}
+use Rattle.fax_reading.proofs.Names.{line_here, limit_met, at_end, ends_with, eols_here, after_line, move_on, line_of_turn}
+use Rattle.fax_reading.proofs.Names.{row_of, row_at, misses_eol, repaired, ◌||◌, common_steps}
+use Rattle.fax_reading.proofs.DamagedLines.PastEol.{past, past-eol, past_is, then_after, eols_here-none, next_eol_leaves}
+use Rattle.fax_bits.proofs.BitReading.ConsecutiveEols.{all_eols-some, all_tagged-some, eols-some}
 use Rattle.fax_reading.proofs.DrawingLines.LinesLeaveBits.{LeavesBits}
 use Rattle.fax_reading.proofs.Readings.RowsAndGaps.{unless_over, seek_from, after_row, row_added, after_whole-is, after_damage-is}
 use Rattle.fax_reading.proofs.Readings.RowsAndGaps.{behind_with_eols}
 use Rattle.fax_reading.proofs.Readings.TurnsMoveOn.{eols_here_some}
-use Rattle.fax_bits.proofs.BitReading.ConsecutiveEols.{eols-some}
 
 -- a run that seeks EOLs
 abbrev pub sought : List Row → Bits → Progress

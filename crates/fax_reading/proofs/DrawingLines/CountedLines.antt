@@ -1,14 +1,11 @@
 -- The words that a line finds, step by step.
-use Rattle.fax_reading.proofs.Names.{common_steps}
-use Rattle.fax_reading.proofs.Names.{◌≡◌, ℕ, ◌+◌, ◌*◌, ◌<◌, ◌≤◌, Bool, true, false, cond, leb, List, [], ◌++◌, length, Result, Ok}
-use Rattle.fax_reading.proofs.Names.{Err, refl, sym, ap, subst, ◌∙◌, arith, false≢true, lt-leb, length-append, append-nil, Mode}
-use Rattle.fax_reading.proofs.Names.{DecodeError, Bits, Line, Pen, turn_behind, words_behind, unless_fault, painted, draw_run}
-use Rattle.fax_reading.proofs.Names.{draw_mode, draw_1d, draw_2d, words_drawn, IsFault, OnAnswer, Step, DrawsStep, pen_of}
-use Rattle.fax_reading.proofs.Names.{step_of_run, step_of_mode, words_of_run, words_of_mode, Held, redrawn, DecodeSettings}
-use Rattle.fax_reading.proofs.Names.{kind_of, mode_codes, read_code, Turn, Row}
-use Rattle.fax_reading.proofs.Names.{paint, run_from, run_found, word_found}
+use Rattle.fax_reading.proofs.Names.{common_steps, ◌≡◌, ℕ, ◌+◌, ◌*◌, ◌<◌, ◌≤◌, Bool, true, false, cond, leb, List, [], ◌++◌}
+use Rattle.fax_reading.proofs.Names.{length, Result, Ok, Err, refl, sym, ap, subst, ◌∙◌, arith, false≢true, lt-leb, length-append}
+use Rattle.fax_reading.proofs.Names.{append-nil, Mode, DecodeError, Bits, Line, Pen, turn_behind, words_behind, unless_fault}
+use Rattle.fax_reading.proofs.Names.{painted, draw_run, draw_mode, draw_1d, draw_2d, words_drawn, IsFault, OnAnswer, Step}
+use Rattle.fax_reading.proofs.Names.{DrawsStep, pen_of, step_of_run, step_of_mode, words_of_run, words_of_mode, Held, redrawn}
+use Rattle.fax_reading.proofs.Names.{DecodeSettings, mode_codes, read_code, Turn, Row, run_from, run_found, word_found}
 use Rattle.fax_bits.proofs.CodeWords.RunWords.{one_word}
-use Rattle.fax_bits.proofs.ErrorKinds.{at_fault_kind}
 use Rattle.fax_bits.proofs.Repetition.Gathered.{gathered_turn}
 use Rattle.fax_reading.proofs.DrawingLines.Drawings.{try, mode_step, step_1d, step_2d}
 use Rattle.fax_reading.proofs.DrawingLines.ReadLines.{pen_left, step_1d_shrinks, step_2d_shrinks}

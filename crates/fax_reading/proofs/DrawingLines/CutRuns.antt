@@ -1,18 +1,12 @@
 -- Runs that are cut: where a strict reading breaks a line.
-use Rattle.fax_reading.proofs.Names.{arith, common_steps}
-use Rattle.fax_reading.proofs.Names.{◌≡◌, ◌<◌, ◌≤◌, ◌-◌, inl, inr, ℕ, Bool, true, false, cond, ◌||◌, ltb, length}
-use Rattle.fax_reading.proofs.Names.{[], Ok, Err, Result, refl, sym, ap, subst, ◌∙◌, false≢true, le-leb}
-use Rattle.fax_reading.proofs.Names.{OnOk, cond-true, cond-false, Color, White, DecodeError, InvalidCode, Step, Bits}
-use Rattle.fax_reading.proofs.Names.{BitsAt}
-use Rattle.fax_reading.proofs.Names.{here, Context, Held, redrawn, Mode, Pass, Horizontal, Row, Line}
-use Rattle.fax_reading.proofs.Names.{Pen}
-use Rattle.fax_reading.proofs.Names.{Turn, turn_behind, is_broken, breaks, TellsCut, exceeds, painted_front, paint}
-use Rattle.fax_reading.proofs.Names.{pen_of}
-use Rattle.fax_reading.proofs.Names.{line_1d, line_2d, read_code, mode_codes, run_from, opposite, right_of, b2}
-use Rattle.fax_reading.proofs.Names.{strict_step_of_run, strict_step_of_mode, GoesOn, GoesOn2d}
+use Rattle.fax_reading.proofs.Names.{arith, common_steps, ◌≡◌, ◌<◌, ◌≤◌, ◌-◌, inl, inr, ℕ, Bool, true, false, cond, ◌||◌, ltb}
+use Rattle.fax_reading.proofs.Names.{length, [], Ok, Err, Result, refl, sym, ap, subst, ◌∙◌, false≢true, le-leb, OnOk, cond-true}
+use Rattle.fax_reading.proofs.Names.{cond-false, Color, White, DecodeError, InvalidCode, Step, Bits, BitsAt, here, Context, Held}
+use Rattle.fax_reading.proofs.Names.{redrawn, Mode, Pass, Horizontal, Row, Line, Pen, Turn, turn_behind, is_broken, TellsCut}
+use Rattle.fax_reading.proofs.Names.{exceeds, painted_front, paint, pen_of, line_1d, line_2d, read_code, mode_codes, run_from}
+use Rattle.fax_reading.proofs.Names.{opposite, right_of, b2, strict_step_of_run, strict_step_of_mode, GoesOn, GoesOn2d}
 use Rattle.fax_bits.proofs.Repetition.Repeated.{after_turn}
-use Rattle.fax_reading.proofs.DrawingLines.Drawings.{try, run_then, mode_step, step_unless_full, drawn_by, step_1d, step_2d}
-use Rattle.fax_reading.proofs.DrawingLines.Drawings.{step_1d_is, step_2d_is}
+use Rattle.fax_reading.proofs.DrawingLines.Drawings.{try, drawn_by, step_1d, step_2d, step_1d_is, step_2d_is}
 use Rattle.fax_reading.proofs.DrawingLines.DrawnLines.{run_open, line_mode}
 use Rattle.fax_reading.proofs.DrawingLines.ReadLines.{drawn1, drawn2}
 

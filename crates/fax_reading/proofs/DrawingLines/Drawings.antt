@@ -1,9 +1,8 @@
 -- The turns of drawing, one after another.
-use Rattle.fax_reading.proofs.Names.{arith, common_steps}
-use Rattle.fax_reading.proofs.Names.{◌≡◌, ℕ, suc, Bool, true, false, cond, leb, [], length, Result, Ok, Err, refl, Mode}
-use Rattle.fax_reading.proofs.Names.{Horizontal, DecodeError, UnexpectedEof, Step, Bits, mode_codes, read_code, Turn, repeated}
-use Rattle.fax_reading.proofs.Names.{Row, opposite, paint, run_from, Line, Pen, turn_behind, unless_fault, draw_run, draw_mode}
-use Rattle.fax_reading.proofs.Names.{draw_1d, draw_2d}
+use Rattle.fax_reading.proofs.Names.{arith, common_steps, ◌≡◌, ℕ, suc, Bool, true, false, cond, leb, [], length, Result, Ok, Err}
+use Rattle.fax_reading.proofs.Names.{refl, Mode, Horizontal, DecodeError, UnexpectedEof, Step, Bits, mode_codes, read_code, Turn}
+use Rattle.fax_reading.proofs.Names.{repeated, Row, opposite, paint, run_from, Line, Pen, turn_behind, unless_fault, draw_run}
+use Rattle.fax_reading.proofs.Names.{draw_mode, draw_1d, draw_2d}
 
 -- what comes of a value, or the line that a fault ends
 abbrev pub try : {A : Type 0} → Row → Result A DecodeError → (A → Step) → Step

@@ -1,22 +1,20 @@
 -- What a step of a line paints, and what that says of the finished line.
-use Rattle.fax_reading.proofs.Names.{common_steps}
-use Rattle.fax_reading.proofs.Names.{◌≡◌, ◌≢◌, ℕ, zero, suc, ◌-◌, ◌<◌, ◌≤◌, Bool, true, false, cond, ◌&&◌, ltb, leb, [], ◌∷◌}
-use Rattle.fax_reading.proofs.Names.{◌++◌, length, replicate, append_assoc, w32, Option, Some, Result, Ok, Err, refl, sym}
-use Rattle.fax_reading.proofs.Names.{subst, ap, ◌∙◌, arith, ◌⊎◌, inl, inr, ◌↔◌, IsTrue, IfErr, OnOk, OnErr, SomeIff, min, ℤ, pos}
-use Rattle.fax_reading.proofs.Names.{negsuc, ◌+ℤ◌, false≢true, cases_lt, le-leb, lt-leb, nat_abs, FitsUnsigned, ints}
-use Rattle.fax_reading.proofs.Names.{length-append, Contains-append_left, Contains-append_right, Color, Mode, Pass, Horizontal}
-use Rattle.fax_reading.proofs.Names.{Vertical, DecodeError, DecodeSettings, UnexpectedEof, InvalidCode, OutOfMemory, kind_of}
-use Rattle.fax_reading.proofs.Names.{IsFault, front_of, HasBlack, StopsAtChange, DrawsLine, pen_of, front_after}
-use Rattle.fax_reading.proofs.Names.{DrawsStep, StoresChange, Step, step_of_run, step_of_mode, Bits, BitsAt, here, mode_codes}
-use Rattle.fax_reading.proofs.Names.{read_code, Context, Held, redrawn, Line, Pen, start, place_from, turn_behind, Turn, repeated}
-use Rattle.fax_reading.proofs.Names.{Row, is_black, opposite, right_of, b1, b2, paint, last_pixel, run_from}
-use Rattle.fax_bits.proofs.CodeWords.ReadRuns.{chosen, read_code_shorter}
-use Rattle.fax_reading.proofs.DrawingLines.Drawings.{try, run_then, mode_step, step_unless_full, drawn_by, step_1d, step_2d}
-use Rattle.fax_reading.proofs.DrawingLines.Drawings.{step_1d_is, step_2d_is, horizontal_is}
+use Rattle.fax_reading.proofs.Names.{common_steps, ◌≡◌, ◌≢◌, ℕ, zero, suc, ◌-◌, ◌<◌, ◌≤◌, Bool, true, false, cond, leb, [], ◌∷◌}
+use Rattle.fax_reading.proofs.Names.{◌++◌, length, replicate, append_assoc, w32, Option, Some, Result, Ok, Err, refl, sym, subst}
+use Rattle.fax_reading.proofs.Names.{ap, ◌∙◌, arith, ◌⊎◌, inl, inr, ◌↔◌, IsTrue, IfErr, OnOk, OnErr, SomeIff, ℤ, pos, negsuc}
+use Rattle.fax_reading.proofs.Names.{◌+ℤ◌, false≢true, cases_lt, le-leb, lt-leb, nat_abs, FitsUnsigned, ints, length-append}
+use Rattle.fax_reading.proofs.Names.{Contains-append_left, Contains-append_right, Color, Mode, Pass, Horizontal, Vertical}
+use Rattle.fax_reading.proofs.Names.{DecodeError, DecodeSettings, UnexpectedEof, InvalidCode, OutOfMemory, kind_of, IsFault}
+use Rattle.fax_reading.proofs.Names.{front_of, HasBlack, StopsAtChange, DrawsLine, pen_of, front_after, DrawsStep, StoresChange}
+use Rattle.fax_reading.proofs.Names.{Step, step_of_run, step_of_mode, Bits, BitsAt, here, mode_codes, read_code, Context, Held}
+use Rattle.fax_reading.proofs.Names.{redrawn, Line, Pen, start, place_from, turn_behind, Turn, repeated, Row, is_black, opposite}
+use Rattle.fax_reading.proofs.Names.{right_of, b1, b2, paint, last_pixel, run_from}
+use Rattle.fax_bits.proofs.CodeWords.ReadRuns.{chosen, read_code_shorter, some_where}
+use Rattle.fax_reading.proofs.DrawingLines.Drawings.{try, run_then, mode_step, drawn_by, step_1d, step_2d, step_1d_is, step_2d_is}
+use Rattle.fax_reading.proofs.DrawingLines.Drawings.{horizontal_is}
 use Rattle.fax_reading.proofs.DrawingLines.ReadLines.{draw_mode_next, modes_not_empty, drawn1, drawn2, step_1d_shrinks}
 use Rattle.fax_reading.proofs.DrawingLines.ReadLines.{step_2d_shrinks, pen_left}
 use Rattle.fax_bits.proofs.Repetition.Repeated.{Shrinks, after_turn}
-use Rattle.fax_bits.proofs.CodeWords.ReadRuns.{some_where}
 use Rattle.fax_bits.proofs.ErrorKinds.{kind_weaker, of_fault_kind}
 
 -- ---- What painting yields.

@@ -1,8 +1,7 @@
 -- A whole line has all its pixels.
-use Rattle.fax_reading.proofs.Names.{arith, common_steps}
-use Rattle.fax_reading.proofs.Names.{◌≡◌, ◌≤◌, ℕ, suc, Bool, true, false, [], ◌∷◌, length, sym, ◌∙◌, subst, EncodingMode, Group4}
-use Rattle.fax_reading.proofs.Names.{Group3_1D, Group3_2D, line_by, UnexpectedEof, Bits, mode_codes, read_code, Turn, Row, Line}
-use Rattle.fax_reading.proofs.Names.{Pen, start, line_1d, line_2d, Step}
+use Rattle.fax_reading.proofs.Names.{arith, common_steps, ◌≡◌, ◌≤◌, ℕ, suc, Bool, true, false, [], ◌∷◌, length, EncodingMode}
+use Rattle.fax_reading.proofs.Names.{Group4, Group3_1D, Group3_2D, line_by, UnexpectedEof, Bits, mode_codes, read_code, Turn, Row}
+use Rattle.fax_reading.proofs.Names.{Line, Pen, start, line_1d, line_2d, Step}
 use Rattle.fax_reading.proofs.DrawingLines.Drawings.{try, run_then, mode_step, step_unless_full, drawn_by, step_1d, step_2d}
 use Rattle.fax_reading.proofs.DrawingLines.Drawings.{step_1d_is, step_2d_is}
 use Rattle.fax_reading.proofs.DrawingLines.ReadLines.{EndsNoLine, full_by, try_goes_on, draw_run_goes_on, draw_mode_goes_on}

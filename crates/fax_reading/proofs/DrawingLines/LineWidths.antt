@@ -1,11 +1,9 @@
 -- No line has more pixels than there are columns.
-use Rattle.fax_reading.proofs.Names.{common_steps}
-use Rattle.fax_reading.proofs.Names.{ℕ, ◌≤◌, ◌-◌, suc, Bool, true, false, cond, leb, [], ◌∷◌, ◌++◌, length, replicate, min}
-use Rattle.fax_reading.proofs.Names.{Result, Ok, Err, IfOk, subst, arith, length-append, length-replicate, Color, Mode, Pass}
-use Rattle.fax_reading.proofs.Names.{Horizontal, Vertical, DecodeError, UnexpectedEof, InvalidCode, EncodingMode, Group4}
-use Rattle.fax_reading.proofs.Names.{Group3_1D, Group3_2D, front_of, Bits, Turn, Row, paint, is_black, Line, Pen, Drawing, start}
-use Rattle.fax_reading.proofs.Names.{drawn, turn_behind, unless_fault, painted, run_here, mode_here, place_by, unless_full}
-use Rattle.fax_reading.proofs.Names.{draw_run, draw_mode, draw_1d, draw_2d, line_1d, line_2d, line_by}
+use Rattle.fax_reading.proofs.Names.{common_steps, ℕ, ◌≤◌, suc, Bool, true, false, [], ◌∷◌, length, Result, Ok, Err, IfOk, subst}
+use Rattle.fax_reading.proofs.Names.{arith, length-append, length-replicate, Color, Mode, Pass, Horizontal, Vertical, DecodeError}
+use Rattle.fax_reading.proofs.Names.{UnexpectedEof, EncodingMode, Group4, Group3_1D, Group3_2D, front_of, Bits, Turn, Row, paint}
+use Rattle.fax_reading.proofs.Names.{Line, Pen, Drawing, start, drawn, turn_behind, unless_fault, painted, run_here, mode_here}
+use Rattle.fax_reading.proofs.Names.{unless_full, draw_run, draw_mode, draw_1d, draw_2d, line_1d, line_2d, line_by}
 use Rattle.fax_bits.proofs.Repetition.Repeated.{repeated_keeps}
 
 -- a turn continues with what has a property, or with a line of at most this width

@@ -1,7 +1,6 @@
 -- What a line leaves is a suffix of the bits that it began with.
-use Rattle.fax_reading.proofs.Names.{arith, common_steps}
-use Rattle.fax_reading.proofs.Names.{◌≡◌, ℕ, suc, ◌+◌, Bool, true, false, cond, ltb, leb, [], ◌∷◌, ◌++◌, length, Result, Ok, Err}
-use Rattle.fax_reading.proofs.Names.{refl, sym, ap, subst, ◌∙◌, append_assoc, Color, DecodeError, UnexpectedEof, Overflow}
+use Rattle.fax_reading.proofs.Names.{arith, common_steps, ◌≡◌, ℕ, suc, Bool, true, false, cond, leb, [], ◌∷◌, ◌++◌, length}
+use Rattle.fax_reading.proofs.Names.{Result, Ok, Err, refl, sym, ap, subst, ◌∙◌, append_assoc, Color, DecodeError, UnexpectedEof}
 use Rattle.fax_reading.proofs.Names.{EncodingMode, Group4, Group3_1D, Group3_2D, Bits, read_code, Turn, Row, opposite, paint}
 use Rattle.fax_reading.proofs.Names.{codes_of, run_of_word, run_turn, run_from, Line, Pen, start, line_1d, line_2d, line_by, Step}
 use Rattle.fax_bits.proofs.CodeWords.ReadCodes.{read_code_found}

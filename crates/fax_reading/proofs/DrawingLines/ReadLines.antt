@@ -1,9 +1,8 @@
 -- Lines, a step at a time.
-use Rattle.fax_reading.proofs.Names.{common_steps}
-use Rattle.fax_reading.proofs.Names.{refl, ◌∙◌, sym, ◌≡◌, ℕ, suc, ◌-◌, ◌<◌, ◌≤◌, Bool, true, leb, [], length, Result, Ok, Err}
-use Rattle.fax_reading.proofs.Names.{subst, arith, ◌⊎◌, inl, inr, pos, ◌+ℤ◌, leb-true, Mode, Pass, Horizontal, Vertical}
-use Rattle.fax_reading.proofs.Names.{DecodeError, UnexpectedEof, Bits, mode_codes, read_code, Turn, Row, opposite, b1, b2}
-use Rattle.fax_reading.proofs.Names.{right_of, paint, run_from, Line, Pen, start, line_1d, line_2d, place_from, Step}
+use Rattle.fax_reading.proofs.Names.{common_steps, refl, ◌∙◌, sym, ◌≡◌, ℕ, suc, ◌<◌, ◌≤◌, Bool, true, [], length, Result, Ok, Err}
+use Rattle.fax_reading.proofs.Names.{subst, arith, ◌⊎◌, inl, inr, leb-true, Mode, Pass, Horizontal, Vertical, DecodeError}
+use Rattle.fax_reading.proofs.Names.{UnexpectedEof, Bits, mode_codes, read_code, Turn, Row, opposite, paint, run_from, Line, Pen}
+use Rattle.fax_reading.proofs.Names.{start, line_1d, line_2d, Step}
 use Rattle.fax_bits.proofs.CodeWords.ReadRuns.{chosen, read_code_shorter, has_no_empty_word, run_shorter}
 use Rattle.fax_reading.proofs.DrawingLines.Drawings.{try, run_then, mode_step, step_unless_full, drawn_by, step_1d, step_2d}
 use Rattle.fax_reading.proofs.DrawingLines.Drawings.{step_1d_is, step_2d_is, horizontal_is}

@@ -1,10 +1,8 @@
 -- A line that isn't read is no row.
-use Rattle.fax_reading.proofs.Names.{arith, common_steps}
-use Rattle.fax_reading.proofs.Names.{◌≡◌, Bool, true, false, not, ◌||◌, Result, Err, refl, sym, ap, subst, ◌∙◌}
-use Rattle.fax_reading.proofs.Names.{cond-true, or_from, or_parts, not-false, not_from_true, DecodeError, kind_of}
-use Rattle.fax_reading.proofs.Names.{OutOfMemory, Refused, DrawsLine, IsFault, IsRepairable}
-use Rattle.fax_reading.proofs.Names.{RepairStoresChange, HasBlack, front_of, Bits, Held, redrawn, TakesOneRow, Line}
-use Rattle.fax_reading.proofs.Names.{Row, row_of_line}
+use Rattle.fax_reading.proofs.Names.{arith, common_steps, ◌≡◌, Bool, true, false, not, ◌||◌, Result, Err, refl, sym, ap, subst}
+use Rattle.fax_reading.proofs.Names.{◌∙◌, cond-true, or_from, or_parts, not-false, not_from_true, DecodeError, kind_of}
+use Rattle.fax_reading.proofs.Names.{OutOfMemory, DrawsLine, IsFault, IsRepairable, RepairStoresChange, HasBlack, front_of, Bits}
+use Rattle.fax_reading.proofs.Names.{Held, redrawn, TakesOneRow, Line, Row, row_of_line}
 use Rattle.fax_bits.proofs.ErrorKinds.{at_fault_kind, by_kind}
 use Rattle.fax_reading.proofs.DrawingLines.DrawnLines.{memory_has_black, last_black}
 

@@ -1,20 +1,18 @@
 -- What is read doesn't depend on what follows it.
-use Rattle.fax_reading.proofs.Names.{common_steps}
-use Rattle.fax_reading.proofs.Names.{◌≡◌, ℕ, zero, suc, ◌+◌, ◌-◌, ◌<◌, Bool, leb, [], ◌++◌, length, Result, Ok, Err, refl, sym}
-use Rattle.fax_reading.proofs.Names.{ap, subst, ◌∙◌, append_assoc, arith, inl, inr, pos, ◌+ℤ◌, cases_lt, le-leb, Color, Mode}
-use Rattle.fax_reading.proofs.Names.{Pass, Horizontal, Vertical, DecodeError, Bits, mode_codes, Has, read_code, Turn, Row}
-use Rattle.fax_reading.proofs.Names.{opposite, right_of, b1, b2, paint, codes_of, run_from, Line, Pen, start, line_2d, place_from}
+use Rattle.fax_reading.proofs.Names.{common_steps, ◌≡◌, ℕ, zero, suc, ◌+◌, ◌-◌, ◌<◌, Bool, leb, [], ◌++◌, length, Result, Ok, Err}
+use Rattle.fax_reading.proofs.Names.{refl, sym, ap, subst, ◌∙◌, append_assoc, arith, inl, inr, pos, ◌+ℤ◌, cases_lt, le-leb, Color}
+use Rattle.fax_reading.proofs.Names.{Mode, Pass, Horizontal, Vertical, DecodeError, Bits, mode_codes, Has, read_code, Turn, Row}
+use Rattle.fax_reading.proofs.Names.{opposite, right_of, b1, paint, codes_of, run_from, Line, Pen, start, line_2d, place_from}
 use Rattle.fax_reading.proofs.Names.{Step}
 use Rattle.fax_reading.proofs.EncodedPictures.EncodedRuns.{draws}
-use Rattle.fax_bits.proofs.Repetition.Repeated.{after_turn}
+use Rattle.fax_bits.proofs.Repetition.Repeated.{after_turn, next_is, not_next}
 use Rattle.fax_bits.proofs.BitReading.ZerosInWords.{codes_free, modes_free}
 use Rattle.fax_bits.proofs.CodeWords.ReadCodes.{read_code_found, read_code_again}
 use Rattle.fax_bits.proofs.CodeWords.ReadRuns.{chosen, read_code_shorter, words_not_empty, run_fails, run_passes, run_ends}
 use Rattle.fax_bits.proofs.CodeWords.ReadRuns.{run_goes_on}
 use Rattle.fax_reading.proofs.DrawingLines.Drawings.{try, run_then, mode_step, drawn_by, step_2d, step_2d_is, horizontal_is}
-use Rattle.fax_reading.proofs.DrawingLines.ReadLines.{try_next, full_by, try_goes_on, draw_mode_goes_on}
-use Rattle.fax_reading.proofs.DrawingLines.ReadLines.{pen_left, drawn2, step_2d_shrinks}
-use Rattle.fax_bits.proofs.Repetition.Repeated.{next_is, not_next}
+use Rattle.fax_reading.proofs.DrawingLines.ReadLines.{try_next, full_by, try_goes_on, draw_mode_goes_on, pen_left, drawn2}
+use Rattle.fax_reading.proofs.DrawingLines.ReadLines.{step_2d_shrinks}
 
 -- ---- A run.
 abbrev pub RunFound : Color → ℕ → Bits → ℕ → Bits → Type 0

@@ -3,10 +3,9 @@ use Rattle.fax_reading.proofs.Names.{◌≡◌, ℕ, zero, suc, ◌+◌, ◌*◌
 use Rattle.fax_reading.proofs.Names.{◌++◌, length, take, drop, Option, Some, None, Ok, refl, sym, ap, subst, ◌∙◌, append_assoc}
 use Rattle.fax_reading.proofs.Names.{arith, ◌⊎◌, inl, inr, or_parts, or_from, cond-false, cases_lt, length-append, length-take-le}
 use Rattle.fax_reading.proofs.Names.{take-append-drop, drop_at, EncodingMode, Group4, DecodeSettings, Bits, AreWholeBytes, Turn}
-use Rattle.fax_reading.proofs.Names.{Reaches, Line, line_2d, after_eol, one_more, eols, eols_by, eols_here, is_over, Progress}
-use Rattle.fax_reading.proofs.Names.{Ending, row_before, aligned, line_by, line_of_turn, row_of_line, ends_with, pass_gap}
-use Rattle.fax_reading.proofs.Names.{at_front, nothing_read, end_of, plain, AfterEofb, add_row_alone, row_behind, gap_and_row}
-use Rattle.fax_reading.proofs.Names.{for_t6, common_steps}
+use Rattle.fax_reading.proofs.Names.{Reaches, Line, line_2d, after_eol, one_more, eols, eols_here, is_over, Progress, Ending}
+use Rattle.fax_reading.proofs.Names.{row_before, aligned, line_of_turn, row_of_line, ends_with, pass_gap, at_front, nothing_read}
+use Rattle.fax_reading.proofs.Names.{end_of, plain, AfterEofb, add_row_alone, row_behind, gap_and_row, for_t6, common_steps}
 use Rattle.fax_bits.proofs.BitReading.ZerosInWords.{prefix_of_prefix}
 use Rattle.fax_bits.proofs.CodeWords.ReadRuns.{chosen}
 use Rattle.fax_reading.proofs.{DrawingLines.WhatFollows.line_2d_found, EncodedPictures.Bodies.gap_at_eofb}

@@ -1,9 +1,9 @@
 -- Lines without EOLs are read as their rows, in every encoding: bodies of T.6 data, and of T.4 data that the limit ends.
 use Rattle.fax_reading.proofs.Names.{◌≡◌, ◌≢◌, ◌+◌, ◌%◌, ◌<◌, ◌≤◌, Bool, true, false, ◌&&◌, List, [], ◌∷◌, ◌++◌, length}
-use Rattle.fax_reading.proofs.Names.{replicate, Ok, refl, sym, ap, subst, ◌∙◌, append_assoc, arith, inr, All, and_from}
+use Rattle.fax_reading.proofs.Names.{replicate, Ok, sym, ap, subst, ◌∙◌, append_assoc, arith, inr, All, and_from}
 use Rattle.fax_reading.proofs.Names.{not_from_false, eq-eqb, ne_eqb, length-append, length-replicate, append-nil, All-head}
 use Rattle.fax_reading.proofs.Names.{All-tail, White, DecodeSettings, EncodingMode, Group4, Group3_1D, Group3_2D, Bits, Turn}
-use Rattle.fax_reading.proofs.Names.{Reaches, Row, Line, cond-true, is_over, eols, eols_here, Progress, row_before, limit_met}
+use Rattle.fax_reading.proofs.Names.{Reaches, Row, Line, cond-true, eols, eols_here, Progress, row_before, limit_met}
 use Rattle.fax_reading.proofs.Names.{ends_with, line_here, pass_gap, ending_behind, end_of, EncodesLine, IsPicture, EncodesRows}
 use Rattle.fax_reading.proofs.Names.{Allows, gap_and_row, row_behind, ReadsLimitedRowsT4, common_steps}
 use Rattle.fax_reading.proofs.EncodedPictures.EncodedLines.{line_2d_again}
@@ -11,7 +11,7 @@ use Rattle.fax_bits.proofs.BitReading.ConsecutiveEols.{eols-none}
 use Rattle.fax_reading.proofs.EncodedPictures.PictureLines.{IsLineStart, line_2d_starts, allows_sum, not_met, row_before_push}
 use Rattle.fax_reading.proofs.EncodedPictures.PictureLines.{plain_ends, fill, aligned_again, aligned_on, between, ended_with}
 use Rattle.fax_reading.proofs.EncodedPictures.PicturesT4.{line_t4_again, line_t4_starts}
-use Rattle.fax_reading.proofs.{Readings.RowsAndGaps.unless_over, Readings.TurnsMoveOn.eols_end}
+use Rattle.fax_reading.proofs.{Readings.TurnsMoveOn.eols_end}
 use Rattle.fax_reading.proofs.Readings.GapsAndRows.{gap_unsought, first_gap_t4, reaches_end}
 
 -- ---- No EOL is counted where there is none.

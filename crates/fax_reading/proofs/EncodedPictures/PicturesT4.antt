@@ -6,7 +6,7 @@ use Rattle.fax_reading.proofs.Names.{arith, inl, inr, All, and_right, and_from, 
 use Rattle.fax_reading.proofs.Names.{ne_eqb, length-append, length-replicate, append-nil, All-head, All-tail, Color, White}
 use Rattle.fax_reading.proofs.Names.{UnexpectedEof, EncodingMode, Group3_1D, Group3_2D, Group4, DecodeSettings, Bits, Turn}
 use Rattle.fax_reading.proofs.Names.{repeated, Row, codes_of, Line, line_1d, line_2d, after_eol, one_more, eols, all_eols}
-use Rattle.fax_reading.proofs.Names.{past_tag, eols_with_tags, tagged_eols, is_over, misses_eol, cond-true, ending_behind}
+use Rattle.fax_reading.proofs.Names.{past_tag, eols_with_tags, tagged_eols, is_over, cond-true}
 use Rattle.fax_reading.proofs.Names.{Progress, Ending, row_before, aligned, at_end, limit_met, line_here, eols_here, after_line}
 use Rattle.fax_reading.proofs.Names.{move_on, ending_from, end_of, Spells, EncodesLine1D, EncodesLine2D, EncodesLine, eol, tag_of}
 use Rattle.fax_reading.proofs.Names.{IsPicture, EncodesRowsWithEols, ClosesWithEols, PictureT4, each_word, ReadsPictureT4}

@@ -1,8 +1,7 @@
 -- EOLs with more bits behind.
-use Rattle.fax_reading.proofs.Names.{common_steps}
-use Rattle.fax_reading.proofs.Names.{◌≡◌, ℕ, zero, suc, ◌<◌, ◌≤◌, Bool, true, false, cond, leb, [], ◌∷◌, ◌++◌, length}
-use Rattle.fax_reading.proofs.Names.{Option, Some, None, refl, sym, ap, ◌∙◌, ◌⊎◌, inl, inr, arith, length-append, Bits}
-use Rattle.fax_reading.proofs.Names.{after_eol, one_more, eols, all_eols, next_eol}
+use Rattle.fax_reading.proofs.Names.{common_steps, ◌≡◌, ℕ, zero, suc, ◌<◌, ◌≤◌, Bool, true, false, [], ◌∷◌, ◌++◌, Option, Some}
+use Rattle.fax_reading.proofs.Names.{None, refl, sym, ap, ◌∙◌, ◌⊎◌, inl, inr, arith, length-append, Bits, after_eol, one_more}
+use Rattle.fax_reading.proofs.Names.{eols, all_eols, next_eol}
 use Rattle.fax_reading.specs.GapsContinued.{holds_one}
 use Rattle.fax_bits.proofs.BitReading.ConsecutiveEols.{eol_of, eols-some, eols-none}
 use Rattle.fax_bits.proofs.BitReading.ZeroRuns.{eols_enough, eols_fewer}
@@ -38,12 +37,6 @@ eol_holds_one seen (true ∷ here) rest e = refl
 -- an EOL stays
 pub eol-more : (more : Bits) (here rest : Bits) → after_eol 0 here ≡ Some rest → after_eol 0 (here ++ more) ≡ Some (rest ++ more)
 eol-more more here rest e = after_eol-more more 0 here (eol_holds_one 0 here rest e) ∙ ap (then_more more) e
-
--- where no one is left, there is no EOL
-pub no_one_no_eol : (seen : ℕ) (here : Bits) → holds_one here ≡ false → after_eol seen here ≡ None
-no_one_no_eol seen [] none = refl
-no_one_no_eol seen (false ∷ here) none = no_one_no_eol (suc seen) here none
-no_one_no_eol seen (true ∷ here) none = absurd cc
 
 -- two bytes that are an EOL
 abbrev pub bytes_of_eol : Bits

@@ -1,14 +1,12 @@
 -- EOLs with tags between them, with more bits behind.
-use Rattle.fax_reading.proofs.Names.{common_steps}
-use Rattle.fax_reading.proofs.Names.{◌≡◌, ℕ, zero, suc, ◌<◌, ◌≤◌, Bool, true, false, cond, leb, ltb, ◌&&◌, [], ◌∷◌, ◌++◌}
-use Rattle.fax_reading.proofs.Names.{length, Option, Some, None, refl, sym, ap, ◌∙◌, inl, inr, cases_lt, arith, length-append}
-use Rattle.fax_reading.proofs.Names.{le-leb, lt-leb, lt-ltb, le-ltb, Bits, after_eol, one_more, past_tag}
-use Rattle.fax_reading.proofs.Names.{eols_with_tags, pass_last_tag, tagged_eols}
+use Rattle.fax_reading.proofs.Names.{common_steps, ◌≡◌, ℕ, zero, suc, ◌<◌, ◌≤◌, true, false, [], ◌∷◌, ◌++◌, length, Option, Some}
+use Rattle.fax_reading.proofs.Names.{None, refl, sym, ap, ◌∙◌, cases_lt, arith, length-append, le-leb, lt-leb, lt-ltb, le-ltb}
+use Rattle.fax_reading.proofs.Names.{Bits, after_eol, one_more, past_tag, eols_with_tags, pass_last_tag, tagged_eols}
 use Rattle.fax_reading.specs.GapsContinued.{holds_one, behind_line_tag}
 use Rattle.fax_bits.proofs.BitReading.ConsecutiveEols.{eols_with_tags-some, eols_with_tags-none, all_tagged, count_same}
 use Rattle.fax_bits.proofs.BitReading.ConsecutiveEols.{counts_tagged, last_tag_count}
-use Rattle.fax_reading.proofs.GapsContinued.ContinuedEols.{then_more, count_then_more, one_then_more, after_eol-more}
-use Rattle.fax_reading.proofs.GapsContinued.ContinuedEols.{eol_holds_one, eol-more, bytes_of_eol, eol_may_come}
+use Rattle.fax_reading.proofs.GapsContinued.ContinuedEols.{count_then_more, one_then_more, after_eol-more, eol_holds_one}
+use Rattle.fax_reading.proofs.GapsContinued.ContinuedEols.{eol-more, bytes_of_eol, eol_may_come}
 
 -- the bits behind a tag of one
 abbrev pub behind_one : Bits → Bits

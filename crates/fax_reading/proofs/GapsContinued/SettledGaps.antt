@@ -1,23 +1,18 @@
 -- Gaps with more bits behind.
-use Rattle.fax_reading.proofs.Names.{common_steps}
-use Rattle.fax_reading.proofs.Names.{◌≡◌, ◌≢◌, ℕ, suc, Bool, true, false, not, ◌&&◌, ◌||◌, cond, leb, eqb}
-use Rattle.fax_reading.proofs.Names.{[], ◌∷◌, ◌++◌, length, Option, Some, None, Result, Ok, Err, refl, sym, ap, ◌∙◌}
-use Rattle.fax_reading.proofs.Names.{inl, inr, arith, length-append, and_parts, or_parts, cases_Bool, not-false}
-use Rattle.fax_reading.proofs.Names.{leb-true, ne_eqb, AreWholeBytes, Bits, after_eol, eols, all_eols}
-use Rattle.fax_reading.proofs.Names.{tagged_eols, pass_last_tag, next_eol, at_end, DecodeSettings, DecodeError, InvalidCode}
-use Rattle.fax_reading.proofs.Names.{EncodingMode, Group4, Group3_1D, Group3_2D, Gap, Move, Turn, Held}
-use Rattle.fax_reading.proofs.Names.{eols_by, eols_here, is_end_of_block, is_over, limit_met, behind_eols, from_next_eol}
-use Rattle.fax_reading.proofs.Names.{misses_eol, gap_behind_row, at_gap, at_front, first_gap, repairs_behind}
-use Rattle.fax_reading.proofs.Names.{with_missed}
+use Rattle.fax_reading.proofs.Names.{common_steps, ◌≡◌, ◌≢◌, ℕ, suc, Bool, true, false, not, ◌&&◌, ◌||◌, cond, leb, eqb, [], ◌∷◌}
+use Rattle.fax_reading.proofs.Names.{◌++◌, length, Option, Some, None, Result, Ok, Err, refl, sym, ap, ◌∙◌, inl, inr, arith}
+use Rattle.fax_reading.proofs.Names.{length-append, and_parts, or_parts, cases_Bool, not-false, leb-true, ne_eqb, AreWholeBytes}
+use Rattle.fax_reading.proofs.Names.{Bits, after_eol, eols, all_eols, tagged_eols, pass_last_tag, next_eol, DecodeSettings}
+use Rattle.fax_reading.proofs.Names.{DecodeError, InvalidCode, EncodingMode, Group4, Group3_1D, Group3_2D, Gap, Move, Turn, Held}
+use Rattle.fax_reading.proofs.Names.{eols_by, eols_here, is_end_of_block, limit_met, behind_eols, from_next_eol, misses_eol}
+use Rattle.fax_reading.proofs.Names.{gap_behind_row, at_gap, at_front, first_gap, repairs_behind}
 use Rattle.std.proofs.lemmas.Bool.{or_cases, leb-false}
-use Rattle.fax_reading.specs.PlainReading.{eols_of_end}
 use Rattle.fax_reading.specs.GapsContinued.{holds_one, behind_line_tag, eols_are_settled, eols_here_are_settled}
-use Rattle.fax_reading.specs.GapsContinued.{next_eols_are_settled, gap_is_settled, first_gap_is_settled, gap_before}
-use Rattle.fax_reading.specs.GapsContinued.{move_before, GapIsSettled, FirstGapIsSettled, GapsSettle}
+use Rattle.fax_reading.specs.GapsContinued.{next_eols_are_settled, gap_is_settled, first_gap_is_settled, gap_before, move_before}
+use Rattle.fax_reading.specs.GapsContinued.{GapIsSettled, FirstGapIsSettled, GapsSettle}
 use Rattle.fax_bits.proofs.BitReading.ConsecutiveEols.{all_eols-some, all_tagged-some, eols-some}
-use Rattle.fax_reading.proofs.GapsContinued.ContinuedEols.{count_then_more, next_eol-more, next_eol_may_come}
-use Rattle.fax_reading.proofs.GapsContinued.ContinuedEols.{eols-more, all_eols-more, eols_may_come, all_eols_may_come}
-use Rattle.fax_reading.proofs.GapsContinued.ContinuedEols.{bytes_of_eol}
+use Rattle.fax_reading.proofs.GapsContinued.ContinuedEols.{count_then_more, next_eol-more, next_eol_may_come, eols-more}
+use Rattle.fax_reading.proofs.GapsContinued.ContinuedEols.{all_eols-more, eols_may_come, all_eols_may_come, bytes_of_eol}
 use Rattle.fax_reading.proofs.GapsContinued.ContinuedTags.{tagged_eols-more, tagged_eols_may_come}
 
 -- ---- The test, by encodings

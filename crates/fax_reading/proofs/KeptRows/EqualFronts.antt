@@ -1,14 +1,12 @@
 -- EOLs of two data that begin with the same bits: what is found ahead of a one among these is found in both.
-use Rattle.fax_reading.proofs.Names.{common_steps}
-use Rattle.fax_reading.proofs.Names.{◌≡◌, ℕ, zero, suc, ◌<◌, ◌≤◌, Bool, true, false, cond, leb, [], ◌∷◌, ◌++◌, length, Option}
-use Rattle.fax_reading.proofs.Names.{Some, None, refl, sym, ap, ◌∙◌, arith, length-append, append_cancel_right}
+use Rattle.fax_reading.proofs.Names.{common_steps, ◌≡◌, ℕ, zero, suc, ◌<◌, ◌≤◌, Bool, true, false, cond, leb, [], ◌∷◌, ◌++◌}
+use Rattle.fax_reading.proofs.Names.{length, Option, Some, None, refl, sym, ap, ◌∙◌, arith, length-append, append_cancel_right}
 use Rattle.fax_reading.proofs.Names.{false≢true, Bits, after_eol, all_eols, eols, one_more, past_tag, pass_last_tag, tagged_eols}
 use Rattle.fax_reading.proofs.Names.{EncodingMode, Group4, Group3_1D, Group3_2D, eols_by}
 use Rattle.fax_bits.proofs.BitReading.ZerosInWords.{holds_a_one}
 use Rattle.fax_reading.proofs.DamagedLines.LinesByEols.{past_shorter}
 use Rattle.fax_reading.proofs.DamagedLines.PastEol.{past}
-use Rattle.fax_bits.proofs.BitReading.ConsecutiveEols.{all_eols-some, all_eols-none, all_tagged, all_tagged-some}
-use Rattle.fax_bits.proofs.BitReading.ConsecutiveEols.{all_tagged-none}
+use Rattle.fax_bits.proofs.BitReading.ConsecutiveEols.{all_eols-some, all_eols-none, all_tagged, all_tagged-some, all_tagged-none}
 use Rattle.fax_bits.proofs.BitReading.ConsecutiveEols.{after_eol_shorter, length-one_more, count_shorter, counts_plain}
 use Rattle.fax_bits.proofs.BitReading.ConsecutiveEols.{counts_tagged, eols-some, eols-none, past_tag_shorter}
 

@@ -1,9 +1,7 @@
 -- Lines of two data that begin with the same bits.
-use Rattle.fax_reading.proofs.Names.{common_steps}
-use Rattle.fax_reading.proofs.Names.{◌≡◌, ℕ, zero, suc, ◌<◌, Bool, true, false, leb, List, [], ◌∷◌, ◌++◌, length}
+use Rattle.fax_reading.proofs.Names.{common_steps, ◌≡◌, ℕ, zero, suc, ◌<◌, Bool, true, false, leb, List, [], ◌∷◌, ◌++◌, length}
 use Rattle.fax_reading.proofs.Names.{refl, sym, ap, ◌∙◌, append_assoc, arith, inl, inr, le-leb, cond-false, length-append}
-use Rattle.fax_reading.proofs.Names.{false≢true}
-use Rattle.fax_reading.proofs.Names.{append_cancel_right, EncodingMode, Group4, Group3_1D, Group3_2D, Bits, Turn, Row}
+use Rattle.fax_reading.proofs.Names.{false≢true, append_cancel_right, EncodingMode, Group4, Group3_1D, Group3_2D, Bits, Turn, Row}
 use Rattle.fax_reading.proofs.Names.{Line, Pen, Step, start, line_1d, line_2d, line_by, line_found, AreWords, joined}
 use Rattle.fax_bits.proofs.BitReading.ZerosInWords.{holds_a_one, word_one}
 use Rattle.fax_bits.proofs.CodeWords.ReadRuns.{chosen}

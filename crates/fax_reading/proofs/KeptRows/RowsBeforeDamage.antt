@@ -1,26 +1,22 @@
 -- Data that begin with the same bits have the same rows before the first line that may differ.
-use Rattle.fax_reading.proofs.Names.{◌≡◌, ℕ, suc, ◌%◌, ◌<◌, ◌≤◌, Bool, true, false, not, ◌&&◌, ◌||◌, eqb, ltb, List, []}
-use Rattle.fax_reading.proofs.Names.{◌∷◌, ◌++◌, length, take, drop, replicate, Option, Some, None, refl, sym, ap, subst, ◌∙◌}
+use Rattle.fax_reading.proofs.Names.{◌≡◌, ℕ, suc, ◌%◌, ◌<◌, ◌≤◌, Bool, true, false, not, ◌&&◌, ◌||◌, eqb, ltb, List, [], ◌∷◌}
+use Rattle.fax_reading.proofs.Names.{◌++◌, length, take, drop, replicate, Option, Some, None, refl, sym, ap, subst, ◌∙◌}
 use Rattle.fax_reading.proofs.Names.{append_assoc, append_cancel_left, append_cancel_right, arith, ◌⊎◌, inl, inr, cases_Bool}
-use Rattle.fax_reading.proofs.Names.{cond-true, cond-false, false≢true, length-append}
-use Rattle.fax_reading.proofs.Names.{take-append-drop}
-use Rattle.fax_reading.proofs.Names.{or_parts, not-false, EncodingMode, Group4, Group3_1D, Group3_2D, DecodeSettings, Bits}
-use Rattle.fax_reading.proofs.Names.{IsPrefix, Turn, repeated, Reaches, Row, repaired, Line, after_eol, next_eol}
-use Rattle.fax_reading.proofs.Names.{all_eols, eols_here, is_over, misses_eol, limit_met}
-use Rattle.fax_reading.proofs.Names.{at_end, Progress, Ending, Move, row_before, behind_row, row_of, line_by, line_here}
-use Rattle.fax_reading.proofs.Names.{DecodeError, UnexpectedEof, Err}
-use Rattle.fax_reading.proofs.Names.{after_line, move_on, at_front, first_line, first_gap, ending_behind, end_of}
-use Rattle.fax_reading.proofs.Names.{plain, Reading, RowsBefore, common_steps}
+use Rattle.fax_reading.proofs.Names.{cond-true, cond-false, false≢true, length-append, take-append-drop, or_parts, not-false}
+use Rattle.fax_reading.proofs.Names.{EncodingMode, Group4, Group3_1D, Group3_2D, DecodeSettings, Bits, IsPrefix, Turn, repeated}
+use Rattle.fax_reading.proofs.Names.{Reaches, Row, repaired, Line, after_eol, next_eol, all_eols, eols_here, misses_eol}
+use Rattle.fax_reading.proofs.Names.{limit_met, at_end, Progress, Ending, Move, row_before, behind_row, line_by, line_here}
+use Rattle.fax_reading.proofs.Names.{DecodeError, UnexpectedEof, Err, after_line, move_on, at_front, first_line, first_gap}
+use Rattle.fax_reading.proofs.Names.{ending_behind, end_of, plain, RowsBefore, common_steps}
 use Rattle.fax_bits.proofs.BitReading.ZerosInWords.{holds_a_one, prefix_of_prefix}
 use Rattle.fax_bits.proofs.CodeWords.ReadRuns.{chosen}
 use Rattle.fax_reading.proofs.DamagedLines.EolsAlike.{Closes, line_alike}
 use Rattle.fax_reading.proofs.DamagedLines.DamageByK.{take_front}
 use Rattle.fax_reading.proofs.DamagedLines.LinesBeforeEol.{LineAlike}
 use Rattle.fax_reading.proofs.DamagedLines.LineTails.{eol_closes}
-use Rattle.fax_reading.proofs.DamagedLines.PastEol.{past, past-eol, past_is, then_after, eols_here-none, next_eol_leaves}
+use Rattle.fax_reading.proofs.DamagedLines.PastEol.{past, past-eol, past_is, eols_here-none, next_eol_leaves}
 use Rattle.fax_reading.proofs.DamagedLines.RunsAlike.{run_at, eols_past}
-use Rattle.fax_reading.proofs.DamagedLines.SoughtTurns.{sought, rest_of, found_next, eols_here_same, sought_done, row_past}
-use Rattle.fax_reading.proofs.DamagedLines.SoughtTurns.{move_sought}
+use Rattle.fax_reading.proofs.DamagedLines.SoughtTurns.{sought, found_next, eols_here_same, sought_done, row_past, move_sought}
 use Rattle.fax_reading.proofs.EncodedPictures.AfterEofb.{aligned_split}
 use Rattle.fax_reading.proofs.KeptRows.EqualFronts.{one_in_line, one_in_bits, past_front, all_front, eols_by_front}
 use Rattle.fax_reading.proofs.KeptRows.LinesAgain.{line_again, one_in_whole, one_stays, one_there}
@@ -32,8 +28,8 @@ use Rattle.fax_reading.proofs.Readings.GapsAndRows.{plain_is}
 use Rattle.fax_reading.proofs.Readings.TurnsAddRows.{Keeps, after_row_keeps, first_gap_keeps, turn_extends, repeated_adds}
 use Rattle.fax_reading.proofs.Readings.TurnsAddRows.{move_adds}
 use Rattle.fax_reading.proofs.Readings.TurnsMoveOn.{left_to_read, left_below, move_shrinks, unless_over_next, unless_over_open}
-use Rattle.fax_bits.proofs.BitReading.ConsecutiveEols.{next_eol_found}
 use Rattle.fax_reading.proofs.Readings.TurnsMoveOn.{eols_here_counted}
+use Rattle.fax_bits.proofs.BitReading.ConsecutiveEols.{next_eol_found}
 
 -- ---- The gap
 

@@ -1,42 +1,31 @@
 -- Data that are the same from an EOL on have the same rows behind the next, whatever comes before.
-use Rattle.fax_reading.proofs.Names.{common_steps}
-use Rattle.fax_reading.proofs.Names.{◌≡◌, ℕ, zero, suc, ◌+◌, ◌-◌, ◌/◌, ◌<◌, ◌≤◌, Bool, true, false, ◌&&◌, ◌||◌}
-use Rattle.fax_reading.proofs.Names.{leb, List, [], ◌∷◌, ◌++◌, length, take, drop, Option, Some, None, Result}
-use Rattle.fax_reading.proofs.Names.{Ok, Err, refl, sym, ap, subst, ◌∙◌, append_assoc, append_cancel_right, append-nil, arith}
-use Rattle.fax_reading.proofs.Names.{◌⊎◌, inl, inr, cond-true, cond-false, lt-leb, length-append, length-drop}
-use Rattle.fax_reading.proofs.Names.{take-append-drop, DecodeError, EncodingMode, Group4, Group3_1D}
-use Rattle.fax_reading.proofs.Names.{Group3_2D, DecodeSettings, Bits, AreWholeBytes, Turn, Reaches, Row, Line}
-use Rattle.fax_reading.proofs.Names.{after_eol, all_eols, one_more, past_tag, pass_last_tag, eols_by, eols_here}
-use Rattle.fax_reading.proofs.Names.{is_end_of_block, is_over, limit_met, at_end, Progress, Ending, Move, row_before}
-use Rattle.fax_reading.proofs.Names.{row_of, line_by, line_here, move_on, first_line}
-use Rattle.fax_reading.proofs.Names.{end_of, bytes_before, plain, Reading, MakesNoRtc, PutsInStep}
-use Rattle.fax_reading.proofs.Names.{ComesTo, AreInStep, RowsBehind, IsEolAt}
-use Rattle.fax_reading.proofs.Names.{and-false}
-use Rattle.fax_reading.specs.PlainReading.{eols_of_end}
-use Rattle.fax_reading.proofs.Names.{or_parts, false≢true}
+use Rattle.fax_reading.proofs.Names.{common_steps, ◌≡◌, ℕ, zero, suc, ◌+◌, ◌-◌, ◌/◌, ◌<◌, ◌≤◌, Bool, true, false, List, [], ◌∷◌}
+use Rattle.fax_reading.proofs.Names.{◌++◌, length, take, drop, Option, Some, None, Result, Ok, Err, refl, sym, ap, subst, ◌∙◌}
+use Rattle.fax_reading.proofs.Names.{append_assoc, append_cancel_right, append-nil, arith, ◌⊎◌, inl, inr, cond-true, cond-false}
+use Rattle.fax_reading.proofs.Names.{lt-leb, length-append, length-drop, take-append-drop, DecodeError, EncodingMode, Group4}
+use Rattle.fax_reading.proofs.Names.{Group3_1D, Group3_2D, DecodeSettings, Bits, AreWholeBytes, Turn, Reaches, Row, Line}
+use Rattle.fax_reading.proofs.Names.{after_eol, all_eols, one_more, past_tag, pass_last_tag, eols_by, eols_here, is_end_of_block}
+use Rattle.fax_reading.proofs.Names.{is_over, limit_met, at_end, Progress, Ending, Move, row_before, row_of, line_by, line_here}
+use Rattle.fax_reading.proofs.Names.{move_on, first_line, end_of, bytes_before, plain, Reading, MakesNoRtc, PutsInStep, ComesTo}
+use Rattle.fax_reading.proofs.Names.{AreInStep, RowsBehind, IsEolAt, and-false, or_parts, false≢true}
 use Rattle.fax_reading.proofs.Readings.GapsAndRows.{late, goes, ending_goes, end_t4, plain_is}
-use Rattle.fax_reading.proofs.DamagedLines.LineTails.{drop_front}
-use Rattle.fax_reading.proofs.DamagedLines.EolsAlike.{Closes, RestAlike, PastAlike, closes_inside, inside_after}
-use Rattle.fax_reading.proofs.DamagedLines.EolsAlike.{leaves_after, leaves_length, after_shorter, past_alike, all_eols_alike}
-use Rattle.fax_reading.proofs.DamagedLines.EolsAlike.{eols_found, tagged_found, last_tag_alike, last_tag_few}
+use Rattle.fax_reading.proofs.DamagedLines.LineTails.{drop_front, eol_closes, line_past_by}
+use Rattle.fax_reading.proofs.DamagedLines.EolsAlike.{Closes, RestAlike, PastAlike, closes_inside, inside_after, leaves_after}
+use Rattle.fax_reading.proofs.DamagedLines.EolsAlike.{leaves_length, after_shorter, past_alike, all_eols_alike, eols_found}
+use Rattle.fax_reading.proofs.DamagedLines.EolsAlike.{tagged_found, last_tag_alike, last_tag_few, line_alike}
 use Rattle.fax_reading.proofs.DamagedLines.LinesBeforeEol.{Inside, LineAlike}
 use Rattle.fax_reading.proofs.DamagedLines.LinesByEols.{seeks}
-use Rattle.fax_reading.proofs.DamagedLines.LineTails.{eol_closes, line_past_by}
 use Rattle.fax_reading.proofs.DamagedLines.PastEol.{past, past_is, then_after}
-use Rattle.fax_bits.proofs.BitReading.ConsecutiveEols.{all_tagged, all_eols-some}
-use Rattle.fax_bits.proofs.BitReading.ConsecutiveEols.{all_tagged-some, all_tagged-none}
+use Rattle.fax_bits.proofs.BitReading.ConsecutiveEols.{all_tagged, all_eols-some, all_tagged-some, all_tagged-none}
+use Rattle.fax_bits.proofs.BitReading.ConsecutiveEols.{next_eol_found, last_tag_count, one_more-count, count_some, counts_plain}
+use Rattle.fax_bits.proofs.BitReading.ConsecutiveEols.{counts_tagged, after_eol_shorter}
 use Rattle.fax_reading.proofs.DamagedLines.RunsAlike.{IsGroup3, IsTail, SameLine, StayAlike, move_beyond, run_at, alone, not_end}
 use Rattle.fax_reading.proofs.DamagedLines.RunsAlike.{not_group4}
 use Rattle.fax_reading.proofs.DamagedLines.SoughtTurns.{sought, rest_of, not_past_end, eols_here_same, row_past, move_sought}
 use Rattle.fax_reading.proofs.DrawingLines.LinesLeaveBits.{LeavesBits, leaves_trans, LineLeaves, line_by_leaves}
-use Rattle.fax_reading.proofs.DamagedLines.EolsAlike.{line_alike}
 use Rattle.fax_bits.proofs.Repetition.Repeated.{Follows, after_turn, repeated_turn, repeated_follows, reaches_on}
 use Rattle.fax_reading.proofs.Readings.RowsAndGaps.{unless_over, after_row}
-use Rattle.fax_reading.proofs.Readings.TurnsMoveOn.{left_to_read, move_shrinks}
-use Rattle.fax_bits.proofs.BitReading.ConsecutiveEols.{next_eol_found}
-use Rattle.fax_reading.proofs.Readings.TurnsMoveOn.{eols_here_counted}
-use Rattle.fax_bits.proofs.BitReading.ConsecutiveEols.{last_tag_count, one_more-count}
-use Rattle.fax_bits.proofs.BitReading.ConsecutiveEols.{count_some, counts_plain, counts_tagged, after_eol_shorter}
+use Rattle.fax_reading.proofs.Readings.TurnsMoveOn.{left_to_read, move_shrinks, eols_here_counted}
 
 -- fewer than six EOLs end no data of Group 3
 few_end_none : (settings : DecodeSettings) (count : ℕ) → IsGroup3 settings.encoding → count < 6

@@ -1,18 +1,18 @@
 -- An EOL and the line behind it, as they are tested.
-use Rattle.fax_reading.proofs.Names.{common_steps}
-use Rattle.fax_reading.proofs.Names.{◌≡◌, ℕ, suc, ◌+◌, ◌-◌, ◌*◌, ◌<◌, ◌≤◌, ◌⊎◌, ◌↔◌, Bool, true, false, leb, [], ◌∷◌, ◌++◌}
-use Rattle.fax_reading.proofs.Names.{length, replicate, Option, Some, None, Result, Ok, Err, refl, sym, ap, subst, ◌∙◌, arith}
-use Rattle.fax_reading.proofs.Names.{inl, inr, IsTrue, min, cond-true, cond-false, lt-leb, le-leb, leb-true, none-some}
-use Rattle.fax_reading.proofs.Names.{length-append, length-replicate, Color, DecodeError, EncodingMode, Group4}
-use Rattle.fax_reading.proofs.Names.{Group3_1D, Group3_2D, DecodeSettings, Bits, after_eol, next_eol, all_eols, one_more}
-use Rattle.fax_reading.proofs.Names.{past_tag, pass_last_tag, eols_by, eols_here, is_end_of_block, read_run, opposite, is_black}
-use Rattle.fax_reading.proofs.Names.{run_found, Turn, Row, Line, Pen, line_1d, line_by, line_here, EndsBefore, ModesEndBefore}
-use Rattle.fax_reading.proofs.Names.{ComesBefore1D, EndsByWords, TellsStep, IsInStepFrom, AreWholeBytes, MakesNoRtc, RowsFollow}
-use Rattle.fax_reading.proofs.Names.{drop, length-drop, looked, looked_ahead, tag_tests, most_for_lines}
+use Rattle.fax_reading.proofs.Names.{common_steps, ◌≡◌, ℕ, ◌+◌, ◌-◌, ◌*◌, ◌<◌, ◌≤◌, ◌⊎◌, ◌↔◌, Bool, true, false, leb, [], ◌∷◌}
+use Rattle.fax_reading.proofs.Names.{◌++◌, length, replicate, Option, Some, None, Result, Ok, Err, refl, sym, ap, subst, ◌∙◌}
+use Rattle.fax_reading.proofs.Names.{arith, inl, inr, IsTrue, min, cond-true, cond-false, lt-leb, le-leb, leb-true, none-some}
+use Rattle.fax_reading.proofs.Names.{length-append, length-replicate, Color, DecodeError, EncodingMode, Group4, Group3_1D}
+use Rattle.fax_reading.proofs.Names.{Group3_2D, DecodeSettings, Bits, after_eol, next_eol, all_eols, one_more, past_tag}
+use Rattle.fax_reading.proofs.Names.{pass_last_tag, eols_by, eols_here, is_end_of_block, read_run, opposite, is_black, run_found}
+use Rattle.fax_reading.proofs.Names.{Turn, Row, Line, Pen, line_1d, line_by, line_here, EndsBefore, ModesEndBefore, ComesBefore1D}
+use Rattle.fax_reading.proofs.Names.{EndsByWords, TellsStep, IsInStepFrom, AreWholeBytes, MakesNoRtc, RowsFollow, drop}
+use Rattle.fax_reading.proofs.Names.{length-drop, looked, looked_ahead, tag_tests, most_for_lines}
 use Rattle.fax_reading.proofs.KeptRows.RowsBehindDamage.{rows_behind}
 use Rattle.fax_bits.proofs.BitReading.ZeroRuns.{looked_eol}
 use Rattle.fax_reading.proofs.Work.EolsPassed.{few_tag_tests, looked_ahead_most}
-use Rattle.fax_bits.proofs.BitReading.ConsecutiveEols.{after_eol_shorter, next_eol_found}
+use Rattle.fax_bits.proofs.BitReading.ConsecutiveEols.{after_eol_shorter, next_eol_found, all_eols-some, all_eols-none}
+use Rattle.fax_bits.proofs.BitReading.ConsecutiveEols.{all_tagged, all_tagged-some, all_tagged-none, last_tag_count}
 use Rattle.fax_reading.proofs.CodeWords.WordsFound.{RunEnds, run_stands}
 use Rattle.fax_reading.proofs.DamagedLines.AnyReference.{modes_read}
 use Rattle.fax_reading.proofs.DamagedLines.EolsAlike.{last_tag_few}
@@ -20,8 +20,6 @@ use Rattle.fax_reading.proofs.DamagedLines.RunsAlike.{IsGroup3}
 use Rattle.fax_reading.proofs.DrawingLines.Drawings.{run_then, drawn_by, step_1d, step_1d_is}
 use Rattle.fax_reading.proofs.DrawingLines.ReadLines.{drawn1}
 use Rattle.fax_reading.proofs.EncodedPictures.PicturesT4.{eols_here_two}
-use Rattle.fax_bits.proofs.BitReading.ConsecutiveEols.{all_eols-some, all_eols-none, all_tagged, all_tagged-some}
-use Rattle.fax_bits.proofs.BitReading.ConsecutiveEols.{all_tagged-none, last_tag_count}
 use Rattle.fax_bits.proofs.Repetition.Repeated.{after_turn}
 use Rattle.fax_reading.proofs.Work.WordsPay.{stands_count}
 

@@ -1,18 +1,16 @@
 -- A turn leaves a suffix of the bits that it begins with, and seeks EOLs as before or has given them up.
-use Rattle.fax_reading.proofs.Names.{arith, common_steps}
-use Rattle.fax_reading.proofs.Names.{◌≡◌, ℕ, zero, suc, ◌%◌, Bool, true, false, cond, not, ◌&&◌, ◌||◌, leb, [], ◌∷◌, ◌++◌, length}
-use Rattle.fax_reading.proofs.Names.{replicate, take, Option, Some, None, refl, sym, subst, ◌∙◌, append_assoc}
-use Rattle.fax_reading.proofs.Names.{◌⊎◌, inl, inr, take-append-drop, DecodeSettings, EncodingMode, Group4, Group3_1D}
-use Rattle.fax_reading.proofs.Names.{Group3_2D, Bits, Turn, Reaches, Row, Line, repaired, after_eol, next_eol, past_tag}
-use Rattle.fax_reading.proofs.Names.{pass_last_tag, eols_with_tags, eols_by, eols_here, one_more, Progress, row_before}
+use Rattle.fax_reading.proofs.Names.{arith, common_steps, ◌≡◌, ℕ, zero, suc, ◌%◌, Bool, true, false, cond, not, ◌&&◌, ◌||◌, leb}
+use Rattle.fax_reading.proofs.Names.{[], ◌∷◌, ◌++◌, length, replicate, take, Option, Some, None, refl, sym, subst, ◌∙◌}
+use Rattle.fax_reading.proofs.Names.{append_assoc, ◌⊎◌, inl, inr, take-append-drop, DecodeSettings, EncodingMode, Group4}
+use Rattle.fax_reading.proofs.Names.{Group3_1D, Group3_2D, Bits, Turn, Reaches, Row, Line, repaired, after_eol, next_eol}
+use Rattle.fax_reading.proofs.Names.{past_tag, pass_last_tag, eols_with_tags, eols_by, eols_here, one_more, Progress, row_before}
 use Rattle.fax_reading.proofs.Names.{aligned, with_row, behind_row, line_here, misses_eol, after_line, move_on}
 use Rattle.fax_bits.proofs.CodeWords.ReadRuns.{chosen}
 use Rattle.fax_reading.proofs.DamagedLines.LineTails.{after_eol_is}
 use Rattle.fax_reading.proofs.DamagedLines.PastEol.{next_eol_leaves}
 use Rattle.fax_reading.proofs.DrawingLines.LinesLeaveBits.{LeavesBits, leaves_trans, LineLeaves, line_by_leaves}
-use Rattle.fax_bits.proofs.Repetition.Repeated.{next_is, not_next}
-use Rattle.fax_reading.proofs.Readings.RowsAndGaps.{seek_from, unless_over, after_row, row_added, after_whole-is}
-use Rattle.fax_reading.proofs.Readings.RowsAndGaps.{after_damage-is}
+use Rattle.fax_bits.proofs.Repetition.Repeated.{not_next}
+use Rattle.fax_reading.proofs.Readings.RowsAndGaps.{seek_from, unless_over, after_row, row_added, after_whole-is, after_damage-is}
 use Rattle.fax_reading.proofs.Readings.TurnsMoveOn.{unless_over_next}
 use Rattle.fax_bits.proofs.BitReading.ConsecutiveEols.{CountsEols, counts_plain, counts_tagged}
 

@@ -1,9 +1,8 @@
 -- The index of b1, by its parity, and how it moves from mode to mode.
-use Rattle.fax_reading.proofs.Names.{common_steps}
-use Rattle.fax_reading.proofs.Names.{◌≡◌, ℕ, zero, suc, ◌+◌, ◌-◌, ◌%◌, ◌<◌, ◌≤◌, ◌⊎◌, false, not, List, [], ◌∷◌, length, get_or}
-use Rattle.fax_reading.proofs.Names.{refl, sym, ap, ◌∙◌, arith, inl, inr, cases_lt, cases_eq, get_or_past, get_or_default_zero}
-use Rattle.fax_reading.proofs.Names.{Color, White, Black, Row, AreChanges, pixels, is_black, opposite, right_of, b1, b2}
-use Rattle.fax_reading.proofs.Names.{right_of_painted, TurnsFrom, IsNear, IsB1}
+use Rattle.fax_reading.proofs.Names.{common_steps, ◌≡◌, ℕ, zero, suc, ◌+◌, ◌%◌, ◌<◌, ◌≤◌, ◌⊎◌, false, not, List, [], ◌∷◌, length}
+use Rattle.fax_reading.proofs.Names.{get_or, refl, sym, ap, ◌∙◌, arith, inl, inr, cases_lt, cases_eq, get_or_past}
+use Rattle.fax_reading.proofs.Names.{get_or_default_zero, Color, White, Black, Row, AreChanges, pixels, is_black, opposite}
+use Rattle.fax_reading.proofs.Names.{right_of, b1, b2, right_of_painted, TurnsFrom, IsNear, IsB1}
 use Rattle.fax_reading.proofs.PixelRows.ReferencePlaces.{turned, turned-not, turned_by_parity, not_not, IsSplit, IsSplit-painted}
 use Rattle.fax_reading.proofs.PixelRows.ReferencePlaces.{IsSplit-none, order, end_within, in_list_if_below, b1_is, b2_after_b1}
 

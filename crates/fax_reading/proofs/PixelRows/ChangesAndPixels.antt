@@ -1,6 +1,6 @@
 -- Lawful lists of changes and rows of pixels correspond one to one, and what painting does to both.
 use Rattle.fax_reading.proofs.Names.{◌≡◌, ℕ, zero, suc, ◌+◌, ◌-◌, ◌%◌, ◌<◌, ◌≤◌, eqb, Bool, true, false, cond, not, List, [], ◌∷◌}
-use Rattle.fax_reading.proofs.Names.{◌++◌, length, get_or, replicate, refl, sym, ap, ◌∙◌, arith, append_assoc, length-append}
+use Rattle.fax_reading.proofs.Names.{◌++◌, length, get_or, replicate, refl, sym, arith, append_assoc, length-append}
 use Rattle.fax_reading.proofs.Names.{add-one, beq, range_with_len, filter, length-replicate, replicate-append-replicate, Row}
 use Rattle.fax_reading.proofs.Names.{pixel, pixel_before, is_change, changes, AscendFrom, AreChanges, pixels_from, pixels}
 use Rattle.fax_reading.proofs.Names.{last_pixel, continued, common_steps}

@@ -1,7 +1,6 @@
 -- The changes of a row with its end six times behind them.
-use Rattle.fax_reading.proofs.Names.{common_steps}
-use Rattle.fax_reading.proofs.Names.{◌≡◌, ℕ, zero, suc, ◌<◌, ◌++◌, List, [], ◌∷◌, length, replicate, get_or, refl, ap, ◌∙◌, arith}
-use Rattle.fax_reading.proofs.Names.{AreChanges, AreEnded, changes_in, inl, inr, cases_lt, get_or_past, length-append}
+use Rattle.fax_reading.proofs.Names.{common_steps, ◌≡◌, ℕ, zero, suc, ◌<◌, ◌++◌, List, [], ◌∷◌, length, replicate, get_or, refl}
+use Rattle.fax_reading.proofs.Names.{ap, ◌∙◌, arith, AreChanges, AreEnded, changes_in, cases_lt, get_or_past, length-append}
 use Rattle.std.proofs.lemmas.List.{take_at}
 
 end_at : (end count k : ℕ) → get_or (replicate count end) k end ≡ end

@@ -1,13 +1,12 @@
 -- b1 and b2 among the changes that a reference row is made of.
-use Rattle.fax_reading.proofs.Names.{opposite}
+use Rattle.fax_reading.proofs.Names.{opposite, ◌≡◌, ℕ, zero, suc, ◌+◌, ◌-◌, ◌%◌, ◌<◌, ◌≤◌, ◌⊎◌, ◌↔◌, Bool, true, false, not, ◌&&◌}
+use Rattle.fax_reading.proofs.Names.{ltb, leb, List, [], ◌∷◌, length, get_or, replicate, refl, sym, ap, subst, ◌∙◌, arith, inl}
+use Rattle.fax_reading.proofs.Names.{inr, beq, and-false, filter, lt-ltb, le-leb, le-ltb, lt-leb, false≢true, cases_lt, cases_eq}
+use Rattle.fax_reading.proofs.Names.{cond-true, cond-false, length-replicate, get_or-replicate, get_or_append_left}
+use Rattle.fax_reading.proofs.Names.{get_or-append_right, get_or_past, get_or_default_zero, Color, White, Row, AscendFrom}
+use Rattle.fax_reading.proofs.Names.{AreChanges, pixels_from, pixels, pixel, pixel_before, is_change, is_black, right_of}
+use Rattle.fax_reading.proofs.Names.{least_below, b1, b2, right_of_painted, passed_changes, common_steps}
 use Rattle.fax_reading.proofs.PixelRows.RowChanges.{same_beq}
-use Rattle.fax_reading.proofs.Names.{◌≡◌, ℕ, zero, suc, ◌+◌, ◌-◌, ◌%◌, ◌<◌, ◌≤◌, ◌⊎◌, ◌↔◌, Bool, true, false, not, ◌&&◌, ltb, leb}
-use Rattle.fax_reading.proofs.Names.{List, [], ◌∷◌, length, get_or, replicate, refl, sym, ap, subst, ◌∙◌, arith, inl, inr, beq}
-use Rattle.fax_reading.proofs.Names.{and-false, filter, lt-ltb, le-leb, le-ltb, lt-leb, false≢true, cases_lt, cases_eq, cond-true}
-use Rattle.fax_reading.proofs.Names.{cond-false, length-replicate, get_or-replicate, get_or_append_left, get_or-append_right}
-use Rattle.fax_reading.proofs.Names.{get_or_past, get_or_default_zero, Color, White, Row, AscendFrom, AreChanges, pixels_from}
-use Rattle.fax_reading.proofs.Names.{pixels, pixel, pixel_before, is_change, is_black, right_of, least_below, b1, b2}
-use Rattle.fax_reading.proofs.Names.{right_of_painted, passed_changes, common_steps}
 use Rattle.fax_reading.proofs.PixelRows.ChangePlaces.{IsLeast, is_least, b2_above}
 use Rattle.fax_reading.proofs.PixelRows.ChangesAndPixels.{length-pixels}
 use Rattle.std.specs.Bool.{IsTrue}

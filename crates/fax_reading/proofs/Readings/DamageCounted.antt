@@ -1,14 +1,10 @@
 -- The damage that a run passes is counted: the rows that it repairs, those in which it cuts a run, and the EOLs that it misses.
-use Rattle.fax_reading.proofs.Names.{common_steps}
-use Rattle.fax_reading.proofs.Names.{◌≡◌, ◌+◌, ◌-◌, ◌<◌, ◌≤◌, ℕ, Bool, true, false, cond, eqb, leb, not, ◌&&◌, ◌||◌, List}
-use Rattle.fax_reading.proofs.Names.{[], ◌∷◌, ◌++◌, length, Ok, Err, refl, sym, ap, ◌∙◌, arith}
-use Rattle.fax_reading.proofs.Names.{cond-true, cond-false, eq-eqb, ne_eqb, lt-leb, le-leb, length-append, DecodeError}
-use Rattle.fax_reading.proofs.Names.{InvalidCode, DecodeSettings, Bits, Held, Repairs, fresh, no_repairs}
-use Rattle.fax_reading.proofs.Names.{with_missed, Damaged, repaired_in, missed_behind, is_broken, cuts_run, cut_in, cut_since}
-use Rattle.fax_reading.proofs.Names.{cuts_with}
-use Rattle.fax_reading.proofs.Names.{repairs_with, repairs_behind, Line, Progress}
-use Rattle.fax_reading.proofs.Names.{row_of_line, behind_row, with_row, misses_eol}
-use Rattle.fax_reading.proofs.Names.{context_at, Row, missed_since, start_in, None, Some}
+use Rattle.fax_reading.proofs.Names.{common_steps, ◌≡◌, ◌+◌, ◌-◌, ◌<◌, ◌≤◌, ℕ, Bool, true, false, cond, eqb, leb, not, ◌&&◌, ◌||◌}
+use Rattle.fax_reading.proofs.Names.{List, [], ◌∷◌, ◌++◌, length, Ok, Err, refl, sym, ap, ◌∙◌, arith, cond-true, cond-false}
+use Rattle.fax_reading.proofs.Names.{eq-eqb, ne_eqb, lt-leb, le-leb, length-append, DecodeError, InvalidCode, DecodeSettings}
+use Rattle.fax_reading.proofs.Names.{Bits, Held, Repairs, fresh, with_missed, Damaged, repaired_in, missed_behind, is_broken}
+use Rattle.fax_reading.proofs.Names.{cuts_run, cut_in, cut_since, cuts_with, repairs_with, repairs_behind, Line, Progress}
+use Rattle.fax_reading.proofs.Names.{row_of_line, behind_row, with_row, misses_eol, context_at, Row, missed_since, start_in}
 use Rattle.fax_reading.proofs.Readings.RowsAndGaps.{unmissed}
 
 -- ---- Rows in which a run is cut

@@ -1,10 +1,9 @@
 -- The first gap, and what gaps and rows lead to.
-use Rattle.fax_reading.proofs.Names.{◌≡◌, ◌≢◌, ◌<◌, suc, false, [], length, arith, Result, Err, refl, ap, subst, ◌∙◌, ℕ}
-use Rattle.fax_reading.proofs.Names.{DecodeError, UnexpectedEof, DecodeSettings, Group4, Bits, IsPrefix, add_row_alone}
-use Rattle.fax_reading.proofs.Names.{row_behind, gap_and_row, Progress, Ending, Move, eols_here, row_of_line, pass_gap, add_row}
-use Rattle.fax_reading.proofs.Names.{move_on, line_of_turn, at_front, first_line, first_gap, ending_from, ending_behind, end_of}
-use Rattle.fax_reading.proofs.Names.{misses_eol, cond-false, Bool, Turn, repeated, Reaches, Row, common_steps, eqb, ne_eqb}
-use Rattle.fax_reading.proofs.Names.{plain, whole_reading}
+use Rattle.fax_reading.proofs.Names.{◌≡◌, ◌≢◌, ◌<◌, suc, false, [], length, arith, Result, Err, refl, ap, ◌∙◌, ℕ, DecodeError}
+use Rattle.fax_reading.proofs.Names.{UnexpectedEof, DecodeSettings, Group4, Bits, IsPrefix, add_row_alone, row_behind}
+use Rattle.fax_reading.proofs.Names.{gap_and_row, Progress, Ending, Move, eols_here, row_of_line, pass_gap, add_row, move_on}
+use Rattle.fax_reading.proofs.Names.{line_of_turn, at_front, first_line, first_gap, ending_from, ending_behind, end_of}
+use Rattle.fax_reading.proofs.Names.{cond-false, Turn, repeated, Reaches, Row, common_steps, ne_eqb, plain, whole_reading}
 use Rattle.fax_bits.proofs.Repetition.Repeated.{Follows, after_turn, repeated_follows, repeated_turn, not_next}
 use Rattle.fax_reading.proofs.Readings.RowsAndGaps.{pass_gap-is, unless_over, unmissed}
 use Rattle.fax_reading.proofs.Readings.TurnsAddRows.{move_adds, repeated_adds}

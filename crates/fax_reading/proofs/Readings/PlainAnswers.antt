@@ -1,11 +1,8 @@
 -- What decoding leaves of whole data, given what a driver leaves of its bits.
-use Rattle.fax_reading.proofs.Names.{common_steps}
-use Rattle.fax_reading.proofs.Names.{◌≡◌, ◌≢◌, ℕ, ◌+◌, ◌-◌, ◌*◌, ◌/◌, ◌≤◌, IfOk, Bool, true, false, eqb, List, length, drop}
-use Rattle.fax_reading.proofs.Names.{Option, Some, Result, Ok, Err, refl, sym, ap, subst, ◌∙◌, arith, cond-false, eqb-true}
-use Rattle.fax_reading.proofs.Names.{length-drop, DecodeError, OutOfMemory, Refused, DecodeSettings, Bits, Held}
-use Rattle.fax_reading.proofs.Names.{SinkState, TakesRows, StopsShort, FailsHere, Ending}
-use Rattle.fax_reading.proofs.Names.{Reading, plain, end_of, lines_of, bytes_before, whole_reading}
-use Rattle.fax_reading.proofs.Names.{failed_at}
+use Rattle.fax_reading.proofs.Names.{common_steps, ◌≡◌, ◌≢◌, ℕ, ◌+◌, ◌-◌, ◌*◌, ◌/◌, ◌≤◌, IfOk, false, eqb, List, length, drop}
+use Rattle.fax_reading.proofs.Names.{Option, Some, Result, Ok, Err, ap, ◌∙◌, arith, cond-false, eqb-true, length-drop}
+use Rattle.fax_reading.proofs.Names.{DecodeError, OutOfMemory, Refused, DecodeSettings, Bits, Held, SinkState, TakesRows}
+use Rattle.fax_reading.proofs.Names.{StopsShort, FailsHere, Ending, plain, end_of, lines_of, bytes_before, failed_at}
 
 -- a number of columns that isn't 0
 pub some_columns : (n : ℕ) → n ≢ 0 → eqb n 0 ≡ false

@@ -1,10 +1,8 @@
 -- Each row of the plain reading has the width of its columns.
-use Rattle.fax_reading.proofs.Names.{common_steps}
-use Rattle.fax_reading.proofs.Names.{◌≡◌, ◌≤◌, ◌-◌, ℕ, suc, Bool, true, false, cond, not, ◌||◌, eqb, List, [], ◌∷◌, ◌++◌, length}
-use Rattle.fax_reading.proofs.Names.{replicate, Err, sym, subst, arith, length-append, length-replicate, All-append, All-cons}
-use Rattle.fax_reading.proofs.Names.{All-nil, UnexpectedEof, DecodeSettings, front_of, Bits, Turn, Row, HaveWidth, repaired, Line}
-use Rattle.fax_reading.proofs.Names.{Progress, Move, plain, end_of, whole_reading, nothing_read, first_gap, ending_from}
-use Rattle.fax_reading.proofs.Names.{ending_behind, row_before, ends_with, with_row, behind_row, line_here, after_line, move_on}
+use Rattle.fax_reading.proofs.Names.{common_steps, ◌≡◌, ◌≤◌, ℕ, suc, Bool, true, false, cond, List, [], ◌∷◌, ◌++◌, length, Err}
+use Rattle.fax_reading.proofs.Names.{sym, subst, arith, length-append, length-replicate, All-append, All-cons, All-nil}
+use Rattle.fax_reading.proofs.Names.{UnexpectedEof, DecodeSettings, front_of, Bits, Turn, Row, HaveWidth, repaired, Line}
+use Rattle.fax_reading.proofs.Names.{Progress, Move, plain, ending_from, ending_behind, with_row, behind_row, after_line, move_on}
 use Rattle.fax_reading.proofs.DrawingLines.LineWidths.{line_by_within}
 use Rattle.fax_bits.proofs.Repetition.Repeated.{repeated_keeps}
 use Rattle.fax_reading.proofs.DrawingLines.FullRows.{IsFull, line_by_full}

@@ -1,7 +1,6 @@
 -- The turns of the plain reading with the rows so far: what is between rows, over a state and not over numbers.
-use Rattle.fax_reading.proofs.Names.{arith, common_steps}
-use Rattle.fax_reading.proofs.Names.{◌≡◌, ℕ, Bool, true, false, cond, not, ◌||◌, eqb, length, Option, Some, None, Ok, ◌&&◌, Err}
-use Rattle.fax_reading.proofs.Names.{refl, sym, ap, ◌∙◌, and_parts, cases_Bool, inl, inr, false≢true, aligned, InvalidCode}
+use Rattle.fax_reading.proofs.Names.{arith, common_steps, ◌≡◌, ℕ, Bool, true, false, cond, not, ◌||◌, length, Option, Some, None}
+use Rattle.fax_reading.proofs.Names.{Ok, ◌&&◌, Err, refl, ◌∙◌, and_parts, cases_Bool, false≢true, aligned, InvalidCode}
 use Rattle.fax_reading.proofs.Names.{DecodeSettings, DecodeError, Bits, Row, repaired, Line, next_eol, Turn, is_over, misses_eol}
 use Rattle.fax_reading.proofs.Names.{Progress, Gap, with_row, behind_row, add_row, after_line, Move, eols_here, behind_eols}
 use Rattle.fax_reading.proofs.Names.{from_next_eol, missing_eol, ends_with, at_gap, pass_gap}

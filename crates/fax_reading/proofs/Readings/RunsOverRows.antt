@@ -1,15 +1,13 @@
 -- A run over the rows of the plain reading: what is known of a state that it reaches, and the turns from there on.
-use Rattle.fax_reading.proofs.Names.{common_steps}
-use Rattle.fax_reading.proofs.Names.{◌≡◌, ℕ, zero, suc, ◌+◌, ◌<◌, ◌≤◌, List, [], ◌∷◌, ◌++◌, length, drop}
-use Rattle.fax_reading.proofs.Names.{get_or, Some, Result, Ok, Err, refl, sym, ap, ◌∙◌, subst, append-nil, arith, slice_get}
-use Rattle.fax_reading.proofs.Names.{length-append, DecodeError, UnexpectedEof}
-use Rattle.fax_reading.proofs.Names.{DecodeSettings, Bits, IsPrefix, Repairs, with_row_taken, context_at}
-use Rattle.fax_reading.proofs.Names.{Progress, Ending, Gap, Move, with_row, ending_from, turns_from, Turn}
-use Rattle.fax_reading.proofs.Names.{row_of_line, line_of_turn, add_row, at_gap, gap_behind_row, move_on, pass_gap, repeated}
-use Rattle.fax_reading.proofs.Names.{gathered, Row, Reaches}
+use Rattle.fax_reading.proofs.Names.{common_steps, ◌≡◌, ℕ, zero, suc, ◌+◌, ◌<◌, ◌≤◌, List, [], ◌∷◌, ◌++◌, length, drop, get_or}
+use Rattle.fax_reading.proofs.Names.{Some, Result, Ok, Err, refl, sym, ap, ◌∙◌, subst, append-nil, arith, slice_get}
+use Rattle.fax_reading.proofs.Names.{length-append, DecodeError, UnexpectedEof, DecodeSettings, Bits, IsPrefix, Repairs}
+use Rattle.fax_reading.proofs.Names.{with_row_taken, context_at, Progress, Ending, Gap, Move, with_row, ending_from, turns_from}
+use Rattle.fax_reading.proofs.Names.{Turn, row_of_line, line_of_turn, add_row, at_gap, gap_behind_row, move_on, pass_gap}
+use Rattle.fax_reading.proofs.Names.{repeated, gathered, Row, Reaches}
 use Rattle.fax_reading.proofs.EncodedPictures.PictureLines.{row_before_push}
 use Rattle.fax_bits.proofs.Repetition.Gathered.{gathered_after, gathered_turn, gathered_same}
-use Rattle.fax_bits.proofs.Repetition.Repeated.{after_turn, repeated_turn, repeated_same, next_is, not_next}
+use Rattle.fax_bits.proofs.Repetition.Repeated.{after_turn, repeated_turn, repeated_same, not_next}
 use Rattle.fax_reading.proofs.Readings.RowsAndGaps.{after_row, pass_gap-is}
 use Rattle.fax_reading.proofs.Readings.TurnsAddRows.{Adds, Keeps, after_row_keeps, keeps_adds, move_adds, repeated_adds}
 use Rattle.fax_reading.proofs.Readings.TurnsAddRows.{prefix_trans}

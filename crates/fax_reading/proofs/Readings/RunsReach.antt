@@ -1,10 +1,9 @@
 -- What is known of a state that a reading reaches: it is the one of its index in the list of its turns, so what it gives is
 -- that of its index in every list over them.
-use Rattle.fax_reading.proofs.Names.{common_steps}
-use Rattle.fax_reading.proofs.Names.{◌≡◌, ◌+◌, ◌<◌, ℕ, List, [], ◌∷◌, length, drop, map, take, get_or, Some, ap, ◌∙◌, sym, subst}
-use Rattle.fax_reading.proofs.Names.{arith, slice_get, cond-false, ne_eqb, sum_by, eqb, DecodeSettings, Bits, Progress, Ending}
-use Rattle.fax_reading.proofs.Names.{first_gap, move_on, turns_of, turns_from, turns_behind, Turn, Reaches, get_or-drop}
-use Rattle.fax_reading.proofs.Names.{drop-map, slice_get_within, get_or_from_slice_get, sum_by_more, sum_by-take-drop, Move}
+use Rattle.fax_reading.proofs.Names.{common_steps, ◌≡◌, ◌+◌, ◌<◌, ℕ, List, [], ◌∷◌, length, drop, map, take, get_or, Some, ap}
+use Rattle.fax_reading.proofs.Names.{◌∙◌, sym, subst, arith, slice_get, cond-false, ne_eqb, sum_by, DecodeSettings, Bits}
+use Rattle.fax_reading.proofs.Names.{Progress, Ending, first_gap, move_on, turns_of, turns_from, Turn, Reaches, get_or-drop}
+use Rattle.fax_reading.proofs.Names.{drop-map, slice_get_within, get_or_from_slice_get, sum_by_more, sum_by-take-drop}
 use Rattle.fax_bits.proofs.Repetition.Gathered.{gathered_after}
 use Rattle.fax_reading.proofs.Readings.RunsOverRows.{slice_get-drop_cons, Comes, comes_there, turns_left, turns_on}
 use Rattle.fax_reading.proofs.Readings.TurnsAddRows.{Keeps, first_gap_keeps}

@@ -4,7 +4,7 @@ use Rattle.fax_reading.proofs.Names.{◌≡◌, ℕ, suc, ◌<◌, true, false, 
 use Rattle.fax_reading.proofs.Names.{refl, sym, ap, subst, arith, inl, inr, IsOk, cases_lt, cases_eq, eq-eqb, ne_eqb, false≢true}
 use Rattle.fax_reading.proofs.Names.{Color, Mode, Pass, Horizontal, Vertical, DecodeError, UnexpectedEof, DecodeSettings}
 use Rattle.fax_reading.proofs.Names.{EncodingMode, Bits, IsPrefix, Turn, Row, paint, Line, Pen, start, line_1d, line_2d, Step}
-use Rattle.fax_reading.proofs.Names.{Progress, Ending, Move, row_before, aligned, misses_eol, eols_here, next_eol, Bool}
+use Rattle.fax_reading.proofs.Names.{Progress, Ending, Move, row_before, aligned, misses_eol, eols_here, Bool}
 use Rattle.fax_reading.proofs.Names.{whole_reading, bytes_before, line_by, after_line, move_on, first_gap, ending_from, end_of}
 use Rattle.fax_reading.proofs.Names.{StrictThenLenient, common_steps, plain}
 use Rattle.fax_reading.proofs.DrawingLines.Drawings.{try, run_then, mode_step, step_unless_full, step_1d, step_2d, step_1d_is}

@@ -1,12 +1,11 @@
 -- A run only adds rows.
-use Rattle.fax_reading.proofs.Names.{arith, common_steps}
-use Rattle.fax_bits.proofs.Repetition.Repeated.{after_turn}
-use Rattle.fax_reading.proofs.Names.{◌≡◌, ℕ, ◌-◌, ◌<◌, Bool, true, false, cond, not, ◌&&◌, ◌||◌, List, [], ◌∷◌, ◌++◌, length}
-use Rattle.fax_reading.proofs.Names.{replicate, Option, Some, None, Ok, Err, refl, sym, ap, subst, ◌∙◌, append_assoc, append-nil}
-use Rattle.fax_reading.proofs.Names.{InvalidCode, DecodeSettings, Bits, IsPrefix, Turn, repeated, Row, Line, next_eol, is_over}
-use Rattle.fax_reading.proofs.Names.{misses_eol, Progress, Ending, Move, row_before, aligned, ends_with, eols_here, line_here}
-use Rattle.fax_reading.proofs.Names.{after_line, move_on, at_front, first_gap, EncodingMode, Group4, Group3_1D, Group3_2D}
-use Rattle.fax_bits.proofs.Repetition.Repeated.{Shrinks, repeated_induct}
+use Rattle.fax_reading.proofs.Names.{arith, common_steps, ◌≡◌, ℕ, ◌-◌, ◌<◌, Bool, true, false, cond, not, ◌&&◌, ◌||◌, List, []}
+use Rattle.fax_reading.proofs.Names.{◌∷◌, ◌++◌, length, replicate, Option, Some, None, Err, refl, sym, ap, subst, ◌∙◌}
+use Rattle.fax_reading.proofs.Names.{append_assoc, append-nil, InvalidCode, DecodeSettings, Bits, IsPrefix, Turn, repeated, Row}
+use Rattle.fax_reading.proofs.Names.{Line, next_eol, misses_eol, Progress, Ending, Move, row_before, aligned, ends_with}
+use Rattle.fax_reading.proofs.Names.{eols_here, line_here, after_line, move_on, first_gap, EncodingMode, Group4, Group3_1D}
+use Rattle.fax_reading.proofs.Names.{Group3_2D}
+use Rattle.fax_bits.proofs.Repetition.Repeated.{after_turn, Shrinks, repeated_induct}
 use Rattle.fax_reading.proofs.Readings.RowsAndGaps.{unless_over, seek_from, seek_eol, after_row, row_added, pass_gap-is}
 use Rattle.fax_reading.proofs.Readings.RowsAndGaps.{after_whole-is, after_damage-is}
 

@@ -1,21 +1,18 @@
 -- Each line of a run moves the offset on.
-use Rattle.fax_reading.proofs.Names.{common_steps, ◌≡◌, ℕ, suc, ◌-◌, ◌%◌, ◌<◌, ◌≤◌, Bool, true, false, cond, not, ◌&&◌}
-use Rattle.fax_reading.proofs.Names.{◌||◌, eqb, [], ◌∷◌, ◌++◌, length, replicate, Option, Some, None, Result, Ok, Err, refl}
-use Rattle.fax_reading.proofs.Names.{sym, ap, subst, ◌∙◌, arith, ◌⊎◌, inl, inr, length-drop, not-false, or_parts, false≢true}
-use Rattle.fax_reading.proofs.Names.{le-leb, lt-leb, eqb-false, DecodeError, DecodeSettings, Bits, Turn, Row, EncodingMode}
-use Rattle.fax_reading.proofs.Names.{Group4, Group3_1D, Group3_2D, InvalidCode, Line, line_1d, line_2d, after_eol, eols}
-use Rattle.fax_reading.proofs.Names.{next_eol, eols_with_tags, is_end_of_block}
-use Rattle.fax_reading.proofs.Names.{is_over, misses_eol, Progress, Move, row_before, aligned, ends_with, limit_met, at_end}
-use Rattle.fax_reading.proofs.Names.{line_by, eols_by, eols_here, line_here, after_line, move_on}
+use Rattle.fax_reading.proofs.Names.{common_steps, ◌≡◌, ℕ, suc, ◌-◌, ◌%◌, ◌<◌, ◌≤◌, Bool, true, false, cond, not, ◌&&◌, ◌||◌, eqb}
+use Rattle.fax_reading.proofs.Names.{[], ◌∷◌, ◌++◌, length, replicate, Option, Some, None, Result, refl, sym, subst, ◌∙◌, arith}
+use Rattle.fax_reading.proofs.Names.{◌⊎◌, inl, inr, length-drop, not-false, or_parts, false≢true, le-leb, lt-leb, eqb-false}
+use Rattle.fax_reading.proofs.Names.{DecodeError, DecodeSettings, Bits, Turn, Row, EncodingMode, Group4, Group3_1D, Group3_2D}
+use Rattle.fax_reading.proofs.Names.{Line, after_eol, next_eol, is_end_of_block, is_over, misses_eol, Progress, Move, aligned}
+use Rattle.fax_reading.proofs.Names.{ends_with, limit_met, at_end, line_by, eols_by, eols_here, after_line, move_on}
 use Rattle.fax_bits.proofs.CodeWords.ReadRuns.{chosen}
-use Rattle.fax_bits.proofs.Repetition.Repeated.{Shrinks}
+use Rattle.fax_bits.proofs.Repetition.Repeated.{Shrinks, not_next}
 use Rattle.fax_reading.proofs.DrawingLines.ReadLines.{TookBits, line_1d_took_bits, line_2d_took_bits}
 use Rattle.fax_reading.proofs.Readings.RowsAndGaps.{missed_sought, unless_over, seek_from, seek_eol, after_row, after_whole-is}
 use Rattle.fax_reading.proofs.Readings.RowsAndGaps.{after_damage-is}
-use Rattle.fax_bits.proofs.Repetition.Repeated.{next_is, not_next}
 use Rattle.fax_bits.proofs.BitReading.ConsecutiveEols.{Counted, all_counted, cond_le, count_moves, count_shorter, count_some}
-use Rattle.fax_bits.proofs.BitReading.ConsecutiveEols.{counts_plain, counts_tagged, eols-some, last_tag_count}
-use Rattle.fax_bits.proofs.BitReading.ConsecutiveEols.{next_eol_found, one_more-count, tagged_eols_counted}
+use Rattle.fax_bits.proofs.BitReading.ConsecutiveEols.{counts_plain, counts_tagged, eols-some, last_tag_count, next_eol_found}
+use Rattle.fax_bits.proofs.BitReading.ConsecutiveEols.{one_more-count, tagged_eols_counted}
 
 unless_next : (b : Bool) (run : Progress) (outcome : Result Bits DecodeError) (on : Move) (t : Progress)
     → cond b (ends_with run outcome) on ≡ Turn.next t → on ≡ Turn.next t

@@ -1,18 +1,16 @@
 -- A strict reading ends without a fault exactly if a lenient one does, and passes no damage.
-use Rattle.fax_reading.proofs.Names.{common_steps}
-use Rattle.fax_reading.proofs.Names.{◌≡◌, ◌+◌, ◌-◌, ◌⊎◌, inl, inr, ℕ, zero, suc, Bool, true, false, cond, ◌&&◌, eqb, List}
-use Rattle.fax_reading.proofs.Names.{[], ◌∷◌, ◌++◌, length, take, Err, refl, sym, ap, subst, arith, IsOk, sum_by, flat_map}
-use Rattle.fax_reading.proofs.Names.{cond-true, cond-false, false≢true, length-append}
-use Rattle.fax_reading.proofs.Names.{sum_by-take-le, flat_map-cons, DecodeError, UnexpectedEof, InvalidCode}
-use Rattle.fax_reading.proofs.Names.{DecodeSettings, EncodingMode, Group4, Group3_1D, Group3_2D, Bits, AreWholeBytes, AreSettings}
-use Rattle.fax_reading.proofs.Names.{Damaged, repaired_in, repaired_by_turn, missed_behind, missed_by_turn, damaged_by_turn}
-use Rattle.fax_reading.proofs.Names.{cut_by_turn, cuts_by_line, cuts_run, is_broken, not, ◌∙◌, add_row, bytes_before, Ok, Result}
-use Rattle.fax_reading.proofs.Names.{whole_reading, sum_by-append}
-use Rattle.fax_reading.proofs.Names.{damage_of, repairs_by_line, misses_by_line, StrictIsUndamaged, PicturesAreUndamaged, Line}
-use Rattle.fax_reading.proofs.Names.{IsClosedPicture, IsLimitedPicture, Progress, Ending, Gap, Move, Reading, row_before}
-use Rattle.fax_reading.proofs.Names.{after_line, line_of_turn, misses_eol, behind_row, gap_behind_row, with_row, at_gap, pass_gap}
-use Rattle.fax_reading.proofs.Names.{at_front, move_on, first_gap, ending_behind, end_of, turns_behind, turns_of, map}
-use Rattle.fax_reading.proofs.Names.{nothing_read, plain, Turn, repeated, gathered, Row}
+use Rattle.fax_reading.proofs.Names.{common_steps, ◌≡◌, ◌+◌, ◌-◌, ◌⊎◌, inl, inr, ℕ, zero, suc, Bool, true, false, cond, ◌&&◌, eqb}
+use Rattle.fax_reading.proofs.Names.{List, [], ◌∷◌, ◌++◌, length, take, Err, refl, sym, ap, subst, arith, IsOk, sum_by, flat_map}
+use Rattle.fax_reading.proofs.Names.{cond-true, cond-false, false≢true, length-append, sum_by-take-le, flat_map-cons, DecodeError}
+use Rattle.fax_reading.proofs.Names.{UnexpectedEof, InvalidCode, DecodeSettings, EncodingMode, Group4, Group3_1D, Group3_2D, Bits}
+use Rattle.fax_reading.proofs.Names.{AreWholeBytes, AreSettings, Damaged, repaired_in, repaired_by_turn, missed_behind}
+use Rattle.fax_reading.proofs.Names.{missed_by_turn, damaged_by_turn, cut_by_turn, cuts_by_line, cuts_run, is_broken, not, ◌∙◌}
+use Rattle.fax_reading.proofs.Names.{add_row, bytes_before, Ok, Result, whole_reading, sum_by-append, damage_of, repairs_by_line}
+use Rattle.fax_reading.proofs.Names.{misses_by_line, StrictIsUndamaged, PicturesAreUndamaged, Line, IsClosedPicture}
+use Rattle.fax_reading.proofs.Names.{IsLimitedPicture, Progress, Ending, Gap, Move, Reading, row_before, after_line, line_of_turn}
+use Rattle.fax_reading.proofs.Names.{misses_eol, behind_row, gap_behind_row, with_row, at_gap, pass_gap, at_front, move_on}
+use Rattle.fax_reading.proofs.Names.{first_gap, ending_behind, end_of, turns_behind, turns_of, map, nothing_read, plain, Turn}
+use Rattle.fax_reading.proofs.Names.{repeated, gathered, Row}
 use Rattle.fax_bits.proofs.Repetition.Gathered.{gathered_after}
 use Rattle.fax_bits.proofs.Repetition.Repeated.{after_turn}
 use Rattle.fax_reading.proofs.EncodedPictures.PicturesOfEachKind.{closed_pictures, limited_pictures}

@@ -1,15 +1,13 @@
 -- A row has no more changes than its line found words, and a repaired one no more than one besides.
-use Rattle.fax_reading.proofs.Names.{common_steps}
+use Rattle.fax_reading.proofs.Names.{common_steps, ◌≡◌, ℕ, zero, suc, ◌+◌, ◌-◌, ◌<◌, ◌≤◌, Bool, true, false, cond, leb, List, []}
+use Rattle.fax_reading.proofs.Names.{◌∷◌, ◌++◌, length, replicate, Result, Ok, Err, refl, sym, ap, ◌∙◌, arith, append-nil, pos}
+use Rattle.fax_reading.proofs.Names.{◌+ℤ◌, length-append, Color, Mode, Pass, Horizontal, Vertical, DecodeError, UnexpectedEof}
+use Rattle.fax_reading.proofs.Names.{EncodingMode, Group4, Group3_1D, Group3_2D, Step, front_of, Bits, mode_codes, read_code}
+use Rattle.fax_reading.proofs.Names.{Line, Pen, Drawing, start, turn_behind, words_behind, unless_fault, mode_here, place_from}
+use Rattle.fax_reading.proofs.Names.{draw_run, draw_mode, draw_1d, draw_2d, line_1d, line_2d, found_1d, found_2d, line_found}
+use Rattle.fax_reading.proofs.Names.{◌>>=◌, line_by, Turn, repeated, gathered, Row, changes, opposite, b1, b2, right_of, paint}
+use Rattle.fax_reading.proofs.Names.{repaired, white_row, run_from, word_found, run_found}
 use Rattle.fax_bits.proofs.Repetition.Gathered.{gathered_after}
-use Rattle.fax_reading.proofs.Names.{◌≡◌, ℕ, zero, suc, ◌+◌, ◌-◌, ◌<◌, ◌≤◌, min, Bool, true, false, cond, leb, ltb, ◌&&◌, List}
-use Rattle.fax_reading.proofs.Names.{[], ◌∷◌, ◌++◌, length, replicate, Result, Ok, Err, refl, sym, ap, ◌∙◌, subst, arith}
-use Rattle.fax_reading.proofs.Names.{append-nil, inl, inr, pos, ◌+ℤ◌, beq, length-append, Color, Mode, Pass, Horizontal, Vertical}
-use Rattle.fax_reading.proofs.Names.{DecodeError, UnexpectedEof, InvalidCode, EncodingMode, Group4, Group3_1D, Group3_2D, Step}
-use Rattle.fax_reading.proofs.Names.{front_of, Bits, mode_codes, read_code, Line, Pen, Drawing, start, turn_behind, words_behind}
-use Rattle.fax_reading.proofs.Names.{unless_fault, mode_here, place_from, draw_run, draw_mode, draw_1d, draw_2d, line_1d, line_2d}
-use Rattle.fax_reading.proofs.Names.{found_1d, found_2d, line_found, ◌>>=◌, line_by, Turn, repeated, gathered, Row, changes}
-use Rattle.fax_reading.proofs.Names.{is_black, opposite, b1, b2, right_of, paint, last_pixel, repaired, white_row, run_from}
-use Rattle.fax_reading.proofs.Names.{word_found, run_found}
 use Rattle.fax_reading.proofs.{DrawingLines.CountedLines.words_run, DrawingLines.Drawings.try}
 use Rattle.fax_bits.proofs.CodeWords.RunWords.{one_word}
 use Rattle.fax_reading.proofs.PixelRows.ChangesAndPixels.{changes-recursive}

@@ -1,21 +1,19 @@
 -- The EOLs that are consumed before a line, and the bits that are examined ahead of it.
-use Rattle.fax_reading.proofs.Names.{common_steps}
-use Rattle.fax_reading.proofs.Names.{◌<◌, ◌≡◌, ℕ, ◌+◌, ◌*◌, ◌≤◌, Bool, true, false, [], ◌∷◌, ◌++◌, length, replicate, drop}
-use Rattle.fax_reading.proofs.Names.{Option, Some, None, Result, Ok, Err, refl, sym, ap, ◌∙◌, subst, arith, ◌⊎◌, inl, inr}
-use Rattle.fax_reading.proofs.Names.{false≢true, length-append, length-replicate, DecodeError}
-use Rattle.fax_reading.proofs.Names.{InvalidCode, EncodingMode, Group4, Group3_1D, Group3_2D, DecodeSettings, Bits, after_eol}
-use Rattle.fax_reading.proofs.Names.{next_eol, eols_with_tags, eols, is_over, misses_eol, Gap, at_end, limit_met, eols_by}
-use Rattle.fax_reading.proofs.Names.{eols_here, behind_eols, from_next_eol, gap_behind_row, gap_said, looked, looked_ahead}
-use Rattle.fax_reading.proofs.Names.{tag_tests, IfOk, OnErr}
+use Rattle.fax_reading.proofs.Names.{common_steps, ◌<◌, ◌≡◌, ℕ, ◌+◌, ◌*◌, ◌≤◌, Bool, true, false, [], ◌∷◌, ◌++◌, length}
+use Rattle.fax_reading.proofs.Names.{replicate, drop, Option, Some, None, Result, Ok, Err, refl, sym, ap, ◌∙◌, subst, arith, ◌⊎◌}
+use Rattle.fax_reading.proofs.Names.{inl, inr, false≢true, length-append, length-replicate, DecodeError, InvalidCode}
+use Rattle.fax_reading.proofs.Names.{EncodingMode, Group4, Group3_1D, Group3_2D, DecodeSettings, Bits, after_eol, next_eol}
+use Rattle.fax_reading.proofs.Names.{eols_with_tags, eols, is_over, misses_eol, Gap, at_end, limit_met, eols_by, eols_here}
+use Rattle.fax_reading.proofs.Names.{behind_eols, from_next_eol, gap_behind_row, gap_said, looked, looked_ahead, tag_tests, IfOk}
+use Rattle.fax_reading.proofs.Names.{OnErr}
 use Rattle.fax_reading.proofs.DamagedLines.PastEol.{eols_here-none}
 use Rattle.fax_bits.proofs.BitReading.ZeroRuns.{looked_eol}
 use Rattle.fax_bits.proofs.CodeWords.ReadRuns.{chosen}
 use Rattle.fax_reading.proofs.DamagedLines.LineTails.{zeros_of_eol}
 use Rattle.fax_reading.proofs.{Readings.RowsAndGaps.missed_sought, Readings.TurnsMoveOn.none_met}
-use Rattle.fax_bits.proofs.BitReading.ConsecutiveEols.{length-one_more, count_shorter, count_past, counts_plain}
-use Rattle.fax_bits.proofs.BitReading.ConsecutiveEols.{counts_tagged, eols-some, last_tag_shorter}
+use Rattle.fax_bits.proofs.BitReading.ConsecutiveEols.{length-one_more, count_shorter, count_past, counts_plain, counts_tagged}
+use Rattle.fax_bits.proofs.BitReading.ConsecutiveEols.{eols-some, last_tag_shorter, next_eol_found}
 use Rattle.fax_reading.proofs.Readings.TurnsMoveOn.{eols_here_counted, eols_here_some}
-use Rattle.fax_bits.proofs.BitReading.ConsecutiveEols.{next_eol_found}
 
 -- ---- An EOL here or further on
 

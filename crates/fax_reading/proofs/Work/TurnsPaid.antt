@@ -1,9 +1,8 @@
 -- What a turn counts is paid by the bits that it consumes, or by ceasing to seek EOLs, which happens once.
-use Rattle.fax_reading.proofs.Names.{common_steps}
-use Rattle.fax_reading.proofs.Names.{◌≡◌, ◌≢◌, ℕ, ◌+◌, ◌*◌, ◌<◌, ◌≤◌, Bool, true, false, not, ◌&&◌, ◌||◌, cond, [], ◌∷◌, length}
-use Rattle.fax_reading.proofs.Names.{Result, Ok, Err, refl, sym, ap, ◌∙◌, subst, arith, false≢true, DecodeError, DecodeSettings}
-use Rattle.fax_reading.proofs.Names.{EncodingMode, Group4, Group3_1D, Group3_2D, Bits, Line, line_found, Gap, behind_row}
-use Rattle.fax_reading.proofs.Names.{gap_behind_row, line_by, line_here, row_of_line, Row, repaired, looked_ahead, IsPaidUpTo}
+use Rattle.fax_reading.proofs.Names.{common_steps, ◌≡◌, ◌≢◌, ℕ, ◌+◌, ◌*◌, ◌<◌, ◌≤◌, Bool, true, false, not, ◌&&◌, cond, [], ◌∷◌}
+use Rattle.fax_reading.proofs.Names.{length, Result, Ok, Err, refl, sym, ap, ◌∙◌, subst, arith, false≢true, DecodeError}
+use Rattle.fax_reading.proofs.Names.{DecodeSettings, EncodingMode, Group4, Group3_1D, Group3_2D, Bits, Line, line_found, Gap}
+use Rattle.fax_reading.proofs.Names.{behind_row, gap_behind_row, line_by, line_here, row_of_line, Row, looked_ahead, IsPaidUpTo}
 use Rattle.fax_reading.proofs.Names.{found_here}
 use Rattle.fax_reading.proofs.Readings.RowsAndGaps.{behind_with_eols}
 use Rattle.fax_reading.proofs.Work.EolsPassed.{length-within, line_past_eol, line_given_up, line_behind_shorter}

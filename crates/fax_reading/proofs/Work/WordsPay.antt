@@ -1,7 +1,6 @@
 -- What the words that a line finds say of the bits that it consumed: they pay for what it counts.
-use Rattle.fax_reading.proofs.Names.{common_steps}
-use Rattle.fax_reading.proofs.Names.{◌≡◌, ℕ, suc, ◌+◌, ◌%◌, cond, ◌<◌, ◌≤◌, Bool, true, false, List, [], ◌∷◌, ◌++◌, length}
-use Rattle.fax_reading.proofs.Names.{replicate, sym, ap, ◌∙◌, subst, arith, append_assoc, inl, inr, false≢true, cases_lt}
+use Rattle.fax_reading.proofs.Names.{common_steps, ◌≡◌, ℕ, suc, ◌+◌, ◌%◌, cond, ◌<◌, ◌≤◌, Bool, true, false, List, [], ◌∷◌, ◌++◌}
+use Rattle.fax_reading.proofs.Names.{length, replicate, sym, ap, ◌∙◌, subst, arith, append_assoc, inl, inr, false≢true, cases_lt}
 use Rattle.fax_reading.proofs.Names.{length-append, length-drop, EncodingMode, Group4, Group3_1D, Group3_2D, Bits, AreWords}
 use Rattle.fax_reading.proofs.Names.{joined, Line, found_1d, found_2d, line_1d, line_2d, line_found, aligned, Row, looked}
 use Rattle.fax_bits.proofs.BitReading.ZerosInWords.{holds_a_one, word_one, no_eleven_in, prefix_of_prefix}
