@@ -41,11 +41,7 @@ module _ (strict : Bool) (columns : ℕ) where
 
   strict_mode : (reference : Row) (pen : Pen) (mode : Mode)
       → IsStricter (draw_mode true columns reference pen mode).turn (draw_mode strict columns reference pen mode).turn
-  strict_mode reference pen Pass =
-      let place : ℕ = b2 reference (right_of pen.front) pen.color in
-      strict_behind (painted_to true columns pen place).turn (painted_to strict columns pen place).turn
-      (λ front. Turn.next (record pen { front = front })) (λ front. Turn.next (record pen { front = front }))
-      (strict_paint strict columns pen.front pen.color (place - length pen.front)) (λ front. inl refl)
+  strict_mode reference pen Pass = grind (arith, common_steps, strict_behind, strict_paint)
   strict_mode reference pen Horizontal =
       strict_behind (draw_run true columns pen).turn (draw_run strict columns pen).turn (λ p. (draw_run true columns p).turn)
       (λ p. (draw_run strict columns p).turn) (strict_run pen) strict_run

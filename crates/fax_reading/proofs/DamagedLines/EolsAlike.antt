@@ -257,12 +257,7 @@ module _ (x y : Bits) where
       -- so they are after the tag of RTC, unless it is the one with which the different bits begin
       pub last_tag_alike : (bits : Bits) (f g : ℕ × Bits) → CountAlike bits f g → ((count : ℕ) → f ≡ (count, x) → count < 6)
           → ((count : ℕ) → g ≡ (count, y) → count < 6) → CountAlike bits (pass_last_tag f) (pass_last_tag g)
-      last_tag_alike bits (n, here) (m, there) (same, inl ([], le, keeps, e, f)) few_x few_y =
-          rw (← same, e, f) (either_way (leb 6 n))
-        where
-          either_way : (b : Bool) → CountAlike bits (cond b (n, x) (n, true ∷ x)) (cond b (n, y) (n, true ∷ y))
-          either_way true = (refl, inr (refl, refl))
-          either_way false = (refl, inl ([], le, keeps, refl, refl))
+      last_tag_alike bits (n, here) (m, there) (same, inl ([], le, keeps, e, f)) few_x few_y = grind (arith, common_steps)
       last_tag_alike bits (n, here) (m, there) (same, inl (false ∷ rest, le, keeps, e, f)) few_x few_y =
           rw (← same, e, f) (refl, inl (false ∷ rest, le, keeps, refl, refl))
       last_tag_alike bits (n, here) (m, there) (same, inl (true ∷ rest, le, keeps, e, f)) few_x few_y = rw (← same, e, f)

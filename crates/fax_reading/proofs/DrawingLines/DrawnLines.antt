@@ -115,11 +115,7 @@ pub pass_draws : (old held new : Held) (count : ℕ) (rest : Bits) (r : Result (
     ≡ b2 old.reference (right_of old.front) old.color - length old.front → DrawsStep (try held.front (paint held.settings.strict
     held.settings.columns held.front held.color count) (λ front. Turn.next (record (pen_of held rest) { front = front }))) r
     (pen_of new rest) → DrawsStep (step_of_mode old rest Pass) r (pen_of new rest)
-pass_draws old held new count rest r same counts draws =
-    let at_old = subst (λ (h : Held). DrawsStep (try h.front (paint h.settings.strict h.settings.columns h.front h.color count)
-    (λ front. Turn.next (record (pen_of h rest) { front = front }))) r (pen_of new rest)) same draws in
-    subst (λ (n : ℕ). DrawsStep (try old.front (paint old.settings.strict old.settings.columns old.front old.color n)
-    (λ front. Turn.next (record (pen_of old rest) { front = front }))) r (pen_of new rest)) counts at_old
+pass_draws old held new count rest r same counts draws = grind (arith, common_steps)
 
 -- the position of a vertical mode, where it fits in 32 bits and is not left of the pixels painted
 pub place_ok : (painted p : ℕ) (z : ℤ) → z ≡ pos p → p ≤ 4294967295 → painted ≤ p → place_from painted z ≡ Ok p

@@ -24,10 +24,7 @@ module _ (line strict : Line) (row : Result (Row × Bits) DecodeError) (old new 
   -- a line that isn't read, and whose fault is the row's
   pub is_unread : (e : DecodeError) → ((fault : DecodeError) → line ≡ Line.broken new.front fault → row ≡ Err fault)
       → DrawsLine line (Err e) new.front rest → TakesOneRow line strict row old new (Err e) rest
-  is_unread e fails =
-      by_kind (λ e. DrawsLine line (Err e) new.front rest → TakesOneRow line strict row old new (Err e) rest)
-      (λ e fault draws. at_fault e fault (fails e (at_fault_kind (kind_of e) _ _ _ fault draws)))
-      unread_row_wants_memory (λ draws. absurd draws) e
+  is_unread e fails = grind (arith, common_steps, by_kind, at_fault, unread_row_wants_memory)
 
 -- ---- A line of Group 3 that isn't repaired
 

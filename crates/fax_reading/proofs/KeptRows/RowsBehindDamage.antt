@@ -329,34 +329,8 @@ module _ (settings : DecodeSettings) (wide : 0 < settings.columns) where
       → EndInStep settings unlimited a b (length behind) (goes settings wide) (end_of settings one) (end_of settings two)
       → AreInStep settings one two behind (plain settings one).rows (plain settings two).rows (plain settings one).outcome
       (plain settings two).outcome
-  in_step one two behind a b whole_one whole_two le le2 comes comes_too unlimited ((more, rows, others), ends) = record {
-    index = length a;
-    index2 = length b;
-    comes = comes;
-    comes_too = comes_too;
-    same_rows =
-        ap (drop (length a)) (ap (λ (r : Reading). r.rows) (plain_is settings wide one) ∙ rows) ∙ drop_front a more
-        ∙ sym (ap (drop (length b)) (ap (λ (r : Reading). r.rows) (plain_is settings wide two) ∙ others) ∙ drop_front b more);
-    ends = elim ends [
-      | inl (fault, e, f) ↦ inl (fault, outcome_is one (Err fault) e, outcome_is two (Err fault) f)
-      | inr (left, e, f, short) ↦
-          let place : ℕ = length one - length left in
-          let place2 : ℕ = length two - length left in
-          let at : place + length left ≡ length one = omega (arith, short, le) in
-          let at2 : place2 + length left ≡ length two = omega (arith, short, le2) in
-          inr (
-            (place + 7) / 8,
-            (place2 + 7) / 8,
-            outcome_is one (Ok left) e,
-            outcome_is two (Ok left) f,
-            omega (arith, at, at2, whole_one, whole_two),
-          )
-    ];
-  }
-    where
-      outcome_is : (bits : Bits) (r : Result Bits DecodeError) → (end_of settings bits).outcome ≡ r
-          → (plain settings bits).outcome ≡ bytes_before bits r
-      outcome_is bits r e = ap (λ (a : Reading). a.outcome) (plain_is settings wide bits) ∙ ap (bytes_before bits) e
+  in_step one two behind a b whole_one whole_two le le2 comes comes_too unlimited ((more, rows, others), ends) =
+      grind (arith, common_steps, plain_is, drop_front)
 
   -- how a reading goes on behind the EOL after the line
   ends_from : (bits : Bits) (mid : Progress) (rows : List Row) (u : Bits) (found : ℕ × Bits) → IsGroup3 settings.encoding

@@ -50,15 +50,7 @@ pub run_passed : (columns : ℕ) (begun : Bits) (passed : ℕ) (color : Color) (
     → RunsPassed columns begun passed color here → read_run color here ≡ Ok (n, rest)
     → RunsPassed columns begun (passed + min n (columns - passed)) (opposite color) rest
 run_passed columns begun passed color here rest n few (front, long, is) read =
-    let more : Row = front ++ replicate (min n (columns - length front)) (is_black color) in
-    let step : run_then false columns (pen_of_runs front color here) Turn.next
-    ≡ Turn.next (pen_of_runs more (opposite color) rest) = rw read refl in (
-      more,
-      length-append front (replicate (min n (columns - length front)) (is_black color))
-          ∙ ap (λ (m : ℕ). length front + m) (length-replicate (min n (columns - length front)) (is_black color))
-          ∙ ap (λ (m : ℕ). m + min n (columns - m)) long,
-      is ∙ run_is_next columns front color here (omega (arith, few, long)) ∙ ap (after_turn (line_from columns)) step,
-    )
+    grind (arith, common_steps, length-append, length-replicate, run_is_next)
 
 -- all its columns
 pub runs_whole : (columns : ℕ) (begun : Bits) (passed : ℕ) (color : Color) (here : Bits) → columns ≤ passed

@@ -42,54 +42,13 @@ module _ {M : Type 0} (settings : DecodeSettings) (bits : Bits) (step : M → Li
       → TakesRows end.rows end.outcome end.has_eols step before after held (Ok rest)
       → StopsShort {A = Bits} end.rows (lines_of settings bits) before after held (Ok rest)
       → LeavesRows settings bits step before after held (Ok count)
-  decodes_well place count rest at within counted takes short = known (Ok count) (
-    record {
-      taken = takes.taken;
-      meaning = takes.meaning;
-      all = takes.all;
-      ok = ap (bytes_before bits) takes.ok ∙ ap {B = Result ℕ DecodeError} (λ (x : Bits). bytes_before bits (Ok x)) at
-          ∙ bytes_before-place bits place within ∙ ap {B = Result ℕ DecodeError} (λ (n : ℕ). Ok n) counted;
-      fault = tt;
-      has_eols = takes.has_eols;
-    },
-    record {
-      memory = λ e. cc;
-      refused = λ e. cc;
-      refused_row = λ e. cc;
-      flag = λ e. cc;
-      no_flag = λ e. short.no_flag (λ f. cc);
-    },
-  )
+  decodes_well place count rest at within counted takes short = grind (arith, common_steps, known, bytes_before-place)
 
   -- where it ended with an error
   pub decodes_badly : (error : DecodeError) → TakesRows end.rows end.outcome end.has_eols step before after held (Err error)
       → StopsShort {A = Bits} end.rows (lines_of settings bits) before after held (Err error)
       → LeavesRows settings bits step before after held (Err error)
-  decodes_badly error takes short = known (Err error) (
-    record {
-      taken = takes.taken;
-      meaning = takes.meaning;
-      all = takes.all;
-      ok = tt;
-      fault = λ f. ap (bytes_before bits) (takes.fault f);
-      has_eols = takes.has_eols;
-    },
-    record {
-      memory = λ e. short.memory (same error OutOfMemory e);
-      refused = λ e. short.refused (same error Refused e);
-      refused_row = λ e. short.refused_row (same error Refused e);
-      flag = λ e. short.flag (same error Refused e);
-      no_flag = λ e. short.no_flag (λ f. e (back error Refused f));
-    },
-  )
-    where
-      same : (e f : DecodeError) → ◌≡◌ {A = Result ℕ DecodeError} (Err e) (Err f)
-          → ◌≡◌ {A = Result Bits DecodeError} (Err e) (Err f)
-      same e f is = let it : e ≡ f = cc in ap {B = Result Bits DecodeError} (λ (x : DecodeError). Err x) it
-
-      back : (e f : DecodeError) → ◌≡◌ {A = Result Bits DecodeError} (Err e) (Err f)
-          → ◌≡◌ {A = Result ℕ DecodeError} (Err e) (Err f)
-      back e f is = let it : e ≡ f = cc in ap {B = Result ℕ DecodeError} (λ (x : DecodeError). Err x) it
+  decodes_badly error takes short = grind (arith, common_steps, known)
 
 -- where it failed
 pub fault_left : (settings : DecodeSettings) (bits read rest : Bits) → read ≡ bits → (taken : ℕ)
