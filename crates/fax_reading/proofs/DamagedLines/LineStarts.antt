@@ -16,13 +16,7 @@ use Rattle.fax_reading.proofs.DamagedLines.LineTails.{after_eol_is, first_one, d
 later_below : (seen : ℕ) (here : Bits) → All (λ other. length other < length here) (later_starts seen here)
 later_below seen [] = All-nil (λ other. length other < 0)
 later_below seen (false ∷ here) = grind (arith, common_steps, later_below (suc seen) here)
-later_below seen (true ∷ here) =
-    All-append (λ other. length other < suc (length here)) (cond (leb 11 seen && begins_line here) (here ∷ []) [])
-    (later_starts 0 here) (either_way (leb 11 seen && begins_line here)) (All-weaker (λ other. length other < length here)
-    (λ other. length other < suc (length here)) (λ other lt. omega arith) (later_starts 0 here) (later_below 0 here))
-  where
-    either_way : (b : Bool) → All (λ other. length other < suc (length here)) (cond {A = List Bits} b (here ∷ []) [])
-    either_way b = grind (arith, common_steps)
+later_below seen (true ∷ here) = grind (arith, All-append, All-weaker, later_below 0 here)
 
 later_descends : (seen : ℕ) (here : Bits) → Descends (later_starts seen here)
 later_descends seen [] = tt

@@ -40,11 +40,7 @@ rows_length differ Begins xs ys (inr (before, these, those, more, same, few, e, 
 rows_more : (differ : ℕ) (Begins : List Row → Type 0) (xs ys : List Row) (row : Row) → RowsAlike differ Begins xs ys
     → RowsAlike differ Begins (xs ++ row ∷ []) (ys ++ row ∷ [])
 rows_more differ Begins xs ys row (inl e) = inl (ap (λ (x : List Row). x ++ row ∷ []) e)
-rows_more differ Begins xs ys row (inr (before, these, those, more, same, few, e, f, begins)) =
-    inr (before, these, those, more ++ row ∷ [], same, few, moved these xs e, moved those ys f, begins)
-  where
-    moved : (some all : List Row) → all ≡ before ++ (some ++ more) → all ++ row ∷ [] ≡ before ++ (some ++ (more ++ row ∷ []))
-    moved some all g = grind (arith, common_steps, append_assoc)
+rows_more differ Begins xs ys row (inr (before, these, those, more, same, few, e, f, begins)) = grind (arith, append_assoc)
 
 -- a state between lines
 abbrev pub run_at : List Row → Bool → Bits → Progress
@@ -78,19 +74,7 @@ module _ (settings : DecodeSettings) (most : ℕ) (Alike : List Row → List Row
   pub unless_beyond : (xs ys : List Row) (h : Bool) (a b : Bits) (found : ℕ × Bits) → Alike xs ys → length found.1 ≤ most
       → (is_end_of_block settings found.0 ≡ true) ⊎ SameLine settings xs ys found.1
       → Together (unless_over settings (run_at xs h a) found) (unless_over settings (run_at ys h b) found)
-  unless_beyond xs ys h a b (count, here) alike short same =
-      subst (λ (met : Bool). Together (unless_over settings (run_at xs h a) (count, here))
-      (over ys b ((is_end_of_block settings count || met) || at_end here))) (stay.limits xs ys alike) (elim same [
-        | inl ends ↦ rw ends (stay.ends xs ys h here alike short)
-        | inr line ↦ either_way line (is_over settings (length xs) (count, here))
-      ])
-    where
-      over : List Row → Bits → Bool → Move
-      over rows u t = cond t (ends_with (run_at rows h u) (Ok here)) (Turn.next (run_at rows h here))
-
-      either_way : SameLine settings xs ys here → (t : Bool) → Together (over xs a t) (over ys b t)
-      either_way line true = stay.ends xs ys h here alike short
-      either_way line false = stay.goes_on xs ys h here alike short line
+  unless_beyond xs ys h a b (count, here) alike short same = grind arith
 
   row_beyond : (xs ys : List Row) (h : Bool) (here : Bits) → Alike xs ys → length here ≤ most
       → ((there : Bits) → SameLine settings xs ys there)

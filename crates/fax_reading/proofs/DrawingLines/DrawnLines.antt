@@ -43,9 +43,7 @@ other_pixels front color (suc k) more other = (is_black color, replicate k (is_b
 
 -- if a change is stored, the front ends at a change of the new row
 pub stores_change : (held : Held) (count : ℕ) → (stored : StoresChange held count) → StopsAtChange stored.0 held.front
-stores_change held count stored =
-    let p = paint_ok held.settings.strict held.settings.columns held.front held.color count stored.0 stored.1 in
-    subst (λ (r : Row). StopsAtChange r held.front) p.1 (other_pixels held.front held.color p.0 (rw p.1 stored.2) stored.3)
+stores_change held count stored = grind (arith, paint_ok, other_pixels)
 
 first_black : (row : Row) → HasBlack (true ∷ row)
 first_black row = (0, omega arith, refl)

@@ -95,20 +95,7 @@ mode_carries strict columns reference Horizontal = λ pen t e.
     let two = draw_run_carries strict columns (λ pen. run_then strict columns pen Turn.next)
     (draw_run_carries strict columns Turn.next next_carries) pen t (horizontal_is strict columns reference pen ∙ e) in
     (two.0, two.1, λ more. sym (horizontal_is strict columns reference (record pen { rest = two.0 ++ more })) ∙ two.2 more)
-mode_carries strict columns reference (Vertical k) =
-    keeps_carries (λ pen. mode_step strict columns reference pen (Vertical k)) (λ pen t e.
-    let place = place_from (length pen.front) (pos (b1 reference (right_of pen.front) pen.color) +ℤ k) in
-    let paints : Bits → ℕ → Step = λ rest place. try pen.front (paint strict columns pen.front pen.color
-    (place - length pen.front)) (λ front. Turn.next (record { front = front; color = opposite pen.color; rest = rest })) in
-    let a = try_next pen.front place (paints pen.rest) t e in
-    let b = try_next pen.front (paint strict columns pen.front pen.color (a.0 - length pen.front))
-    (λ front. Turn.next (record { front = front; color = opposite pen.color; rest = pen.rest })) t a.2 in
-    let same : record { front = b.0; color = opposite pen.color; rest = pen.rest } ≡ t = next_is _ t b.2 in (
-      ap (λ (p : Pen). p.rest) same,
-      λ more. ap (λ (r : Result ℕ DecodeError). try pen.front r (paints more)) a.1 ∙ ap (λ (r : Result Row DecodeError).
-          try pen.front r (λ front. Turn.next (record { front = front; color = opposite pen.color; rest = more }))) b.1
-          ∙ ap (λ (p : Pen). Turn.next (record p { rest = more })) same,
-    ))
+mode_carries strict columns reference (Vertical k) = grind (arith, keeps_carries, try_next)
 
 -- a step of a two-dimensional line, which begins with the word of its mode
 record StepFound (strict : Bool) (columns : ℕ) (reference : Row) (pen t : Pen) : Type 0 where

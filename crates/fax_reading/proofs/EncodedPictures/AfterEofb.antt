@@ -152,9 +152,7 @@ module _ (settings : DecodeSettings) (four : settings.encoding ≡ Group4) (bloc
 
   move_found : (run after : Progress) → run.has_eols ≡ false → gap_and_row settings run ≡ Turn.next after
       → MoveFound settings run after
-  move_found run after unsought e = by_eols run after (eols 2 run.rest) unsought refl
-      (sym (ap (row_behind settings) (gap_unsought settings run unsought
-      ∙ ap (unless_over settings run) (counts_two run.rest))) ∙ e)
+  move_found run after unsought e = grind (arith, by_eols, gap_unsought, counts_two)
 
   -- ---- A run that reaches two EOLs.
   abbrev ended_at : Progress → Bits → Ending

@@ -71,9 +71,7 @@ module _ (columns : ℕ) (places : List ℕ) (ascend : AreChanges columns places
 
   -- or where the second one is
   pub rising_to : (j k : ℕ) → j < k → get_or places k columns < columns → get_or places j columns < get_or places k columns
-  rising_to j k lt below =
-      let le : get_or places j columns ≤ get_or places k columns = rising j k (omega arith) in
-      rising_from j k lt (omega arith)
+  rising_to j k lt below = grind (arith, rising, rising_from)
 
   -- it is the number of changes and one more at most
   pub near_within : (painted index : ℕ) → painted < columns → IsNear columns places painted index → index ≤ length places + 1
@@ -93,20 +91,7 @@ module _ (columns : ℕ) (places : List ℕ) (ascend : AreChanges columns places
   -- of the number of changes that are left of a0 or at it
   split_some : (painted j : ℕ) → 0 < painted → painted < columns → ((k : ℕ) → k < j → get_or places k columns ≤ painted)
       → painted < get_or places j columns → IsSplit places (right_of_painted painted) j
-  split_some painted j some inside left right = IsSplit-painted places painted j some (within j left) earlier
-      (λ l. omega (arith, right, get_or_default_zero places j columns l))
-    where
-      within : (n : ℕ) → ((k : ℕ) → k < n → get_or places k columns ≤ painted) → n ≤ length places
-      within zero h = omega arith
-      within (suc m) h = let lt : m < length places =
-          in_list_if_below columns places ascend m (omega (arith, inside, h m (omega arith))) in omega arith
-
-      earlier : (k : ℕ) → k < j → get_or places k 0 ≤ painted
-      earlier k l = omega (
-        arith,
-        left k l,
-        get_or_default_zero places k columns (in_list_if_below columns places ascend k (omega (arith, inside, left k l))),
-      )
+  split_some painted j some inside left right = grind (arith, IsSplit-painted, get_or_default_zero, in_list_if_below)
 
   -- the number of changes that are not right of a0 is the index of b1, or the one before it, which turns from the other colour
   split_near : (painted index : ℕ) (color : Color) → painted < columns → turned index false ≡ is_black color
@@ -174,29 +159,15 @@ module _ (columns : ℕ) (places : List ℕ) (ascend : AreChanges columns places
     -- VR: from the next index on
     pub after_vr : (more : ℕ) → 0 < more → TurnsFrom (index + 1) (opposite color)
         × IsNear columns places (get_or places index columns + more) (index + 1)
-    after_vr more some = (
-      turns_next index color at.turns,
-      record { left = λ k l. (omega arith, omega (arith, rising k index (omega arith))) },
-    )
+    after_vr more some = grind (arith, turns_next, rising)
 
     -- pass: the second next
     pub after_pass : get_or places (index + 1) columns < columns
         → IsB1 columns places (get_or places (index + 1) columns) (index + 2) color
-    after_pass below = record {
-      turns = turns_second index color at.turns;
-      near = record {
-        left = λ k l.
-            (omega (arith, rising_to k (index + 1) (omega arith) below), omega (arith, rising k (index + 1) (omega arith)));
-      };
-      right = λ some. rising_from (index + 1) (index + 2) (omega arith) below;
-    }
+    after_pass below = grind (arith, turns_second, rising_to, rising, rising_from)
 
   module _ (painted before : ℕ) (color : Color) (at : IsB1 columns places painted (before + 1) color) (place : ℕ)
       (right : painted < place) (left : place < get_or places (before + 1) columns) where
     -- the one after b1
     pub after_vl_on : get_or places before columns ≤ place → IsB1 columns places place (before + 2) (opposite color)
-    after_vl_on is_left = record {
-      turns = turns_second before (opposite color) (turns_before before color at.turns);
-      near = near_up place before (omega arith) is_left;
-      right = λ some. omega (arith, left, rising (before + 1) (before + 2) (omega arith));
-    }
+    after_vl_on is_left = grind (arith, turns_second, turns_before, near_up, rising)

@@ -119,7 +119,6 @@ pixels_from-wider place color width more [] le ascend = grind (arith, common_ste
 pixels_from-wider place color width more (change ∷ places) le ascend =
     grind (
       arith,
-      common_steps,
       AscendFrom-here,
       append_assoc,
       pixels_from-wider change (not color) width more places (omega arith) (AscendFrom-here change width places ascend.2),
@@ -134,7 +133,6 @@ pixels_from-on place color width more [] le ascend = grind (arith, common_steps,
 pixels_from-on place color width more (change ∷ places) le ascend =
     grind (
       arith,
-      common_steps,
       AscendFrom-here,
       append_assoc,
       pixels_from-on change (not color) width more places (omega arith) (AscendFrom-here change (suc width) places ascend.2),
@@ -210,7 +208,6 @@ changes_from-pixels_from place color width [] ascend = changes_from-same place (
 changes_from-pixels_from place color width (change ∷ places) ascend =
     grind (
       arith,
-      common_steps,
       length-replicate,
       pixels_from-first,
       changes_from-append,

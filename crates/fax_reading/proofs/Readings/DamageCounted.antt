@@ -63,18 +63,7 @@ repaired_none settings has_eols index offset start (Line.broken front fault) e i
 -- the gap after a row repairs none, and cuts none
 pub repaired_behind : (held : Held) (here : Bits) → ((repairs_behind held here).rows ≡ held.repairs.rows)
     × ((repairs_behind held here).last ≡ held.repairs.last) × ((repairs_behind held here).cut ≡ held.repairs.cut)
-repaired_behind held here =
-    either_way (misses_eol held.settings held.taken held.has_eols here && not held.settings.strict)
-    (eqb held.repairs.last held.taken || leb held.taken held.repairs.missed)
-  where
-    either_way : (b c : Bool) → ((cond b (cond c held.repairs (record held.repairs { missed = held.repairs.missed + 1 }))
-        held.repairs).rows ≡ held.repairs.rows) × ((cond b
-        (cond c held.repairs (record held.repairs { missed = held.repairs.missed + 1 })) held.repairs).last ≡ held.repairs.last)
-        × ((cond b (cond c held.repairs (record held.repairs { missed = held.repairs.missed + 1 })) held.repairs).cut
-        ≡ held.repairs.cut)
-    either_way true true = (refl, refl, refl)
-    either_way true false = (refl, refl, refl)
-    either_way false c = (refl, refl, refl)
+repaired_behind held here = grind arith
 
 -- where no EOLs are sought, none is missed
 unsought_behind : (held : Held) (here : Bits) → held.has_eols ≡ false → repairs_behind held here ≡ held.repairs

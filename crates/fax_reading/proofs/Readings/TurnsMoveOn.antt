@@ -61,11 +61,7 @@ not_at_end (b ∷ rest) e = absurd (false≢true e)
 seek_left : (settings : DecodeSettings) (run t : Progress) (o : Option Bits) → run.has_eols ≡ true → next_eol run.rest ≡ o
     → seek_from settings run o ≡ Turn.next t → left_to_read t ≤ length run.rest
 seek_left settings run t None h e k = grind (arith, common_steps)
-seek_left settings run t (Some found) h e k =
-    let f = next_eol_found run.rest found e in
-    let g = eols_here_counted settings found in
-    subst (λ (r : Progress). left_to_read r ≤ length run.rest) (unless_over_next settings run t (eols_here settings found) k)
-    (rw h (omega (arith, f.0, g.1 (eols_here_some settings found f.1.0 f.1.1))))
+seek_left settings run t (Some found) h e k = grind (arith, next_eol_found, eols_here_counted, unless_over_next, eols_here_some)
 
 seek_eol_next : (settings : DecodeSettings) (run t : Progress) → seek_eol settings run ≡ Turn.next t
     → seek_from settings run (next_eol run.rest) ≡ Turn.next t

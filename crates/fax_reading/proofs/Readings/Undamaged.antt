@@ -85,13 +85,7 @@ module _ (settings : DecodeSettings) (bits : Bits) where
   gap_sound : (taken : ℕ) (has_eols : Bool) (rest : Bits) → (gap_behind_row strictly taken has_eols rest
       ≡ Gap.over (Err InvalidCode)) ⊎ ((misses_eol leniently taken has_eols rest ≡ false)
       × (gap_behind_row strictly taken has_eols rest ≡ gap_behind_row leniently taken has_eols rest))
-  gap_sound taken has_eols rest = by_misses_eol (misses_eol settings taken has_eols rest) refl
-    where
-      by_misses_eol : (b : Bool) → misses_eol settings taken has_eols rest ≡ b → (gap_behind_row strictly taken has_eols rest
-          ≡ Gap.over (Err InvalidCode)) ⊎ ((misses_eol leniently taken has_eols rest ≡ false)
-          × (gap_behind_row strictly taken has_eols rest ≡ gap_behind_row leniently taken has_eols rest))
-      by_misses_eol true e = inl (cond-true (misses_eol settings taken has_eols rest) _ _ e)
-      by_misses_eol false e = grind (arith, common_steps, cond-false)
+  gap_sound taken has_eols rest = grind (arith, cond-true, cond-false)
 
   -- a turn that ends with a fault
   abbrev Fails : Move → Type 0
@@ -376,15 +370,7 @@ no_misses settings bits taken ok =
 
 -- the law
 pub strict_is_undamaged : StrictIsUndamaged
-strict_is_undamaged settings bits = (
-  λ ok. (
-    subst (λ (r : Reading). IsOk r.outcome) ((strict_first settings bits).1 ok) ok,
-    no_damage
-        (record settings { strict = false }) bits ok,
-  ),
-  λ (ok, none). strict_ok settings bits ok (empty_joined (damaged_by_turn (record settings { strict = false }) bits)
-      (turns_of (record settings { strict = false }) bits) none),
-)
+strict_is_undamaged settings bits = grind (arith, strict_first, no_damage, strict_ok, empty_joined)
 
 -- the settings of a strict reading are lawful too
 strict_are : (settings : DecodeSettings) → AreSettings settings → AreSettings (record settings { strict = true })
