@@ -90,9 +90,7 @@ module _ (more : Bits) where
 
   draw_1d_on : (strict : Bool) (columns : ℕ) (pen : Pen)
       → Continues more pen_on (draw_1d strict columns pen) (draw_1d strict columns (pen_on pen))
-  draw_1d_on strict columns pen =
-      then_continues pen_on pen_on (draw_run strict columns) (draw_run strict columns) (draw_run_on strict columns)
-      (unless_full columns pen) (unless_full columns (pen_on pen)) (full_on columns pen)
+  draw_1d_on strict columns pen = grind (arith, common_steps, then_continues, draw_run_on strict columns, full_on columns pen)
 
   draw_2d_on : (strict : Bool) (columns : ℕ) (reference : Row) (pen : Pen)
       → Continues more pen_on (draw_2d strict columns reference pen) (draw_2d strict columns reference (pen_on pen))

@@ -17,16 +17,8 @@ use Rattle.fax_reading.proofs.DamagedLines.PastEol.{past, past_is, then_after}
 pub behind_eol : (bits : Bits) (place end : ℕ) → 12 ≤ place → place ≤ length bits → end ≤ length bits
     → after_eol 0 (drop (place - 12) bits) ≡ Some (drop end bits)
     → IsTrue (eqb end place) ↔ ((place ≡ 0) ⊎ ((12 ≤ place) × (after_eol 0 (drop (place - 12) bits) ≡ Some (drop place bits))))
-behind_eol bits place end far within there eol = (
-  λ test. inr (far, eol ∙ ap (λ (n : ℕ). Some (drop n bits)) (eqb-true end place test)),
-  λ before. elim before [
-    | inl none ↦ absurd (omega (arith, none, far))
-    | inr found ↦
-        let both : ◌≡◌ {A = Option Bits} (Some (drop end bits)) (Some (drop place bits)) = sym eol ∙ found.1 in
-        let same : drop end bits ≡ drop place bits = cc in
-        eq-eqb end place (omega (arith, ap length same, length-drop end bits, length-drop place bits, within, there))
-  ],
-)
+behind_eol bits place end far within there eol =
+    grind (arith, common_steps, eqb-true, eq-eqb, length-drop end bits, length-drop place bits)
 
 -- ---- A one in a body.
 zeros_only : (m : ℕ) (here : Bits) → m ≤ leading_zeros here → take m here ≡ replicate m false

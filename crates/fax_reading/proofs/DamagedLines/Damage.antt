@@ -314,13 +314,7 @@ one_row_differs : (settings : DecodeSettings) (one two : Bits) (from : ℕ) (row
 one_row_differs settings one two from rows others (inl e) = inl (sym e)
 one_row_differs settings one two from rows others (inr (before, [], [], more, same, few, e, f, begins)) = inl (f ∙ sym e)
 one_row_differs settings one two from rows others (inr (before, a ∷ [], b ∷ [], more, same, few, e, f, begins)) =
-    inr (
-      length before,
-      b,
-      (sought before (drop from one), begins.0, refl, refl),
-      (sought before (drop from two), begins.1, refl, refl),
-      f ∙ sym (set_at before a more b (length before) refl) ∙ ap (λ (r : List Row). set r (length before) b) (sym e),
-    )
+    grind (arith, common_steps, set_at before a more b (length before) refl)
 one_row_differs settings one two from rows others (inr (before, [], b ∷ those, more, same, few, e, f, begins)) = absurd
     (omega (arith, same))
 one_row_differs settings one two from rows others (inr (before, a ∷ these, [], more, same, few, e, f, begins)) = absurd

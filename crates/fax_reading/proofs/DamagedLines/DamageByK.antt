@@ -139,31 +139,18 @@ rows_differ : (settings : DecodeSettings) (one two : Bits) (from differ : ℕ) (
     → RowsDiffer settings one two from differ rows others
 rows_differ settings one two from differ rows others (inl e) = inl (sym e)
 rows_differ settings one two from differ rows others (inr (before, these, those, more, same, few, e, f, begins)) =
-    inr (
-      length before,
-      (sought before (drop from one), begins.0, refl, refl),
-      (sought before (drop from two), begins.1, refl, refl),
-      (
-        omega (
-          arith,
-          ap length e,
-          ap length f,
-          same,
-          length-append before (these ++ more),
-          length-append before (those ++ more),
-          length-append these more,
-          length-append those more,
-        ),
-        ap (take (length before)) f ∙ take_front before (those ++ more)
-            ∙ sym (ap (take (length before)) e ∙ take_front before (these ++ more)),
-        behind those others f (omega (arith, same, few))
-            ∙ ap (λ (n : ℕ). drop (length before + differ - (length before + n)) more) (sym same) ∙ sym (behind these rows e few),
-      ),
+    grind (
+      arith,
+      common_steps,
+      length-append before (these ++ more),
+      length-append before (those ++ more),
+      length-append these more,
+      length-append those more,
+      take_front before (those ++ more),
+      take_front before (these ++ more),
+      append_assoc,
+      drop_past,
     )
-  where
-    behind : (some all : List Row) → all ≡ before ++ (some ++ more) → length some ≤ differ
-        → drop (length before + differ) all ≡ drop (length before + differ - (length before + length some)) more
-    behind some all g le = grind (arith, common_steps, append_assoc, drop_past, length-append)
 
 -- the law
 pub locality_by_k : LocalityByK

@@ -26,12 +26,7 @@ suffix_of (x ∷ a) b c (y ∷ before, e) = suffix_of a b c (before, cc)
 
 -- a suffix that is long enough ends with the second
 suffix_ends_with : (a b c : Bits) → LeavesBits (a ++ b) c → length b ≤ length c → (more : Bits) × (c ≡ more ++ b)
-suffix_ends_with a b c leaves le = by_more (suffix_of a b c leaves)
-  where
-    by_more : LeavesBits b c ⊎ ((more : Bits) × (c ≡ more ++ b)) → (more : Bits) × (c ≡ more ++ b)
-    by_more (inl ([], e)) = ([], sym e)
-    by_more (inl (x ∷ before, e)) = absurd (omega (arith, le, ap length e, length-append before c))
-    by_more (inr given) = given
+suffix_ends_with a b c leaves le = grind (arith, common_steps, suffix_of a b c leaves, length-append)
 
 -- ---- EOLs in order
 
@@ -254,20 +249,9 @@ pub record IsTagged (line : Bits) : Type 0 where
 
 tagged : (above row : Row) (line : Bits) → EncodesLine Group3_2D above row line → 0 < length row → IsTagged line
 tagged above row line (words, inl (is, encodes)) some =
-    record {
-      tag = true;
-      words = words;
-      is = is;
-      quiet = quiet_1d White row words encodes;
-      one = holds_1d White row words encodes some;
-    }
-tagged above row line (words, inr (is, encodes)) some = record {
-  tag = false;
-  words = words;
-  is = is;
-  quiet = quiet_line above row 0 White words encodes;
-  one = holds_2d above row 0 White words encodes (omega arith);
-}
+    grind (arith, common_steps, quiet_1d White row words encodes, holds_1d White row words encodes some)
+tagged above row line (words, inr (is, encodes)) some = grind
+    (arith, common_steps, quiet_line above row 0 White words encodes, holds_2d above row 0 White words encodes (omega arith))
 
 -- the last of some lines, each with an EOL before it
 abbrev LastLine : Bits → Type 0

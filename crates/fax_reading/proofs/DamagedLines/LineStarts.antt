@@ -78,12 +78,7 @@ shorter_end xs ys us vs e le =
     grind (arith, common_steps, append_assoc, append_cancel_left, prefix_of_prefix)
 
 same_end : (xs ys us vs : Bits) → xs ++ ys ≡ us ++ vs → length ys ≡ length vs → ys ≡ vs
-same_end xs ys us vs e len =
-    let f = shorter_end xs ys us vs e (omega (arith, len)) in
-    by_ys f.0 f.1
-  where
-    by_ys : (before : Bits) → ys ≡ before ++ vs → ys ≡ vs
-    by_ys before g = grind (arith, common_steps)
+same_end xs ys us vs e len = grind (arith, common_steps, shorter_end xs ys us vs e (omega (arith, len)))
 
 to_later : (seen : ℕ) (here end : Bits) → EndsLater seen here end → begins_line end ≡ true → Contains (later_starts seen here) end
 to_later seen [] end (at, leaves, eol, lt) b = absurd (omega arith)

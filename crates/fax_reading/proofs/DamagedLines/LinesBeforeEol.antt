@@ -87,17 +87,9 @@ module _ {V : Type 0} (list : List (Code V)) (free : is_prefix_free list ≡ tru
     where
       by_read_code : (r q : Result (V × Bits) DecodeError) → read_code list (bits ++ x) ≡ r → read_code list (bits ++ y) ≡ q
           → FoundAlike x y r q
-      by_read_code (Ok (v, rest)) (Ok (w, other)) e f =
-          let g = reads_too bits x y v rest inside e in
-          let same : ◌≡◌ {A = Result (V × Bits) DecodeError} (Ok (v, g.0 ++ y)) (Ok (w, other)) = sym g.3 ∙ f in
-          let pairs : (v, g.0 ++ y) ≡ (w, other) = cc in
-          (ap (λ (p : V × Bits). p.0) pairs, (g.0, g.1, g.2, sym (ap (λ (p : V × Bits). p.1) pairs)))
-      by_read_code (Ok (v, rest)) (Err fault) e f =
-          let g = reads_too bits x y v rest inside e in
-          let same : ◌≡◌ {A = Result (V × Bits) DecodeError} (Ok (v, g.0 ++ y)) (Err fault) = sym g.3 ∙ f in cc
-      by_read_code (Err fault) (Ok (w, other)) e f =
-          let g = reads_too bits y x w other inside f in
-          let same : ◌≡◌ {A = Result (V × Bits) DecodeError} (Ok (w, g.0 ++ x)) (Err fault) = sym g.3 ∙ e in cc
+      by_read_code (Ok (v, rest)) (Ok (w, other)) e f = grind (arith, common_steps, reads_too bits x y v rest inside e)
+      by_read_code (Ok (v, rest)) (Err fault) e f = grind (arith, common_steps, reads_too bits x y v rest inside e)
+      by_read_code (Err fault) (Ok (w, other)) e f = grind (arith, common_steps, reads_too bits y x w other inside f)
       by_read_code (Err fault) (Err other) e f = tt
 
   words_in_front : (x y here there : Bits) → InFront x y here there → FoundAlike x y (read_code list here) (read_code list there)

@@ -28,12 +28,7 @@ second_ends color (Err fault) rest ends = tt
 
 second_stands : (color : Color) (r : Result (ℕ × Bits) DecodeError) (middle : Bits) → RunEnds r middle
     → (rest : Bits) × WordsStand middle (second_run_found color r) rest × ModeEnds (behind_first_run color r) rest
-second_stands color (Ok (n, left)) middle ends =
-    let run = run_stands (opposite color) 0 left in (
-      run.0,
-      subst (λ (b : Bits). WordsStand b (run_found (opposite color) (0, left)) run.0) ends run.1,
-      second_ends color (read_run (opposite color) left) run.0 run.2,
-    )
+second_stands color (Ok (n, left)) middle ends = grind (arith, common_steps, run_stands (opposite color) 0 left, second_ends)
 second_stands color (Err fault) middle ends = (middle, stands_none middle, tt)
 
 runs_stand : (color : Color) (mode : Mode) (here : Bits) → (rest : Bits) × WordsStand here (runs_found color mode here) rest
@@ -140,15 +135,12 @@ pub line_work : (old line next after : Bits) (start at_tag sought read now : ℕ
     → ((found end : Bits) → next_eol line ≡ Some found → after_eol 0 found ≡ Some end → now + length end ≤ read + length line)
     → now + 3 * length next ≤ start + 3 * length old + 3 * looked next
 line_work old line next after start at_tag sought read now is none found eol tag passed again modes =
-    omega (
+    grind (
       arith,
-      ap length is,
-      tag,
-      passed,
-      again,
+      common_steps,
       looked_eol 0 next after eol,
       looked_before_eol 0 old next none found,
-      modes next after (next_behind_tag line next (ap (after_eol 0) (sym is) ∙ none) (ap next_eol (sym is) ∙ found)) eol,
+      next_behind_tag line next (ap (after_eol 0) (sym is) ∙ none) (ap next_eol (sym is) ∙ found),
     )
 
 -- ---- A line after another
@@ -163,17 +155,11 @@ pub line_paid : (start here line next rest : Bits) (count begun before eol tags 
     → tags + 2 * length rest ≤ eol + 2 * length here + 3 + looked (drop 1 rest)
     → now + 3 * length next ≤ tags + 3 * length (false ∷ line) + 3 * looked next → LinesPaid start next begun now
 line_paid start here line next rest count begun before eol tags now paid e is counted read ahead passed =
-    let one : tagged_eols here ≡ (1, false ∷ line) =
-    ap pass_last_tag (all_tagged-some here (false ∷ line) e ∙ ap one_more (all_tagged-none (false ∷ line) is.no_eol)) in
-    let same : rest ≡ false ∷ line = ap (λ (c : ℕ × Bits). c.1) (sym counted ∙ one) in
-    omega (
+    grind (
       arith,
-      paid,
-      read,
-      ahead,
-      passed,
-      ap length same,
-      ap (λ (b : Bits). looked (drop 1 b)) same,
+      common_steps,
+      all_tagged-some here (false ∷ line) e,
+      all_tagged-none (false ∷ line) is.no_eol,
       looked_eol 0 here (false ∷ line) e,
       looked_before_eol 0 (false ∷ line) next is.no_eol is.next_is,
     )

@@ -125,16 +125,14 @@ module _ (settings : DecodeSettings) (most : ℕ) (Alike : List Row → List Row
       rw (after_whole-is settings (run_at xs h here) row left, after_whole-is settings (run_at ys h here) row left)
       (added_beyond xs ys h here here row left alike (omega (arith, short, ap length leaves.1, length-append leaves.0 left)))
   line_beyond xs ys h here (Line.broken front fault) alike short leaves =
-      rw (after_damage-is settings (run_at xs h here) front fault, after_damage-is settings (run_at ys h here) front fault)
-      (either_way (settings.strict || not h))
-    where
-      repaired_in : List Row → Bool → Move
-      repaired_in rows t = cond t (ends_with (run_at rows h here) (Err fault))
-          (row_added settings (run_at rows h here) (repaired settings.columns front) here)
-
-      either_way : (t : Bool) → Together (repaired_in xs t) (repaired_in ys t)
-      either_way true = stay.fails xs ys h fault alike
-      either_way false = added_beyond xs ys h here here (repaired settings.columns front) here alike short
+      grind (
+        arith,
+        common_steps,
+        after_damage-is settings (run_at xs h here) front fault,
+        after_damage-is settings (run_at ys h here) front fault,
+        row_added,
+        added_beyond xs ys h here here (repaired settings.columns front) here alike short,
+      )
 
   pub move_beyond : (xs ys : List Row) (h : Bool) (here : Bits) → Alike xs ys → length here ≤ most
       → SameLine settings xs ys here → Together (move_on settings (run_at xs h here)) (move_on settings (run_at ys h here))

@@ -36,9 +36,7 @@ draw_run_next strict columns pen f t e =
 
 pub drawn_run_shorter : (strict : Bool) (columns : ℕ) (s t : Pen) → run_then strict columns s Turn.next ≡ Turn.next t
     → pen_left t < pen_left s
-drawn_run_shorter strict columns s t e =
-    let a = draw_run_next strict columns s Turn.next t e in
-    subst (λ (p : Pen). pen_left p < pen_left s) (next_is a.0 t a.1) a.2
+drawn_run_shorter strict columns s t e = grind (arith, common_steps, draw_run_next strict columns s Turn.next t e)
 
 pub step_1d_shrinks : (strict : Bool) (columns : ℕ) → Shrinks (step_1d strict columns) pen_left
 step_1d_shrinks strict columns s t e =

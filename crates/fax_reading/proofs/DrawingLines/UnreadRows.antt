@@ -48,9 +48,7 @@ module _ (line strict : Line) (start : Bits) (old new : Held) (held : new ≡ re
       itself : (e : DecodeError) → DrawsLine line (Err e) new.front rest
           → ((fault : DecodeError) → line ≡ Line.broken new.front fault → row ≡ Err fault) → ◌≡◌
           {A = Result (Unit {0}) DecodeError} (Err answer) (Err e) → TakesOneRow line strict row old new (Err answer) rest
-      itself e draws fails is =
-          subst (λ (r : Result (Unit {0}) DecodeError). TakesOneRow line strict row old new r rest) (sym is)
-          (is_unread line strict row old new held rest e fails draws)
+      itself e draws fails is = grind (arith, common_steps, is_unread line strict row old new held rest e fails draws)
 
       stores : line ≡ Line.broken new.front e → IsRepairable new e → TakesOneRow line strict row old new (Err answer) rest
       stores is repairable = grind (arith, common_steps, last_black, wants_rest)

@@ -38,11 +38,8 @@ picture_t6_end settings rows bits more four block small limit whole pic =
 pub picture_t6_comes : (settings : DecodeSettings) (rows : List Row) (bits more : Bits) → settings.columns ≤ 4294967295
     → Allows settings (length rows) → (settings.rows_are_byte_aligned ≡ true → length (bits ++ more) % 8 ≡ 0)
     → PictureT6 settings.columns settings.rows_are_byte_aligned rows bits → ComesToEofb settings (bits ++ more)
-picture_t6_comes settings rows bits more small limit whole pic = (
-  between rows (eol 0 ++ (eol 0 ++ more)),
-  picture_t6_reaches (for_t6 settings) rows bits more refl small limit whole pic,
-  refl,
-)
+picture_t6_comes settings rows bits more small limit whole pic =
+    grind (arith, common_steps, picture_t6_reaches (for_t6 settings) rows bits more refl small limit whole pic)
 
 -- the law
 pub closed_picture_t6 : ReadsPictureT6

@@ -68,9 +68,7 @@ next_eol-more more (bit ∷ here) found e = by_after_eol (next_eol-more more her
     by_after_eol : (next_eol here ≡ Some found → next_eol (here ++ more) ≡ Some (found ++ more)) → (o : Option Bits)
         → after_eol 0 (bit ∷ here) ≡ o → next_eol ((bit ∷ here) ++ more) ≡ Some (found ++ more)
     by_after_eol on None f = grind (arith, common_steps, after_eol-more, next_eol_holds_one)
-    by_after_eol on (Some rest) f =
-        let same : ◌≡◌ {A = Option Bits} (Some (bit ∷ here)) (Some found) = rw (f, next_eol) at e in
-        rw (eol-more more (bit ∷ here) rest f, next_eol) (ap (then_more more) same)
+    by_after_eol on (Some rest) f = grind (arith, common_steps, eol-more more (bit ∷ here) rest f)
 
 -- where there is no next EOL, one may come
 pub next_eol_may_come : (here : Bits) → next_eol here ≡ None

@@ -59,13 +59,7 @@ eols_here_may_come settings here unsettled = by_encoding settings.encoding setti
 
 -- an EOL at the end is counted alone
 last_eol_counted : (settings : DecodeSettings) (here : Bits) → after_eol 0 here ≡ Some [] → eols_here settings here ≡ (1, [])
-last_eol_counted settings here e = by_encoding settings.encoding settings.end_of_block
-  where
-    by_encoding : (encoding : EncodingMode) (block : Bool) → eols_by encoding block here ≡ (1, [])
-    by_encoding Group3_1D block = all_eols-some here [] e
-    by_encoding Group3_2D block = ap pass_last_tag (all_tagged-some here [] e)
-    by_encoding Group4 true = eols-some 1 here [] e
-    by_encoding Group4 false = all_eols-some here [] e
+last_eol_counted settings here e = grind (arith, common_steps, all_eols-some here [] e, all_tagged-some here [] e, eols-some)
 
 -- without bits nothing is settled
 none_is_settled : (settings : DecodeSettings) → eols_here_are_settled settings [] ≡ false
@@ -164,12 +158,8 @@ gap_unsettled : (settings : DecodeSettings) (taken : ℕ) (has_eols : Bool) (her
     → gap_is_settled settings taken has_eols here ≡ false
     → (more : Bits) × AreWholeBytes more × (gap_behind_row settings taken has_eols (here ++ more)
     ≢ gap_before more (gap_behind_row settings taken has_eols here))
-gap_unsettled settings taken has_eols here fails = (
-  bytes_of_eol,
-  refl,
-  λ same. over_differs (gap_behind_row settings taken has_eols here)
-      (sym (gap_may_end settings taken has_eols here fails) ∙ same),
-)
+gap_unsettled settings taken has_eols here fails =
+    grind (arith, common_steps, over_differs, gap_may_end settings taken has_eols here fails)
 
 -- so each settled gap passes it
 gap_passes : (settings : DecodeSettings) (taken : ℕ) (has_eols : Bool) (here : Bits)
@@ -213,10 +203,7 @@ done_differs : (bits more : Bits) (gap : Gap)
     → at_gap (at_front more) (Gap.over (Ok [])) ≢ move_before bytes_of_eol (at_gap (at_front bits) gap)
 done_differs bits more (Gap.line_at has_eols rest) e = grind (arith, common_steps)
 done_differs bits more (Gap.over (Err fault)) e = grind (arith, common_steps)
-done_differs bits more (Gap.over (Ok rest)) e =
-    let f : ◌≡◌ {A = Option (Result Bits DecodeError)} (Some (Ok [])) (Some (Ok (rest ++ bytes_of_eol))) = ap outcome_at e in
-    let same : [] ≡ rest ++ bytes_of_eol = cc in
-    absurd (omega (arith, ap length same, length-append rest bytes_of_eol))
+done_differs bits more (Gap.over (Ok rest)) e = grind (arith, common_steps, length-append rest bytes_of_eol)
 
 first_unsettled : (settings : DecodeSettings) (bits : Bits) → first_gap_is_settled settings.encoding settings bits ≡ false
     → (more : Bits) × AreWholeBytes more × (first_gap settings.encoding settings (bits ++ more)

@@ -71,10 +71,7 @@ runs_broken columns begun passed color here fault few (front, long, is) read row
 -- the words of a run are no more than the bits that it takes
 run_counted : (color : Color) (here : Bits) (r : Result (ℕ × Bits) DecodeError) → read_run color here ≡ r → (n : ℕ) (rest : Bits)
     → r ≡ Ok (n, rest) → length (run_found color (0, here)) + length rest ≤ length here
-run_counted color here r e n rest f =
-    let words = run_stands color 0 here in
-    let end : rest ≡ words.0 = subst (λ (x : Result (ℕ × Bits) DecodeError). RunEnds x words.0) (e ∙ f) words.2 in
-    omega (arith, stands_count here (run_found color (0, here)) words.0 words.1, ap length end)
+run_counted color here r e n rest f = grind (arith, common_steps, run_stands color 0 here, stands_count)
 
 pub run_work : (color : Color) (here rest : Bits) (n : ℕ) → read_run color here ≡ Ok (n, rest)
     → length (run_found color (0, here)) + length rest ≤ length here
@@ -272,13 +269,12 @@ pub no_step_beyond : (settings : DecodeSettings) (here line next after : Bits) �
     → (EndsByWords settings.encoding settings.columns after line → ⊥) → (other behind : Bits)
     → TellsStep settings here other behind → ⊥
 no_step_beyond settings here line next after group3 lenient alone next_is after_is beyond other behind told =
-    let line_is : other ≡ line = ap (λ (f : ℕ × Bits). f.1) (sym told.step.alone ∙ alone) in
-    let found : told.step.next ≡ next = step_next settings here line next other behind alone next_is told in
-    let end : told.step.after ≡ after =
-    same_bits (after_eol 0 told.step.next) told.step.after after told.step.after_is (ap (after_eol 0) found ∙ after_is) in
-    beyond (subst (λ (b : Bits). EndsByWords settings.encoding settings.columns b line) end
-    (subst (λ (b : Bits). EndsByWords settings.encoding settings.columns told.step.after b) line_is
-    (step_ends settings here other behind group3 lenient told)))
+    grind (
+      arith,
+      common_steps,
+      step_next settings here line next other behind alone next_is told,
+      step_ends settings here other behind group3 lenient told,
+    )
 
 -- ---- What the tests count
 
@@ -294,17 +290,15 @@ pub line_test_work : (settings : DecodeSettings) (here line next after : Bits) (
     → after_eol 0 next ≡ Some after → at_line + length line ≤ begun + 2 * length here + 3
     → sought + length next ≡ at_line + length line + looked next → read ≡ sought + looked next
     → now ≤ read + length line + 1 → now + 2 * length next + 3 ≤ begun + most_for_lines (length here)
-line_test_work settings here line next after begun at_line sought read now group3 alone next_is after_is first skipped passed
-    tested =
-    omega (
+line_test_work
+    settings here line next after begun at_line sought read now group3 alone next_is after_is first skipped passed tested =
+    grind (
       arith,
-      first,
-      skipped,
-      passed,
-      tested,
+      common_steps,
       looked_eol 0 next after after_is,
       after_eol_shorter 0 here line (one_alone settings here line group3 alone).0,
-      (next_eol_found line next next_is).0,
+      one_alone settings here line group3 alone,
+      next_eol_found line next next_is,
     )
 
 -- ---- What a call that tests the settings first returns

@@ -66,9 +66,4 @@ module _ (settings : DecodeSettings) (wide : 0 < settings.columns) (bits : Bits)
       -- that is all of it, where its turn is the last
       pub given_whole : {end : Ending} → move_on settings so_far ≡ Turn.done end
           → sum_by length (given gives) ≡ sum_by length (take rows (given gives)) + length (gives so_far)
-      given_whole ends = omega (
-        arith,
-        sum_by-take-drop length (given gives) rows,
-        ap (λ (n : ℕ). sum_by length (drop n (given gives))) taken,
-        ap (sum_by length) (given_last gives ends),
-      )
+      given_whole ends = grind (arith, common_steps, sum_by-take-drop length (given gives) rows, given_last gives ends)

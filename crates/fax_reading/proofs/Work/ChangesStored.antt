@@ -50,14 +50,7 @@ step_more n m (Turn.done line) le few = omega (arith, le, few)
 -- a run that is found has a word
 run_has_word : (color : Color) (here : Bits) (n : ℕ) (rest : Bits) → run_from color (0, here) ≡ Ok (n, rest)
     → 0 < length (run_found color (0, here))
-run_has_word color here n rest e = by_found (run_found color (0, here)) (run_stands color 0 here).1
-  where
-    ends : (run_stands color 0 here).0 ≡ rest
-    ends = let last = (run_stands color 0 here).2 in let same = rw e at last in sym same
-
-    by_found : (found : List Bits) → WordsStand here found (run_stands color 0 here).0 → 0 < length found
-    by_found [] p = absurd (omega (arith, run_shorter color 0 here n rest e, ap length p.place, ap length ends))
-    by_found (word ∷ found) p = omega arith
+run_has_word color here n rest e = grind (arith, common_steps, run_stands color 0 here, run_shorter color 0 here n rest e)
 
 -- a run
 run_count : (strict : Bool) (columns : ℕ) (pen : Pen)

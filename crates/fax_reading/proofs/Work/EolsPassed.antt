@@ -39,10 +39,7 @@ next_eol_within (bit ∷ here) found e = by_after_eol (λ f. next_eol_within her
         → (o : Option Bits) → after_eol 0 (bit ∷ here) ≡ o → (after : Bits) × (after_eol 0 found ≡ Some after)
         × EolWithin (bit ∷ here) after
     by_after_eol on None is = grind (arith, common_steps, within_further)
-    by_after_eol on (Some after) is =
-        let f : ◌≡◌ {A = Option Bits} (Some (bit ∷ here)) (Some found) = rw (is, next_eol) at e in
-        let same : bit ∷ here ≡ found = cc in
-        (after, subst (λ (x : Bits). after_eol 0 x ≡ Some after) same is, eol_within (bit ∷ here) after is)
+    by_after_eol on (Some after) is = grind (arith, common_steps, eol_within (bit ∷ here) after is)
 
 -- the bits up to the end of an EOL
 pub length-within : (here after : Bits) (eol : EolWithin here after) → length here ≡ length eol.fill + 12 + length after
@@ -166,11 +163,8 @@ line_past_eol settings taken here rest e = elim (line_behind settings taken true
 -- if EOLs are no longer sought, the line is here
 pub line_given_up : (settings : DecodeSettings) (taken : ℕ) (here rest : Bits)
     → gap_behind_row settings taken true here ≡ Gap.line_at false rest → rest ≡ here
-line_given_up settings taken here rest e = elim (line_behind settings taken true false here rest e) [
-  | inl is ↦ absurd (false≢true (sym is.flag))
-  | inr (inl is) ↦ absurd (false≢true is.kept)
-  | inr (inr is) ↦ sym is.place
-]
+line_given_up settings taken here rest e =
+    grind (arith, common_steps, line_behind settings taken true false here rest e, false≢true)
 
 -- a line that follows a row begins there or further on
 pub line_behind_shorter : (settings : DecodeSettings) (taken : ℕ) (h k : Bool) (here rest : Bits)
@@ -208,15 +202,8 @@ unsought_after settings taken before has_eols here rest (Err e) unsought said gi
 -- if there is a line, bits are left
 pub line_has_bits : (settings : DecodeSettings) (taken : ℕ) (k : Bool) (here rest : Bits)
     → gap_behind_row settings taken false here ≡ Gap.line_at k rest → 0 < length rest
-line_has_bits settings taken k here rest e = elim (line_behind settings taken false k here rest e) [
-  | inl is ↦ by_next (eols_here settings here).1 rest is.open_end is.place
-  | inr (inl is) ↦ absurd (false≢true is.sought)
-  | inr (inr is) ↦ absurd (false≢true is.sought)
-]
-  where
-    by_next : (next rest : Bits) → at_end next ≡ false → next ≡ rest → 0 < length rest
-    by_next [] rest open_end same = absurd (false≢true (sym open_end))
-    by_next (bit ∷ next) rest open_end same = omega (arith, ap length (sym same))
+line_has_bits settings taken k here rest e =
+    grind (arith, common_steps, line_behind settings taken false k here rest e, false≢true)
 
 -- ---- What is examined ahead
 

@@ -75,11 +75,7 @@ paid_by : (here rest : Bits) (found : List Bits) → WordsStand here found rest 
     → LineIsPaid here rest found
 paid_by here rest [] stands lt = absurd (omega (arith, lt, ap length stands.place))
 paid_by here rest (word ∷ found) stands lt =
-    record {
-      some = omega arith;
-      words = stands_count here (word ∷ found) rest stands;
-      zeros = stands_looked here word found rest stands;
-    }
+    grind (arith, common_steps, stands_count here (word ∷ found) rest stands, stands_looked here word found rest stands)
 
 whole_paid : (here : Bits) (line : Line) (found : List Bits) (end : Bits) (row : Row) (rest : Bits) → WordsStand here found end
     → LineEnds line end → TookBits (length here) line → line ≡ Line.whole row rest → LineIsPaid here rest found
