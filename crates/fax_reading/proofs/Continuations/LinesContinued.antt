@@ -66,9 +66,8 @@ module _ (more : Bits) where
 
   draw_run_on : (strict : Bool) (columns : ℕ) (pen : Pen)
       → Continues more pen_on (draw_run strict columns pen) (draw_run strict columns (pen_on pen))
-  draw_run_on strict columns pen =
-      then_continues (rest_on more) pen_on (behind pen) (behind (pen_on pen)) (λ run. second run) (run_here pen)
-      (run_here (pen_on pen)) (run_goes_on pen)
+  draw_run_on strict columns pen = then_continues (rest_on more) pen_on
+      (behind pen) (behind (pen_on pen)) (λ run. second run) (run_here pen) (run_here (pen_on pen)) (run_goes_on pen)
     where
       behind : Pen → ℕ × Bits → Drawing Pen
       behind p run = painted strict columns p run.0
@@ -94,9 +93,8 @@ module _ (more : Bits) where
 
   draw_2d_on : (strict : Bool) (columns : ℕ) (reference : Row) (pen : Pen)
       → Continues more pen_on (draw_2d strict columns reference pen) (draw_2d strict columns reference (pen_on pen))
-  draw_2d_on strict columns reference pen =
-      then_continues pen_on pen_on behind behind second (unless_full columns pen) (unless_full columns (pen_on pen))
-      (full_on columns pen)
+  draw_2d_on strict columns reference pen = then_continues pen_on pen_on behind behind second
+      (unless_full columns pen) (unless_full columns (pen_on pen)) (full_on columns pen)
     where
       drew : Pen → Mode × Bits → Drawing Pen
       drew p mode = draw_mode strict columns reference (record p { rest = mode.1 }) mode.0
@@ -125,11 +123,10 @@ module _ (more : Bits) where
       → is_short (line_2d strict columns reference here) ≡ false
       → (line_2d strict columns reference (here ++ more) ≡ line_before more (line_2d strict columns reference here))
       × (found_2d strict columns reference (here ++ more) ≡ found_2d strict columns reference here)
-  line_2d_on strict columns reference here known =
-      repeated_on (λ pen. (draw_2d strict columns reference pen).turn) (λ pen. (draw_2d strict columns reference pen).words)
-      (Line.broken [] UnexpectedEof) pen_left (step_2d_shrinks strict columns reference) pen_on (line_before more) is_short
-      (draw_2d_on strict columns reference) (suc (length here)) (suc (length (here ++ more))) (start here) (omega arith)
-      (omega arith) known
+  line_2d_on strict columns reference here known = repeated_on (λ pen. (draw_2d strict columns reference pen).turn)
+      (λ pen. (draw_2d strict columns reference pen).words) (Line.broken [] UnexpectedEof) pen_left
+      (step_2d_shrinks strict columns reference) pen_on (line_before more) is_short (draw_2d_on strict columns reference)
+      (suc (length here)) (suc (length (here ++ more))) (start here) (omega arith) (omega arith) known
 
   -- a line of any kind
   line_on : (encoding : EncodingMode) (strict : Bool) (columns : ℕ) (reference : Row) (here : Bits)
@@ -165,9 +162,8 @@ pub row_continues : (settings : DecodeSettings) (reference : Row) (has_eols : Bo
     → is_short (line_here settings reference here) ≡ false
     → row_of_line settings has_eols (here ++ more) (line_here settings reference (here ++ more))
     ≡ row_continued more (row_of_line settings has_eols here (line_here settings reference here))
-row_continues settings reference has_eols here more bytes known =
-    ap (row_of_line settings has_eols (here ++ more)) (line_settled settings reference here known more)
-    ∙ by_line (line_here settings reference here)
+row_continues settings reference has_eols here more bytes known = ap (row_of_line settings has_eols (here ++ more))
+    (line_settled settings reference here known more) ∙ by_line (line_here settings reference here)
   where
     repaired_or_not : (front : Row) (fault : DecodeError) (b : Bool)
         → cond b (Err fault) (Ok (front, behind_row settings has_eols (here ++ more)))

@@ -68,8 +68,7 @@ module _ (settings : DecodeSettings) (reference : Row) where
   -- a line within a run
   in_run_is : (run : OpenRun) (pen : Pen) → line_from_part settings reference (LinePart.in_run run pen)
       ≡ line_then (read_on settings reference (LinePart.in_run run pen)).turn
-  in_run_is run pen =
-      ap behind (run_is pen.color run.total pen.rest) ∙ by_read_code (read_code (codes_of pen.color) pen.rest)
+  in_run_is run pen = ap behind (run_is pen.color run.total pen.rest) ∙ by_read_code (read_code (codes_of pen.color) pen.rest)
     where
       with_run : ℕ × Bits → Step
       with_run found = if_read pen.front (paint settings.strict settings.columns pen.front pen.color found.0)
@@ -113,13 +112,10 @@ module _ (settings : DecodeSettings) (reference : Row) where
   mode_is pen (Vertical k) = grind (arith, common_steps)
 
   -- The line from a part of it on is the line from what one word more leads to.
-  pub line_from_is : (part : LinePart)
-      → line_from_part settings reference part ≡ line_then (read_on settings reference part).turn
+  pub line_from_is : (part : LinePart) → line_from_part settings reference part ≡ line_then (read_on settings reference part).turn
   line_from_is (LinePart.begins here) = grind (arith, common_steps)
-  line_from_is (LinePart.at_step false pen) =
-      drawn1 settings.strict settings.columns pen
-      ∙ ap (after_turn (steps_from false)) (step_1d_is settings.strict settings.columns pen)
-      ∙ either_way (leb settings.columns (length pen.front))
+  line_from_is (LinePart.at_step false pen) = drawn1 settings.strict settings.columns pen ∙ ap (after_turn (steps_from false))
+      (step_1d_is settings.strict settings.columns pen) ∙ either_way (leb settings.columns (length pen.front))
     where
       either_way : (full : Bool) → after_turn (steps_from false)
           (cond full (Turn.done (Line.whole pen.front pen.rest)) (run_then settings.strict settings.columns pen Turn.next))
@@ -181,9 +177,8 @@ module _ (settings : DecodeSettings) (reference : Row) (more : Bits) where
       (run_summed settings.strict settings.columns run (longer pen) n total)
   run_summed_on run pen n total = grind (arith, common_steps, run_painted_on)
 
-  word_added_on : (run : OpenRun) (pen : Pen) (n : ℕ)
-      → Continues more (part_before more) (word_added settings.strict settings.columns run pen n)
-      (word_added settings.strict settings.columns run (longer pen) n)
+  word_added_on : (run : OpenRun) (pen : Pen) (n : ℕ) → Continues more (part_before more)
+      (word_added settings.strict settings.columns run pen n) (word_added settings.strict settings.columns run (longer pen) n)
   word_added_on run pen n = grind (arith, common_steps, then_continues, run_summed_on, same_continues)
 
   mode_added_on : (pen : Pen) (mode : Mode)
@@ -207,8 +202,7 @@ module _ (settings : DecodeSettings) (reference : Row) (more : Bits) where
 
   -- One word more is the same where more bits follow, unless it isn't whole.
   pub read_on_continues : (part : LinePart)
-      → Continues more (part_before more) (read_on settings reference part)
-      (read_on settings reference (part_before more part))
+      → Continues more (part_before more) (read_on settings reference part) (read_on settings reference (part_before more part))
   read_on_continues (LinePart.begins here) = grind (arith, common_steps, false≢true)
   read_on_continues (LinePart.at_step is_2d pen) = grind (arith, common_steps, then_continues, begin_step_on, full_on)
   read_on_continues (LinePart.in_run run pen) =
@@ -291,8 +285,7 @@ module _ (settings : DecodeSettings) (reference : Row) (part : LinePart) (pen : 
       → LeadsOn part (Turn.next next)
   behind_word_leads next taken e small = ((taken, is ∙ e), small)
 
-  mode_leads_on : (rest : Bits) (mode : Mode) → WordIsRead {V = Mode} pen.rest (mode, rest)
-      → 2 * length pen.rest ≤ part_size part
+  mode_leads_on : (rest : Bits) (mode : Mode) → WordIsRead {V = Mode} pen.rest (mode, rest) → 2 * length pen.rest ≤ part_size part
       → LeadsOn part (mode_added settings.strict settings.columns reference (record pen { rest = rest }) mode).turn
   mode_leads_on rest Pass word size_is = grind (arith, common_steps, behind_leads, paint_leads, paint_known, behind_word_leads)
   mode_leads_on rest Horizontal word size_is = grind (arith, common_steps, behind_word_leads)
@@ -310,8 +303,7 @@ module _ (settings : DecodeSettings) (reference : Row) where
   pub part_leads_on : (part : LinePart) → LeadsOn part (read_on settings reference part).turn
   part_leads_on (LinePart.begins here) = by_encoding settings.encoding here
     where
-      by_encoding : (encoding : EncodingMode) (bits : Bits)
-          → LeadsOn (LinePart.begins bits) (begin_line encoding bits).turn
+      by_encoding : (encoding : EncodingMode) (bits : Bits) → LeadsOn (LinePart.begins bits) (begin_line encoding bits).turn
       by_encoding Group3_1D bits = (([], refl), omega arith)
       by_encoding Group3_2D [] = λ short. refl
       by_encoding Group3_2D (true ∷ bits) = ((true ∷ [], refl), omega arith)
@@ -329,10 +321,8 @@ module _ (settings : DecodeSettings) (reference : Row) where
       either_way true = λ short. absurd (false≢true short)
       either_way false =
           behind_leads (LinePart.at_step true pen) (WordIsRead pen.rest) (unless_fault pen.front (read_code mode_codes pen.rest))
-          (added pen)
-          (word_leads_on (LinePart.at_step true pen) mode_codes pen.rest pen.front modes_not_empty (λ e. e))
-          (λ mode word. mode_leads_on settings reference (LinePart.at_step true pen) pen refl mode.1 mode.0 word
-          (omega arith))
+          (added pen) (word_leads_on (LinePart.at_step true pen) mode_codes pen.rest pen.front modes_not_empty (λ e. e))
+          (λ mode word. mode_leads_on settings reference (LinePart.at_step true pen) pen refl mode.1 mode.0 word (omega arith))
   part_leads_on (LinePart.in_run run pen) =
       behind_leads (LinePart.in_run run pen) (WordIsRead pen.rest)
       (unless_fault pen.front (read_code (codes_of pen.color) pen.rest))
@@ -352,8 +342,7 @@ words_few color = grind (arith, common_steps)
 modes_few : IsShorter 13 mode_codes ≡ true
 modes_few = refl
 
-word_few : {V : Type 0} (n : ℕ) (list : List (Code V)) (v : V) (w : Bits) → IsShorter n list ≡ true → Has list v w
-    → length w ≤ n
+word_few : {V : Type 0} (n : ℕ) (list : List (Code V)) (v : V) (w : Bits) → IsShorter n list ≡ true → Has list v w → length w ≤ n
 word_few n [] v w e i = elim i [ ]
 word_few n (c ∷ list) v w e (inl i) = grind (arith, common_steps, leb-true, and_parts)
 word_few n (c ∷ list) v w e (inr i) = word_few n list v w (and_parts (leb (length c.word) n) (IsShorter n list) e).1 i
@@ -368,16 +357,13 @@ cut_few {V} n list here free few e =
   where
     by_rest : (v : V) (w : Bits) → Has list v w → NoneStands list here → (rest : Bits) → w ≡ here ++ rest → length here < n
     by_rest v w has none [] is = absurd (none v [] (w, has, sym (ap (λ (b : Bits). b ++ []) is ∙ append-nil _ ∙ append-nil here)))
-    by_rest v w has none (b ∷ rest) is =
-        omega (arith, word_few n list v w few has, ap length is, length-append here (b ∷ rest))
+    by_rest v w has none (b ∷ rest) is = omega (arith, word_few n list v w few has, ap length is, length-append here (b ∷ rest))
 
 pub lacks_few : (part : LinePart) → LacksWord part → length (left_of part) < 13
 lacks_few (LinePart.begins here) e = omega (arith, ap length e)
 lacks_few (LinePart.at_step true pen) e = cut_few 13 mode_codes pen.rest modes_free modes_few e
-lacks_few (LinePart.at_step false pen) e =
-    cut_few 13 (codes_of pen.color) pen.rest (codes_free pen.color) (words_few pen.color) e
-lacks_few (LinePart.in_run run pen) e =
-    cut_few 13 (codes_of pen.color) pen.rest (codes_free pen.color) (words_few pen.color) e
+lacks_few (LinePart.at_step false pen) e = cut_few 13 (codes_of pen.color) pen.rest (codes_free pen.color) (words_few pen.color) e
+lacks_few (LinePart.in_run run pen) e = cut_few 13 (codes_of pen.color) pen.rest (codes_free pen.color) (words_few pen.color) e
 
 module _ (settings : DecodeSettings) (reference : Row) where
   -- the line from a part of it on goes on from another
@@ -389,9 +375,8 @@ module _ (settings : DecodeSettings) (reference : Row) where
   leads_to_last : (n : ℕ) (part : LinePart) → part_size part < n → is_short (line_from_part settings reference part) ≡ true
       → (last : LinePart) × GoesOnAt part last
   leads_to_last zero part lt short = absurd (omega arith)
-  leads_to_last (suc n) part lt short =
-      by_turn (λ next small known. leads_to_last n next small known) (read_on settings reference part).turn refl
-      (part_leads_on settings reference part)
+  leads_to_last (suc n) part lt short = by_turn (λ next small known. leads_to_last n next small known)
+      (read_on settings reference part).turn refl (part_leads_on settings reference part)
     where
       by_turn : ((next : LinePart) → part_size next < n → is_short (line_from_part settings reference next) ≡ true
           → (last : LinePart) × GoesOnAt next last) → (turn : Turn LinePart Line)

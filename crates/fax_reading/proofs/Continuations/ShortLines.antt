@@ -117,8 +117,7 @@ IsBeforeZeros pen = HasZeros pen.rest
 
 module _ (strict : Bool) (columns : ℕ) where
   drew_run_known : (pen : Pen) → IsBeforeZeros pen → GoesOrEnds IsBeforeZeros (draw_run strict columns pen).turn
-  drew_run_known pen zeros =
-      behind_known (λ run. HasZeros run.1) IsBeforeZeros (run_here pen).turn (λ run. (drew run).turn)
+  drew_run_known pen zeros = behind_known (λ run. HasZeros run.1) IsBeforeZeros (run_here pen).turn (λ run. (drew run).turn)
       (found_known (λ run. HasZeros run.1) pen.front (run_from pen.color (0, pen.rest)) (run_known pen.color pen.rest zeros))
       (λ run left. behind_known Anything IsBeforeZeros (painted strict columns pen run.0).turn
       (λ front. Turn.next (record { front = front; color = opposite pen.color; rest = run.1 }))
@@ -131,9 +130,8 @@ module _ (strict : Bool) (columns : ℕ) where
   drew_mode_known : (reference : Row) (pen : Pen) (mode : Mode) → IsBeforeZeros pen
       → GoesOrEnds IsBeforeZeros (draw_mode strict columns reference pen mode).turn
   drew_mode_known reference pen Pass zeros = grind (arith, common_steps, behind_known, paint_known)
-  drew_mode_known reference pen Horizontal zeros =
-      behind_known IsBeforeZeros IsBeforeZeros (draw_run strict columns pen).turn (λ p. (draw_run strict columns p).turn)
-      (drew_run_known pen zeros) drew_run_known
+  drew_mode_known reference pen Horizontal zeros = behind_known IsBeforeZeros IsBeforeZeros
+      (draw_run strict columns pen).turn (λ p. (draw_run strict columns p).turn) (drew_run_known pen zeros) drew_run_known
   drew_mode_known reference pen (Vertical k) zeros = grind (arith, common_steps, behind_known, place_known, paint_known)
 
   full_known : (pen : Pen) → IsBeforeZeros pen → GoesOrEnds IsBeforeZeros (unless_full columns pen).turn
@@ -213,8 +211,7 @@ same_shortness more (Line.broken front fault) = refl
 -- A line that is settled isn't short.
 pub settled_not_short : (settings : DecodeSettings) (reference : Row) (here : Bits) → LineIsSettled settings reference here
     → is_short (line_here settings reference here) ≡ false
-settled_not_short settings reference here settled =
-    sym (same_shortness (replicate 16 false) (line_here settings reference here))
+settled_not_short settings reference here settled = sym (same_shortness (replicate 16 false) (line_here settings reference here))
     ∙ sym (ap is_short (settled (replicate 16 false))) ∙ zeros_end_line settings reference here
 
 -- Exactly the lines that aren't short are settled.

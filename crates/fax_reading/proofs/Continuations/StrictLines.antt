@@ -2,7 +2,7 @@
 use Rattle.fax_reading.proofs.Names.{arith, common_steps, ◌≡◌, ℕ, zero, suc, ◌-◌, Bool, true, false, [], ◌∷◌, length, refl, ap}
 use Rattle.fax_reading.proofs.Names.{◌⊎◌, inl, inr, Color, Mode, Pass, Horizontal, Vertical, DecodeSettings, EncodingMode, Group4}
 use Rattle.fax_reading.proofs.Names.{Group3_1D, Group3_2D, UnexpectedEof, InvalidCode, Bits, Turn, repeated, Row, opposite}
-use Rattle.fax_reading.proofs.Names.{right_of, b2, paint, Line, Pen, Drawing, start, draw_1d, draw_2d, draw_mode, draw_run, go_on}
+use Rattle.fax_reading.proofs.Names.{paint, Line, Pen, Drawing, start, draw_1d, draw_2d, draw_mode, draw_run, go_on}
 use Rattle.fax_reading.proofs.Names.{mode_here, run_here, painted, painted_to, place_by, unless_fault, unless_full, turn_behind}
 use Rattle.fax_reading.proofs.Names.{◌>>=◌, line_by, line_here, line_1d, line_2d, LineIsSettled, is_short}
 use Rattle.fax_reading.specs.Laws.{strictly}
@@ -15,8 +15,7 @@ IsStricter turn other = (turn ≡ other) ⊎ ((front : Row) × (turn ≡ Turn.do
 
 -- one step after another
 strict_behind : {A B : Type 0} (turn other : Turn A Line) (behind other_behind : A → Turn B Line) → IsStricter turn other
-    → ((x : A) → IsStricter (behind x) (other_behind x))
-    → IsStricter (turn_behind turn behind) (turn_behind other other_behind)
+    → ((x : A) → IsStricter (behind x) (other_behind x)) → IsStricter (turn_behind turn behind) (turn_behind other other_behind)
 strict_behind {A} {B} turn other behind other_behind (inl same) second = grind (arith, common_steps)
 strict_behind {A} turn other behind other_behind (inr ends) second = grind (arith, common_steps)
 
@@ -42,14 +41,12 @@ module _ (strict : Bool) (columns : ℕ) where
   strict_mode : (reference : Row) (pen : Pen) (mode : Mode)
       → IsStricter (draw_mode true columns reference pen mode).turn (draw_mode strict columns reference pen mode).turn
   strict_mode reference pen Pass = grind (arith, common_steps, strict_behind, strict_paint)
-  strict_mode reference pen Horizontal =
-      strict_behind (draw_run true columns pen).turn (draw_run strict columns pen).turn (λ p. (draw_run true columns p).turn)
-      (λ p. (draw_run strict columns p).turn) (strict_run pen) strict_run
+  strict_mode reference pen Horizontal = strict_behind (draw_run true columns pen).turn (draw_run strict columns pen).turn
+      (λ p. (draw_run true columns p).turn) (λ p. (draw_run strict columns p).turn) (strict_run pen) strict_run
   strict_mode reference pen (Vertical k) =
       strict_behind (place_by reference pen k).turn (place_by reference pen k).turn (λ place. (drew true place).turn)
       (λ place. (drew strict place).turn) (inl refl) (λ place. strict_behind (painted_to true columns pen place).turn
-      (painted_to strict columns pen place).turn
-      (λ front. Turn.next (record pen { front = front; color = opposite pen.color }))
+      (painted_to strict columns pen place).turn (λ front. Turn.next (record pen { front = front; color = opposite pen.color }))
       (λ front. Turn.next (record pen { front = front; color = opposite pen.color }))
       (strict_paint strict columns pen.front pen.color (place - length pen.front)) (λ front. inl refl))
     where
@@ -89,9 +86,8 @@ strict_turns step other late stricter (suc n) pen known =
     by_turn on turn e k (inr ends) = ap (λ (t : Turn Pen Line). is_short (after_turn (repeated step late n) t)) ends.1
 
 -- A line that isn't short isn't when it is read strictly.
-pub strict_not_short : (encoding : EncodingMode) (strict : Bool) (columns : ℕ) (reference : Row) (here : Bits)
-    → is_short (line_by encoding strict columns reference here) ≡ false
-    → is_short (line_by encoding true columns reference here) ≡ false
+pub strict_not_short : (encoding : EncodingMode) (strict : Bool) (columns : ℕ) (reference : Row) (here : Bits) → is_short
+    (line_by encoding strict columns reference here) ≡ false → is_short (line_by encoding true columns reference here) ≡ false
 strict_not_short encoding strict columns reference here known = by_encoding encoding here known
   where
     runs : (bits : Bits) → is_short (line_1d strict columns bits) ≡ false → is_short (line_1d true columns bits) ≡ false
@@ -115,6 +111,5 @@ strict_not_short encoding strict columns reference here known = by_encoding enco
 -- The strict reading of a line that isn't short is settled too.
 pub strict_settled : (settings : DecodeSettings) (reference : Row) (here : Bits)
     → is_short (line_here settings reference here) ≡ false → LineIsSettled (strictly settings) reference here
-strict_settled settings reference here known =
-    line_settled (strictly settings) reference here
-    (strict_not_short settings.encoding settings.strict settings.columns reference here known)
+strict_settled settings reference here known = line_settled
+    (strictly settings) reference here (strict_not_short settings.encoding settings.strict settings.columns reference here known)

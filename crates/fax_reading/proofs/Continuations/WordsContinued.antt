@@ -111,10 +111,9 @@ module _ {V : Type 0} (list : List (Code V)) (free : is_prefix_free list ≡ tru
       by_read_code (Ok (v, rest)) e k =
           let again = codes.alone here v rest more e in
           let (w, has, is) = (codes.found here v rest).0 e in
-          let taken : take (length (here ++ more) - length (rest ++ more)) (here ++ more)
-          ≡ take (length here - length rest) here =
-          word_taken (here ++ more) w (rest ++ more) (ap (λ (b : Bits). b ++ more) is ∙ append_assoc w rest more)
-          ∙ sym (word_taken here w rest is) in
+          let taken : take (length (here ++ more) - length (rest ++ more))
+          (here ++ more) ≡ take (length here - length rest) here = word_taken (here ++ more) w
+          (rest ++ more) (ap (λ (b : Bits). b ++ more) is ∙ append_assoc w rest more) ∙ sym (word_taken here w rest is) in
           (again, ap (word_of (here ++ more)) again ∙ ap (λ (b : Bits). b ∷ []) taken)
       by_read_code (Err InvalidCode) e k =
           let wrong = (codes.wrong here).0 e in
@@ -135,9 +134,8 @@ run_turn_on : (color : Color) (more : Bits)
     → StepGoesOn (run_turn color) (run_gives color) (rest_on more) (result_on (rest_on more)) result_waits
 run_turn_on color more (total, here) known = by_read_code (read_code (codes_of color) here) refl
   where
-    by_read_code : (r : Result (ℕ × Bits) DecodeError) → read_code (codes_of color) here ≡ r
-        → (run_turn color (total, here ++ more)
-        ≡ turn_on (rest_on more) (result_on (rest_on more)) (run_turn color (total, here)))
+    by_read_code : (r : Result (ℕ × Bits) DecodeError) → read_code (codes_of color) here ≡ r →
+        (run_turn color (total, here ++ more) ≡ turn_on (rest_on more) (result_on (rest_on more)) (run_turn color (total, here)))
         × (word_found (codes_of color) (here ++ more) ≡ word_found (codes_of color) here)
     by_read_code (Ok found) e = grind (arith, common_steps, code_continues, codes_free, run_word_on)
     by_read_code (Err fault) e = grind (arith, common_steps, code_continues, codes_free)
@@ -146,7 +144,6 @@ run_turn_on color more (total, here) known = by_read_code (read_code (codes_of c
 pub run_continues : (color : Color) (total : ℕ) (here more : Bits) → result_waits (run_from color (total, here)) ≡ false
     → (run_from color (total, here ++ more) ≡ result_on (rest_on more) (run_from color (total, here)))
     × (run_found color (total, here ++ more) ≡ run_found color (total, here))
-run_continues color total here more known =
-    repeated_on (run_turn color) (run_gives color) (Err UnexpectedEof) size (run_shrinks color) (rest_on more)
-    (result_on (rest_on more)) result_waits (run_turn_on color more) (suc (length here)) (suc (length (here ++ more)))
-    (total, here) (omega arith) (omega arith) known
+run_continues color total here more known = repeated_on (run_turn color)
+    (run_gives color) (Err UnexpectedEof) size (run_shrinks color) (rest_on more) (result_on (rest_on more)) result_waits
+    (run_turn_on color more) (suc (length here)) (suc (length (here ++ more))) (total, here) (omega arith) (omega arith) known

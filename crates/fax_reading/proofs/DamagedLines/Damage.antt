@@ -1,6 +1,6 @@
 -- Damage to one line changes its row alone.
 use Rattle.fax_reading.proofs.Names.{◌≡◌, ℕ, suc, ◌+◌, ◌-◌, ◌*◌, ◌/◌, ◌<◌, ◌≤◌, Bool, true, false, ◌||◌, ltb, List, [], ◌∷◌, ◌++◌}
-use Rattle.fax_reading.proofs.Names.{length, take, drop, set, None, Some, Result, Ok, Err, refl, sym, ap, subst, ◌∙◌}
+use Rattle.fax_reading.proofs.Names.{length, take, drop, None, Some, Result, Ok, Err, refl, sym, ap, subst, ◌∙◌}
 use Rattle.fax_reading.proofs.Names.{append_assoc, arith, ◌⊎◌, inl, inr, cases_lt, cases_eq, or_right, length-append, length-drop}
 use Rattle.fax_reading.proofs.Names.{take-append-drop, append-nil, append_cancel_right, set_at, DecodeError, UnexpectedEof}
 use Rattle.fax_reading.proofs.Names.{Group3_2D, DecodeSettings, Bits, AreWholeBytes, AreSettings, repeated, Reaches, Row}
@@ -264,9 +264,8 @@ module _ (settings : DecodeSettings) (one two : Bits) (from : ℕ) (after : Bits
 
   module _ (wide : 0 < settings.columns) where
     -- readings that start alike end alike
-    ends_alike : Start (first one) (first two)
-        → EndsAlike settings Begun (suc lines) from (drop from one) (drop from two) after (end_of settings one)
-        (end_of settings two)
+    ends_alike : Start (first one) (first two) → EndsAlike settings Begun
+        (suc lines) from (drop from one) (drop from two) after (end_of settings one) (end_of settings two)
     ends_alike alike =
         let late : Progress → Ending = λ run. record { rows = run.rows; has_eols = run.has_eols; outcome = Err UnexpectedEof } in
         let other = not_group4 settings.encoding given.group3 in
@@ -296,9 +295,8 @@ module _ (settings : DecodeSettings) (one two : Bits) (from : ℕ) (after : Bits
 
     -- so rows and results are alike
     pub damage : AreWholeBytes one → AreWholeBytes two
-        → RowsAlike (suc lines) Begun (plain settings one).rows (plain settings two).rows
-        × EndAlike settings one two from (suc lines) (plain settings one).rows (plain settings one).outcome
-        (plain settings two).outcome
+        → RowsAlike (suc lines) Begun (plain settings one).rows (plain settings two).rows × EndAlike settings one two from
+        (suc lines) (plain settings one).rows (plain settings one).outcome (plain settings two).outcome
     damage whole_one whole_two =
         answers_alike settings wide one two (suc lines) from (drop from one) (drop from two) after whole_one whole_two
         (omega (arith, given.fits_one, length-drop from one)) (omega (arith, given.fits_two, length-drop from two)) refl refl

@@ -45,16 +45,14 @@ module _ (settings : DecodeSettings) (encoding : settings.encoding ≡ Group3_2D
           ⊎ (((line : Bits) × ((eols_by Group3_2D settings.end_of_block here).1 ≡ true ∷ line))
           ⊎ ((eols_by Group3_2D settings.end_of_block here).1 ≡ []))
           → Unreferred settings (eols_by Group3_2D settings.end_of_block here)
-      in_each_case (inl (block, six)) =
-          inl ((eols_end settings (eols_by Group3_2D settings.end_of_block here).0).2 block six)
+      in_each_case (inl (block, six)) = inl ((eols_end settings (eols_by Group3_2D settings.end_of_block here).0).2 block six)
       in_each_case (inr (inl (line, e))) = inr (rw e (same (true ∷ line) (λ reference other. refl)))
       in_each_case (inr (inr e)) = inr (rw e (same [] (λ reference other. refl)))
 
   -- one EOL is counted before a two-dimensional line
   one_before : (line found : Bits) → after_eol 0 (false ∷ line) ≡ None → after_eol 0 found ≡ Some (false ∷ line)
       → eols_here settings found ≡ (1, false ∷ line)
-  one_before line found none e =
-      ap (λ (e : EncodingMode). eols_by e settings.end_of_block found) encoding
+  one_before line found none e = ap (λ (e : EncodingMode). eols_by e settings.end_of_block found) encoding
       ∙ ap pass_last_tag (all_tagged-some found (false ∷ line) e ∙ ap one_more (all_tagged-none (false ∷ line) none))
 
   -- the next EOL is the one behind it, whatever it is read against
@@ -183,10 +181,9 @@ locality_by_k settings one are whole_one two from to to2 lines whole_two differ 
       settles = settles settings differ.encoding lines (drop to one) body.closes.0 differ.follow body.closes.1;
     }
 
-    in_each_case : (settings.columns ≡ 0) ⊎ (settings.columns ≡ 0 → ⊥)
-        → RowsDiffer settings one two from (suc lines) (plain settings one).rows (plain settings two).rows
-        × EndAlike settings one two from (suc lines) (plain settings one).rows (plain settings one).outcome
-        (plain settings two).outcome
+    in_each_case : (settings.columns ≡ 0) ⊎ (settings.columns ≡ 0 → ⊥) → RowsDiffer settings one two from
+        (suc lines) (plain settings one).rows (plain settings two).rows × EndAlike settings one two from
+        (suc lines) (plain settings one).rows (plain settings one).outcome (plain settings two).outcome
     in_each_case (inl e) = grind (arith, common_steps, cond-true, eq-eqb)
     in_each_case (inr e) =
         let wide : 0 < settings.columns = elim (cases_lt 0 settings.columns) [ inl lt ↦ lt | inr ge ↦ absurd (e (omega arith)) ]

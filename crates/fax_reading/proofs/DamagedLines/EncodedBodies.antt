@@ -205,8 +205,7 @@ one_at (false ∷ bits) e = let more = one_at bits e in (false ∷ more.0, more.
 
 -- so do these bits with what follows them
 one_more_bits : (word more : Bits) → HoldsOne word → HoldsOne (word ++ more)
-one_more_bits word more one =
-    (one.0, one.1 ++ more, ap (λ (b : Bits). b ++ more) one.2 ∙ append_assoc one.0 (true ∷ one.1) more)
+one_more_bits word more one = (one.0, one.1 ++ more, ap (λ (b : Bits). b ++ more) one.2 ∙ append_assoc one.0 (true ∷ one.1) more)
 
 word_holds : (word : Bits) → IsWord word → HoldsOne word
 word_holds word is = one_at word (word_one word is)
@@ -385,8 +384,7 @@ module _ (settings : DecodeSettings) (encoding : settings.encoding ≡ Group3_2D
       line_is = grind (arith, common_steps, append_assoc)
 
       one_there : drop (from + (1 + length is.one.0)) whole ≡ true ∷ (is.one.1 ++ next)
-      one_there =
-          sym (drop-drop (1 + length is.one.0) from whole) ∙ ap (drop (1 + length is.one.0)) line_on
+      one_there = sym (drop-drop (1 + length is.one.0) from whole) ∙ ap (drop (1 + length is.one.0)) line_on
           ∙ drop_at (line ++ next) (is.tag ∷ is.one.0) (true ∷ (is.one.1 ++ next)) (1 + length is.one.0) line_is (omega arith)
 
 -- the tag behind lines of an encoding is a line's

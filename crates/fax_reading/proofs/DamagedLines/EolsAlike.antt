@@ -36,8 +36,7 @@ closes_inside bits closes =
 
 -- what follows a one within them ends in them too
 pub inside_after : (bits before after : Bits) → Inside bits → bits ≡ before ++ true ∷ after → Closes after
-inside_after bits before after inside e =
-    closes_after (inside.last.0 ++ before) after inside.last.1
+inside_after bits before after inside e = closes_after (inside.last.0 ++ before) after inside.last.1
     (append_assoc inside.last.0 before (true ∷ after) ∙ ap (λ (x : Bits). inside.last.0 ++ x) (sym e) ∙ inside.last.2)
 
 -- what follows a one is a suffix
@@ -118,10 +117,7 @@ module _ (x y : Bits) where
           → PastAlike (true ∷ bits) (cond b (Some (bits ++ true ∷ x)) (past 0 (bits ++ true ∷ x)))
           (cond b (Some (bits ++ true ∷ y)) (past 0 (bits ++ true ∷ y)))
       either_way true on = inl ([], bits, refl, refl, refl)
-      either_way false on = elim on [
-        | inl a ↦ inl (true ∷ a.0, a.1, ap (λ (z : Bits). true ∷ z) a.2, a.3, a.4)
-        | inr a ↦ inr a
-      ]
+      either_way false on = elim on [ inl a ↦ inl (true ∷ a.0, a.1, ap (λ (z : Bits). true ∷ z) a.2, a.3, a.4) | inr a ↦ inr a ]
 
   -- where counting EOLs ends: within the equal bits, or just past them
   abbrev pub RestAlike : Bits → Bits → Bits → Type 0
@@ -239,13 +235,8 @@ module _ (x y : Bits) where
               (bits, (true ∷ [], refl), behind, rw (e ∙ a.3, past_tag) refl, rw (f ∙ a.4, past_tag) refl)
           by_after_eol o p e f (inr (inl a)) =
               (bits, (true ∷ [], refl), behind, rw (e ∙ a.0, past_tag) refl, rw (f ∙ a.1, past_tag) refl)
-          by_after_eol o p e f (inr (inr a)) = (
-            true ∷ bits,
-            ([], refl),
-            λ closes. closes,
-            rw (e ∙ a.0, past_tag) refl,
-            rw (f ∙ a.1, past_tag) refl,
-          )
+          by_after_eol o p e f (inr (inr a)) =
+              (true ∷ bits, ([], refl), λ closes. closes, rw (e ∙ a.0, past_tag) refl, rw (f ∙ a.1, past_tag) refl)
 
       pub all_tagged_alike : (bits : Bits) → CountAlike bits (all_tagged (bits ++ true ∷ x)) (all_tagged (bits ++ true ∷ y))
       all_tagged_alike bits = count_alike counts_tagged tag_x tag_y past_tag_alike bits

@@ -44,8 +44,7 @@ from_later : (seen : ℕ) (here end : Bits) → Contains (later_starts seen here
     × (begins_line end ≡ true)
 from_later seen [] end c = absurd (contains_none end c)
 from_later seen (false ∷ here) end c = grind (arith, common_steps, common_steps, zeros_along, from_later (suc seen) here end c)
-from_later seen (true ∷ here) end c =
-    by_leb (leb 11 seen && begins_line here) refl (from_later 0 here end)
+from_later seen (true ∷ here) end c = by_leb (leb 11 seen && begins_line here) refl (from_later 0 here end)
     (Contains-append_cases (cond (leb 11 seen && begins_line here) (here ∷ []) []) (later_starts 0 here) end c)
   where
     by_leb : (b : Bool) → (leb 11 seen && begins_line here) ≡ b → (Contains (later_starts 0 here) end → EndsLater 0 here end
@@ -122,12 +121,10 @@ to_later seen (true ∷ here) end (at, leaves, eol, lt) b = elim (cases_lt (leng
 
     inside : length end < length here → LeavesBits here at
     inside less = elim (cases_lt (length here) (length at)) [
-      | inl longer ↦ absurd (
-          let f = shorter_end leaves.0 at (replicate seen false) (true ∷ here) (sym leaves.1) (omega arith) in
-          let step = length-append (replicate is.0 false) (true ∷ end) in
-          let step2 = first_one is.0 end f.0 here (sym is.1 ∙ f.1) in
-          let step3 = length-append f.0 (true ∷ here) in
-          omega (arith, less, step2, ap length f.1, step3, ap length is.1, step, length-replicate is.0 false))
+      | inl longer ↦ absurd (let f = shorter_end leaves.0 at
+          (replicate seen false) (true ∷ here) (sym leaves.1) (omega arith) in let step = length-append (replicate is.0 false)
+          (true ∷ end) in let step2 = first_one is.0 end f.0 here (sym is.1 ∙ f.1) in let step3 = length-append f.0
+          (true ∷ here) in omega (arith, less, step2, ap length f.1, step3, ap length is.1, step, length-replicate is.0 false))
       | inr short ↦ shorter_end (replicate seen false ++ true ∷ []) here leaves.0 at
           (append_assoc (replicate seen false) (true ∷ []) here ∙ leaves.1) short
     ]

@@ -185,8 +185,7 @@ line_past_of (Line.broken front fault) here after leaves next stays = next
 pub line_past_by : (settings : DecodeSettings) (reference : Row) (here after : Bits) → past 0 here ≡ Some after
     → ((row : Row) (rest : Bits) → line_here settings reference here ≡ Line.whole row rest → length after + 12 ≤ length rest)
     → past 0 (rest_of (line_here settings reference here) here) ≡ Some after
-line_past_by settings reference here after next stays =
-    line_past_of (line_here settings reference here) here after
+line_past_by settings reference here after next stays = line_past_of (line_here settings reference here) here after
     (line_by_leaves settings.encoding settings.strict settings.columns reference here) next stays
 
 -- ---- One-dimensional data
@@ -210,11 +209,9 @@ is_tail settings bits from to local =
 -- the next EOL behind its line is the one behind it
 pub stays_1d : (settings : DecodeSettings) (bits : Bits) (from to : ℕ) (local : IsLocal settings bits from to) (reference : Row)
     → past 0 (rest_of (line_here settings reference (drop from bits)) (drop from bits)) ≡ Some local.closes.0
-stays_1d settings bits from to local reference =
-    line_past_by settings reference (drop from bits) local.closes.0
-    (next_line_is bits from to local.closes.0 (body_1d settings bits from to local))
-    (λ row rest e. local.closes.2 row rest (sym (sought_line_is settings local.encoding local.lenient reference (drop from bits))
-    ∙ e))
+stays_1d settings bits from to local reference = line_past_by settings reference (drop from bits) local.closes.0
+    (next_line_is bits from to local.closes.0 (body_1d settings bits from to local)) (λ row rest e. local.closes.2 row rest
+    (sym (sought_line_is settings local.encoding local.lenient reference (drop from bits)) ∙ e))
 
 -- ---- Two-dimensional data
 
@@ -254,10 +251,8 @@ is_tagged_tail settings bits from to local =
 
 -- the next EOL behind its line, as it is read, is the one behind it
 pub stays_2d : (settings : DecodeSettings) (bits : Bits) (from to : ℕ) (local : IsTaggedBody settings bits from to)
-    (rows : List Row)
-    → Reaches (move_on settings) (first_line settings bits) (sought rows (drop from bits))
+    (rows : List Row) → Reaches (move_on settings) (first_line settings bits) (sought rows (drop from bits))
     → past 0 (rest_of (line_of_turn settings (sought rows (drop from bits))) (drop from bits)) ≡ Some local.closes.0
-stays_2d settings bits from to local rows reached =
-    line_past_by settings (row_before settings.columns rows) (drop from bits) local.closes.0
-    (next_line_is bits from to local.closes.0 (body_2d settings bits from to local))
+stays_2d settings bits from to local rows reached = line_past_by settings (row_before settings.columns rows)
+    (drop from bits) local.closes.0 (next_line_is bits from to local.closes.0 (body_2d settings bits from to local))
     (λ row rest e. local.closes.2 (sought rows (drop from bits)) reached refl row rest e)

@@ -125,10 +125,9 @@ module _ (x y : Bits) where
 
   run_alike : (color : Color) (total : ℕ) (here there : Bits) → InFront x y here there
       → FoundAlike x y (run_from color (total, here)) (run_from color (total, there))
-  run_alike color total here there front =
-      repeated_follows (run_turn color) (Err UnexpectedEof) size (run_shrinks color) (run_turn color) (Err UnexpectedEof) size
-      (run_shrinks color) Runs (FoundAlike x y) (states_alike color _) (suc (length here)) (suc (length there)) (total, here)
-      (total, there) (omega arith) (omega arith) (refl, front)
+  run_alike color total here there front = repeated_follows (run_turn color) (Err UnexpectedEof) size (run_shrinks color)
+      (run_turn color) (Err UnexpectedEof) size (run_shrinks color) Runs (FoundAlike x y) (states_alike color _)
+      (suc (length here)) (suc (length there)) (total, here) (total, there) (omega arith) (omega arith) (refl, front)
 
   -- ---- Lines
   abbrev pub LineAlike : Line → Line → Type 0
@@ -169,11 +168,10 @@ module _ (x y : Bits) where
   -- a line of two data at one position, inside, is the same, and ends inside
   pub line_1d_alike : (columns : ℕ) (here there : Bits) → InFront x y here there
       → LineAlike (line_1d false columns here) (line_1d false columns there)
-  line_1d_alike columns here there front =
-      repeated_follows (step_1d false columns) (Line.broken [] UnexpectedEof) pen_left (step_1d_shrinks false columns)
-      (step_1d false columns) (Line.broken [] UnexpectedEof) pen_left (step_1d_shrinks false columns) Pens LineAlike
-      (pens_alike columns _) (suc (length here)) (suc (length there)) (start here) (start there) (omega arith) (omega arith)
-      ([], Color.White, here, there, refl, refl, front)
+  line_1d_alike columns here there front = repeated_follows (step_1d false columns) (Line.broken [] UnexpectedEof) pen_left
+      (step_1d_shrinks false columns) (step_1d false columns) (Line.broken [] UnexpectedEof) pen_left
+      (step_1d_shrinks false columns) Pens LineAlike (pens_alike columns _) (suc (length here)) (suc (length there))
+      (start here) (start there) (omega arith) (omega arith) ([], Color.White, here, there, refl, refl, front)
 
   -- the same of a two-dimensional line, against one reference row
   module _ (columns : ℕ) (reference : Row) (rest : Pen → Line) where

@@ -103,9 +103,8 @@ module _ (settings : DecodeSettings) (encoding : settings.encoding ≡ Group3_1D
           (here ∷ later_starts 0 here) → IsPrefix (rows ++ map (row_at settings.columns) (here ∷ later_starts 0 here)) (rest_end
           (sought rows here)).rows) → (o : Option Bits) → past 0 here ≡ o → IsPrefix (rows ++ map (row_at settings.columns)
           (here ∷ later_starts 0 here)) (after_turn rest_end (after_row settings (sought (rows ++ first ∷ []) rest))).rows
-      by_past on None e = rw (starts-none 0 here e)
-          (turn_extends rest_end extends (rows ++ first ∷ []) (after_row settings (sought (rows ++ first ∷ []) rest))
-          (after_row_keeps settings (sought (rows ++ first ∷ []) rest)))
+      by_past on None e = rw (starts-none 0 here e) (turn_extends rest_end extends (rows ++ first ∷ [])
+          (after_row settings (sought (rows ++ first ∷ []) rest)) (after_row_keeps settings (sought (rows ++ first ∷ []) rest)))
       by_past on (Some after) e = go (all_eols after).1 refl
         where
           others : List Row
@@ -113,8 +112,7 @@ module _ (settings : DecodeSettings) (encoding : settings.encoding ≡ Group3_1D
 
           turn : (there : Bits) → (all_eols after).1 ≡ there → after_row settings (sought others rest)
               ≡ cond (at_end there) (ends_with (sought others rest) (Ok there)) (Turn.next (sought others there))
-          turn there is =
-              after_row_past settings encoding lenient others rest after (not_met (length others))
+          turn there is = after_row_past settings encoding lenient others rest after (not_met (length others))
               (line_past settings.columns here after (All-head (StaysBefore settings.columns) here (later_starts 0 here) stay) e)
               ∙ over_is others rest (suc (all_eols after).0) (all_eols after).1
               ∙ ap (λ (x : Bits). cond (at_end x) (ends_with (sought others rest) (Ok x)) (Turn.next (sought others x))) is

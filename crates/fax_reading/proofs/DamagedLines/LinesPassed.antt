@@ -54,10 +54,8 @@ ReadFurther start color here = ((last : Bits) → ReadsModes color here last →
 
 pub further : (start : Bits) (color : Color) (here : Bits) (next : Color) (rest : Bits) → ReadFurther start color here
     → behind_mode color here ≡ Some (next, rest) → ReadFurther start next rest
-further start color here next rest so_far found = (
-  λ last reads. so_far.0 last (ReadsModes.mode next rest found reads),
-  λ last reads. by_last last (so_far.1 last reads),
-)
+further start color here next rest so_far found =
+    (λ last reads. so_far.0 last (ReadsModes.mode next rest found reads), λ last reads. by_last last (so_far.1 last reads))
   where
     less : length rest < length here
     less = behind_mode_shorter color here (next, rest) found
@@ -140,10 +138,8 @@ counted_on settings start here line next rows so_far e is = (
 
 pub last_line_counted : (settings : DecodeSettings) (start here : Bits) (rows : ℕ) → CountsRows settings start rows here
     → ComesBefore1D settings here → (lines : ℕ) → (Some rows ≡ Some (suc lines)) ↔ ComeBefore1D settings lines start
-last_line_counted settings start here rows so_far comes lines = (
-  λ e. subst (λ (n : ℕ). ComeBefore1D settings n start) (less e) (so_far.1 0 comes),
-  λ given. by_left (so_far.2 lines given),
-)
+last_line_counted settings start here rows so_far comes lines =
+    (λ e. subst (λ (n : ℕ). ComeBefore1D settings n start) (less e) (so_far.1 0 comes), λ given. by_left (so_far.2 lines given))
   where
     less : Some rows ≡ Some (suc lines) → 0 + (rows - 1) ≡ lines
     less e = let same : rows ≡ suc lines = cc in omega (arith, same)
@@ -156,10 +152,8 @@ last_line_counted settings start here rows so_far comes lines = (
 pub counted_none : (settings : DecodeSettings) (start here : Bits) (rows : ℕ) → CountsRows settings start rows here
     → (ComesBefore1D settings here → ⊥) → ((line next : Bits) → after_eol 0 here ≡ Some (false ∷ line) → IsLine2D line next → ⊥)
     → (lines : ℕ) → (None ≡ Some (suc lines)) ↔ ComeBefore1D settings lines start
-counted_none settings start here rows so_far no_end no_line lines = (
-  λ e. absurd cc,
-  λ given. absurd (by_left (so_far.2 lines given)),
-)
+counted_none settings start here rows so_far no_end no_line lines =
+    (λ e. absurd cc, λ given. absurd (by_left (so_far.2 lines given)))
   where
     by_left : (left : ℕ) × (lines ≡ left + (rows - 1)) × ComeBefore1D settings left here → ⊥
     by_left (zero, same, comes) = no_end comes

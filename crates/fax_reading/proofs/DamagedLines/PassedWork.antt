@@ -2,7 +2,7 @@
 use Rattle.fax_reading.proofs.Names.{common_steps, ◌≡◌, ℕ, suc, ◌+◌, ◌*◌, ◌<◌, ◌≤◌, true, false, List, [], ◌∷◌, ◌++◌, length}
 use Rattle.fax_reading.proofs.Names.{drop, Option, Some, None, Result, Ok, Err, refl, sym, ap, subst, ◌∙◌, arith, none-some, inr}
 use Rattle.fax_reading.proofs.Names.{length-append, Color, Mode, Pass, Horizontal, Vertical, DecodeError, Bits, mode_codes}
-use Rattle.fax_reading.proofs.Names.{read_code, opposite, read_run, after_eol, next_eol, one_more, pass_last_tag, tagged_eols}
+use Rattle.fax_reading.proofs.Names.{read_code, opposite, read_run, after_eol, next_eol, tagged_eols}
 use Rattle.fax_reading.proofs.Names.{behind_mode, behind_read, behind_word, behind_first_run, behind_second_run, looked}
 use Rattle.fax_reading.proofs.Names.{mode_found, runs_found, runs_found_behind, second_run_found, run_found, word_found}
 use Rattle.fax_reading.proofs.Names.{most_for_lines, IsLine2D}
@@ -48,9 +48,8 @@ mode_words_stand : (color : Color) (here : Bits) → (rest : Bits) × WordsStand
     × ModeEnds (behind_mode color here) rest
 mode_words_stand color here = by_read_code (read_code mode_codes here) refl
   where
-    by_read_code : (r : Result (Mode × Bits) DecodeError) → read_code mode_codes here ≡ r
-        → (rest : Bits) × WordsStand here (word_found mode_codes here ++ runs_found_behind color r) rest
-        × ModeEnds (behind_read color r) rest
+    by_read_code : (r : Result (Mode × Bits) DecodeError) → read_code mode_codes here ≡ r → (rest : Bits)
+        × WordsStand here (word_found mode_codes here ++ runs_found_behind color r) rest × ModeEnds (behind_read color r) rest
     by_read_code (Ok (mode, left)) e =
         let runs = runs_stand color mode left in (
           runs.0,
@@ -175,8 +174,7 @@ looked_behind (bit ∷ rest) = omega (arith, looked_most rest)
 
 -- an EOL, and no line behind it
 pub lines_end_behind : (start here behind rest : Bits) (begun before eol tags now : ℕ) → LinesPaid start here begun before
-    → after_eol 0 here ≡ Some behind → eol ≡ before + looked here
-    → tags + 2 * length rest ≤ eol + 2 * length here + 3 + looked (drop 1 rest) → now ≤ tags + 3 * length behind
-    → now ≤ begun + most_for_lines (length start)
+    → after_eol 0 here ≡ Some behind → eol ≡ before + looked here → tags + 2 * length rest ≤ eol + 2 * length here + 3 + looked
+    (drop 1 rest) → now ≤ tags + 3 * length behind → now ≤ begun + most_for_lines (length start)
 lines_end_behind start here behind rest begun before eol tags now paid e read ahead passed =
     omega (arith, paid, read, ahead, passed, looked_eol 0 here behind e, looked_behind rest)

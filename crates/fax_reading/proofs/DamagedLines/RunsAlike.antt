@@ -28,9 +28,8 @@ use Rattle.fax_reading.proofs.Readings.TurnsMoveOn.{eols_here_counted}
 
 -- the rows are equal, or all but a number of consecutive ones, of which something is said by the rows before them
 abbrev pub RowsAlike : ℕ → (List Row → Type 0) → List Row → List Row → Type 0
-RowsAlike differ Begins xs ys = (xs ≡ ys)
-    ⊎ ((before these those more : List Row) × (length these ≡ length those) × (length these ≤ differ)
-    × (xs ≡ before ++ (these ++ more)) × (ys ≡ before ++ (those ++ more)) × Begins before)
+RowsAlike differ Begins xs ys = (xs ≡ ys) ⊎ ((before these those more : List Row) × (length these ≡ length those)
+    × (length these ≤ differ) × (xs ≡ before ++ (these ++ more)) × (ys ≡ before ++ (those ++ more)) × Begins before)
 
 rows_length : (differ : ℕ) (Begins : List Row → Type 0) (xs ys : List Row) → RowsAlike differ Begins xs ys → length xs ≡ length ys
 rows_length differ Begins xs ys (inl e) = ap length e
@@ -120,7 +119,8 @@ module _ (settings : DecodeSettings) (most : ℕ) (Alike : List Row → List Row
       (row_before_push settings.columns xs row ∙ sym (row_before_push settings.columns ys row)))
 
   line_beyond : (xs ys : List Row) (h : Bool) (here : Bits) (line : Line) → Alike xs ys → length here ≤ most
-      → LineLeaves here line → Together (after_line settings (run_at xs h here) line) (after_line settings (run_at ys h here) line)
+      → LineLeaves here line
+      → Together (after_line settings (run_at xs h here) line) (after_line settings (run_at ys h here) line)
   line_beyond xs ys h here (Line.whole row left) alike short leaves =
       rw (after_whole-is settings (run_at xs h here) row left, after_whole-is settings (run_at ys h here) row left)
       (added_beyond xs ys h here here row left alike (omega (arith, short, ap length leaves.1, length-append leaves.0 left)))
@@ -351,16 +351,13 @@ module _ (settings : DecodeSettings) (group3 : IsGroup3 settings.encoding) (leni
       by_past open_limit o p e f (inr (inr (g, h))) =
           let one = row_past settings lenient rows (bits ++ true ∷ x) after open_limit (e ∙ g ∙ tail_x.next) in
           let two = row_past settings lenient rows (bits ++ true ∷ y) after open_limit (f ∙ h ∙ tail_y.next) in
-          rw (one.3, two.3, eols_here_same settings two.0 one.0 after two.2 one.2)
-          (unless_on rows rows true (bits ++ true ∷ x) (bits ++ true ∷ y) (eols_here settings one.0) (inl refl)
-          (eols_past settings one.0 after one.2) (inr refl))
+          rw (one.3, two.3, eols_here_same settings two.0 one.0 after two.2 one.2) (unless_on rows rows true (bits ++ true ∷ x)
+          (bits ++ true ∷ y) (eols_here settings one.0) (inl refl) (eols_past settings one.0 after one.2) (inr refl))
 
       by_limit : (limit_met settings (length rows) ≡ true) ⊎ (limit_met settings (length rows) ≡ false)
           → Both (after_row settings (sought rows (bits ++ true ∷ x))) (after_row settings (sought rows (bits ++ true ∷ y)))
-      by_limit (inl met) = rw (
-        sought_done settings rows (bits ++ true ∷ x) met,
-        sought_done settings rows (bits ++ true ∷ y) met,
-      ) (at_limit (eols_here settings (bits ++ true ∷ x)) (eols_here settings (bits ++ true ∷ y)) (counted_here bits within).1)
+      by_limit (inl met) = rw (sought_done settings rows (bits ++ true ∷ x) met, sought_done settings rows (bits ++ true ∷ y) met)
+          (at_limit (eols_here settings (bits ++ true ∷ x)) (eols_here settings (bits ++ true ∷ y)) (counted_here bits within).1)
       by_limit (inr open_limit) =
           by_past open_limit (past 0 (bits ++ true ∷ x)) (past 0 (bits ++ true ∷ y)) refl refl (past_alike x y 0 bits)
 

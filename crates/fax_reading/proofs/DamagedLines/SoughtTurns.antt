@@ -111,7 +111,6 @@ module _ (settings : DecodeSettings) (encoding : settings.encoding ≡ Group3_1D
       ∙ ap (λ (s : Bool). line_1d s settings.columns here) lenient
 
   -- a line's row is added, and the EOLs after it are counted
-  pub move_line : (rows : List Row) (here : Bits)
-      → move_on settings (sought rows here) ≡ after_row settings
+  pub move_line : (rows : List Row) (here : Bits) → move_on settings (sought rows here) ≡ after_row settings
       (sought (rows ++ row_at settings.columns here ∷ []) (rest_of (line_1d false settings.columns here) here))
   move_line rows here = grind (arith, common_steps, move_sought, sought_line_is)

@@ -60,9 +60,8 @@ mode_words strict columns reference pen =
     (λ mode. (draw_mode strict columns reference (record pen { rest = mode.1 }) mode.0).words)
 
 abbrev mode_turn : Bool → ℕ → Row → Pen → Step
-mode_turn strict columns reference pen =
-    try pen.front (read_code mode_codes pen.rest)
-    (λ mode. mode_step strict columns reference (record pen { rest = mode.1 }) mode.0)
+mode_turn strict columns reference pen = try pen.front
+    (read_code mode_codes pen.rest) (λ mode. mode_step strict columns reference (record pen { rest = mode.1 }) mode.0)
 
 -- a one-dimensional line whose row isn't full finds the words of its next run, and then those after it
 pub found_1d_on : (strict : Bool) (columns : ℕ) (pen : Pen) → length pen.front < columns → found_1d_from strict columns pen

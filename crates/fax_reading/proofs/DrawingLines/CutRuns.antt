@@ -123,10 +123,9 @@ module _ (before now new : Held) (line : Line) (first cut : Bool) (kept : now �
   columns_are = ap (λ (h : Held). h.settings.columns) kept
 
   -- a run
-  pub cut_by_run : (at to : Bits) → length now.front < now.settings.columns
-      → StrictSoFar line (drawn_by (step_1d true before.settings.columns) (pen_of now at)) first
-      → TellsCut (strict_step_of_run now at) (pen_of new to) first cut
-      → StrictSoFar line (drawn_by (step_1d true before.settings.columns) (pen_of new to)) cut
+  pub cut_by_run : (at to : Bits) → length now.front < now.settings.columns → StrictSoFar line
+      (drawn_by (step_1d true before.settings.columns) (pen_of now at)) first → TellsCut (strict_step_of_run now at)
+      (pen_of new to) first cut → StrictSoFar line (drawn_by (step_1d true before.settings.columns) (pen_of new to)) cut
   cut_by_run at to open_row so_far tells =
       let here = subst (λ (n : ℕ). StrictSoFar line (drawn_by (step_1d true n) (pen_of now at)) first) (sym columns_are) so_far in
       subst (λ (n : ℕ). StrictSoFar line (drawn_by (step_1d true n) (pen_of new to)) cut) columns_are
@@ -134,9 +133,8 @@ module _ (before now new : Held) (line : Line) (first cut : Bool) (kept : now �
       (run_open true now.settings.columns (pen_of now at) open_row) tells)
 
   -- a mode
-  pub cut_by_mode : (at rest to : Bits) (mode : Mode) → length now.front < now.settings.columns
-      → read_code mode_codes at ≡ Ok (mode, rest)
-      → StrictSoFar line (drawn_by (step_2d true before.settings.columns before.reference) (pen_of now at)) first
+  pub cut_by_mode : (at rest to : Bits) (mode : Mode) → length now.front < now.settings.columns → read_code mode_codes at ≡ Ok
+      (mode, rest) → StrictSoFar line (drawn_by (step_2d true before.settings.columns before.reference) (pen_of now at)) first
       → TellsCut (strict_step_of_mode now rest mode) (pen_of new to) first cut
       → StrictSoFar line (drawn_by (step_2d true before.settings.columns before.reference) (pen_of new to)) cut
   cut_by_mode at rest to mode open_row reads so_far tells =
@@ -197,8 +195,7 @@ pub cut_drawn_1d : (before now : Held) (cut : Bool) (line : Line) (at : Bits) �
     → StrictSoFar line (drawn_by (step_1d true before.settings.columns) (pen_of now at)) cut → cut ≡ is_broken line
 cut_drawn_1d before now cut line at kept full so_far = grind (arith, common_steps, strict_end, full_1d)
 
-pub cut_drawn_2d : (before now : Held) (cut : Bool) (line : Line) (at : Bits) → now ≡ redrawn before now.front now.color
-    → now.settings.columns ≤ length now.front
-    → StrictSoFar line (drawn_by (step_2d true before.settings.columns before.reference) (pen_of now at)) cut → cut
-    ≡ is_broken line
+pub cut_drawn_2d : (before now : Held) (cut : Bool) (line : Line)
+    (at : Bits) → now ≡ redrawn before now.front now.color → now.settings.columns ≤ length now.front → StrictSoFar line
+    (drawn_by (step_2d true before.settings.columns before.reference) (pen_of now at)) cut → cut ≡ is_broken line
 cut_drawn_2d before now cut line at kept full so_far = grind (arith, common_steps, strict_end, full_2d)

@@ -173,8 +173,7 @@ try_keeps P front (Ok x) go_on holds keeps = keeps x refl
 try_keeps P front (Err fault) go_on holds keeps = holds
 
 draw_run_keeps : (P : Row → Type 0) → Stays P → (strict : Bool) (columns : ℕ) (pen : Pen) (go_on : Pen → Step)
-    → ((p : Pen) → P p.front → P (front_after (go_on p))) → P pen.front
-    → P (front_after (run_then strict columns pen go_on))
+    → ((p : Pen) → P p.front → P (front_after (go_on p))) → P pen.front → P (front_after (run_then strict columns pen go_on))
 draw_run_keeps P on strict columns pen go_on keeps holds =
     try_keeps P pen.front (run_from pen.color (0, pen.rest)) _ holds (λ run e. try_keeps P pen.front (paint strict columns
     pen.front pen.color run.0) _ holds (λ front f. keeps (record { front = front; color = opposite pen.color; rest = run.1 })
@@ -184,13 +183,11 @@ draw_mode_keeps : (P : Row → Type 0) → Stays P → (strict : Bool) (columns 
     → P pen.front → P (front_after (mode_step strict columns reference pen mode))
 draw_mode_keeps P on strict columns reference pen Pass holds = grind (arith, common_steps, try_keeps, paint_keeps)
 draw_mode_keeps P on strict columns reference pen Horizontal holds =
-    subst (λ (step : Step). P (front_after step)) (horizontal_is strict columns reference pen)
-    (draw_run_keeps P on strict columns pen (λ pen. run_then strict columns pen Turn.next)
-    (λ p h. draw_run_keeps P on strict columns p Turn.next (λ q g. g) h) holds)
+    subst (λ (step : Step). P (front_after step)) (horizontal_is strict columns reference pen) (draw_run_keeps P on strict columns
+    pen (λ pen. run_then strict columns pen Turn.next) (λ p h. draw_run_keeps P on strict columns p Turn.next (λ q g. g) h) holds)
 draw_mode_keeps P on strict columns reference pen (Vertical k) holds = grind (arith, common_steps, try_keeps, paint_keeps)
 
-keeps_either : (P : Row → Type 0) (b : Bool) (x y : Step) → P (front_after x) → P (front_after y)
-    → P (front_after (cond b x y))
+keeps_either : (P : Row → Type 0) (b : Bool) (x y : Step) → P (front_after x) → P (front_after y) → P (front_after (cond b x y))
 keeps_either P true x y one other = one
 keeps_either P false x y one other = other
 
@@ -205,8 +202,7 @@ step_2d_keeps P on strict columns reference pen holds =
     holds (λ mode e. draw_mode_keeps P on strict columns reference (record pen { rest = mode.1 }) mode.0 holds)))
 
 step_1d_keeps : (P : Row → Type 0) → Stays P → (strict : Bool) (columns : ℕ) → KeepsFront P (step_1d strict columns)
-step_1d_keeps P on strict columns pen holds =
-    subst (λ (step : Step). P (front_after step)) (sym (step_1d_is strict columns pen))
+step_1d_keeps P on strict columns pen holds = subst (λ (step : Step). P (front_after step)) (sym (step_1d_is strict columns pen))
     (keeps_either P (leb columns (length pen.front)) (Turn.done (Line.whole pen.front pen.rest))
     (run_then strict columns pen Turn.next) holds (draw_run_keeps P on strict columns pen Turn.next (λ q h. h) holds))
 
@@ -226,9 +222,8 @@ keeps_on P step shrinks keeps (suc n) pen lt holds =
 -- so what is true of a front is true of the row of the line that continues it, or of the front of a broken one
 pub drawn_1d_keeps : (P : Row → Type 0) → Stays P → (strict : Bool) (columns : ℕ) (pen : Pen) → P pen.front
     → P (front_of (drawn_by (step_1d strict columns) pen))
-drawn_1d_keeps P on strict columns pen holds =
-    keeps_on P (step_1d strict columns) (step_1d_shrinks strict columns) (step_1d_keeps P on strict columns)
-    (suc (length pen.rest)) pen (omega arith) holds
+drawn_1d_keeps P on strict columns pen holds = keeps_on P (step_1d strict columns)
+    (step_1d_shrinks strict columns) (step_1d_keeps P on strict columns) (suc (length pen.rest)) pen (omega arith) holds
 
 pub drawn_2d_keeps : (P : Row → Type 0) → Stays P → (strict : Bool) (columns : ℕ) (reference : Row) (pen : Pen) → P pen.front
     → P (front_of (drawn_by (step_2d strict columns reference) pen))
@@ -330,9 +325,8 @@ mode_shorter strict columns reference pen t at mode reads draws =
 -- an error of the first step is that of both, if what follows keeps what is painted
 pub behind_fails : (behind : Pen → Step) (step : Step) (e : DecodeError) (pen : Pen) → KeepsFront (stopping_at pen.front) behind
     → DrawsStep step (Err e) pen → DrawsStep (turn_behind step behind) (Err e) pen
-behind_fails behind step e pen keeps =
-    kind_weaker (kind_of e) (step ≡ Turn.done (Line.broken pen.front e)) (StopsAtChange (front_after step) pen.front) ⊥
-    (turn_behind step behind ≡ Turn.done (Line.broken pen.front e))
+behind_fails behind step e pen keeps = kind_weaker (kind_of e) (step ≡ Turn.done (Line.broken pen.front e))
+    (StopsAtChange (front_after step) pen.front) ⊥ (turn_behind step behind ≡ Turn.done (Line.broken pen.front e))
     (StopsAtChange (front_after (turn_behind step behind)) pen.front) ⊥ (λ draws. rw draws refl) (stops step) (λ draws. draws)
   where
     stops : (step : Step) → StopsAtChange (front_after step) pen.front
@@ -343,10 +337,9 @@ behind_fails behind step e pen keeps =
 -- two runs, if the first is refused
 pub first_run_fails : (held : Held) (rest : Bits) (left : Pen) (e : DecodeError) → DrawsStep (step_of_run held rest) (Err e) left
     → DrawsStep (step_of_mode held rest Horizontal) (Err e) left
-first_run_fails held rest left e draws =
-    behind_fails (λ pen. run_then held.settings.strict held.settings.columns pen Turn.next) (step_of_run held rest) e left
-    (λ p stops. draw_run_keeps (stopping_at left.front) (later_change left.front) held.settings.strict held.settings.columns
-    p Turn.next (λ q g. g) stops) draws
+first_run_fails held rest left e draws = behind_fails (λ pen. run_then held.settings.strict held.settings.columns pen Turn.next)
+    (step_of_run held rest) e left (λ p stops. draw_run_keeps (stopping_at left.front)
+    (later_change left.front) held.settings.strict held.settings.columns p Turn.next (λ q g. g) stops) draws
 
 -- Between two steps of a line: the line from the pen on is the whole line; nothing but the front and the colour of the
 -- context has changed.

@@ -24,8 +24,7 @@ module _ (columns : ℕ) (step : Pen → Step) (body : Pen → Step) (goes : (p 
 
 -- a one-dimensional line that is whole is full
 pub line_1d_full : (strict : Bool) (columns : ℕ) (here : Bits) → IsFull columns (line_1d strict columns here)
-line_1d_full strict columns here =
-    drawn_full columns (step_1d strict columns) (λ p. run_then strict columns p Turn.next)
+line_1d_full strict columns here = drawn_full columns (step_1d strict columns) (λ p. run_then strict columns p Turn.next)
     (λ p. draw_run_goes_on strict columns p Turn.next (λ q. tt)) (λ p. step_1d_is strict columns p) (start here)
 
 -- and so is a two-dimensional one

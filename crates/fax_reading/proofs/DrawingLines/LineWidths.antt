@@ -50,17 +50,15 @@ module _ (strict : Bool) (columns : ℕ) where
 
   draw_run_within : (pen : Pen) → PenWithin columns pen → KeepsWidth columns (PenWithin columns)
       (draw_run strict columns pen).turn
-  draw_run_within pen within =
-      behind_holds columns Any (PenWithin columns) (run_here pen).turn _ (any_holds columns pen.front _ within)
-      (λ run u. behind_holds columns (IsWithin columns) (PenWithin columns) (painted strict columns pen run.0).turn _
-      (painted_within pen run.0 within) (λ front h. h))
+  draw_run_within pen within = behind_holds columns Any (PenWithin columns)
+      (run_here pen).turn _ (any_holds columns pen.front _ within) (λ run u. behind_holds columns (IsWithin columns)
+      (PenWithin columns) (painted strict columns pen run.0).turn _ (painted_within pen run.0 within) (λ front h. h))
 
   draw_mode_within : (reference : Row) (pen : Pen) (mode : Mode) → PenWithin columns pen
       → KeepsWidth columns (PenWithin columns) (draw_mode strict columns reference pen mode).turn
   draw_mode_within reference pen Pass within = grind (arith, common_steps, behind_holds, painted_within)
-  draw_mode_within reference pen Horizontal within =
-      behind_holds columns (PenWithin columns) (PenWithin columns) (draw_run strict columns pen).turn _
-      (draw_run_within pen within) (λ p h. draw_run_within p h)
+  draw_mode_within reference pen Horizontal within = behind_holds columns (PenWithin columns)
+      (PenWithin columns) (draw_run strict columns pen).turn _ (draw_run_within pen within) (λ p h. draw_run_within p h)
   draw_mode_within reference pen (Vertical k) within = grind (arith, common_steps, behind_holds, any_holds, painted_within)
 
   unless_full_within : (pen : Pen) → PenWithin columns pen → KeepsWidth columns (PenWithin columns) (unless_full columns pen).turn
@@ -71,9 +69,8 @@ module _ (strict : Bool) (columns : ℕ) where
 
   draw_2d_within : (reference : Row) (pen : Pen) → PenWithin columns pen
       → KeepsWidth columns (PenWithin columns) (draw_2d strict columns reference pen).turn
-  draw_2d_within reference pen within =
-      behind_holds columns (PenWithin columns) (PenWithin columns) (unless_full columns pen).turn _
-      (unless_full_within pen within) (λ p h. behind_holds columns Any (PenWithin columns) (mode_here p).turn _
+  draw_2d_within reference pen within = behind_holds columns (PenWithin columns) (PenWithin columns) (unless_full columns
+      pen).turn _ (unless_full_within pen within) (λ p h. behind_holds columns Any (PenWithin columns) (mode_here p).turn _
       (any_holds columns p.front _ h) (λ mode u. draw_mode_within reference (record p { rest = mode.1 }) mode.0 h))
 
 -- so has what is drawn by such steps

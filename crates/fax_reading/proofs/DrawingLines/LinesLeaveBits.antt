@@ -39,8 +39,7 @@ run_turn_leaves color total here = by_read_code (read_code (codes_of color) here
     by_read_code (Err fault) e = rw (e, run_turn) tt
 
 run_leaves : (color : Color) (total : ℕ) (here : Bits) → FoundLeaves here (run_from color (total, here))
-run_leaves color total here =
-    repeated_keeps (run_turn color) (Err UnexpectedEof) (λ s. LeavesBits here s.1) (FoundLeaves here) tt
+run_leaves color total here = repeated_keeps (run_turn color) (Err UnexpectedEof) (λ s. LeavesBits here s.1) (FoundLeaves here) tt
     (λ s t p e. leaves_trans here s.1 t.1 p (subst (TurnLeaves s.1) e (run_turn_leaves color s.0 s.1))) (λ s r p e. ends s.1 r p
     (subst (TurnLeaves s.1) e (run_turn_leaves color s.0 s.1))) (suc (length here)) (total, here) ([], refl)
   where

@@ -1,11 +1,11 @@
 -- What is read doesn't depend on what follows it.
-use Rattle.fax_reading.proofs.Names.{common_steps, ◌≡◌, ℕ, zero, suc, ◌+◌, ◌-◌, ◌<◌, Bool, leb, [], ◌++◌, length, Result, Ok, Err}
-use Rattle.fax_reading.proofs.Names.{refl, sym, ap, subst, ◌∙◌, append_assoc, arith, inl, inr, pos, ◌+ℤ◌, cases_lt, le-leb, Color}
+use Rattle.fax_reading.proofs.Names.{common_steps, ◌≡◌, ℕ, zero, suc, ◌+◌, ◌<◌, Bool, leb, [], ◌++◌, length, Result, Ok, Err}
+use Rattle.fax_reading.proofs.Names.{refl, sym, ap, subst, ◌∙◌, append_assoc, arith, inl, inr, cases_lt, le-leb, Color}
 use Rattle.fax_reading.proofs.Names.{Mode, Pass, Horizontal, Vertical, DecodeError, Bits, mode_codes, Has, read_code, Turn, Row}
-use Rattle.fax_reading.proofs.Names.{opposite, right_of, b1, paint, codes_of, run_from, Line, Pen, start, line_2d, place_from}
+use Rattle.fax_reading.proofs.Names.{opposite, paint, codes_of, run_from, Line, Pen, start, line_2d}
 use Rattle.fax_reading.proofs.Names.{Step}
 use Rattle.fax_reading.proofs.EncodedPictures.EncodedRuns.{draws}
-use Rattle.fax_bits.proofs.Repetition.Repeated.{after_turn, next_is, not_next}
+use Rattle.fax_bits.proofs.Repetition.Repeated.{after_turn, not_next}
 use Rattle.fax_bits.proofs.BitReading.ZerosInWords.{codes_free, modes_free}
 use Rattle.fax_bits.proofs.CodeWords.ReadCodes.{read_code_found, read_code_again}
 use Rattle.fax_bits.proofs.CodeWords.ReadRuns.{chosen, read_code_shorter, words_not_empty, run_fails, run_passes, run_ends}

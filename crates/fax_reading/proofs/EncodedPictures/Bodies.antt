@@ -66,9 +66,8 @@ module _ (settings : DecodeSettings) (wide : 0 < settings.columns) (small : sett
       → IsLineStart here → limit_met settings (length rows) ≡ false → (b ≡ true → length ((line ++ fill b line) ++ tail) % 8 ≡ 0)
       → line_here settings (row_before settings.columns rows) here ≡ Line.whole row (fill b line ++ tail)
       → gap_and_row settings (between rows here) ≡ Turn.next (between (rows ++ row ∷ []) tail)
-  row_read rows here row line tail start open_limit whole read =
-      ap (row_behind settings) (gap_at_line settings rows here start open_limit)
-      ∙ grind (arith, common_steps, aligned_again, between, fill, with_true)
+  row_read rows here row line tail start open_limit whole read = ap (row_behind settings)
+      (gap_at_line settings rows here start open_limit) ∙ grind (arith, common_steps, aligned_again, between, fill, with_true)
 
   module _ (encoding : EncodingMode) (same : settings.encoding ≡ encoding) where
     -- from a line's start, at a whole byte if lines are aligned, the lines are read and what follows is left

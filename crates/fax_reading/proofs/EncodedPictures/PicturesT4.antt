@@ -145,8 +145,7 @@ ended_with_eols rows rest = record { rows = rows; has_eols = true; outcome = Ok 
 six_close : (settings : DecodeSettings) (encoding : EncodingMode) (closing more : Bits) → Matches encoding settings
     → ClosesWithEols encoding 6 closing → 6 ≤ (eols_here settings (closing ++ more)).0
 six_close settings Group4 closing more matches is = absurd matches
-six_close settings Group3_1D closing more matches is =
-    rw (eols_here_one settings (closing ++ more) matches)
+six_close settings Group3_1D closing more matches is = rw (eols_here_one settings (closing ++ more) matches)
     (eols_closing 6 (length (closing ++ more)) closing more is (length-closing Group3_1D 6 closing more is))
 six_close settings Group3_2D closing more matches is = grind (arith, common_steps, eols_here_two, six_tagged)
 
@@ -197,9 +196,8 @@ module _ (settings : DecodeSettings) (wide : 0 < settings.columns) (small : sett
   -- one row is added
   row_added : (before : List Row) (row : Row) (here tail : Bits) → line_here settings (row_before settings.columns before) here
       ≡ Line.whole row tail → move_on settings (with_eols before here) ≡ after_row settings (with_eols (before ++ row ∷ []) tail)
-  row_added before row here tail read =
-      ap (after_line settings (with_eols before here)) read ∙ after_whole-is settings (with_eols before here) row tail
-      ∙ ap (λ (x : Bits). after_row settings (with_eols (before ++ row ∷ []) x)) (cond-false
+  row_added before row here tail read = ap (after_line settings (with_eols before here)) read ∙ after_whole-is settings
+      (with_eols before here) row tail ∙ ap (λ (x : Bits). after_row settings (with_eols (before ++ row ∷ []) x)) (cond-false
       (settings.rows_are_byte_aligned && false) (aligned tail) tail (and_right settings.rows_are_byte_aligned false refl))
 
   module _ (encoding : EncodingMode) (matches : Matches encoding settings) (late : Ending)

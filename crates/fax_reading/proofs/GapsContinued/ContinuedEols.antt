@@ -40,9 +40,8 @@ eol-more more here rest e = after_eol-more more 0 here (eol_holds_one 0 here res
 
 -- two bytes that are an EOL
 abbrev pub bytes_of_eol : Bits
-bytes_of_eol =
-    false ∷ false ∷ false ∷ false ∷ false ∷ false ∷ false ∷ false ∷ false ∷ false ∷ false ∷ false ∷ false ∷ false ∷ false
-    ∷ true ∷ []
+bytes_of_eol = false
+    ∷ false ∷ false ∷ false ∷ false ∷ false ∷ false ∷ false ∷ false ∷ false ∷ false ∷ false ∷ false ∷ false ∷ false ∷ true ∷ []
 
 -- fifteen zeros and a one are an EOL, after any number of zeros
 fifteen_zeros : (seen : ℕ) → after_eol seen bytes_of_eol ≡ Some []
@@ -91,9 +90,8 @@ next_eol_may_come (bit ∷ here) e = by_after_eol (next_eol_may_come here) (afte
 
 -- ---- Consecutive EOLs without tags
 -- as many as were sought are settled, and so are those before a one
-pub eols-more : (more : Bits) (most : ℕ) (here : Bits)
-    → (most ≤ (eols most here).0) ⊎ (holds_one (eols most here).1 ≡ true)
-    → eols most (here ++ more) ≡ count_then_more more (eols most here)
+pub eols-more : (more : Bits) (most : ℕ) (here : Bits) → (most ≤ (eols most here).0)
+    ⊎ (holds_one (eols most here).1 ≡ true) → eols most (here ++ more) ≡ count_then_more more (eols most here)
 eols-more more zero here settled = refl
 eols-more more (suc most) here settled = by_after_eol (λ rest. eols-more more most rest) (after_eol 0 here) refl
   where
@@ -104,13 +102,13 @@ eols-more more (suc most) here settled = by_after_eol (λ rest. eols-more more m
     by_after_eol on (Some rest) e =
         let stepped : eols (suc most) here ≡ one_more (eols most rest) = eols-some most here rest e in
         let inside : (most ≤ (eols most rest).0) ⊎ (holds_one (eols most rest).1 ≡ true) = elim settled [
-          | inl all ↦
-              let fewer : (eols (suc most) here).0 ≡ suc (eols most rest).0 = ap (λ (found : ℕ × Bits). found.0) stepped in
-              inl (omega (arith, all, fewer))
+          | inl all ↦ let fewer :
+              (eols (suc most) here).0 ≡ suc (eols most rest).0 = ap (λ (found : ℕ × Bits). found.0) stepped in inl
+              (omega (arith, all, fewer))
           | inr one ↦ inr (sym (ap (λ (found : ℕ × Bits). holds_one found.1) stepped) ∙ one)
         ] in
-        eols-some most (here ++ more) (rest ++ more) (eol-more more here rest e) ∙ ap one_more (on rest inside)
-        ∙ one_then_more more (eols most rest) ∙ sym (ap (count_then_more more) stepped)
+        eols-some most (here ++ more) (rest ++ more) (eol-more more here rest e)
+        ∙ ap one_more (on rest inside) ∙ one_then_more more (eols most rest) ∙ sym (ap (count_then_more more) stepped)
 
 pub all_eols-more : (more here : Bits) → holds_one (all_eols here).1 ≡ true
     → all_eols (here ++ more) ≡ count_then_more more (all_eols here)

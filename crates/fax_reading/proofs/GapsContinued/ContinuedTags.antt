@@ -79,9 +79,8 @@ tagged_past-more more (suc most) here one = by_after_eol (λ rest. tagged_past-m
         ∙ ap one_more (on rest left) ∙ one_then_more more (tagged_past most rest) ∙ sym (ap (count_then_more more) is)
 
 -- where no one is, an EOL more may come
-tagged_past_may_come : (most : ℕ) (here : Bits) → (tagged_past most here).0 < most
-    → holds_one (behind_one (tagged_past most here).1) ≡ false
-    → tagged_past most (here ++ bytes_of_eol) ≡ (suc (tagged_past most here).0, [])
+tagged_past_may_come : (most : ℕ) (here : Bits) → (tagged_past most here).0 < most → holds_one
+    (behind_one (tagged_past most here).1) ≡ false → tagged_past most (here ++ bytes_of_eol) ≡ (suc (tagged_past most here).0, [])
 tagged_past_may_come zero here few none = absurd (omega arith)
 tagged_past_may_come (suc most) here few none = by_after_eol (λ rest. tagged_past_may_come most rest)
     (after_eol 0 (past_tag here)) refl
@@ -183,16 +182,15 @@ pub tagged_eols_may_come : (here : Bits) → holds_one (behind_line_tag (tagged_
 tagged_eols_may_come here none =
     let most = suc (length (here ++ bytes_of_eol)) in
     let long = length-append here bytes_of_eol in
-    let fewer : eols_with_tags most here ≡ all_tagged here =
-    count_same counts_tagged most (length here) here (omega (arith, long)) (omega arith) in
-    let all : eols_with_tags most (here ++ bytes_of_eol) ≡ all_tagged (here ++ bytes_of_eol) =
-    count_same counts_tagged most (length (here ++ bytes_of_eol)) (here ++ bytes_of_eol) (omega arith) (omega arith) in
-    let left : holds_one (behind_first_tag (all_tagged here)) ≡ false =
-    sym (ap holds_one (last_tag_tested (all_tagged here))) ∙ none in
-    let few : (eols_with_tags most here).0 < most =
-    omega (arith, long, ap (λ (found : ℕ × Bits). found.0) fewer, tagged_at_most (length here) here) in
-    let counted : all_tagged (here ++ bytes_of_eol) ≡ (suc (all_tagged here).0, []) =
-    sym all ∙ eols_with_tags_may_come most here few
-    (ap (λ (found : ℕ × Bits). holds_one (behind_first_tag found)) fewer ∙ left)
+    let fewer : eols_with_tags most here ≡ all_tagged here = count_same counts_tagged most
+    (length here) here (omega (arith, long)) (omega arith) in
+    let all : eols_with_tags most (here ++ bytes_of_eol) ≡ all_tagged (here ++ bytes_of_eol) = count_same counts_tagged most
+    (length (here ++ bytes_of_eol)) (here ++ bytes_of_eol) (omega arith) (omega arith) in
+    let left : holds_one
+    (behind_first_tag (all_tagged here)) ≡ false = sym (ap holds_one (last_tag_tested (all_tagged here))) ∙ none in
+    let few : (eols_with_tags most here).0
+    < most = omega (arith, long, ap (λ (found : ℕ × Bits). found.0) fewer, tagged_at_most (length here) here) in
+    let counted : all_tagged (here ++ bytes_of_eol) ≡ (suc (all_tagged here).0, []) = sym all
+    ∙ eols_with_tags_may_come most here few (ap (λ (found : ℕ × Bits). holds_one (behind_first_tag found)) fewer ∙ left)
     ∙ ap (λ (found : ℕ × Bits). (suc found.0, [])) fewer in
     ap pass_last_tag counted ∙ ap (λ (n : ℕ). (suc n, [])) (sym (last_tag_count (all_tagged here)))

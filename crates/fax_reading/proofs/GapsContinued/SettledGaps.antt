@@ -2,7 +2,7 @@
 use Rattle.fax_reading.proofs.Names.{common_steps, ◌≡◌, ◌≢◌, ℕ, suc, Bool, true, false, not, ◌&&◌, ◌||◌, cond, leb, eqb, [], ◌∷◌}
 use Rattle.fax_reading.proofs.Names.{◌++◌, length, Option, Some, None, Result, Ok, Err, refl, sym, ap, ◌∙◌, inl, inr, arith}
 use Rattle.fax_reading.proofs.Names.{length-append, and_parts, or_parts, cases_Bool, not-false, leb-true, ne_eqb, AreWholeBytes}
-use Rattle.fax_reading.proofs.Names.{Bits, after_eol, eols, all_eols, tagged_eols, pass_last_tag, next_eol, DecodeSettings}
+use Rattle.fax_reading.proofs.Names.{Bits, after_eol, eols, all_eols, tagged_eols, next_eol, DecodeSettings}
 use Rattle.fax_reading.proofs.Names.{DecodeError, InvalidCode, EncodingMode, Group4, Group3_1D, Group3_2D, Gap, Move, Turn, Held}
 use Rattle.fax_reading.proofs.Names.{eols_by, eols_here, is_end_of_block, limit_met, behind_eols, from_next_eol, misses_eol}
 use Rattle.fax_reading.proofs.Names.{gap_behind_row, at_gap, at_front, first_gap, repairs_behind}
@@ -73,9 +73,8 @@ settled_end settings count settled = grind (arith, common_steps)
 
 -- what follows settled EOLs is the same with more bits behind
 behind_eols-more : (more : Bits) (settings : DecodeSettings) (taken : ℕ) (has_eols : Bool) (found : ℕ × Bits)
-    → eols_are_settled settings.encoding settings.end_of_block found ≡ true
-    → behind_eols settings taken has_eols (count_then_more more found)
-    ≡ gap_before more (behind_eols settings taken has_eols found)
+    → eols_are_settled settings.encoding settings.end_of_block found ≡ true → behind_eols settings taken has_eols
+    (count_then_more more found) ≡ gap_before more (behind_eols settings taken has_eols found)
 behind_eols-more more settings taken has_eols (count, []) settled = rw (settled_end settings count settled) refl
 behind_eols-more more settings taken has_eols (count, bit ∷ rest) settled = grind (arith, common_steps)
 
@@ -103,14 +102,12 @@ gap_settled settings taken has_eols here passes more = by_missed (misses_eol set
         || settings.strict || next_eols_are_settled settings (next_eol here)) ≡ true)
     parts = grind (arith, common_steps, and_parts)
 
-    by_next : (o : Option Bits) → next_eol here ≡ o → next_eols_are_settled settings o ≡ true
-        → from_next_eol settings taken (here ++ more) (next_eol (here ++ more))
-        ≡ gap_before more (from_next_eol settings taken here o)
+    by_next : (o : Option Bits) → next_eol here ≡ o → next_eols_are_settled settings o ≡ true → from_next_eol settings taken
+        (here ++ more) (next_eol (here ++ more)) ≡ gap_before more (from_next_eol settings taken here o)
     by_next None e is = absurd cc
     by_next (Some found) e is =
-        ap (from_next_eol settings taken (here ++ more)) (next_eol-more more here found e)
-        ∙ ap (behind_eols settings taken true) (eols_here-more more settings found is)
-        ∙ behind_eols-more more settings taken true (eols_here settings found) is
+        ap (from_next_eol settings taken (here ++ more)) (next_eol-more more here found e) ∙ ap (behind_eols settings taken true)
+        (eols_here-more more settings found is) ∙ behind_eols-more more settings taken true (eols_here settings found) is
 
     by_strict : (b : Bool) → (b || next_eols_are_settled settings (next_eol here)) ≡ true
         → cond b (Gap.over (Err InvalidCode)) (from_next_eol settings taken (here ++ more) (next_eol (here ++ more)))
@@ -134,10 +131,9 @@ gap_may_end settings taken has_eols here fails = by_eols (eols_here_are_settled 
     by_next : (o : Option Bits) → next_eol here ≡ o → next_eols_are_settled settings o ≡ false
         → from_next_eol settings taken (here ++ bytes_of_eol) (next_eol (here ++ bytes_of_eol)) ≡ Gap.over (Ok [])
     by_next None e is = grind (arith, common_steps, next_eol_may_come, last_eol_counted, behind_eols-end)
-    by_next (Some found) e is =
-        ap (from_next_eol settings taken (here ++ bytes_of_eol)) (next_eol-more bytes_of_eol here found e)
-        ∙ ap (behind_eols settings taken true) (eols_here_may_come settings found is)
-        ∙ behind_eols-end settings taken true (suc (eols_here settings found).0)
+    by_next (Some found) e is = ap (from_next_eol settings taken (here ++ bytes_of_eol))
+        (next_eol-more bytes_of_eol here found e) ∙ ap (behind_eols settings taken true)
+        (eols_here_may_come settings found is) ∙ behind_eols-end settings taken true (suc (eols_here settings found).0)
 
     by_eols : (b : Bool) → eols_here_are_settled settings here ≡ b → (b && (not (misses_eol settings taken has_eols here)
         || settings.strict || next_eols_are_settled settings (next_eol here))) ≡ false
@@ -154,10 +150,9 @@ over_differs (Gap.over (Ok rest)) e = let same : [] ≡ rest ++ bytes_of_eol = c
     absurd (omega (arith, ap length same, length-append rest bytes_of_eol))
 
 -- whole bytes change a gap that doesn't pass the test
-gap_unsettled : (settings : DecodeSettings) (taken : ℕ) (has_eols : Bool) (here : Bits)
-    → gap_is_settled settings taken has_eols here ≡ false
-    → (more : Bits) × AreWholeBytes more × (gap_behind_row settings taken has_eols (here ++ more)
-    ≢ gap_before more (gap_behind_row settings taken has_eols here))
+gap_unsettled : (settings : DecodeSettings) (taken : ℕ)
+    (has_eols : Bool) (here : Bits) → gap_is_settled settings taken has_eols here ≡ false → (more : Bits) × AreWholeBytes more
+    × (gap_behind_row settings taken has_eols (here ++ more) ≢ gap_before more (gap_behind_row settings taken has_eols here))
 gap_unsettled settings taken has_eols here fails =
     grind (arith, common_steps, over_differs, gap_may_end settings taken has_eols here fails)
 
@@ -173,8 +168,7 @@ missed_settled : (settings : DecodeSettings) (taken : ℕ) (has_eols : Bool) (he
 missed_settled settings taken has_eols here more passes = grind (arith, common_steps, misses_eol-more, and_parts)
 
 -- so what is counted is the same
-pub repairs_behind-more : (held : Held) (here more : Bits)
-    → gap_is_settled held.settings held.taken held.has_eols here ≡ true
+pub repairs_behind-more : (held : Held) (here more : Bits) → gap_is_settled held.settings held.taken held.has_eols here ≡ true
     → repairs_behind held (here ++ more) ≡ repairs_behind held here
 repairs_behind-more held here more passes = grind (arith, common_steps, missed_settled)
 
@@ -215,8 +209,7 @@ first_unsettled settings bits fails = (bytes_of_eol, refl, by_encoding settings.
 
     by_encoding : (encoding : EncodingMode) → first_gap_is_settled encoding settings bits ≡ false
         → first_gap encoding settings (bits ++ bytes_of_eol) ≢ move_before bytes_of_eol (first_gap encoding settings bits)
-    by_encoding Group4 is same =
-        done_differs bits (bits ++ bytes_of_eol) (gap_behind_row settings 0 false bits)
+    by_encoding Group4 is same = done_differs bits (bits ++ bytes_of_eol) (gap_behind_row settings 0 false bits)
         (sym (ap (at_gap (at_front (bits ++ bytes_of_eol))) (gap_may_end settings 0 false bits is)) ∙ same)
     by_encoding Group3_1D is same = grind (arith, common_steps, left_over, all_eols_may_come)
     by_encoding Group3_2D is same = grind (arith, common_steps, left_over, all_eols_may_come)

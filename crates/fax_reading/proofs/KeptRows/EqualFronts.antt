@@ -91,8 +91,7 @@ module _ (x y : Bits) where
   -- a number of them at most
   pub eols_front : (most : ℕ) (bits more : Bits) (count : ℕ) → eols most (bits ++ x) ≡ (count, more ++ x)
       → holds_a_one more ≡ true → eols most (bits ++ y) ≡ (count, more ++ y)
-  eols_front zero bits more count e one = let same = same_bits count bits more e in
-      rw (same.0, same.1) refl
+  eols_front zero bits more count e one = let same = same_bits count bits more e in rw (same.0, same.1) refl
   eols_front (suc most) bits more count e one =
       by_after_eol (λ here n f. eols_front most here more n f one) (after_eol 0 (bits ++ x)) refl
     where
@@ -100,16 +99,14 @@ module _ (x y : Bits) where
           → (o : Option Bits) → after_eol 0 (bits ++ x) ≡ o → eols (suc most) (bits ++ y) ≡ (count, more ++ y)
       by_after_eol on None f =
           let same = same_bits count bits more (sym (eols-none (suc most) (bits ++ x) f) ∙ e) in
-          eols-none (suc most) (bits ++ y) (no_eol_front 0 bits (ap holds_a_one same.1 ∙ one) f)
-          ∙ rw (same.0, same.1) refl
+          eols-none (suc most) (bits ++ y) (no_eol_front 0 bits (ap holds_a_one same.1 ∙ one) f) ∙ rw (same.0, same.1) refl
       by_after_eol on (Some rest) f =
           let fewer = one_fewer count (more ++ x) (eols most rest) (sym (eols-some most (bits ++ x) rest f) ∙ e) in
-          let le : length x ≤ length rest =
-          omega (arith, not_shorter fewer.0 more (eols most rest) fewer.2, count_shorter counts_plain most rest) in
+          let le : length x ≤
+          length rest = omega (arith, not_shorter fewer.0 more (eols most rest) fewer.2, count_shorter counts_plain most rest) in
           let left = after_eol_front 0 bits rest f le in
           eols-some most (bits ++ y) (left.0 ++ y) left.3
-          ∙ ap one_more (on left.0 fewer.0 (ap (eols most) (sym left.2) ∙ fewer.2))
-          ∙ ap (λ (n : ℕ). (n, more ++ y)) (sym fewer.1)
+          ∙ ap one_more (on left.0 fewer.0 (ap (eols most) (sym left.2) ∙ fewer.2)) ∙ ap (λ (n : ℕ). (n, more ++ y)) (sym fewer.1)
 
   -- all of them
   all_front_for : (n : ℕ) (bits more : Bits) (count : ℕ) → length bits < n → all_eols (bits ++ x) ≡ (count, more ++ x)
@@ -230,9 +227,8 @@ module _ (x y : Bits) where
 
   -- the tag of RTC is passed in both
   last_tag_front : (found other : ℕ × Bits) (more : Bits) (count : ℕ)
-      → ((raw : Bits) (n : ℕ) → one_behind_tag raw ≡ true → IsPair found n (raw ++ x) → IsPair other n (raw ++ y))
-      → IsPair (pass_last_tag found) count (more ++ x) → one_behind_tag more ≡ true
-      → IsPair (pass_last_tag other) count (more ++ y)
+      → ((raw : Bits) (n : ℕ) → one_behind_tag raw ≡ true → IsPair found n (raw ++ x) → IsPair other n (raw ++ y)) → IsPair
+      (pass_last_tag found) count (more ++ x) → one_behind_tag more ≡ true → IsPair (pass_last_tag other) count (more ++ y)
   last_tag_front (n, []) other more count alike e one = grind (arith, common_steps, length-append, some_left)
   last_tag_front (n, false ∷ here) other more count alike e one = ap pass_last_tag (alike more count one e)
       ∙ zero_stays n count here more one e

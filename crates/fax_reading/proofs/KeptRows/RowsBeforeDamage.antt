@@ -107,9 +107,8 @@ module _ (settings : DecodeSettings) (x y : Bits) where
       → one_in_line settings.encoding more ≡ true → eols_here settings other ≡ (count, more ++ y)
   eols_from_front found other left more count e f counted one =
       let eol : Bits = replicate 11 false ++ true ∷ left in
-      eols_here_same settings other (eol ++ y) (left ++ y) f refl
-      ∙ eols_by_front x y settings.encoding settings.end_of_block eol more count
-      (eols_here_same settings (eol ++ x) found (left ++ x) refl e ∙ counted) one
+      eols_here_same settings other (eol ++ y) (left ++ y) f refl ∙ eols_by_front x y settings.encoding
+      settings.end_of_block eol more count (eols_here_same settings (eol ++ x) found (left ++ x) refl e ∙ counted) one
 
   -- after the same rows, and EOLs that are here or not sought
   counted_front : (rows : List Row) (has_eols : Bool) (bits more : Bits) (t : Progress) → t.rest ≡ more ++ x
@@ -172,8 +171,8 @@ module _ (settings : DecodeSettings) (x y : Bits) where
           let there = past_there settings lenient rows (bits ++ x) t e seeks in
           let left = past_front x y 0 bits there.1.0 there.1.1
           (omega (arith, there.1.2, ap length rest_is, length-append more x)) in
-          let one_x = row_past settings lenient rows (bits ++ x) (left.0 ++ x) there.0
-          (there.1.1 ∙ ap (λ (b : Bits). Some b) left.2) in
+          let one_x = row_past settings lenient rows
+          (bits ++ x) (left.0 ++ x) there.0 (there.1.1 ∙ ap (λ (b : Bits). Some b) left.2) in
           let one_y = row_past settings lenient rows (bits ++ y) (left.0 ++ y) there.0 left.3 in
           let count : ℕ = (eols_here settings one_x.0).0 in
           let same = unless_over_next settings (sought rows (bits ++ x)) t (eols_here settings one_x.0) (sym one_x.3 ∙ e) in
@@ -181,8 +180,7 @@ module _ (settings : DecodeSettings) (x y : Bits) where
           let counted : eols_here settings one_x.0 ≡ (count, more ++ x) = ap (λ (b : Bits). (count, b)) left_is in
           let other = eols_from_front one_x.0 one_y.0 left.0 more count one_x.2 one_y.2 counted one in
           one_y.3 ∙ ap (unless_over settings (sought rows (bits ++ y))) other
-          ∙ unless_front rows true (bits ++ x) (bits ++ y) more count t
-          (some_bits more (one_in_bits settings.encoding more one))
+          ∙ unless_front rows true (bits ++ x) (bits ++ y) more count t (some_bits more (one_in_bits settings.encoding more one))
           (ap (unless_over settings (sought rows (bits ++ x))) (sym counted) ∙ sym one_x.3 ∙ e)
 
   -- ---- The line
@@ -190,22 +188,20 @@ module _ (settings : DecodeSettings) (x y : Bits) where
   -- what follows a row is as much in both, where the data are whole bytes
   module _ (bytes : length x % 8 ≡ length y % 8) (wide : 0 < settings.columns) where
     -- the bits after a row, aligned or not
-    behind_front : (has_eols : Bool) (bits : Bits) → length x ≤ length (behind_row settings has_eols (bits ++ x))
-        → (left : Bits) × (behind_row settings has_eols (bits ++ x) ≡ left ++ x)
-        × (behind_row settings has_eols (bits ++ y) ≡ left ++ y)
+    behind_front : (has_eols : Bool) (bits : Bits) → length x ≤ length (behind_row settings has_eols (bits ++ x)) → (left : Bits)
+        × (behind_row settings has_eols (bits ++ x) ≡ left ++ x) × (behind_row settings has_eols (bits ++ y) ≡ left ++ y)
     behind_front has_eols bits le =
         let al : Bool = settings.rows_are_byte_aligned && not has_eols in
         let behind : Bits = behind_row settings has_eols (bits ++ x) in
         let split = aligned_split al (bits ++ x) in
-        let long : length split.0 ≤ length bits =
-        omega (arith, le, ap length split.1, length-append split.0 behind, length-append bits x) in
+        let long :
+        length split.0 ≤ length bits = omega (arith, le, ap length split.1, length-append split.0 behind, length-append bits x) in
         let left = prefix_of_prefix split.0 behind bits x split.1 long in
-        let is : behind ≡ left.0 ++ x = append_cancel_left split.0 behind (left.0 ++ x)
-        (sym split.1 ∙ ap (λ (b : Bits). b ++ x) left.1 ∙ append_assoc split.0 left.0 x) in
-        let other : bits ++ y ≡ split.0 ++ (left.0 ++ y) =
-        ap (λ (b : Bits). b ++ y) left.1 ∙ append_assoc split.0 left.0 y in
-        let same : length (left.0 ++ y) % 8 ≡ length behind % 8 =
-        omega (arith, bytes, ap length is, length-append left.0 x, length-append left.0 y) in
+        let is : behind ≡ left.0 ++ x = append_cancel_left split.0 behind
+        (left.0 ++ x) (sym split.1 ∙ ap (λ (b : Bits). b ++ x) left.1 ∙ append_assoc split.0 left.0 x) in
+        let other : bits ++ y ≡ split.0 ++ (left.0 ++ y) = ap (λ (b : Bits). b ++ y) left.1 ∙ append_assoc split.0 left.0 y in
+        let same : length (left.0 ++ y) % 8
+        ≡ length behind % 8 = omega (arith, bytes, ap length is, length-append left.0 x, length-append left.0 y) in
         (left.0, is, ap (behind_row settings has_eols) other ∙ split.2 (left.0 ++ y) same)
 
     -- a turn over the equal bits, the row that it adds, and what is left of them after it
@@ -219,18 +215,16 @@ module _ (settings : DecodeSettings) (x y : Bits) where
           ≡ after_row settings (run_at (rows ++ row ∷ []) has_eols (left ++ y))
 
     -- a turn over a whole line
-    whole_turn : (rows : List Row) (has_eols : Bool) (here rest : Bits) (row : Row)
-        → line_here settings (row_before settings.columns rows) here ≡ Line.whole row rest
-        → move_on settings (run_at rows has_eols here)
-        ≡ after_row settings (run_at (rows ++ row ∷ []) has_eols (behind_row settings has_eols rest))
+    whole_turn : (rows : List Row) (has_eols : Bool) (here rest : Bits)
+        (row : Row) → line_here settings (row_before settings.columns rows) here ≡ Line.whole row rest → move_on settings
+        (run_at rows has_eols here) ≡ after_row settings (run_at (rows ++ row ∷ []) has_eols (behind_row settings has_eols rest))
     whole_turn rows has_eols here rest row is =
         ap (after_line settings (run_at rows has_eols here)) is ∙ after_whole-is settings (run_at rows has_eols here) row rest
 
     -- and over a broken one that is repaired
-    repaired_turn : (rows : List Row) (here : Bits) (front : Row) (fault : DecodeError) → settings.strict ≡ false
-        → line_here settings (row_before settings.columns rows) here ≡ Line.broken front fault
-        → move_on settings (sought rows here)
-        ≡ after_row settings (sought (rows ++ repaired settings.columns front ∷ []) here)
+    repaired_turn : (rows : List Row) (here : Bits) (front : Row) (fault : DecodeError)
+        → settings.strict ≡ false → line_here settings (row_before settings.columns rows) here ≡ Line.broken front fault
+        → move_on settings (sought rows here) ≡ after_row settings (sought (rows ++ repaired settings.columns front ∷ []) here)
     repaired_turn rows here front fault lenient is = grind (arith, common_steps, move_sought)
 
     more_in_line : (encoding : EncodingMode) (front rest : Bits) → one_in_line encoding front ≡ true
@@ -244,8 +238,7 @@ module _ (settings : DecodeSettings) (x y : Bits) where
     one_behind : (encoding : EncodingMode) (bits more : Bits) → Closes bits → one_in_line encoding (bits ++ true ∷ more) ≡ true
     one_behind Group3_1D bits more closes = one_there bits more
     one_behind Group4 bits more closes = one_there bits more
-    one_behind Group3_2D [] more closes = absurd
-        (omega (arith, ap length closes.1, length-append closes.0 (replicate 11 false)))
+    one_behind Group3_2D [] more closes = absurd (omega (arith, ap length closes.1, length-append closes.0 (replicate 11 false)))
     one_behind Group3_2D (tag ∷ bits) more closes = one_there bits more
 
     -- the zeros of the next EOL are among the equal bits
@@ -424,8 +417,7 @@ module _ (settings : DecodeSettings) (x y : Bits) where
 
 -- the first line of the other data, if its bits have a one among the equal ones
 first_front : (settings : DecodeSettings) (x y front bits : Bits) (first : Progress) → first.rest ≡ bits ++ x
-    → one_in_line settings.encoding bits ≡ true
-    → first_gap settings.encoding settings (front ++ x) ≡ Turn.next first
+    → one_in_line settings.encoding bits ≡ true → first_gap settings.encoding settings (front ++ x) ≡ Turn.next first
     → first_gap settings.encoding settings (front ++ y) ≡ Turn.next (run_at first.rows first.has_eols (bits ++ y))
 first_front settings x y front bits first rest_is one begins = by_encoding settings.encoding refl begins
   where
@@ -448,15 +440,14 @@ first_front settings x y front bits first rest_is one begins = by_encoding setti
     by_encoding Group3_1D same e = ap {B = Move} (λ (p : Progress). Turn.next p) (group3 (next_is _ first e))
     by_encoding Group3_2D same e = ap {B = Move} (λ (p : Progress). Turn.next p) (group3 (next_is _ first e))
     by_encoding Group4 same e =
-        let gap : after_row settings (at_front (front ++ x)) ≡ Turn.next first =
-        sym (pass_gap-is settings (at_front (front ++ x))) ∙ e in
-        let unsought : first.has_eols ≡ false =
-        elim (after_row_leaves settings (at_front (front ++ x)) first gap).1 [ inl f ↦ f | inr f ↦ f ] in
+        let gap : after_row settings
+        (at_front (front ++ x)) ≡ Turn.next first = sym (pass_gap-is settings (at_front (front ++ x))) ∙ e in
+        let unsought : first.has_eols ≡ false = elim
+        (after_row_leaves settings (at_front (front ++ x)) first gap).1 [ inl f ↦ f | inr f ↦ f ] in
         let none : first.rows ≡ [] = subst (Keeps []) gap (after_row_keeps settings (at_front (front ++ x))) in
-        pass_gap-is settings (at_front (front ++ y))
-        ∙ gap_front settings x y [] false front bits first unsought rest_is one gap
-        ∙ ap {B = Move} (λ (h : Bool). Turn.next (run_at [] h (bits ++ y))) (sym unsought)
-        ∙ ap {B = Move} (λ (r : List Row). Turn.next (run_at r first.has_eols (bits ++ y))) (sym none)
+        pass_gap-is settings (at_front (front ++ y)) ∙ gap_front settings x y [] false front bits first unsought rest_is one gap
+        ∙ ap {B = Move} (λ (h : Bool). Turn.next (run_at [] h (bits ++ y)))
+        (sym unsought) ∙ ap {B = Move} (λ (r : List Row). Turn.next (run_at r first.has_eols (bits ++ y))) (sym none)
 
 -- rows that are the first of some
 first_rows : (rows all : List Row) (index : ℕ) → IsPrefix rows all → length rows ≡ index

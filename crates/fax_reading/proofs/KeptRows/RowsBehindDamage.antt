@@ -1,12 +1,12 @@
 -- Data that are the same from an EOL on have the same rows behind the next, whatever comes before.
-use Rattle.fax_reading.proofs.Names.{common_steps, ◌≡◌, ℕ, zero, suc, ◌+◌, ◌-◌, ◌/◌, ◌<◌, ◌≤◌, Bool, true, false, List, [], ◌∷◌}
-use Rattle.fax_reading.proofs.Names.{◌++◌, length, take, drop, Option, Some, None, Result, Ok, Err, refl, sym, ap, subst, ◌∙◌}
+use Rattle.fax_reading.proofs.Names.{common_steps, ◌≡◌, ℕ, zero, suc, ◌<◌, ◌≤◌, Bool, true, false, List, [], ◌∷◌}
+use Rattle.fax_reading.proofs.Names.{◌++◌, length, take, drop, Option, Some, None, Ok, Err, refl, sym, ap, subst, ◌∙◌}
 use Rattle.fax_reading.proofs.Names.{append_assoc, append_cancel_right, append-nil, arith, ◌⊎◌, inl, inr, cond-true, cond-false}
 use Rattle.fax_reading.proofs.Names.{lt-leb, length-append, length-drop, take-append-drop, DecodeError, EncodingMode, Group4}
 use Rattle.fax_reading.proofs.Names.{Group3_1D, Group3_2D, DecodeSettings, Bits, AreWholeBytes, Turn, Reaches, Row, Line}
 use Rattle.fax_reading.proofs.Names.{after_eol, all_eols, one_more, past_tag, pass_last_tag, eols_by, eols_here, is_end_of_block}
 use Rattle.fax_reading.proofs.Names.{is_over, limit_met, at_end, Progress, Ending, Move, row_before, row_of, line_by, line_here}
-use Rattle.fax_reading.proofs.Names.{move_on, first_line, end_of, bytes_before, plain, Reading, MakesNoRtc, PutsInStep, ComesTo}
+use Rattle.fax_reading.proofs.Names.{move_on, first_line, end_of, plain, Reading, MakesNoRtc, PutsInStep, ComesTo}
 use Rattle.fax_reading.proofs.Names.{AreInStep, RowsBehind, IsEolAt, and-false, or_parts, false≢true}
 use Rattle.fax_reading.proofs.Readings.GapsAndRows.{late, goes, ending_goes, end_t4, plain_is}
 use Rattle.fax_reading.proofs.DamagedLines.LineTails.{drop_front, eol_closes, line_past_by}
@@ -85,8 +85,7 @@ module _ (settings : DecodeSettings) (group3 : IsGroup3 settings.encoding) (leni
     counted found more leaves e = by_encoding settings.encoding settings.end_of_block refl group3
       where
         few : (eols_here settings found).0 < 6
-        few = no_rtc found leaves (omega
-            (arith, after_eol_shorter 0 found (more ++ true ∷ x) e, length-append more (true ∷ x)))
+        few = no_rtc found leaves (omega (arith, after_eol_shorter 0 found (more ++ true ∷ x) e, length-append more (true ∷ x)))
 
         by_encoding : (encoding : EncodingMode) (block : Bool) → settings.encoding ≡ encoding → IsGroup3 encoding
             → RestAlike x x more (eols_by encoding block found).1 (eols_by encoding block found).1
@@ -119,24 +118,23 @@ module _ (settings : DecodeSettings) (group3 : IsGroup3 settings.encoding) (leni
         by_past o p f (inl (before, more, is, g, h)) =
             let found = row_past settings lenient rows (bits ++ true ∷ x) (more ++ true ∷ x) (open_limit (length rows)) (f ∙ g) in
             let there : LeavesBits whole found.0 = leaves_trans whole (bits ++ true ∷ x) found.0 leaves found.1 in
-            let few = no_rtc found.0 there (omega
-            (arith, after_eol_shorter 0 found.0 (more ++ true ∷ x) found.2, length-append more (true ∷ x))) in
+            let few = no_rtc found.0 there
+            (omega (arith, after_eol_shorter 0 found.0 (more ++ true ∷ x) found.2, length-append more (true ∷ x))) in
             let behind : LeavesBits bits more = leaves_after bits before more is in
             elim (counted found.0 more there found.2) [
               | inl (a, left, keeps, at, at2) ↦
-                  let turn = not_over rows (bits ++ true ∷ x) (eols_here settings found.0) few
-                  (ap at_end at ∙ not_end a x) in
-                  let further : LeavesBits whole (a ++ true ∷ x) = leaves_trans whole (bits ++ true ∷ x) (a ++ true ∷ x) leaves
-                  (with_tail bits a x (leaves_trans bits more a behind left)) in
-                  goes_on s (sought rows (a ++ true ∷ x))
-                  (e ∙ found.3 ∙ turn ∙ ap {B = Move} (λ (b : Bits). Turn.next (sought rows b)) at)
+                  let turn = not_over rows (bits ++ true ∷ x) (eols_here settings found.0) few (ap at_end at ∙ not_end a x) in
+                  let further : LeavesBits whole (a ++ true ∷ x) = leaves_trans whole
+                  (bits ++ true ∷ x) (a ++ true ∷ x) leaves (with_tail bits a x (leaves_trans bits more a behind left)) in
+                  goes_on s
+                  (sought rows (a ++ true ∷ x)) (e ∙ found.3 ∙ turn ∙ ap {B = Move} (λ (b : Bits). Turn.next (sought rows b)) at)
                   (on rows a (omega (arith, leaves_length more a left, after_shorter bits before more is, le))
                   (keeps (inside_after bits before more inside is)) further)
               | inr (at, at2) ↦
-                  let turn = not_over rows (bits ++ true ∷ x) (eols_here settings found.0) few
-                  (ap at_end at ∙ not_past_end x after tail.next) in
-                  goes_on s (sought rows x) (e ∙ found.3 ∙ turn ∙ ap {B = Move} (λ (b : Bits). Turn.next (sought rows b)) at)
-                  (from_there rows)
+                  let turn = not_over rows
+                  (bits ++ true ∷ x) (eols_here settings found.0) few (ap at_end at ∙ not_past_end x after tail.next) in
+                  goes_on s (sought rows x)
+                  (e ∙ found.3 ∙ turn ∙ ap {B = Move} (λ (b : Bits). Turn.next (sought rows b)) at) (from_there rows)
             ]
         by_past o p f (inr (inl (g, h))) =
             let found = row_past settings lenient rows (bits ++ true ∷ x) x (open_limit (length rows)) (f ∙ g) in
@@ -147,10 +145,9 @@ module _ (settings : DecodeSettings) (group3 : IsGroup3 settings.encoding) (leni
 
     pub from_ahead : (n : ℕ) → Ahead n
     from_ahead zero rows bits lt closes leaves = absurd (omega arith)
-    from_ahead (suc n) rows bits lt closes leaves =
-        by_line (λ rows bits small closes leaves. from_ahead n rows bits small closes leaves) (read (bits ++ true ∷ x)) refl
-        (subst (λ (l : Line). LineAlike (true ∷ x) (true ∷ x) l l) (sym read_is)
-        (line_alike settings.encoding settings.columns above (true ∷ x) (true ∷ x) bits closes))
+    from_ahead (suc n) rows bits lt closes leaves = by_line (λ rows bits small closes leaves. from_ahead
+        n rows bits small closes leaves) (read (bits ++ true ∷ x)) refl (subst (λ (l : Line). LineAlike (true ∷ x) (true ∷ x) l l)
+        (sym read_is) (line_alike settings.encoding settings.columns above (true ∷ x) (true ∷ x) bits closes))
         (line_by_leaves settings.encoding settings.strict settings.columns above (bits ++ true ∷ x))
       where
         above : Row
@@ -170,14 +167,13 @@ module _ (settings : DecodeSettings) (group3 : IsGroup3 settings.encoding) (leni
         by_line : Ahead n → (line : Line) → read (bits ++ true ∷ x) ≡ line → LineAlike (true ∷ x) (true ∷ x) line line
             → LineLeaves (bits ++ true ∷ x) line → ComesBehind (sought rows (bits ++ true ∷ x))
         by_line on (Line.whole row rest) is (same, (a, inside, at, at2)) left =
-            let split : bits ++ true ∷ x ≡ (left.0 ++ a) ++ true ∷ x
-            = left.1 ∙ ap (λ (b : Bits). left.0 ++ b) at ∙ sym (append_assoc left.0 a (true ∷ x)) in
+            let split : bits ++ true ∷ x ≡
+            (left.0 ++ a) ++ true ∷ x = left.1 ∙ ap (λ (b : Bits). left.0 ++ b) at ∙ sym (append_assoc left.0 a (true ∷ x)) in
             let suffix : LeavesBits bits a = (left.0, append_cancel_right bits (left.0 ++ a) (true ∷ x) split) in
-            row_ahead n on (sought rows (bits ++ true ∷ x)) (rows ++ row ∷ []) a
-            (omega (arith, leaves_length bits a suffix, lt)) inside
-            (leaves_trans whole (bits ++ true ∷ x) (a ++ true ∷ x) leaves (with_tail bits a x suffix))
-            (moved ∙ ap (λ (l : Line). after_row settings (sought (rows ++ row_of settings.columns l ∷ [])
-            (rest_of l (bits ++ true ∷ x)))) is ∙ ap (λ (b : Bits). after_row settings (sought (rows ++ row ∷ []) b)) at)
+            row_ahead n on (sought rows (bits ++ true ∷ x)) (rows ++ row ∷ []) a (omega (arith, leaves_length bits a suffix, lt))
+            inside (leaves_trans whole (bits ++ true ∷ x) (a ++ true ∷ x) leaves (with_tail bits a x suffix)) (moved ∙
+            ap (λ (l : Line). after_row settings (sought (rows ++ row_of settings.columns l ∷ []) (rest_of l (bits ++ true ∷ x))))
+            is ∙ ap (λ (b : Bits). after_row settings (sought (rows ++ row ∷ []) b)) at)
         by_line on (Line.broken front fault) is alike left =
             row_ahead n on (sought rows (bits ++ true ∷ x)) (rows ++ row_of settings.columns (Line.broken front fault) ∷ [])
             bits (omega arith) (closes_inside bits closes) leaves
@@ -287,19 +283,16 @@ module _ (settings : DecodeSettings) (here line behind : Bits) (step : PutsInSte
         → MakesNoRtc settings bits line
         → ComesBehind settings group3 lenient unlimited line step.after step.next step_tail step.after_is step_stays
         (first_line settings bits)
-    comes_behind bits place at sought_by no_rtc =
-        elim (all_eols_alike line line step_tail.none step_tail.none front.0).1 [
-          | inl (rest, left, keeps, e, f) ↦
-              subst (ComesBehind settings group3 lenient unlimited line step.after step.next step_tail step.after_is step_stays)
-              (sym (first_is (rest ++ true ∷ line) (ap (λ (b : Bits). (all_eols b).1) bits_is ∙ e)))
-              (from_ahead settings group3 lenient unlimited line step.after step.next step_tail step.after_is step_stays bits
-              (λ found leaves lt. no_rtc leaves.0 found leaves.1 lt) (suc (length rest)) [] rest (omega arith) (keeps front.1)
-              (leaves_trans bits (front.0 ++ true ∷ line) (rest ++ true ∷ line) ([], bits_is) (with_tail front.0 rest line left)))
-          | inr (e, f) ↦
-              subst (ComesBehind settings group3 lenient unlimited line step.after step.next step_tail step.after_is step_stays)
-              (sym (first_is line (ap (λ (b : Bits). (all_eols b).1) bits_is ∙ e)))
-              (from_there settings group3 lenient unlimited line step.after step.next step_tail step.after_is step_stays [])
-        ]
+    comes_behind bits place at sought_by no_rtc = elim (all_eols_alike line line step_tail.none step_tail.none front.0).1 [
+      | inl (rest, left, keeps, e, f) ↦ subst (ComesBehind settings group3 lenient unlimited line step.after step.next step_tail
+          step.after_is step_stays) (sym (first_is (rest ++ true ∷ line) (ap (λ (b : Bits). (all_eols b).1) bits_is ∙ e)))
+          (from_ahead settings group3 lenient unlimited line step.after step.next step_tail step.after_is step_stays bits
+          (λ found leaves lt. no_rtc leaves.0 found leaves.1 lt) (suc (length rest)) [] rest (omega arith) (keeps front.1)
+          (leaves_trans bits (front.0 ++ true ∷ line) (rest ++ true ∷ line) ([], bits_is) (with_tail front.0 rest line left)))
+      | inr (e, f) ↦ subst (ComesBehind settings group3 lenient unlimited line step.after
+          step.next step_tail step.after_is step_stays) (sym (first_is line (ap (λ (b : Bits). (all_eols b).1) bits_is ∙ e)))
+          (from_there settings group3 lenient unlimited line step.after step.next step_tail step.after_is step_stays [])
+    ]
       where
         front : (front : Bits) × Closes front × (take place bits ++ here ≡ front ++ true ∷ line)
         front = eol_closes (take place bits) here line step.eol
@@ -314,33 +307,29 @@ module _ (settings : DecodeSettings) (wide : 0 < settings.columns) where
   -- the end from a state that is reached
   goes_reached : (s t : Progress) → Reaches (move_on settings) s t → goes settings wide s ≡ goes settings wide t
   goes_reached s t (Reaches.stays same) = refl
-  goes_reached s t (Reaches.moves from after last e reaches) =
-      repeated_turn (move_on settings) (late settings wide) left_to_read (move_shrinks settings wide) from
-      ∙ ap (after_turn (goes settings wide)) e ∙ goes_reached after last reaches
+  goes_reached s t (Reaches.moves from after last e reaches) = repeated_turn (move_on settings) (late settings wide) left_to_read
+      (move_shrinks settings wide) from ∙ ap (after_turn (goes settings wide)) e ∙ goes_reached after last reaches
 
   end_goes : (bits : Bits) → IsGroup3 settings.encoding → end_of settings bits ≡ goes settings wide (first_line settings bits)
   end_goes bits group3 =
       end_t4 settings bits (not_group4 settings.encoding group3) ∙ ending_goes settings wide (first_line settings bits)
 
   -- what two readings that end in step yield
-  in_step : (one two behind : Bits) (a b : List Row) → AreWholeBytes one → AreWholeBytes two → length behind ≤ length one
-      → length behind ≤ length two → ComesTo settings one behind (length a) → ComesTo settings two behind (length b)
-      → (unlimited : settings.rows ≡ 0)
-      → EndInStep settings unlimited a b (length behind) (goes settings wide) (end_of settings one) (end_of settings two)
-      → AreInStep settings one two behind (plain settings one).rows (plain settings two).rows (plain settings one).outcome
-      (plain settings two).outcome
+  in_step : (one two behind : Bits) (a b : List Row) → AreWholeBytes one
+      → AreWholeBytes two → length behind ≤ length one → length behind ≤ length two → ComesTo settings one behind
+      (length a) → ComesTo settings two behind (length b) → (unlimited : settings.rows ≡ 0) → EndInStep settings unlimited a b
+      (length behind) (goes settings wide) (end_of settings one) (end_of settings two) → AreInStep settings one two behind
+      (plain settings one).rows (plain settings two).rows (plain settings one).outcome (plain settings two).outcome
   in_step one two behind a b whole_one whole_two le le2 comes comes_too unlimited ((more, rows, others), ends) =
       grind (arith, common_steps, plain_is, drop_front)
 
   -- how a reading goes on behind the EOL after the line
   ends_from : (bits : Bits) (mid : Progress) (rows : List Row) (u : Bits) (found : ℕ × Bits) → IsGroup3 settings.encoding
-      → Reaches (move_on settings) (first_line settings bits) mid
-      → move_on settings mid ≡ unless_over settings (sought rows u) found
-      → end_of settings bits ≡ after_turn (goes settings wide) (unless_over settings (sought rows u) found)
+      → Reaches (move_on settings) (first_line settings bits) mid → move_on settings mid ≡ unless_over settings
+      (sought rows u) found → end_of settings bits ≡ after_turn (goes settings wide) (unless_over settings (sought rows u) found)
   ends_from bits mid rows u found group3 reaches e =
-      end_goes bits group3 ∙ goes_reached (first_line settings bits) mid reaches
-      ∙ repeated_turn (move_on settings) (late settings wide) left_to_read (move_shrinks settings wide) mid
-      ∙ ap (after_turn (goes settings wide)) e
+      end_goes bits group3 ∙ goes_reached (first_line settings bits) mid reaches ∙ repeated_turn (move_on settings)
+      (late settings wide) left_to_read (move_shrinks settings wide) mid ∙ ap (after_turn (goes settings wide)) e
 
 -- the law
 pub rows_behind : RowsBehind
@@ -374,9 +363,8 @@ rows_behind settings one whole_one two line behind to to2 whole_two alike = by_o
     short_two = omega (arith, short, ap length alike.same, length-drop to2 two)
 
     -- the turn behind the EOL
-    turn_is : (s : Progress) (rows : List Row) (u : Bits)
-        → move_on settings s ≡ unless_over settings (sought rows u) (eols_here settings step.next)
-        → move_on settings s ≡ unless_over settings (sought rows u) found
+    turn_is : (s : Progress) (rows : List Row) (u : Bits) → move_on settings s ≡ unless_over settings
+        (sought rows u) (eols_here settings step.next) → move_on settings s ≡ unless_over settings (sought rows u) found
     turn_is s rows u e = e ∙ ap (unless_over settings (sought rows u)) step.behind_is
 
     over_as : (b : Bool) → is_over settings 0 found ≡ b → (n : ℕ) → is_over settings n found ≡ b
@@ -421,9 +409,8 @@ rows_behind settings one whole_one two line behind to to2 whole_two alike = by_o
       ap (λ (r : Reading). length r.rows) (plain_is settings alike.wide bits) ∙ ap (λ (q : Ending). length q.rows) e,
     )
 
-    by_over : (over : Bool) → is_over settings 0 found ≡ over
-        → AreInStep settings one two behind (plain settings one).rows (plain settings two).rows (plain settings one).outcome
-        (plain settings two).outcome
+    by_over : (over : Bool) → is_over settings 0 found ≡ over → AreInStep settings one two behind
+        (plain settings one).rows (plain settings two).rows (plain settings one).outcome (plain settings two).outcome
     by_over over e =
         let (mid, a, u, reaches, turn) = these in
         let (mid2, b, v, reaches2, turn2) = those in

@@ -1,10 +1,10 @@
 -- An EOL and the line behind it, as they are tested.
 use Rattle.fax_reading.proofs.Names.{common_steps, ◌≡◌, ℕ, ◌+◌, ◌-◌, ◌*◌, ◌<◌, ◌≤◌, ◌⊎◌, ◌↔◌, Bool, true, false, leb, [], ◌∷◌}
-use Rattle.fax_reading.proofs.Names.{◌++◌, length, replicate, Option, Some, None, Result, Ok, Err, refl, sym, ap, subst, ◌∙◌}
+use Rattle.fax_reading.proofs.Names.{length, Option, Some, None, Result, Ok, Err, refl, sym, ap, subst, ◌∙◌}
 use Rattle.fax_reading.proofs.Names.{arith, inl, inr, IsTrue, min, cond-true, cond-false, lt-leb, le-leb, leb-true, none-some}
 use Rattle.fax_reading.proofs.Names.{length-append, length-replicate, Color, DecodeError, EncodingMode, Group4, Group3_1D}
 use Rattle.fax_reading.proofs.Names.{Group3_2D, DecodeSettings, Bits, after_eol, next_eol, all_eols, one_more, past_tag}
-use Rattle.fax_reading.proofs.Names.{pass_last_tag, eols_by, eols_here, is_end_of_block, read_run, opposite, is_black, run_found}
+use Rattle.fax_reading.proofs.Names.{pass_last_tag, eols_by, eols_here, is_end_of_block, read_run, opposite, run_found}
 use Rattle.fax_reading.proofs.Names.{Turn, Row, Line, Pen, line_1d, line_by, line_here, EndsBefore, ModesEndBefore, ComesBefore1D}
 use Rattle.fax_reading.proofs.Names.{EndsByWords, TellsStep, IsInStepFrom, AreWholeBytes, MakesNoRtc, RowsFollow, drop}
 use Rattle.fax_reading.proofs.Names.{length-drop, looked, looked_ahead, tag_tests, most_for_lines}
@@ -13,7 +13,7 @@ use Rattle.fax_bits.proofs.BitReading.ZeroRuns.{looked_eol}
 use Rattle.fax_reading.proofs.Work.EolsPassed.{few_tag_tests, looked_ahead_most}
 use Rattle.fax_bits.proofs.BitReading.ConsecutiveEols.{after_eol_shorter, next_eol_found, all_eols-some, all_eols-none}
 use Rattle.fax_bits.proofs.BitReading.ConsecutiveEols.{all_tagged, all_tagged-some, all_tagged-none, last_tag_count}
-use Rattle.fax_reading.proofs.CodeWords.WordsFound.{RunEnds, run_stands}
+use Rattle.fax_reading.proofs.CodeWords.WordsFound.{run_stands}
 use Rattle.fax_reading.proofs.DamagedLines.AnyReference.{modes_read}
 use Rattle.fax_reading.proofs.DamagedLines.EolsAlike.{last_tag_few}
 use Rattle.fax_reading.proofs.DamagedLines.RunsAlike.{IsGroup3}
@@ -41,9 +41,8 @@ run_is_next : (columns : ℕ) (front : Row) (color : Color) (here : Bits) → le
     → line_from columns (pen_of_runs front color here)
     ≡ after_turn (line_from columns) (run_then false columns (pen_of_runs front color here) Turn.next)
 run_is_next columns front color here few =
-    drawn1 false columns (pen_of_runs front color here)
-    ∙ ap (after_turn (line_from columns)) (step_1d_is false columns (pen_of_runs front color here)
-    ∙ cond-false (leb columns (length front)) _ _ (lt-leb columns (length front) few))
+    drawn1 false columns (pen_of_runs front color here) ∙ ap (after_turn (line_from columns)) (step_1d_is false columns
+    (pen_of_runs front color here) ∙ cond-false (leb columns (length front)) _ _ (lt-leb columns (length front) few))
 
 -- a run more
 pub run_passed : (columns : ℕ) (begun : Bits) (passed : ℕ) (color : Color) (here rest : Bits) (n : ℕ) → passed < columns
@@ -321,9 +320,8 @@ pub step_found : (settings : DecodeSettings) (bits line : Bits) (to found : ℕ)
 step_found settings bits line to found group3 lenient unlimited wide within there told place =
     grind (arith, common_steps, same_place, step_once)
 
-pub no_step_found : (settings : DecodeSettings) (bits : Bits) (to : ℕ)
-    → ((place : ℕ) → IsInStepFrom settings bits to place → ⊥) → (place : ℕ)
-    → (None ≡ Some place) ↔ IsInStepFrom settings bits to place
+pub no_step_found : (settings : DecodeSettings) (bits : Bits) (to : ℕ) → ((place : ℕ) → IsInStepFrom settings bits to place → ⊥)
+    → (place : ℕ) → (None ≡ Some place) ↔ IsInStepFrom settings bits to place
 no_step_found settings bits to none place = (λ e. absurd cc, λ given. absurd (none place given))
 
 -- the rows behind it

@@ -111,10 +111,9 @@ last_pixel-odd width places ascend = grind (arith, common_steps, last_pixel-pixe
 -- ---- Painting.
 
 -- a wider row continues in its last colour
-pub pixels_from-wider : (place : ℕ) (color : Bool) (width more : ℕ) (places : List ℕ)
-    → place ≤ width → AscendFrom place width places
-    → pixels_from place color (width + more) places ≡ pixels_from place color width places ++ replicate more
-    (turned_at color places)
+pub pixels_from-wider : (place : ℕ)
+    (color : Bool) (width more : ℕ) (places : List ℕ) → place ≤ width → AscendFrom place width places → pixels_from place color
+    (width + more) places ≡ pixels_from place color width places ++ replicate more (turned_at color places)
 pixels_from-wider place color width more [] le ascend = grind (arith, common_steps, replicate-append-replicate)
 pixels_from-wider place color width more (change ∷ places) le ascend =
     grind (
@@ -125,10 +124,9 @@ pixels_from-wider place color width more (change ∷ places) le ascend =
     )
 
 -- the same if the last change may equal the width
-pub pixels_from-on : (place : ℕ) (color : Bool) (width more : ℕ) (places : List ℕ)
-    → place ≤ width → AscendFrom place (suc width) places
-    → pixels_from place color (width + more) places ≡ pixels_from place color width places ++ replicate more
-    (turned_at color places)
+pub pixels_from-on : (place : ℕ) (color : Bool)
+    (width more : ℕ) (places : List ℕ) → place ≤ width → AscendFrom place (suc width) places → pixels_from place color
+    (width + more) places ≡ pixels_from place color width places ++ replicate more (turned_at color places)
 pixels_from-on place color width more [] le ascend = grind (arith, common_steps, replicate-append-replicate)
 pixels_from-on place color width more (change ∷ places) le ascend =
     grind (

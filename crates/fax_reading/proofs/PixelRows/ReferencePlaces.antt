@@ -83,11 +83,8 @@ pixels_from-pixel place first color width (change ∷ places) p (suc j) ascend l
     let left : place ≤ change = omega (arith, ascend.0) in
     let run : length (replicate (change - place) color) ≡ change - place = length-replicate (change - place) color in
     let within : suc j ≤ suc (length places) = split.within in
-    let rest : IsSplit places (suc p) j = record {
-      within = omega arith;
-      before = λ k l. split.before (suc k) (omega arith);
-      here = λ l. split.here (omega arith);
-    } in
+    let rest : IsSplit places (suc p) j =
+    record { within = omega arith; before = λ k l. split.before (suc k) (omega arith); here = λ l. split.here (omega arith) } in
     let e : p - place - (change - place) ≡ p - change = omega arith in
     get_or-append_right (replicate (change - place) color) (pixels_from change (not color) width places) (change - place)
     (p - place) false run (omega arith) ∙ ap (λ (n : ℕ). get_or (pixels_from change (not color) width places) n false) e

@@ -1,5 +1,5 @@
 -- The damage that a run passes is counted: the rows that it repairs, those in which it cuts a run, and the EOLs that it misses.
-use Rattle.fax_reading.proofs.Names.{common_steps, ◌≡◌, ◌+◌, ◌-◌, ◌<◌, ◌≤◌, ℕ, Bool, true, false, cond, eqb, leb, not, ◌&&◌, ◌||◌}
+use Rattle.fax_reading.proofs.Names.{common_steps, ◌≡◌, ◌+◌, ◌-◌, ◌<◌, ◌≤◌, ℕ, Bool, true, false, cond, not, ◌&&◌, ◌||◌}
 use Rattle.fax_reading.proofs.Names.{List, [], ◌∷◌, ◌++◌, length, Ok, Err, refl, sym, ap, ◌∙◌, arith, cond-true, cond-false}
 use Rattle.fax_reading.proofs.Names.{eq-eqb, ne_eqb, lt-leb, le-leb, length-append, DecodeError, InvalidCode, DecodeSettings}
 use Rattle.fax_reading.proofs.Names.{Bits, Held, Repairs, fresh, with_missed, Damaged, repaired_in, missed_behind, is_broken}
@@ -17,8 +17,7 @@ cuts_keep false taken before = refl
 
 -- an accepted row is counted, if a run of it was cut
 pub cut_counts : (line strict : Line) (taken : ℕ) (before : Repairs) (x : Damaged) → before.cut ≤ taken →
-    (repairs_with line strict
-    taken before).cut ≡ before.cut + length (cond {A = List Damaged} (cuts_run line strict) (x ∷ []) [])
+    (repairs_with line strict taken before).cut ≡ before.cut + length (cond {A = List Damaged} (cuts_run line strict) (x ∷ []) [])
 cut_counts (Line.broken front fault) strict taken before x few = omega arith
 cut_counts (Line.whole row rest) (Line.whole other behind) taken before x few = omega arith
 cut_counts (Line.whole row rest) (Line.broken front fault) taken before x few = grind (arith, common_steps, cond-true, le-leb)
@@ -28,9 +27,8 @@ pub cut_once : (line strict : Line) (x : Damaged) → length (cond {A = List Dam
 cut_once line strict x = grind (arith, common_steps)
 
 -- and it is told
-pub cut_is_told : (cut : Bool) (x : Damaged) (now : Repairs) (before : ℕ)
-    → now.cut ≡ before + length (cond {A = List Damaged} cut (x ∷ []) [])
-    → cut_since now before ≡ cut_in (cond {A = List Damaged} cut (x ∷ []) [])
+pub cut_is_told : (cut : Bool) (x : Damaged) (now : Repairs) (before : ℕ) → now.cut ≡ before + length
+    (cond {A = List Damaged} cut (x ∷ []) []) → cut_since now before ≡ cut_in (cond {A = List Damaged} cut (x ∷ []) [])
 cut_is_told true x now before more = ap not (ne_eqb now.cut before (λ same. absurd (omega (arith, same, more))))
 cut_is_told false x now before more = ap not (eq-eqb now.cut before (omega (arith, more)))
 
@@ -133,9 +131,8 @@ missed_counts settings bits so_far (Line.broken front fault) strict row rest bef
 missed_once : (settings : DecodeSettings) (bits : Bits) (so_far : Progress) (line : Line)
     → length (missed_behind settings bits so_far line) ≤ 1
 missed_once settings bits so_far (Line.broken front fault) = omega arith
-missed_once settings bits so_far (Line.whole row rest) =
-    either_way (misses_eol settings (length so_far.rows + 1) so_far.has_eols
-    (behind_row settings so_far.has_eols rest) && not settings.strict) _
+missed_once settings bits so_far (Line.whole row rest) = either_way (misses_eol settings
+    (length so_far.rows + 1) so_far.has_eols (behind_row settings so_far.has_eols rest) && not settings.strict) _
   where
     either_way : (b : Bool) (x : Damaged) → length (cond {A = List Damaged} b (x ∷ []) []) ≤ 1
     either_way true x = omega arith

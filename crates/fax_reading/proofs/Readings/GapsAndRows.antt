@@ -77,9 +77,8 @@ module _ (settings : DecodeSettings) (wide : 0 < settings.columns) where
     where
       by_gap : (gap : Move) → row_behind settings gap ≡ Turn.next after
           → after_turn goes gap ≡ after_turn goes (pass_gap settings after)
-      by_gap (Turn.next line) e =
-          repeated_turn (move_on settings) late left_to_read (move_shrinks settings wide) line
-          ∙ ap (after_turn goes) (row_then_gap line after e)
+      by_gap (Turn.next line) e = repeated_turn (move_on settings) late left_to_read
+          (move_shrinks settings wide) line ∙ ap (after_turn goes) (row_then_gap line after e)
       by_gap (Turn.done end) e = absurd (not_next end after e)
 
   -- if gaps and rows lead to a last gap, the reading from the first gap on ends with that

@@ -1,7 +1,7 @@
 -- What decoding leaves of whole data, given what a driver leaves of its bits.
 use Rattle.fax_reading.proofs.Names.{common_steps, ◌≡◌, ◌≢◌, ℕ, ◌+◌, ◌-◌, ◌*◌, ◌/◌, ◌≤◌, IfOk, false, eqb, List, length, drop}
-use Rattle.fax_reading.proofs.Names.{Option, Some, Result, Ok, Err, ap, ◌∙◌, arith, cond-false, eqb-true, length-drop}
-use Rattle.fax_reading.proofs.Names.{DecodeError, OutOfMemory, Refused, DecodeSettings, Bits, Held, SinkState, TakesRows}
+use Rattle.fax_reading.proofs.Names.{Option, Some, Result, Ok, Err, arith, cond-false, eqb-true, length-drop}
+use Rattle.fax_reading.proofs.Names.{DecodeError, DecodeSettings, Bits, Held, SinkState, TakesRows}
 use Rattle.fax_reading.proofs.Names.{StopsShort, FailsHere, Ending, plain, end_of, lines_of, bytes_before, failed_at}
 
 -- a number of columns that isn't 0
@@ -32,16 +32,14 @@ module _ {M : Type 0} (settings : DecodeSettings) (bits : Bits) (step : M → Li
   end = end_of settings bits
 
   known : (answer : Result ℕ DecodeError)
-      → TakesRows end.rows (bytes_before bits end.outcome) end.has_eols step before after held answer
-      × StopsShort end.rows (lines_of settings bits) before after held answer
-      → LeavesRows settings bits step before after held answer
+      → TakesRows end.rows (bytes_before bits end.outcome) end.has_eols step before after held answer × StopsShort end.rows
+      (lines_of settings bits) before after held answer → LeavesRows settings bits step before after held answer
   known answer leaves = grind (arith, common_steps, cond-false, some_columns)
 
   -- where the driver ended well at a position
   pub decodes_well : (place count : ℕ) (rest : Bits) → rest ≡ drop place bits → place ≤ length bits → (place + 7) / 8 ≡ count
-      → TakesRows end.rows end.outcome end.has_eols step before after held (Ok rest)
-      → StopsShort {A = Bits} end.rows (lines_of settings bits) before after held (Ok rest)
-      → LeavesRows settings bits step before after held (Ok count)
+      → TakesRows end.rows end.outcome end.has_eols step before after held (Ok rest) → StopsShort {A = Bits} end.rows
+      (lines_of settings bits) before after held (Ok rest) → LeavesRows settings bits step before after held (Ok count)
   decodes_well place count rest at within counted takes short = grind (arith, common_steps, known, bytes_before-place)
 
   -- where it ended with an error

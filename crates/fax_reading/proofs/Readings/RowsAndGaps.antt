@@ -7,9 +7,8 @@ use Rattle.fax_reading.proofs.Names.{from_next_eol, missing_eol, ends_with, at_g
 
 -- EOLs were counted after the rows so far
 abbrev pub unless_over : DecodeSettings → Progress → ℕ × Bits → Move
-unless_over settings so_far (count, rest) =
-    cond (is_over settings (length so_far.rows) (count, rest)) (ends_with so_far (Ok rest))
-    (Turn.next (record so_far { rest = rest }))
+unless_over settings so_far (count, rest) = cond
+    (is_over settings (length so_far.rows) (count, rest)) (ends_with so_far (Ok rest)) (Turn.next (record so_far { rest = rest }))
 
 -- the next EOL was looked for
 abbrev pub seek_from : DecodeSettings → Progress → Option Bits → Move
@@ -23,9 +22,8 @@ seek_eol settings so_far =
 
 -- what comes after a row
 abbrev pub after_row : DecodeSettings → Progress → Move
-after_row settings so_far =
-    cond (misses_eol settings (length so_far.rows) so_far.has_eols so_far.rest) (seek_eol settings so_far)
-    (unless_over settings so_far (eols_here settings so_far.rest))
+after_row settings so_far = cond (misses_eol settings (length so_far.rows) so_far.has_eols so_far.rest)
+    (seek_eol settings so_far) (unless_over settings so_far (eols_here settings so_far.rest))
 
 -- a row is added, before these bits
 abbrev pub row_added : DecodeSettings → Progress → Row → Bits → Move

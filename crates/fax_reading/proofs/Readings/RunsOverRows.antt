@@ -119,8 +119,7 @@ module _ (settings : DecodeSettings) (wide : 0 < settings.columns) {start : Prog
     -- the rows that its turn adds are among the first of the whole
     pub comes_more : (rows : List Row) → Adds rows (move_on settings so_far)
         → IsPrefix rows (ending_from (move_on settings) start).rows
-    comes_more rows adds =
-        subst (λ (e : Ending). IsPrefix rows e.rows) (sym comes_turn) (by_turn (move_on settings so_far) adds)
+    comes_more rows adds = subst (λ (e : Ending). IsPrefix rows e.rows) (sym comes_turn) (by_turn (move_on settings so_far) adds)
       where
         by_turn : (turn : Move) → Adds rows turn → IsPrefix rows (after_turn (ending settings start) turn).rows
         by_turn (Turn.next after) p = prefix_trans rows after.rows (ending settings start after).rows

@@ -58,8 +58,7 @@ module _ (settings : DecodeSettings) (wide : 0 < settings.columns) (bits : Bits)
 
       pub given_more : {now : ℕ} → now ≡ length so_far.rows + 1
           → sum_by length (take now (given gives)) ≡ sum_by length (take rows (given gives)) + length (gives so_far)
-      given_more next =
-          ap (λ (n : ℕ). sum_by length (take n (given gives))) (next ∙ ap (λ (n : ℕ). n + 1) (sym taken))
+      given_more next = ap (λ (n : ℕ). sum_by length (take n (given gives))) (next ∙ ap (λ (n : ℕ). n + 1) (sym taken))
           ∙ sum_by_more length (given gives) rows [] (slice_get_within (given gives) rows (gives so_far) there)
           ∙ ap (λ (x : List A). sum_by length (take rows (given gives)) + length x) given_at
 

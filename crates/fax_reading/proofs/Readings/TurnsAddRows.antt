@@ -31,9 +31,8 @@ seek_from_keeps settings run (Some found) = unless_over_keeps settings run (eols
 
 -- and after a row
 pub after_row_keeps : (settings : DecodeSettings) (run : Progress) → Keeps run.rows (after_row settings run)
-after_row_keeps settings run =
-    either_has (Keeps run.rows) (misses_eol settings (length run.rows) run.has_eols run.rest) (seek_eol settings run)
-    (unless_over settings run (eols_here settings run.rest))
+after_row_keeps settings run = either_has (Keeps run.rows) (misses_eol settings (length run.rows) run.has_eols run.rest)
+    (seek_eol settings run) (unless_over settings run (eols_here settings run.rest))
     (either_has (Keeps run.rows) settings.strict (ends_with run (Err InvalidCode)) (seek_from settings run (next_eol run.rest))
     refl (seek_from_keeps settings run (next_eol run.rest))) (unless_over_keeps settings run (eols_here settings run.rest))
 

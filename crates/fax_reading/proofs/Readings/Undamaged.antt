@@ -93,8 +93,7 @@ module _ (settings : DecodeSettings) (bits : Bits) where
 
   -- what is cut of a line, if a run of it is
   abbrev cut_of : Progress → Bool → List Damaged
-  cut_of s cut = cond cut
-      (record { row = length s.rows; start = length bits - length s.rest; fault = InvalidCode } ∷ []) []
+  cut_of s cut = cond cut (record { row = length s.rows; start = length bits - length s.rest; fault = InvalidCode } ∷ []) []
 
   -- a strict turn fails, or it is the lenient one, and passes nothing
   turn_sound : (s : Progress) → Fails (move_on strictly s)
@@ -132,19 +131,17 @@ module _ (settings : DecodeSettings) (bits : Bits) where
   abbrev passed : List Progress → List (List Damaged)
   passed turns = map (damaged_by_turn leniently bits) turns
 
-  turns_sound : (late : Ending) → (IsOk late.outcome → ⊥) → (n m : ℕ) (s : Progress)
-      → IsOk (repeated (move_on strictly) late n s).outcome
-      → AreEmpty (passed (gathered (move_on leniently) (λ turn. turn ∷ []) m s))
+  turns_sound : (late : Ending) → (IsOk late.outcome → ⊥) → (n m : ℕ) (s : Progress) → IsOk
+      (repeated (move_on strictly) late n s).outcome → AreEmpty (passed (gathered (move_on leniently) (λ turn. turn ∷ []) m s))
   turns_sound late never zero m s ok = absurd (never ok)
   turns_sound late never (suc n) zero s ok = tt
   turns_sound late never (suc n) (suc m) s ok = elim (turn_sound s) [
     | inl (fault, end, ends, fails) ↦
-        let at : IsOk end.outcome =
-        subst (λ (turn : Move). IsOk (after_turn (repeated (move_on strictly) late n) turn).outcome) ends ok in
+        let at : IsOk end.outcome = subst
+        (λ (turn : Move). IsOk (after_turn (repeated (move_on strictly) late n) turn).outcome) ends ok in
         absurd (false≢true (subst IsOk fails at))
-    | inr (none, same) ↦
-        by_turn (λ t ok. turns_sound late never n m t ok) (move_on leniently s) (subst
-        (λ (turn : Move). IsOk (after_turn (repeated (move_on strictly) late n) turn).outcome) same ok) none
+    | inr (none, same) ↦ by_turn (λ t ok. turns_sound late never n m t ok) (move_on leniently s)
+        (subst (λ (turn : Move). IsOk (after_turn (repeated (move_on strictly) late n) turn).outcome) same ok) none
   ]
     where
       by_turn : ((t : Progress) → IsOk (repeated (move_on strictly) late n t).outcome → AreEmpty (passed (gathered (move_on
@@ -155,9 +152,8 @@ module _ (settings : DecodeSettings) (bits : Bits) where
       by_turn on (Turn.done end) ok none = (none, tt)
 
   behind : (gap : Move) → IsOk (ending_behind strictly gap).outcome → AreEmpty (passed (turns_behind leniently gap))
-  behind (Turn.next s) ok =
-      turns_sound (record { rows = s.rows; has_eols = s.has_eols; outcome = Err UnexpectedEof }) (λ ok. false≢true ok)
-      (suc (suc (length s.rest))) (suc (suc (length s.rest))) s ok
+  behind (Turn.next s) ok = turns_sound (record { rows = s.rows; has_eols = s.has_eols; outcome = Err UnexpectedEof })
+      (λ ok. false≢true ok) (suc (suc (length s.rest))) (suc (suc (length s.rest))) s ok
   behind (Turn.done end) ok = tt
 
   -- the first gap is the same, or has a fault
@@ -203,9 +199,8 @@ module _ (settings : DecodeSettings) (bits : Bits) where
       by_lines (Line.broken front fault) strict e f agrees repaired cut missed = by_sought s.has_eols refl
           (ap (λ (l : Line). repaired_in leniently s.has_eols (length s.rows) (length bits - length s.rest) l) (sym e) ∙ repaired)
         where
-          by_sought : (b : Bool) → s.has_eols ≡ b → repaired_in leniently s.has_eols (length s.rows)
-              (length bits - length s.rest) (Line.broken front fault) ≡ []
-              → Fails (move_on leniently s) ⊎ (move_on strictly s ≡ move_on leniently s)
+          by_sought : (b : Bool) → s.has_eols ≡ b → repaired_in leniently s.has_eols (length s.rows) (length bits - length s.rest)
+              (Line.broken front fault) ≡ [] → Fails (move_on leniently s) ⊎ (move_on strictly s ≡ move_on leniently s)
           by_sought true sought none = grind (arith, common_steps, cond-false)
           by_sought false sought none =
               let one : not s.has_eols ≡ true = ap not sought in
@@ -229,10 +224,9 @@ module _ (settings : DecodeSettings) (bits : Bits) where
           unmissed_by true x is = absurd cc
           unmissed_by false x is = refl
 
-  turns_same : (late : Ending) → (IsOk late.outcome → ⊥) → (n : ℕ) (s : Progress)
-      → IsOk (repeated (move_on leniently) late n s).outcome
-      → AreEmpty (passed (gathered (move_on leniently) (λ turn. turn ∷ []) n s))
-      → IsOk (repeated (move_on strictly) late n s).outcome
+  turns_same : (late : Ending)
+      → (IsOk late.outcome → ⊥) → (n : ℕ) (s : Progress) → IsOk (repeated (move_on leniently) late n s).outcome → AreEmpty
+      (passed (gathered (move_on leniently) (λ turn. turn ∷ []) n s)) → IsOk (repeated (move_on strictly) late n s).outcome
   turns_same late never zero s ok none = absurd (never ok)
   turns_same late never (suc n) s ok none = elim (turn_same s none.0) [
     | inl (fault, end, ends, fails) ↦
@@ -253,9 +247,8 @@ module _ (settings : DecodeSettings) (bits : Bits) where
 
   same_behind : (gap : Move) → IsOk (ending_behind leniently gap).outcome → AreEmpty (passed (turns_behind leniently gap))
       → IsOk (ending_behind strictly gap).outcome
-  same_behind (Turn.next s) ok none =
-      turns_same (record { rows = s.rows; has_eols = s.has_eols; outcome = Err UnexpectedEof }) (λ ok. false≢true ok)
-      (suc (suc (length s.rest))) s ok none
+  same_behind (Turn.next s) ok none = turns_same (record { rows = s.rows; has_eols = s.has_eols; outcome = Err UnexpectedEof })
+      (λ ok. false≢true ok) (suc (suc (length s.rest))) s ok none
   same_behind (Turn.done end) ok none = ok
 
   same_first : (encoding : EncodingMode) → IsOk (ending_behind leniently (first_gap encoding leniently bits)).outcome
@@ -295,13 +288,11 @@ undamaged_turns settings bits ok = by_strict settings.strict refl
 
     by_strict : (strict : Bool) → settings.strict ≡ strict
         → AreEmpty (map (damaged_by_turn settings bits) (turns_of settings bits))
-    by_strict true is =
-        subst (λ (given : DecodeSettings). AreEmpty (map (damaged_by_turn given bits) (turns_of given bits))) (same true is)
-        (none_empty (damaged_by_turn (strictly settings bits) bits) (strict_turn settings bits)
-        (turns_of (strictly settings bits) bits))
-    by_strict false is =
-        subst (λ (given : DecodeSettings). AreEmpty (map (damaged_by_turn given bits) (turns_of given bits))) (same false is)
-        (lenient_empty settings bits ok)
+    by_strict true is = subst
+        (λ (given : DecodeSettings). AreEmpty (map (damaged_by_turn given bits) (turns_of given bits))) (same true is) (none_empty
+        (damaged_by_turn (strictly settings bits) bits) (strict_turn settings bits) (turns_of (strictly settings bits) bits))
+    by_strict false is = subst (λ (given : DecodeSettings). AreEmpty (map (damaged_by_turn given bits) (turns_of given bits)))
+        (same false is) (lenient_empty settings bits ok)
 
 -- where the strict reading ends without a fault, a reading does
 pub ok_of_strict : (settings : DecodeSettings) (bits : Bits) → IsOk (plain (record settings { strict = true }) bits).outcome
@@ -332,9 +323,8 @@ strict_if_undamaged settings bits ok repaired cut missed = by_strict settings.st
     by_strict : (strict : Bool) → settings.strict ≡ strict → IsOk (plain (record settings { strict = true }) bits).outcome
     by_strict true is = subst (λ (given : DecodeSettings). IsOk (plain given bits).outcome) (same true is) ok
     by_strict false is =
-        strict_ok settings bits (subst (λ (given : DecodeSettings). IsOk (plain given bits).outcome) (same false is) ok)
-        (subst (λ (given : DecodeSettings). AreEmpty (map (damaged_by_turn given bits) (turns_of given bits))) (same false is)
-        damaged)
+        strict_ok settings bits (subst (λ (given : DecodeSettings). IsOk (plain given bits).outcome) (same false is) ok) (subst
+        (λ (given : DecodeSettings). AreEmpty (map (damaged_by_turn given bits) (turns_of given bits))) (same false is) damaged)
 
 -- no damage
 pub no_damage : (settings : DecodeSettings) (bits : Bits) → IsOk (plain (record settings { strict = true }) bits).outcome
@@ -380,39 +370,16 @@ strict_are settings are = record { columns = are.columns; rows = are.rows }
 closed_strictly : (settings : DecodeSettings) (rows : List Row) (count : ℕ) (bits : Bits)
     → IsClosedPicture settings rows count bits → IsClosedPicture (record settings { strict = true }) rows count bits
 closed_strictly settings rows count bits (IsClosedPicture.by_eofb stream p counted) =
-    IsClosedPicture.by_eofb stream
-    (record { encoding = p.encoding; end_of_block = p.end_of_block; limit = p.limit; picture = p.picture; begins = p.begins })
-    counted
+    IsClosedPicture.by_eofb stream (assumption) counted
 closed_strictly settings rows count bits (IsClosedPicture.by_rtc stream behind p counted) =
-    IsClosedPicture.by_rtc stream behind (record {
-      encoding = p.encoding;
-      end_of_block = p.end_of_block;
-      limit = p.limit;
-      some = p.some;
-      picture = p.picture;
-      lines = p.lines;
-      closing = p.closing;
-      begins = p.begins;
-    }) counted
+    IsClosedPicture.by_rtc stream behind (assumption) counted
 
 limited_strictly : (settings : DecodeSettings) (rows : List Row) (bits : Bits) → IsLimitedPicture settings rows bits
     → IsLimitedPicture (record settings { strict = true }) rows bits
-limited_strictly settings rows bits (IsLimitedPicture.of_t6 stream p) =
-    IsLimitedPicture.of_t6 stream
-    (record { encoding = p.encoding; limit = p.limit; some = p.some; picture = p.picture; lines = p.lines; begins = p.begins })
-limited_strictly settings rows bits (IsLimitedPicture.of_t4 stream p) =
-    IsLimitedPicture.of_t4 stream (record {
-      encoding = p.encoding;
-      end_of_line = p.end_of_line;
-      limit = p.limit;
-      some = p.some;
-      picture = p.picture;
-      lines = p.lines;
-      begins = p.begins;
-    })
+limited_strictly settings rows bits (IsLimitedPicture.of_t6 stream p) = IsLimitedPicture.of_t6 stream assumption
+limited_strictly settings rows bits (IsLimitedPicture.of_t4 stream p) = IsLimitedPicture.of_t4 stream assumption
 limited_strictly settings rows bits (IsLimitedPicture.of_t4_with_eols stream p) =
-    IsLimitedPicture.of_t4_with_eols stream
-    (record { encoding = p.encoding; limit = p.limit; some = p.some; picture = p.picture; lines = p.lines; begins = p.begins })
+    IsLimitedPicture.of_t4_with_eols stream assumption
 
 pub closed_strict : (settings : DecodeSettings) (rows : List Row) (count : ℕ) (bits : Bits) → AreSettings settings → AreWholeBytes
     bits → IsClosedPicture settings rows count bits → IsOk (plain (record settings { strict = true }) bits).outcome
@@ -422,9 +389,8 @@ closed_strict settings rows count bits are whole picture =
 
 pub limited_strict : (settings : DecodeSettings) (rows : List Row) (bits : Bits) → AreSettings settings → AreWholeBytes bits
     → IsLimitedPicture settings rows bits → IsOk (plain (record settings { strict = true }) bits).outcome
-limited_strict settings rows bits are whole picture =
-    (limited_pictures (record settings { strict = true }) rows bits (strict_are settings are) whole
-    (limited_strictly settings rows bits picture)).1
+limited_strict settings rows bits are whole picture = (limited_pictures
+    (record settings { strict = true }) rows bits (strict_are settings are) whole (limited_strictly settings rows bits picture)).1
 
 -- the law
 pub pictures_are_undamaged : PicturesAreUndamaged

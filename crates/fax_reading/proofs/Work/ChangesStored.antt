@@ -1,6 +1,6 @@
 -- A row has no more changes than its line found words, and a repaired one no more than one besides.
 use Rattle.fax_reading.proofs.Names.{common_steps, ◌≡◌, ℕ, zero, suc, ◌+◌, ◌-◌, ◌<◌, ◌≤◌, Bool, true, false, cond, leb, List, []}
-use Rattle.fax_reading.proofs.Names.{◌∷◌, ◌++◌, length, replicate, Result, Ok, Err, refl, sym, ap, ◌∙◌, arith, append-nil, pos}
+use Rattle.fax_reading.proofs.Names.{◌∷◌, ◌++◌, length, replicate, Result, Ok, Err, refl, ap, ◌∙◌, arith, append-nil, pos}
 use Rattle.fax_reading.proofs.Names.{◌+ℤ◌, length-append, Color, Mode, Pass, Horizontal, Vertical, DecodeError, UnexpectedEof}
 use Rattle.fax_reading.proofs.Names.{EncodingMode, Group4, Group3_1D, Group3_2D, Step, front_of, Bits, mode_codes, read_code}
 use Rattle.fax_reading.proofs.Names.{Line, Pen, Drawing, start, turn_behind, words_behind, unless_fault, mode_here, place_from}
@@ -13,7 +13,7 @@ use Rattle.fax_bits.proofs.CodeWords.RunWords.{one_word}
 use Rattle.fax_reading.proofs.PixelRows.ChangesAndPixels.{changes-recursive}
 use Rattle.fax_bits.proofs.Repetition.Repeated.{after_turn}
 use Rattle.fax_bits.proofs.CodeWords.ReadRuns.{chosen, run_shorter}
-use Rattle.fax_reading.proofs.CodeWords.WordsFound.{WordsStand, run_stands}
+use Rattle.fax_reading.proofs.CodeWords.WordsFound.{run_stands}
 use Rattle.fax_reading.proofs.PixelRows.RowChanges.{changes_from, changes_from-append, changes_from-same}
 
 -- how many changes a row has
@@ -55,10 +55,9 @@ run_has_word color here n rest e = grind (arith, common_steps, run_stands color 
 -- a run
 run_count : (strict : Bool) (columns : ℕ) (pen : Pen)
     → StepCount (count pen.front + length (draw_run strict columns pen).words) (draw_run strict columns pen).turn
-run_count strict columns pen =
-    step_more (count pen.front + length found) (count pen.front + length (draw_run strict columns pen).words)
-    (draw_run strict columns pen).turn (omega (arith, ap length (words_run strict columns pen)))
-    (by_run_from (run_from pen.color (0, pen.rest)) refl)
+run_count strict columns pen = step_more (count pen.front + length found)
+    (count pen.front + length (draw_run strict columns pen).words) (draw_run strict columns pen).turn
+    (omega (arith, ap length (words_run strict columns pen))) (by_run_from (run_from pen.color (0, pen.rest)) refl)
   where
     found : List Bits
     found = run_found pen.color (0, pen.rest)

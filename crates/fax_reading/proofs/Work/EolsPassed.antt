@@ -120,18 +120,17 @@ record GivenUp (h k : Bool) (here rest : Bits) : Type 0 where
 -- the ways in which a line follows a row
 line_behind : (settings : DecodeSettings) (taken : ℕ) (h k : Bool) (here rest : Bits) → gap_behind_row settings taken h here
     ≡ Gap.line_at k rest → AfterEols settings taken h k here rest ⊎ (AfterNextEol settings h k here rest ⊎ GivenUp h k here rest)
-line_behind settings taken h k here rest e =
-    elim (chosen (misses_eol settings taken h here) _ _ _ e) [
-      | inl a ↦
-          let sought = missed_sought settings taken h here a.0 in
-          elim (chosen settings.strict _ _ _ a.1) [
-            | inl b ↦ absurd (over_no_line (Err InvalidCode) k rest b.1)
-            | inr b ↦ inr (by_next_eol sought (next_eol here) refl b.1)
-          ]
-      | inr a ↦
-          let is = behind_line settings taken h k (eols_here settings here) rest a.1 in
-          inl (record { unsought = a.0; flag = is.0; place = is.1; open_limit = is.2; open_end = is.3 })
-    ]
+line_behind settings taken h k here rest e = elim (chosen (misses_eol settings taken h here) _ _ _ e) [
+  | inl a ↦
+      let sought = missed_sought settings taken h here a.0 in
+      elim (chosen settings.strict _ _ _ a.1) [
+        | inl b ↦ absurd (over_no_line (Err InvalidCode) k rest b.1)
+        | inr b ↦ inr (by_next_eol sought (next_eol here) refl b.1)
+      ]
+  | inr a ↦
+      let is = behind_line settings taken h k (eols_here settings here) rest a.1 in
+      inl (record { unsought = a.0; flag = is.0; place = is.1; open_limit = is.2; open_end = is.3 })
+]
   where
     by_next_eol : h ≡ true → (o : Option Bits) → next_eol here ≡ o → from_next_eol settings taken here o ≡ Gap.line_at k rest
         → AfterNextEol settings h k here rest ⊎ GivenUp h k here rest
@@ -194,9 +193,8 @@ pub unsought_after : (settings : DecodeSettings) (taken : ℕ) (before has_eols 
     → gap_behind_row settings taken before here ≡ gap_said answer has_eols rest
     → IfOk answer (λ over. over ≡ true → has_eols ≡ before) → OnErr answer (has_eols ≡ before) → has_eols ≡ false
 unsought_after settings taken before has_eols here rest (Ok true) unsought said given_up same = given_up refl ∙ unsought
-unsought_after settings taken before has_eols here rest (Ok false) unsought said given_up same =
-    (line_without_eols settings taken has_eols here rest (ap (λ (b : Bool). gap_behind_row settings taken b here) (sym unsought)
-    ∙ said)).0
+unsought_after settings taken before has_eols here rest (Ok false) unsought said given_up same = (line_without_eols
+    settings taken has_eols here rest (ap (λ (b : Bool). gap_behind_row settings taken b here) (sym unsought) ∙ said)).0
 unsought_after settings taken before has_eols here rest (Err e) unsought said given_up same = same ∙ unsought
 
 -- if there is a line, bits are left
