@@ -137,18 +137,7 @@ rows_differ : (settings : DecodeSettings) (one two : Bits) (from differ : ℕ) (
     → RowsDiffer settings one two from differ rows others
 rows_differ settings one two from differ rows others (inl e) = inl (sym e)
 rows_differ settings one two from differ rows others (inr (before, these, those, more, same, few, e, f, begins)) =
-    grind (
-      arith,
-      common_steps,
-      length-append before (these ++ more),
-      length-append before (those ++ more),
-      length-append these more,
-      length-append those more,
-      take_front before (those ++ more),
-      take_front before (these ++ more),
-      append_assoc,
-      drop_past,
-    )
+    grind (arith, common_steps, take_front before (these ++ more), append_assoc, drop_past)
 
 -- the law
 pub locality_by_k : LocalityByK

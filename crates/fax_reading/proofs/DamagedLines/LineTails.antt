@@ -127,7 +127,6 @@ module _ (bits : Bits) (from to : ℕ) (after : Bits) (local : IsBody bits from 
   not_within before rest k found e f eol le =
       grind (
         arith,
-        common_steps,
         append_assoc,
         drop_at bits (take from bits ++ before) found (from + length before),
         drop_at bits ((take from bits ++ before) ++ (replicate k false ++ true ∷ [])) rest (from + (length before + (k + 1))),

@@ -134,13 +134,7 @@ pub line_work : (old line next after : Bits) (start at_tag sought read now : ℕ
     → ((found end : Bits) → next_eol line ≡ Some found → after_eol 0 found ≡ Some end → now + length end ≤ read + length line)
     → now + 3 * length next ≤ start + 3 * length old + 3 * looked next
 line_work old line next after start at_tag sought read now is none found eol tag passed again modes =
-    grind (
-      arith,
-      common_steps,
-      looked_eol 0 next after eol,
-      looked_before_eol 0 old next none found,
-      next_behind_tag line next (ap (after_eol 0) (sym is) ∙ none) (ap next_eol (sym is) ∙ found),
-    )
+    grind (arith, looked_eol 0 next after eol, looked_before_eol 0 old next none found)
 
 -- ---- A line after another
 
@@ -156,9 +150,7 @@ pub line_paid : (start here line next rest : Bits) (count begun before eol tags 
 line_paid start here line next rest count begun before eol tags now paid e is counted read ahead passed =
     grind (
       arith,
-      common_steps,
       all_tagged-some here (false ∷ line) e,
-      all_tagged-none (false ∷ line) is.no_eol,
       looked_eol 0 here (false ∷ line) e,
       looked_before_eol 0 (false ∷ line) next is.no_eol is.next_is,
     )

@@ -127,10 +127,8 @@ module _ (settings : DecodeSettings) (most : ℕ) (Alike : List Row → List Row
   line_beyond xs ys h here (Line.broken front fault) alike short leaves =
       grind (
         arith,
-        common_steps,
         after_damage-is settings (run_at xs h here) front fault,
         after_damage-is settings (run_at ys h here) front fault,
-        row_added,
         added_beyond xs ys h here here (repaired settings.columns front) here alike short,
       )
 

@@ -315,7 +315,6 @@ one_picture_at : (settings : DecodeSettings) (encoding : EncodingMode) (rows oth
 one_picture_at settings encoding rows others bits more small matches block none one two =
     grind (
       arith,
-      common_steps,
       append-nil two.1,
       append_assoc one.0 one.1 more,
       closed_t4_end settings one.3.0 small encoding rows one.0 one.1 more matches block one.2 one.3 one.4 one.5 (inl none),

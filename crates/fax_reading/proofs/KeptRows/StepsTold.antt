@@ -268,12 +268,7 @@ pub no_step_beyond : (settings : DecodeSettings) (here line next after : Bits) �
     → (EndsByWords settings.encoding settings.columns after line → ⊥) → (other behind : Bits)
     → TellsStep settings here other behind → ⊥
 no_step_beyond settings here line next after group3 lenient alone next_is after_is beyond other behind told =
-    grind (
-      arith,
-      common_steps,
-      step_next settings here line next other behind alone next_is told,
-      step_ends settings here other behind group3 lenient told,
-    )
+    grind (arith, step_ends settings here other behind group3 lenient told)
 
 -- ---- What the tests count
 
@@ -293,10 +288,8 @@ line_test_work
     settings here line next after begun at_line sought read now group3 alone next_is after_is first skipped passed tested =
     grind (
       arith,
-      common_steps,
       looked_eol 0 next after after_is,
       after_eol_shorter 0 here line (one_alone settings here line group3 alone).0,
-      one_alone settings here line group3 alone,
       next_eol_found line next next_is,
     )
 

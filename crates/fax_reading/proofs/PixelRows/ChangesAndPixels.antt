@@ -118,7 +118,6 @@ pixels_from-wider place color width more [] le ascend = grind (arith, common_ste
 pixels_from-wider place color width more (change ∷ places) le ascend =
     grind (
       arith,
-      AscendFrom-here,
       append_assoc,
       pixels_from-wider change (not color) width more places (omega arith) (AscendFrom-here change width places ascend.2),
     )
@@ -131,7 +130,6 @@ pixels_from-on place color width more [] le ascend = grind (arith, common_steps,
 pixels_from-on place color width more (change ∷ places) le ascend =
     grind (
       arith,
-      AscendFrom-here,
       append_assoc,
       pixels_from-on change (not color) width more places (omega arith) (AscendFrom-here change (suc width) places ascend.2),
     )

@@ -246,17 +246,7 @@ module _ (columns : ℕ) (places : List ℕ) (ascend : AreChanges columns places
       color_at j lt = before_is (get_or places j 0) j (omega (arith, below j lt)) (split_at j lt)
 
       there : index < length places → is_b1 from color (get_or places index 0) ≡ true
-      there lt = grind (
-        arith,
-        common_steps,
-        reach,
-        split.here,
-        order first index,
-        color_at index lt,
-        le-leb,
-        change_there index lt,
-        same_beq,
-      )
+      there lt = grind (arith, order first index, color_at index lt, le-leb, change_there index lt)
 
       -- a change that is left of it, and not left of a0, turns the other way
       earlier : (j : ℕ) → j < index → j < length places → is_b1 from color (get_or places j 0) ≡ false
