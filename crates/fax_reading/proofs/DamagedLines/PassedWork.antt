@@ -10,7 +10,7 @@ use Rattle.fax_bits.proofs.BitReading.ZeroRuns.{looked_eol}
 use Rattle.fax_reading.proofs.CodeWords.WordsFound.{WordsStand, RunEnds, stands_none, stands_append, word_stands, no_word_stands}
 use Rattle.fax_reading.proofs.CodeWords.WordsFound.{run_stands}
 use Rattle.fax_reading.proofs.DamagedLines.LineTails.{after_eol_more}
-use Rattle.fax_bits.proofs.BitReading.ConsecutiveEols.{all_tagged-some, all_tagged-none, next_eol_found}
+use Rattle.fax_bits.proofs.BitReading.ConsecutiveEols.{all_tagged-some, next_eol_found}
 use Rattle.fax_reading.proofs.Work.EolsPassed.{looked_most, next_eol_within}
 use Rattle.fax_reading.proofs.Work.WordsPay.{stands_count, stands_before_eol}
 

@@ -1,9 +1,9 @@
 -- Gaps with more bits behind.
 use Rattle.fax_reading.proofs.Names.{common_steps, ◌≡◌, ◌≢◌, ℕ, suc, Bool, true, false, not, ◌&&◌, ◌||◌, cond, leb, eqb, [], ◌∷◌}
-use Rattle.fax_reading.proofs.Names.{◌++◌, length, Option, Some, None, Result, Ok, Err, refl, sym, ap, ◌∙◌, inl, inr, arith}
+use Rattle.fax_reading.proofs.Names.{◌++◌, length, Option, Some, None, Ok, Err, refl, sym, ap, ◌∙◌, inl, inr, arith}
 use Rattle.fax_reading.proofs.Names.{length-append, and_parts, or_parts, cases_Bool, not-false, leb-true, ne_eqb, AreWholeBytes}
 use Rattle.fax_reading.proofs.Names.{Bits, after_eol, eols, all_eols, tagged_eols, next_eol, DecodeSettings}
-use Rattle.fax_reading.proofs.Names.{DecodeError, InvalidCode, EncodingMode, Group4, Group3_1D, Group3_2D, Gap, Move, Turn, Held}
+use Rattle.fax_reading.proofs.Names.{InvalidCode, EncodingMode, Group4, Group3_1D, Group3_2D, Gap, Move, Turn, Held}
 use Rattle.fax_reading.proofs.Names.{eols_by, eols_here, is_end_of_block, limit_met, behind_eols, from_next_eol, misses_eol}
 use Rattle.fax_reading.proofs.Names.{gap_behind_row, at_gap, at_front, first_gap, repairs_behind}
 use Rattle.std.proofs.lemmas.Bool.{or_cases, leb-false}
@@ -182,11 +182,6 @@ at_gap-more more bits (Gap.over outcome) = refl
 first_settled : (settings : DecodeSettings) (bits : Bits) → first_gap_is_settled settings.encoding settings bits ≡ true
     → FirstGapIsSettled settings bits
 first_settled settings bits passes more = grind (arith, common_steps, gap_settled, at_gap-more, all_eols-more)
-
--- how a reading ended at the first gap, and the bits that are left there where it didn't
-abbrev outcome_at : Move → Option (Result Bits DecodeError)
-outcome_at (Turn.next so_far) = None
-outcome_at (Turn.done end) = Some end.outcome
 
 abbrev left_at : Move → Bits
 left_at (Turn.next so_far) = so_far.rest
