@@ -13,9 +13,8 @@ pub use Rattle.fax_reading.specs.Continuations.{row_continued}
 pub use Rattle.fax_reading.specs.Damage.{Damaged, damage_of, damaged_by_turn, missed_behind, missed_by_turn, misses_by_line}
 pub use Rattle.fax_reading.specs.Damage.{repaired_by_turn, repaired_in, repairs_by_line, cut_by_turn, cut_in, cuts_by_line}
 pub use Rattle.fax_reading.specs.Damage.{cuts_run, start_in}
-pub use Rattle.fax_reading.specs.Decoding.{cuts_with, cut_since, FailsHere, SinkState, StopsShort, TakesOneRow}
-pub use Rattle.fax_reading.specs.Decoding.{TakesRows, gap_said, repairs_behind, repairs_with, with_row_taken, context_at}
-pub use Rattle.fax_reading.specs.Decoding.{missed_since}
+pub use Rattle.fax_reading.specs.Decoding.{cuts_with, cut_since, FailsHere, SinkState, StopsShort, TakesOneRow, TakesRows}
+pub use Rattle.fax_reading.specs.Decoding.{gap_said, repairs_behind, repairs_with, with_row_taken, context_at, missed_since}
 pub use Rattle.fax_reading.specs.Encodings.{ClosesWithEols, EncodesLine, EncodesLine1D, EncodesLine2D, EncodesRows}
 pub use Rattle.fax_reading.specs.Encodings.{EncodesRowsWithEols, IsPicture, PictureT4, PictureT6, Spells, eol, padding, tag_of}
 pub use Rattle.fax_bits.specs.EndOfLine.{after_eol, all_eols, eols, eols_with_tags, next_eol, one_more, pass_last_tag, past_tag}
@@ -46,10 +45,10 @@ pub use Rattle.fax_reading.specs.Pictures.{Allows, IsClosedPicture, IsLimitedPic
 pub use Rattle.fax_reading.specs.PlainReading.{Ending, Gap, Move, Progress, Reading, add_row, after_line, aligned, at_end}
 pub use Rattle.fax_reading.specs.PlainReading.{at_front, at_gap, behind_eols, behind_row, bytes_before, end_of, ending_behind}
 pub use Rattle.fax_reading.specs.PlainReading.{ending_from, ends_with, eols_by, eols_here, failed_at, is_end_of_block, first_gap}
-pub use Rattle.fax_reading.specs.PlainReading.{first_line, from_next_eol, gap_behind_row}
-pub use Rattle.fax_reading.specs.PlainReading.{is_over, limit_met, line_by, line_here, line_of_turn, lines_of}
-pub use Rattle.fax_reading.specs.PlainReading.{misses_eol, missing_eol, move_on, nothing_read, pass_gap, plain, row_before}
-pub use Rattle.fax_reading.specs.PlainReading.{row_of_line, turns_behind, turns_from, turns_of, whole_reading, with_row}
+pub use Rattle.fax_reading.specs.PlainReading.{first_line, from_next_eol, gap_behind_row, is_over, limit_met, line_by, line_here}
+pub use Rattle.fax_reading.specs.PlainReading.{line_of_turn, lines_of, misses_eol, missing_eol, move_on, nothing_read, pass_gap}
+pub use Rattle.fax_reading.specs.PlainReading.{plain, row_before, row_of_line, turns_behind, turns_from, turns_of, whole_reading}
+pub use Rattle.fax_reading.specs.PlainReading.{with_row}
 pub use Rattle.fax_bits.specs.Repetition.{Reaches, Turn, gathered, repeated}
 pub use Rattle.fax_reading.specs.Rows.{AreChanges, AscendFrom, HaveWidth, Row, a1, a2, b1, b2, changes, is_black, is_change}
 pub use Rattle.fax_reading.specs.Rows.{last_pixel, least_below, opposite, paint, pixel, pixel_before, pixels, pixels_from}

@@ -102,9 +102,8 @@ run_stands_at_end color total here r (Ok found) h k =
 -- the words of a run are consecutive
 pub run_stands : (color : Color) (total : ℕ) (here : Bits) → (rest : Bits) × WordsStand here (run_found color (total, here)) rest
     × RunEnds (run_from color (total, here)) rest
-run_stands color total here =
-    gathered_stands (run_turn color) (Err UnexpectedEof) (run_gives color) (λ s. s.1) RunEnds
-    (λ b. tt) (λ s t e. run_goes color s.0 s.1 t (read_code (codes_of color) s.1) refl e)
+run_stands color total here = gathered_stands (run_turn color) (Err UnexpectedEof)
+    (run_gives color) (λ s. s.1) RunEnds (λ b. tt) (λ s t e. run_goes color s.0 s.1 t (read_code (codes_of color) s.1) refl e)
     (λ s r e. run_stands_at_end color s.0 s.1 r (read_code (codes_of color) s.1) refl e) (suc (length here)) (total, here)
 
 -- ---- The words of a line.
@@ -169,12 +168,11 @@ mode_read_stands pen = by_read_code (read_code mode_codes pen.rest) refl
 
 -- a run that is drawn
 pub draw_run_stands : (strict : Bool) (columns : ℕ) (pen : Pen) → DrawingStands pen.rest rest_of_pen (draw_run strict columns pen)
-draw_run_stands strict columns pen =
-    behind_stands pen.rest (λ (run : ℕ × Bits). run.1) rest_of_pen (run_here pen) (λ run.
+draw_run_stands strict columns pen = behind_stands pen.rest (λ (run : ℕ × Bits). run.1) rest_of_pen (run_here pen) (λ run.
     painted strict columns pen run.0 >>= (λ front. go_on (record { front = front; color = opposite pen.color; rest = run.1 })))
-    (run_read_stands pen) (λ run. behind_stands run.1 (λ (front : Row). run.1) rest_of_pen (painted strict columns pen run.0)
-    (λ front. go_on (record { front = front; color = opposite pen.color; rest = run.1 })) (wordless_stands run.1 pen _)
-    (λ front. stands_none run.1))
+    (run_read_stands pen) (λ run. behind_stands run.1 (λ (front : Row). run.1) rest_of_pen
+    (painted strict columns pen run.0) (λ front. go_on (record { front = front; color = opposite pen.color; rest = run.1 }))
+    (wordless_stands run.1 pen _) (λ front. stands_none run.1))
 
 -- a full line finds nothing more
 pub unless_full_stands : (columns : ℕ) (pen : Pen) → DrawingStands pen.rest rest_of_pen (unless_full columns pen)
@@ -183,27 +181,22 @@ unless_full_stands columns pen = grind (arith, common_steps)
 -- what a mode draws
 mode_word_stands : (strict : Bool) (columns : ℕ) (reference : Row) (pen : Pen) (mode : Mode)
     → DrawingStands pen.rest rest_of_pen (draw_mode strict columns reference pen mode)
-mode_word_stands strict columns reference pen Pass =
-    behind_stands pen.rest (λ (front : Row). pen.rest) rest_of_pen
-    (painted_to strict columns pen (b2 reference (right_of pen.front) pen.color))
+mode_word_stands strict columns reference pen Pass = behind_stands pen.rest
+    (λ (front : Row). pen.rest) rest_of_pen (painted_to strict columns pen (b2 reference (right_of pen.front) pen.color))
     (λ front. go_on (record pen { front = front })) (wordless_stands pen.rest pen _) (λ front. stands_none pen.rest)
-mode_word_stands strict columns reference pen Horizontal =
-    behind_stands pen.rest rest_of_pen rest_of_pen (draw_run strict columns pen) (draw_run strict columns)
-    (draw_run_stands strict columns pen) (draw_run_stands strict columns)
+mode_word_stands strict columns reference pen Horizontal = behind_stands pen.rest rest_of_pen rest_of_pen
+    (draw_run strict columns pen) (draw_run strict columns) (draw_run_stands strict columns pen) (draw_run_stands strict columns)
 mode_word_stands strict columns reference pen (Vertical k) =
     let paints : ℕ → Drawing Row = painted_to strict columns pen in
     let turns : Row → Drawing Pen = λ front. go_on (record { front = front; color = opposite pen.color; rest = pen.rest }) in
     behind_stands pen.rest (λ (place : ℕ). pen.rest) rest_of_pen
-    (place_by reference pen k) (λ place. paints place >>= turns)
-    (wordless_stands pen.rest pen _)
-    (λ place. behind_stands pen.rest (λ (front : Row). pen.rest) rest_of_pen (paints place) turns (wordless_stands pen.rest pen _)
-    (λ front. stands_none pen.rest))
+    (place_by reference pen k) (λ place. paints place >>= turns) (wordless_stands pen.rest pen _) (λ place. behind_stands pen.rest
+    (λ (front : Row). pen.rest) rest_of_pen (paints place) turns (wordless_stands pen.rest pen _) (λ front. stands_none pen.rest))
 
 -- a step of a one-dimensional line
 pub draw_1d_stands : (strict : Bool) (columns : ℕ) (pen : Pen) → DrawingStands pen.rest rest_of_pen (draw_1d strict columns pen)
-draw_1d_stands strict columns pen =
-    behind_stands pen.rest rest_of_pen rest_of_pen (unless_full columns pen) (draw_run strict columns)
-    (unless_full_stands columns pen) (draw_run_stands strict columns)
+draw_1d_stands strict columns pen = behind_stands pen.rest rest_of_pen rest_of_pen
+    (unless_full columns pen) (draw_run strict columns) (unless_full_stands columns pen) (draw_run_stands strict columns)
 
 -- a step of a two-dimensional line
 pub draw_2d_stands : (strict : Bool) (columns : ℕ) (reference : Row) (pen : Pen)

@@ -1,14 +1,12 @@
 -- Lines where more bits follow.
-use Rattle.fax_reading.proofs.Names.{◌≡◌, ℕ, suc, ◌-◌, ◌%◌, Bool, true, false, cond, ◌&&◌, ◌||◌, not, leb, List, [], ◌∷◌, ◌++◌}
-use Rattle.fax_reading.proofs.Names.{length, drop, Result, Ok, Err, refl, sym, ap, ◌∙◌, arith, false≢true, length-append, Mode}
-use Rattle.fax_reading.proofs.Names.{Pass, Horizontal, Vertical, DecodeError, DecodeSettings, EncodingMode, Group4, Group3_1D}
+use Rattle.fax_reading.proofs.Names.{common_steps, ◌≡◌, ℕ, suc, Bool, true, false, cond, ◌||◌, not, List, [], ◌∷◌, ◌++◌, length}
+use Rattle.fax_reading.proofs.Names.{Result, Ok, Err, refl, sym, ap, ◌∙◌, arith, false≢true, length-append, Mode, Pass}
+use Rattle.fax_reading.proofs.Names.{Horizontal, Vertical, DecodeError, DecodeSettings, EncodingMode, Group4, Group3_1D}
 use Rattle.fax_reading.proofs.Names.{Group3_2D, UnexpectedEof, Bits, AreWholeBytes, mode_codes, read_code, Turn, Row, opposite}
-use Rattle.fax_reading.proofs.Names.{right_of, b2, paint, run_from, run_found, word_found, Line, Pen, Drawing, start, draw_1d}
-use Rattle.fax_reading.proofs.Names.{draw_2d, draw_mode, draw_run, go_on, mode_here, run_here, painted, painted_to, place_by}
-use Rattle.fax_reading.proofs.Names.{unless_fault, unless_full, turn_behind, ◌>>=◌, words_behind, line_by, line_here}
-use Rattle.fax_reading.proofs.Names.{line_found, found_here, line_1d, line_2d, found_1d, found_2d, behind_row, row_of_line}
-use Rattle.fax_reading.proofs.Names.{aligned, LineIsSettled, is_short, line_before, row_continued}
-use Rattle.std.proofs.lemmas.List.{drop-append-le}
+use Rattle.fax_reading.proofs.Names.{run_from, run_found, word_found, Line, Pen, Drawing, start, draw_1d, draw_2d, draw_mode}
+use Rattle.fax_reading.proofs.Names.{draw_run, go_on, mode_here, run_here, painted, unless_fault, unless_full, turn_behind, ◌>>=◌}
+use Rattle.fax_reading.proofs.Names.{words_behind, line_by, line_here, line_found, found_here, line_1d, line_2d, found_1d}
+use Rattle.fax_reading.proofs.Names.{found_2d, behind_row, row_of_line, LineIsSettled, is_short, line_before, row_continued}
 use Rattle.fax_bits.proofs.BitReading.ZerosInWords.{modes_free}
 use Rattle.fax_reading.proofs.Continuations.WordsContinued.{turn_on, turn_waits, repeated_on, rest_on, result_on, result_waits}
 use Rattle.fax_reading.proofs.Continuations.WordsContinued.{code_continues, run_continues}
@@ -31,20 +29,8 @@ module _ (more : Bits) where
     turns_continue : (turn other : Turn A Line) (words others : List Bits) → AreContinued more on turn other words others
         → AreContinued more further (turn_behind turn (λ x. (behind x).turn)) (turn_behind other (λ x. (other_behind x).turn))
         (words ++ words_behind turn (λ x. (behind x).words)) (others ++ words_behind other (λ x. (other_behind x).words))
-    turns_continue (Turn.next x) other words others first known =
-        let a = first refl in
-        let b = second x known in (
-          ap (λ (t : Turn A Line). turn_behind t (λ y. (other_behind y).turn)) a.0 ∙ b.0,
-          ap (λ (w : List Bits). w ++ words_behind other (λ y. (other_behind y).words)) a.1
-              ∙ ap (λ (t : Turn A Line). words ++ words_behind t (λ y. (other_behind y).words)) a.0
-              ∙ ap (λ (w : List Bits). words ++ w) b.1,
-        )
-    turns_continue (Turn.done line) other words others first known =
-        let a = first known in (
-          ap (λ (t : Turn A Line). turn_behind t (λ y. (other_behind y).turn)) a.0,
-          ap (λ (w : List Bits). w ++ words_behind other (λ y. (other_behind y).words)) a.1
-              ∙ ap (λ (t : Turn A Line). words ++ words_behind t (λ y. (other_behind y).words)) a.0,
-        )
+    turns_continue (Turn.next x) other words others first known = grind (arith, common_steps)
+    turns_continue (Turn.done line) other words others first known = grind (arith, common_steps)
 
     -- one step after another
     pub then_continues : (drawing other : Drawing A) → Continues more on drawing other
@@ -55,10 +41,8 @@ module _ (more : Bits) where
   pub finds_continue : {A : Type 0} (on : A → A) (front : Row) (result other : Result A DecodeError) (words others : List Bits)
       → (result_waits result ≡ false → (other ≡ result_on on result) × (others ≡ words))
       → AreContinued more on (unless_fault front result) (unless_fault front other) words others
-  finds_continue {A} on front (Ok x) other words others first known =
-      let a = first refl in (ap (unless_fault front) a.0, a.1)
-  finds_continue {A} on front (Err fault) other words others first known =
-      let a = first known in (ap (unless_fault front) a.0, a.1)
+  finds_continue {A} on front (Ok x) other words others first known = grind (arith, common_steps)
+  finds_continue {A} on front (Err fault) other words others first known = grind (arith, common_steps)
 
   -- what needs no bits is the same
   pub same_continues : {A : Type 0} (front : Row) (result : Result A DecodeError)
@@ -82,68 +66,35 @@ module _ (more : Bits) where
 
   draw_run_on : (strict : Bool) (columns : ℕ) (pen : Pen)
       → Continues more pen_on (draw_run strict columns pen) (draw_run strict columns (pen_on pen))
-  draw_run_on strict columns pen =
-      then_continues (rest_on more) pen_on (behind pen) (behind (pen_on pen)) (λ run. second run) (run_here pen)
-      (run_here (pen_on pen)) (run_goes_on pen)
+  draw_run_on strict columns pen = then_continues (rest_on more) pen_on
+      (behind pen) (behind (pen_on pen)) (λ run. second run) (run_here pen) (run_here (pen_on pen)) (run_goes_on pen)
     where
       behind : Pen → ℕ × Bits → Drawing Pen
       behind p run = painted strict columns p run.0
           >>= (λ front. go_on (record { front = front; color = opposite p.color; rest = run.1 }))
 
       second : (run : ℕ × Bits) → Continues more pen_on (behind pen run) (behind (pen_on pen) (rest_on more run))
-      second run = then_continues (λ front. front) pen_on
-          (λ front. go_on (record { front = front; color = opposite pen.color; rest = run.1 }))
-          (λ front. go_on (record { front = front; color = opposite pen.color; rest = run.1 ++ more }))
-          (λ front known. (refl, refl))
-          (painted strict columns pen run.0) (painted strict columns (pen_on pen) run.0)
-          (same_continues pen.front (paint strict columns pen.front pen.color run.0))
+      second run = grind (arith, common_steps, then_continues, same_continues)
 
   draw_mode_on : (strict : Bool) (columns : ℕ) (reference : Row) (pen : Pen) (mode : Mode)
       → Continues more pen_on (draw_mode strict columns reference pen mode) (draw_mode strict columns reference (pen_on pen) mode)
-  draw_mode_on strict columns reference pen Pass =
-      let place : ℕ = b2 reference (right_of pen.front) pen.color in
-      then_continues (λ front. front) pen_on (λ front. go_on (record pen { front = front }))
-      (λ front. go_on (record (pen_on pen) { front = front })) (λ front known. (refl, refl))
-      (painted_to strict columns pen place) (painted_to strict columns (pen_on pen) place)
-      (same_continues pen.front (paint strict columns pen.front pen.color (place - length pen.front)))
+  draw_mode_on strict columns reference pen Pass = grind (arith, common_steps, then_continues, same_continues)
   draw_mode_on strict columns reference pen Horizontal =
       then_continues pen_on pen_on (draw_run strict columns) (draw_run strict columns) (draw_run_on strict columns)
       (draw_run strict columns pen) (draw_run strict columns (pen_on pen)) (draw_run_on strict columns pen)
-  draw_mode_on strict columns reference pen (Vertical k) =
-      then_continues (λ place. place) pen_on (behind pen) (behind (pen_on pen)) second (place_by reference pen k)
-      (place_by reference (pen_on pen) k) (same_continues pen.front _)
-    where
-      behind : Pen → ℕ → Drawing Pen
-      behind p place = painted_to strict columns p place
-          >>= (λ front. go_on (record p { front = front; color = opposite p.color }))
-
-      second : (place : ℕ) → Continues more pen_on (behind pen place) (behind (pen_on pen) place)
-      second place = then_continues (λ front. front) pen_on
-          (λ front. go_on (record pen { front = front; color = opposite pen.color }))
-          (λ front. go_on (record (pen_on pen) { front = front; color = opposite pen.color })) (λ front known. (refl, refl))
-          (painted_to strict columns pen place) (painted_to strict columns (pen_on pen) place)
-          (same_continues pen.front (paint strict columns pen.front pen.color (place - length pen.front)))
+  draw_mode_on strict columns reference pen (Vertical k) = grind (arith, common_steps, then_continues, same_continues)
 
   pub full_on : (columns : ℕ) (pen : Pen) → Continues more pen_on (unless_full columns pen) (unless_full columns (pen_on pen))
-  full_on columns pen = either_way (leb columns (length pen.front))
-    where
-      either_way : (full : Bool)
-          → AreContinued more pen_on (cond full (Turn.done (Line.whole pen.front pen.rest)) (Turn.next pen))
-          (cond full (Turn.done (Line.whole pen.front (pen.rest ++ more))) (Turn.next (pen_on pen))) [] []
-      either_way true known = (refl, refl)
-      either_way false known = (refl, refl)
+  full_on columns pen = grind (arith, common_steps)
 
   draw_1d_on : (strict : Bool) (columns : ℕ) (pen : Pen)
       → Continues more pen_on (draw_1d strict columns pen) (draw_1d strict columns (pen_on pen))
-  draw_1d_on strict columns pen =
-      then_continues pen_on pen_on (draw_run strict columns) (draw_run strict columns) (draw_run_on strict columns)
-      (unless_full columns pen) (unless_full columns (pen_on pen)) (full_on columns pen)
+  draw_1d_on strict columns pen = grind (arith, common_steps, then_continues, draw_run_on strict columns, full_on columns pen)
 
   draw_2d_on : (strict : Bool) (columns : ℕ) (reference : Row) (pen : Pen)
       → Continues more pen_on (draw_2d strict columns reference pen) (draw_2d strict columns reference (pen_on pen))
-  draw_2d_on strict columns reference pen =
-      then_continues pen_on pen_on behind behind second (unless_full columns pen) (unless_full columns (pen_on pen))
-      (full_on columns pen)
+  draw_2d_on strict columns reference pen = then_continues pen_on pen_on behind behind second
+      (unless_full columns pen) (unless_full columns (pen_on pen)) (full_on columns pen)
     where
       drew : Pen → Mode × Bits → Drawing Pen
       drew p mode = draw_mode strict columns reference (record p { rest = mode.1 }) mode.0
@@ -172,11 +123,10 @@ module _ (more : Bits) where
       → is_short (line_2d strict columns reference here) ≡ false
       → (line_2d strict columns reference (here ++ more) ≡ line_before more (line_2d strict columns reference here))
       × (found_2d strict columns reference (here ++ more) ≡ found_2d strict columns reference here)
-  line_2d_on strict columns reference here known =
-      repeated_on (λ pen. (draw_2d strict columns reference pen).turn) (λ pen. (draw_2d strict columns reference pen).words)
-      (Line.broken [] UnexpectedEof) pen_left (step_2d_shrinks strict columns reference) pen_on (line_before more) is_short
-      (draw_2d_on strict columns reference) (suc (length here)) (suc (length (here ++ more))) (start here) (omega arith)
-      (omega arith) known
+  line_2d_on strict columns reference here known = repeated_on (λ pen. (draw_2d strict columns reference pen).turn)
+      (λ pen. (draw_2d strict columns reference pen).words) (Line.broken [] UnexpectedEof) pen_left
+      (step_2d_shrinks strict columns reference) pen_on (line_before more) is_short (draw_2d_on strict columns reference)
+      (suc (length here)) (suc (length (here ++ more))) (start here) (omega arith) (omega arith) known
 
   -- a line of any kind
   line_on : (encoding : EncodingMode) (strict : Bool) (columns : ℕ) (reference : Row) (here : Bits)
@@ -193,8 +143,7 @@ module _ (more : Bits) where
 -- A line that isn't short is settled.
 pub line_settled : (settings : DecodeSettings) (reference : Row) (here : Bits)
     → is_short (line_here settings reference here) ≡ false → LineIsSettled settings reference here
-line_settled settings reference here known more =
-    (line_on more settings.encoding settings.strict settings.columns reference here known).0
+line_settled settings reference here known more = grind (arith, common_steps, line_on)
 
 -- Its words are the same with more bits.
 pub found_settled : (settings : DecodeSettings) (reference : Row) (here more : Bits)
@@ -206,34 +155,23 @@ found_settled settings reference here more known =
 -- The bits after a row, where whole bytes follow, are followed by them.
 pub behind_continues : (settings : DecodeSettings) (has_eols : Bool) (rest more : Bits) → AreWholeBytes more
     → behind_row settings has_eols (rest ++ more) ≡ behind_row settings has_eols rest ++ more
-behind_continues settings has_eols rest more bytes = either_way (settings.rows_are_byte_aligned && not has_eols)
-  where
-    same : length (rest ++ more) % 8 ≡ length rest % 8
-    same = omega (arith, length-append rest more, bytes)
-
-    either_way : (b : Bool) → cond b (aligned (rest ++ more)) (rest ++ more) ≡ cond b (aligned rest) rest ++ more
-    either_way true = ap (λ (n : ℕ). drop n (rest ++ more)) same ∙ drop-append-le (length rest % 8) rest more (omega arith)
-    either_way false = refl
+behind_continues settings has_eols rest more bytes = grind (arith, common_steps, length-append)
 
 -- What it yields is the same, where whole bytes follow.
 pub row_continues : (settings : DecodeSettings) (reference : Row) (has_eols : Bool) (here more : Bits) → AreWholeBytes more
     → is_short (line_here settings reference here) ≡ false
     → row_of_line settings has_eols (here ++ more) (line_here settings reference (here ++ more))
     ≡ row_continued more (row_of_line settings has_eols here (line_here settings reference here))
-row_continues settings reference has_eols here more bytes known =
-    ap (row_of_line settings has_eols (here ++ more)) (line_settled settings reference here known more)
-    ∙ by_line (line_here settings reference here)
+row_continues settings reference has_eols here more bytes known = ap (row_of_line settings has_eols (here ++ more))
+    (line_settled settings reference here known more) ∙ by_line (line_here settings reference here)
   where
     repaired_or_not : (front : Row) (fault : DecodeError) (b : Bool)
         → cond b (Err fault) (Ok (front, behind_row settings has_eols (here ++ more)))
         ≡ row_continued more (cond b (Err fault) (Ok (front, behind_row settings has_eols here)))
     repaired_or_not front fault true = refl
-    repaired_or_not front fault false =
-        ap {B = Result (Row × Bits) DecodeError} (λ (b : Bits). Ok (front, b))
-        (behind_continues settings has_eols here more bytes)
+    repaired_or_not front fault false = grind (arith, common_steps, behind_continues)
 
     by_line : (line : Line) → row_of_line settings has_eols (here ++ more) (line_before more line)
         ≡ row_continued more (row_of_line settings has_eols here line)
-    by_line (Line.whole row rest) =
-        ap {B = Result (Row × Bits) DecodeError} (λ (b : Bits). Ok (row, b)) (behind_continues settings has_eols rest more bytes)
+    by_line (Line.whole row rest) = grind (arith, common_steps, behind_continues)
     by_line (Line.broken front fault) = repaired_or_not _ fault (settings.strict || not has_eols)

@@ -1,29 +1,27 @@
 -- Lines that go on from a part of them.
-use Rattle.fax_reading.proofs.Names.{◌≡◌, ℕ, zero, suc, ◌+◌, ◌*◌, ◌-◌, ◌<◌, ◌≤◌, Bool, true, false, cond, ltb, leb, List, [], ◌∷◌}
+use Rattle.fax_reading.proofs.Names.{◌≡◌, ℕ, zero, suc, ◌+◌, ◌*◌, ◌<◌, ◌≤◌, Bool, true, false, cond, ltb, leb, List, [], ◌∷◌}
 use Rattle.fax_reading.proofs.Names.{◌++◌, length, Result, Ok, Err, refl, sym, ap, ◌∙◌, arith, false≢true, length-append}
 use Rattle.fax_reading.proofs.Names.{append_assoc, append-nil, and_parts, leb-true, inl, inr, Color, Mode, Pass, Horizontal}
 use Rattle.fax_reading.proofs.Names.{Vertical, DecodeError, DecodeSettings, EncodingMode, Group4, Group3_1D, Group3_2D}
 use Rattle.fax_reading.proofs.Names.{UnexpectedEof, InvalidCode, Overflow, OutOfMemory, Refused, Bits, Code, Has, mode_codes}
-use Rattle.fax_reading.proofs.Names.{read_code, codes_of, Turn, run_turn, run_from, run_of_word, word_found, Row}
-use Rattle.fax_reading.proofs.Names.{opposite, right_of, b2, paint, Line, Pen, Drawing, Step, drawn, draw_run, go_on}
-use Rattle.fax_reading.proofs.Names.{mode_here, finds, painted, painted_to, place_by, unless_fault, unless_full}
-use Rattle.fax_reading.proofs.Names.{turn_behind, ◌>>=◌, line_by, line_here, is_short, line_before, common_steps, is_prefix_free}
+use Rattle.fax_reading.proofs.Names.{read_code, codes_of, Turn, run_turn, run_from, run_of_word, word_found, Row, opposite, paint}
+use Rattle.fax_reading.proofs.Names.{Line, Pen, Drawing, Step, drawn, draw_run, go_on, mode_here, painted, unless_fault}
+use Rattle.fax_reading.proofs.Names.{turn_behind, ◌>>=◌, line_here, is_short, line_before, common_steps, is_prefix_free, OpenRun}
+use Rattle.fax_reading.proofs.Names.{LinePart, left_of, part_before, draw_step, line_after_turn, line_from_part, word_here}
+use Rattle.fax_reading.proofs.Names.{behind_run, run_summed, word_added, mode_added, begin_step, begin_line, read_on, LacksWord}
+use Rattle.fax_reading.proofs.Names.{GoesOnFrom, LinesGoOn}
 use Rattle.std.specs.List.{list_all}
 use Rattle.fax_bits.specs.CodeReading.{NoneStands}
-use Rattle.fax_reading.proofs.Names.{OpenRun, LinePart, left_of, part_before, draw_step, line_after_turn}
-use Rattle.fax_reading.proofs.Names.{line_from_part, word_here, sum_with, behind_run, run_summed, word_added, mode_added}
-use Rattle.fax_reading.proofs.Names.{begin_step, begin_line, read_on, LacksWord, GoesOnFrom, LinesGoOn}
 use Rattle.fax_bits.proofs.BitReading.ZerosInWords.{codes_free, modes_free}
 use Rattle.fax_bits.proofs.CodeWords.CodeReadings.{reads_codes}
 use Rattle.fax_bits.proofs.CodeWords.ReadCodes.{read_code_found}
 use Rattle.fax_bits.proofs.CodeWords.ReadRuns.{read_code_shorter, words_not_empty, has_no_empty_word, run_shrinks, size}
 use Rattle.fax_bits.proofs.Repetition.Repeated.{after_turn, repeated_turn}
-use Rattle.fax_reading.proofs.Continuations.LinesContinued.{Continues, then_continues, finds_continue}
-use Rattle.fax_reading.proofs.Continuations.LinesContinued.{same_continues, mode_goes_on, full_on}
+use Rattle.fax_reading.proofs.Continuations.LinesContinued.{Continues, then_continues, finds_continue, same_continues}
+use Rattle.fax_reading.proofs.Continuations.LinesContinued.{mode_goes_on, full_on}
 use Rattle.fax_reading.proofs.Continuations.ShortLines.{GoesOrEnds, Anything, paint_known, place_known}
-use Rattle.fax_reading.proofs.Continuations.WordsContinued.{code_continues, rest_on, turn_on, turn_waits}
-use Rattle.fax_reading.proofs.DrawingLines.Drawings.{run_then, mode_step}
-use Rattle.fax_reading.proofs.DrawingLines.Drawings.{step_1d_is, step_2d_is}
+use Rattle.fax_reading.proofs.Continuations.WordsContinued.{code_continues, rest_on}
+use Rattle.fax_reading.proofs.DrawingLines.Drawings.{run_then, mode_step, step_1d_is, step_2d_is}
 use Rattle.fax_reading.proofs.DrawingLines.ReadLines.{drawn1, drawn2, modes_not_empty}
 
 -- ---- A line from a part of it on is what one word more leads to
@@ -70,8 +68,7 @@ module _ (settings : DecodeSettings) (reference : Row) where
   -- a line within a run
   in_run_is : (run : OpenRun) (pen : Pen) → line_from_part settings reference (LinePart.in_run run pen)
       ≡ line_then (read_on settings reference (LinePart.in_run run pen)).turn
-  in_run_is run pen =
-      ap behind (run_is pen.color run.total pen.rest) ∙ by_read_code (read_code (codes_of pen.color) pen.rest)
+  in_run_is run pen = ap behind (run_is pen.color run.total pen.rest) ∙ by_read_code (read_code (codes_of pen.color) pen.rest)
     where
       with_run : ℕ × Bits → Step
       with_run found = if_read pen.front (paint settings.strict settings.columns pen.front pen.color found.0)
@@ -110,51 +107,15 @@ module _ (settings : DecodeSettings) (reference : Row) where
   mode_is : (pen : Pen) (mode : Mode)
       → after_turn (steps_from true) (mode_step settings.strict settings.columns reference pen mode)
       ≡ line_then (mode_added settings.strict settings.columns reference pen mode).turn
-  mode_is pen Pass =
-      by_paint (paint settings.strict settings.columns pen.front pen.color (b2 reference (right_of pen.front) pen.color
-      - length pen.front))
-    where
-      by_paint : (r : Result Row DecodeError)
-          → after_turn (steps_from true) (if_read pen.front r (λ row. Turn.next (record pen { front = row })))
-          ≡ line_then (if_read pen.front r (λ row. Turn.next (LinePart.at_step true (record pen { front = row }))))
-      by_paint (Ok row) = refl
-      by_paint (Err fault) = refl
+  mode_is pen Pass = grind (arith, common_steps)
   mode_is pen Horizontal = refl
-  mode_is pen (Vertical k) = by_place (place_by reference pen k).turn
-    where
-      paint_to : ℕ → Result Row DecodeError
-      paint_to place = paint settings.strict settings.columns pen.front pen.color (place - length pen.front)
-
-      by_paint : (r : Result Row DecodeError) → after_turn (steps_from true)
-          (if_read pen.front r (λ row. Turn.next (record pen { front = row; color = opposite pen.color })))
-          ≡ line_then (if_read pen.front r (λ row. Turn.next (LinePart.at_step true
-          (record pen { front = row; color = opposite pen.color }))))
-      by_paint (Ok row) = refl
-      by_paint (Err fault) = refl
-
-      by_place : (turn : Turn ℕ Line) → after_turn (steps_from true) (turn_behind turn (λ place.
-          if_read pen.front (paint_to place) (λ row. Turn.next (record pen { front = row; color = opposite pen.color }))))
-          ≡ line_then (turn_behind turn (λ place. if_read pen.front (paint_to place) (λ row. Turn.next (LinePart.at_step true
-          (record pen { front = row; color = opposite pen.color })))))
-      by_place (Turn.next place) = by_paint (paint_to place)
-      by_place (Turn.done line) = refl
+  mode_is pen (Vertical k) = grind (arith, common_steps)
 
   -- The line from a part of it on is the line from what one word more leads to.
-  pub line_from_is : (part : LinePart)
-      → line_from_part settings reference part ≡ line_then (read_on settings reference part).turn
-  line_from_is (LinePart.begins here) = by_encoding settings.encoding here
-    where
-      by_encoding : (encoding : EncodingMode) (bits : Bits)
-          → line_by encoding settings.strict settings.columns reference bits ≡ line_then (begin_line encoding bits).turn
-      by_encoding Group3_1D bits = refl
-      by_encoding Group3_2D [] = refl
-      by_encoding Group3_2D (true ∷ bits) = refl
-      by_encoding Group3_2D (false ∷ bits) = refl
-      by_encoding Group4 bits = refl
-  line_from_is (LinePart.at_step false pen) =
-      drawn1 settings.strict settings.columns pen
-      ∙ ap (after_turn (steps_from false)) (step_1d_is settings.strict settings.columns pen)
-      ∙ either_way (leb settings.columns (length pen.front))
+  pub line_from_is : (part : LinePart) → line_from_part settings reference part ≡ line_then (read_on settings reference part).turn
+  line_from_is (LinePart.begins here) = grind (arith, common_steps)
+  line_from_is (LinePart.at_step false pen) = drawn1 settings.strict settings.columns pen ∙ ap (after_turn (steps_from false))
+      (step_1d_is settings.strict settings.columns pen) ∙ either_way (leb settings.columns (length pen.front))
     where
       either_way : (full : Bool) → after_turn (steps_from false)
           (cond full (Turn.done (Line.whole pen.front pen.rest)) (run_then settings.strict settings.columns pen Turn.next))
@@ -202,85 +163,30 @@ module _ (settings : DecodeSettings) (reference : Row) (more : Bits) where
   longer pen = record pen { rest = pen.rest ++ more }
 
   behind_run_on : (run : OpenRun) (pen : Pen) → behind_run run (longer pen) ≡ part_before more (behind_run run pen)
-  behind_run_on run pen = either_way run.another
-    where
-      either_way : (another : Bool)
-          → cond another (LinePart.in_run (record { is_2d = run.is_2d; another = false; total = 0 }) (longer pen))
-          (LinePart.at_step run.is_2d (longer pen))
-          ≡ part_before more (cond another (LinePart.in_run (record { is_2d = run.is_2d; another = false; total = 0 }) pen)
-          (LinePart.at_step run.is_2d pen))
-      either_way true = refl
-      either_way false = refl
+  behind_run_on run pen = grind (arith, common_steps)
 
   run_painted_on : (run : OpenRun) (pen : Pen) (total : ℕ)
       → Continues more (part_before more) (painted settings.strict settings.columns pen total >>= (λ front.
       go_on (behind_run run (record pen { front = front; color = opposite pen.color }))))
       (painted settings.strict settings.columns (longer pen) total >>= (λ front.
       go_on (behind_run run (record (longer pen) { front = front; color = opposite pen.color }))))
-  run_painted_on run pen total =
-      then_continues more (λ front. front) (part_before more)
-      (λ front. go_on (behind_run run (record pen { front = front; color = opposite pen.color })))
-      (λ front. go_on (behind_run run (record (longer pen) { front = front; color = opposite pen.color })))
-      (λ front known. (
-        ap {B = Turn LinePart Line} Turn.next (behind_run_on run (record pen { front = front; color = opposite pen.color })),
-        refl,
-      ))
-      (painted settings.strict settings.columns pen total) (painted settings.strict settings.columns (longer pen) total)
-      (same_continues more pen.front (paint settings.strict settings.columns pen.front pen.color total))
+  run_painted_on run pen total = grind (arith, common_steps, then_continues, behind_run_on, same_continues)
 
   run_summed_on : (run : OpenRun) (pen : Pen) (n total : ℕ)
       → Continues more (part_before more) (run_summed settings.strict settings.columns run pen n total)
       (run_summed settings.strict settings.columns run (longer pen) n total)
-  run_summed_on run pen n total = either_way (ltb n 64)
-    where
-      goes : Pen → Drawing LinePart
-      goes p = painted settings.strict settings.columns p total >>= (λ front.
-          go_on (behind_run run (record p { front = front; color = opposite p.color })))
+  run_summed_on run pen n total = grind (arith, common_steps, run_painted_on)
 
-      either_way : (last : Bool)
-          → Continues more (part_before more)
-          (cond last (goes pen) (go_on (LinePart.in_run (record run { total = total }) pen)))
-          (cond last (goes (longer pen)) (go_on (LinePart.in_run (record run { total = total }) (longer pen))))
-      either_way true = run_painted_on run pen total
-      either_way false = λ known. (refl, refl)
-
-  word_added_on : (run : OpenRun) (pen : Pen) (n : ℕ)
-      → Continues more (part_before more) (word_added settings.strict settings.columns run pen n)
-      (word_added settings.strict settings.columns run (longer pen) n)
-  word_added_on run pen n =
-      then_continues more (λ total. total) (part_before more) (run_summed settings.strict settings.columns run pen n)
-      (run_summed settings.strict settings.columns run (longer pen) n) (run_summed_on run pen n)
-      (finds pen [] (sum_with run.total n)) (finds (longer pen) [] (sum_with run.total n))
-      (same_continues more pen.front (sum_with run.total n))
+  word_added_on : (run : OpenRun) (pen : Pen) (n : ℕ) → Continues more (part_before more)
+      (word_added settings.strict settings.columns run pen n) (word_added settings.strict settings.columns run (longer pen) n)
+  word_added_on run pen n = grind (arith, common_steps, then_continues, run_summed_on, same_continues)
 
   mode_added_on : (pen : Pen) (mode : Mode)
       → Continues more (part_before more) (mode_added settings.strict settings.columns reference pen mode)
       (mode_added settings.strict settings.columns reference (longer pen) mode)
-  mode_added_on pen Pass =
-      let place : ℕ = b2 reference (right_of pen.front) pen.color in
-      then_continues more (λ front. front) (part_before more)
-      (λ front. go_on (LinePart.at_step true (record pen { front = front })))
-      (λ front. go_on (LinePart.at_step true (record (longer pen) { front = front }))) (λ front known. (refl, refl))
-      (painted_to settings.strict settings.columns pen place) (painted_to settings.strict settings.columns (longer pen) place)
-      (same_continues more pen.front (paint settings.strict settings.columns pen.front pen.color (place - length pen.front)))
+  mode_added_on pen Pass = grind (arith, common_steps, then_continues, same_continues)
   mode_added_on pen Horizontal = λ known. (refl, refl)
-  mode_added_on pen (Vertical k) =
-      then_continues more (λ place. place) (part_before more) (behind pen) (behind (longer pen)) second
-      (place_by reference pen k) (place_by reference (longer pen) k) (same_continues more pen.front _)
-    where
-      behind : Pen → ℕ → Drawing LinePart
-      behind p place = painted_to settings.strict settings.columns p place
-          >>= (λ front. go_on (LinePart.at_step true (record p { front = front; color = opposite p.color })))
-
-      second : (place : ℕ) → Continues more (part_before more) (behind pen place) (behind (longer pen) place)
-      second place =
-          then_continues more (λ front. front) (part_before more)
-          (λ front. go_on (LinePart.at_step true (record pen { front = front; color = opposite pen.color })))
-          (λ front. go_on (LinePart.at_step true (record (longer pen) { front = front; color = opposite pen.color })))
-          (λ front known. (refl, refl)) (painted_to settings.strict settings.columns pen place)
-          (painted_to settings.strict settings.columns (longer pen) place)
-          (same_continues more pen.front (paint settings.strict settings.columns pen.front pen.color
-          (place - length pen.front)))
+  mode_added_on pen (Vertical k) = grind (arith, common_steps, then_continues, same_continues)
 
   begin_step_on : (is_2d : Bool) (pen : Pen)
       → Continues more (part_before more) (begin_step is_2d settings.strict settings.columns reference pen)
@@ -296,21 +202,9 @@ module _ (settings : DecodeSettings) (reference : Row) (more : Bits) where
 
   -- One word more is the same where more bits follow, unless it isn't whole.
   pub read_on_continues : (part : LinePart)
-      → Continues more (part_before more) (read_on settings reference part)
-      (read_on settings reference (part_before more part))
-  read_on_continues (LinePart.begins here) = by_encoding settings.encoding here
-    where
-      by_encoding : (encoding : EncodingMode) (bits : Bits)
-          → Continues more (part_before more) (begin_line encoding bits) (begin_line encoding (bits ++ more))
-      by_encoding Group3_1D bits known = (refl, refl)
-      by_encoding Group3_2D [] known = absurd (false≢true (sym known))
-      by_encoding Group3_2D (true ∷ bits) known = (refl, refl)
-      by_encoding Group3_2D (false ∷ bits) known = (refl, refl)
-      by_encoding Group4 bits known = (refl, refl)
-  read_on_continues (LinePart.at_step is_2d pen) =
-      then_continues more longer (part_before more) (begin_step is_2d settings.strict settings.columns reference)
-      (begin_step is_2d settings.strict settings.columns reference) (begin_step_on is_2d)
-      (unless_full settings.columns pen) (unless_full settings.columns (longer pen)) (full_on more settings.columns pen)
+      → Continues more (part_before more) (read_on settings reference part) (read_on settings reference (part_before more part))
+  read_on_continues (LinePart.begins here) = grind (arith, common_steps, false≢true)
+  read_on_continues (LinePart.at_step is_2d pen) = grind (arith, common_steps, then_continues, begin_step_on, full_on)
   read_on_continues (LinePart.in_run run pen) =
       then_continues more (rest_on more) (part_before more) (added pen) (added (longer pen))
       (λ found. word_added_on run (record pen { rest = found.1 }) found.0) (word_here pen) (word_here (longer pen))
@@ -323,19 +217,13 @@ module _ (settings : DecodeSettings) (reference : Row) (more : Bits) where
 pub word_leads : (settings : DecodeSettings) (reference : Row) (part next : LinePart)
     → (read_on settings reference part).turn ≡ Turn.next next → (more : Bits)
     → line_from_part settings reference (part_before more part) ≡ line_from_part settings reference (part_before more next)
-word_leads settings reference part next e more =
-    let on = read_on_continues settings reference more part (ap (turn_waits is_short) e) in
-    line_from_is settings reference (part_before more part)
-    ∙ ap (line_then settings reference) (on.0 ∙ ap (turn_on (part_before more) (line_before more)) e)
+word_leads settings reference part next e more = grind (arith, common_steps, read_on_continues, line_from_is)
 
 -- Where the line ends with one word more, and isn't short, it does so whatever follows.
 pub word_ends : (settings : DecodeSettings) (reference : Row) (part : LinePart) (line : Line)
     → (read_on settings reference part).turn ≡ Turn.done line → is_short line ≡ false → (more : Bits)
     → line_from_part settings reference (part_before more part) ≡ line_before more line
-word_ends settings reference part line e known more =
-    let on = read_on_continues settings reference more part (ap (turn_waits is_short) e ∙ known) in
-    line_from_is settings reference (part_before more part)
-    ∙ ap (line_then settings reference) (on.0 ∙ ap (turn_on (part_before more) (line_before more)) e)
+word_ends settings reference part line e known more = grind (arith, common_steps, read_on_continues, line_from_is)
 
 -- ---- Short lines: what one word more reads
 
@@ -388,9 +276,7 @@ word_leads_on {V} part list here front full lacks = by_read_code (read_code list
   where
     by_read_code : (r : Result (V × Bits) DecodeError) → read_code list here ≡ r
         → GoesOrLacks part (WordIsRead here) (unless_fault front r)
-    by_read_code (Ok (v, rest)) e =
-        let (w, has, is) = read_code_found list here v rest e in
-        ((w, is), read_code_shorter list here v rest full e)
+    by_read_code (Ok (v, rest)) e = grind (arith, common_steps, read_code_found, read_code_shorter)
     by_read_code (Err fault) e = λ short. lacks (fault_lacks list here front fault e short)
 
 module _ (settings : DecodeSettings) (reference : Row) (part : LinePart) (pen : Pen) (is : left_of part ≡ pen.rest) where
@@ -399,90 +285,31 @@ module _ (settings : DecodeSettings) (reference : Row) (part : LinePart) (pen : 
       → LeadsOn part (Turn.next next)
   behind_word_leads next taken e small = ((taken, is ∙ e), small)
 
-  mode_leads_on : (rest : Bits) (mode : Mode) → WordIsRead {V = Mode} pen.rest (mode, rest)
-      → 2 * length pen.rest ≤ part_size part
+  mode_leads_on : (rest : Bits) (mode : Mode) → WordIsRead {V = Mode} pen.rest (mode, rest) → 2 * length pen.rest ≤ part_size part
       → LeadsOn part (mode_added settings.strict settings.columns reference (record pen { rest = rest }) mode).turn
-  mode_leads_on rest Pass word size_is =
-      let place : ℕ = b2 reference (right_of pen.front) pen.color in
-      behind_leads part Anything
-      (unless_fault pen.front (paint settings.strict settings.columns pen.front pen.color (place - length pen.front)))
-      (λ row. Turn.next (LinePart.at_step true (record pen { front = row; rest = rest })))
-      (paint_leads part _ (paint_known settings.strict settings.columns pen.front pen.color _))
-      (λ row any. behind_word_leads (LinePart.at_step true (record pen { front = row; rest = rest })) word.0.0 word.0.1
-      (omega (arith, word.1, size_is)))
-  mode_leads_on rest Horizontal word size_is =
-      behind_word_leads (LinePart.in_run (record { is_2d = true; another = true; total = 0 }) (record pen { rest = rest }))
-      word.0.0 word.0.1 (omega (arith, word.1, size_is))
+  mode_leads_on rest Pass word size_is = grind (arith, common_steps, behind_leads, paint_leads, paint_known, behind_word_leads)
+  mode_leads_on rest Horizontal word size_is = grind (arith, common_steps, behind_word_leads)
   mode_leads_on rest (Vertical k) word size_is =
-      behind_leads part Anything (place_by reference pen k).turn painted_there
-      (paint_leads part _ (place_known pen.front _))
-      (λ place any. behind_leads part Anything
-      (unless_fault pen.front (paint settings.strict settings.columns pen.front pen.color (place - length pen.front)))
-      (λ row. Turn.next (LinePart.at_step true (record { front = row; color = opposite pen.color; rest = rest })))
-      (paint_leads part _ (paint_known settings.strict settings.columns pen.front pen.color _))
-      (λ row too. behind_word_leads (LinePart.at_step true (record { front = row; color = opposite pen.color; rest = rest }))
-      word.0.0 word.0.1 (omega (arith, word.1, size_is))))
-    where
-      painted_there : ℕ → Turn LinePart Line
-      painted_there place = if_read pen.front
-          (paint settings.strict settings.columns pen.front pen.color (place - length pen.front))
-          (λ row. Turn.next (LinePart.at_step true (record { front = row; color = opposite pen.color; rest = rest })))
+      grind (arith, common_steps, behind_leads, paint_leads, place_known, paint_known, behind_word_leads)
 
   run_leads_on : (run : OpenRun) (rest : Bits) (n : ℕ) → WordIsRead {V = ℕ} pen.rest (n, rest)
       → 2 * length pen.rest ≤ part_size part
       → LeadsOn part (word_added settings.strict settings.columns run (record pen { rest = rest }) n).turn
   run_leads_on run rest n word size_is =
-      behind_leads part Anything (unless_fault pen.front (sum_with run.total n))
-      (λ total. (run_summed settings.strict settings.columns run (record pen { rest = rest }) n total).turn)
-      (by_sum (ltb 4294967295 (run.total + n))) (λ total any. either_way (ltb n 64) total)
-    where
-      by_sum : (b : Bool)
-          → GoesOrLacks part Anything (unless_fault {A = ℕ} pen.front (cond b (Err Overflow) (Ok (run.total + n))))
-      by_sum true = λ short. absurd (false≢true short)
-      by_sum false = tt
-
-      behind_leads_on : (p : Pen) → p.rest ≡ rest → (another : Bool) → LeadsOn part (Turn.next (cond another
-          (LinePart.in_run (record { is_2d = run.is_2d; another = false; total = 0 }) p) (LinePart.at_step run.is_2d p)))
-      behind_leads_on p e true =
-          behind_word_leads (LinePart.in_run (record { is_2d = run.is_2d; another = false; total = 0 }) p) word.0.0
-          (word.0.1 ∙ ap (λ (b : Bits). word.0.0 ++ b) (sym e)) (omega (arith, word.1, size_is, ap length e))
-      behind_leads_on p e false =
-          behind_word_leads (LinePart.at_step run.is_2d p) word.0.0
-          (word.0.1 ∙ ap (λ (b : Bits). word.0.0 ++ b) (sym e)) (omega (arith, word.1, size_is, ap length e))
-
-      either_way : (last : Bool) (total : ℕ) → LeadsOn part (cond last
-          (painted settings.strict settings.columns (record pen { rest = rest }) total >>= (λ row.
-          go_on (behind_run run (record { front = row; color = opposite pen.color; rest = rest }))))
-          (go_on (LinePart.in_run (record run { total = total }) (record pen { rest = rest })))).turn
-      either_way true total =
-          behind_leads part Anything
-          (unless_fault pen.front (paint settings.strict settings.columns pen.front pen.color total))
-          (λ row. Turn.next (behind_run run (record { front = row; color = opposite pen.color; rest = rest })))
-          (paint_leads part _ (paint_known settings.strict settings.columns pen.front pen.color total))
-          (λ row any. behind_leads_on (record { front = row; color = opposite pen.color; rest = rest }) refl run.another)
-      either_way false total =
-          behind_word_leads (LinePart.in_run (record run { total = total }) (record pen { rest = rest })) word.0.0 word.0.1
-          (omega (arith, word.1, size_is))
+      grind (arith, common_steps, behind_leads, false≢true, behind_word_leads, paint_leads, paint_known)
 
 module _ (settings : DecodeSettings) (reference : Row) where
   -- One word more leads to a part with fewer bits left, or ends the line; which is short only if that word isn't whole.
   pub part_leads_on : (part : LinePart) → LeadsOn part (read_on settings reference part).turn
   part_leads_on (LinePart.begins here) = by_encoding settings.encoding here
     where
-      by_encoding : (encoding : EncodingMode) (bits : Bits)
-          → LeadsOn (LinePart.begins bits) (begin_line encoding bits).turn
+      by_encoding : (encoding : EncodingMode) (bits : Bits) → LeadsOn (LinePart.begins bits) (begin_line encoding bits).turn
       by_encoding Group3_1D bits = (([], refl), omega arith)
       by_encoding Group3_2D [] = λ short. refl
       by_encoding Group3_2D (true ∷ bits) = ((true ∷ [], refl), omega arith)
       by_encoding Group3_2D (false ∷ bits) = ((false ∷ [], refl), omega arith)
       by_encoding Group4 bits = (([], refl), omega arith)
-  part_leads_on (LinePart.at_step false pen) = either_way (leb settings.columns (length pen.front))
-    where
-      either_way : (full : Bool) → LeadsOn (LinePart.at_step false pen)
-          (turn_behind (cond full (Turn.done (Line.whole pen.front pen.rest)) (Turn.next pen))
-          (λ p. Turn.next (LinePart.in_run (record { is_2d = false; another = false; total = 0 }) p)))
-      either_way true = λ short. absurd (false≢true short)
-      either_way false = (([], refl), omega arith)
+  part_leads_on (LinePart.at_step false pen) = grind (arith, common_steps, false≢true)
   part_leads_on (LinePart.at_step true pen) = either_way (leb settings.columns (length pen.front))
     where
       added : Pen → Mode × Bits → Turn LinePart Line
@@ -494,10 +321,8 @@ module _ (settings : DecodeSettings) (reference : Row) where
       either_way true = λ short. absurd (false≢true short)
       either_way false =
           behind_leads (LinePart.at_step true pen) (WordIsRead pen.rest) (unless_fault pen.front (read_code mode_codes pen.rest))
-          (added pen)
-          (word_leads_on (LinePart.at_step true pen) mode_codes pen.rest pen.front modes_not_empty (λ e. e))
-          (λ mode word. mode_leads_on settings reference (LinePart.at_step true pen) pen refl mode.1 mode.0 word
-          (omega arith))
+          (added pen) (word_leads_on (LinePart.at_step true pen) mode_codes pen.rest pen.front modes_not_empty (λ e. e))
+          (λ mode word. mode_leads_on settings reference (LinePart.at_step true pen) pen refl mode.1 mode.0 word (omega arith))
   part_leads_on (LinePart.in_run run pen) =
       behind_leads (LinePart.in_run run pen) (WordIsRead pen.rest)
       (unless_fault pen.front (read_code (codes_of pen.color) pen.rest))
@@ -517,11 +342,9 @@ words_few color = grind (arith, common_steps)
 modes_few : IsShorter 13 mode_codes ≡ true
 modes_few = refl
 
-word_few : {V : Type 0} (n : ℕ) (list : List (Code V)) (v : V) (w : Bits) → IsShorter n list ≡ true → Has list v w
-    → length w ≤ n
+word_few : {V : Type 0} (n : ℕ) (list : List (Code V)) (v : V) (w : Bits) → IsShorter n list ≡ true → Has list v w → length w ≤ n
 word_few n [] v w e i = elim i [ ]
-word_few n (c ∷ list) v w e (inl i) =
-    rw (← i.1) (leb-true (length c.word) n (and_parts (leb (length c.word) n) (IsShorter n list) e).0)
+word_few n (c ∷ list) v w e (inl i) = grind (arith, common_steps, leb-true, and_parts)
 word_few n (c ∷ list) v w e (inr i) = word_few n list v w (and_parts (leb (length c.word) n) (IsShorter n list) e).1 i
 
 -- the bits of a word that isn't whole are fewer than its own
@@ -534,16 +357,13 @@ cut_few {V} n list here free few e =
   where
     by_rest : (v : V) (w : Bits) → Has list v w → NoneStands list here → (rest : Bits) → w ≡ here ++ rest → length here < n
     by_rest v w has none [] is = absurd (none v [] (w, has, sym (ap (λ (b : Bits). b ++ []) is ∙ append-nil _ ∙ append-nil here)))
-    by_rest v w has none (b ∷ rest) is =
-        omega (arith, word_few n list v w few has, ap length is, length-append here (b ∷ rest))
+    by_rest v w has none (b ∷ rest) is = omega (arith, word_few n list v w few has, ap length is, length-append here (b ∷ rest))
 
 pub lacks_few : (part : LinePart) → LacksWord part → length (left_of part) < 13
 lacks_few (LinePart.begins here) e = omega (arith, ap length e)
 lacks_few (LinePart.at_step true pen) e = cut_few 13 mode_codes pen.rest modes_free modes_few e
-lacks_few (LinePart.at_step false pen) e =
-    cut_few 13 (codes_of pen.color) pen.rest (codes_free pen.color) (words_few pen.color) e
-lacks_few (LinePart.in_run run pen) e =
-    cut_few 13 (codes_of pen.color) pen.rest (codes_free pen.color) (words_few pen.color) e
+lacks_few (LinePart.at_step false pen) e = cut_few 13 (codes_of pen.color) pen.rest (codes_free pen.color) (words_few pen.color) e
+lacks_few (LinePart.in_run run pen) e = cut_few 13 (codes_of pen.color) pen.rest (codes_free pen.color) (words_few pen.color) e
 
 module _ (settings : DecodeSettings) (reference : Row) where
   -- the line from a part of it on goes on from another
@@ -555,9 +375,8 @@ module _ (settings : DecodeSettings) (reference : Row) where
   leads_to_last : (n : ℕ) (part : LinePart) → part_size part < n → is_short (line_from_part settings reference part) ≡ true
       → (last : LinePart) × GoesOnAt part last
   leads_to_last zero part lt short = absurd (omega arith)
-  leads_to_last (suc n) part lt short =
-      by_turn (λ next small known. leads_to_last n next small known) (read_on settings reference part).turn refl
-      (part_leads_on settings reference part)
+  leads_to_last (suc n) part lt short = by_turn (λ next small known. leads_to_last n next small known)
+      (read_on settings reference part).turn refl (part_leads_on settings reference part)
     where
       by_turn : ((next : LinePart) → part_size next < n → is_short (line_from_part settings reference next) ≡ true
           → (last : LinePart) × GoesOnAt next last) → (turn : Turn LinePart Line)
@@ -570,9 +389,7 @@ module _ (settings : DecodeSettings) (reference : Row) where
             leads.0.1 ∙ ap (λ (b : Bits). leads.0.0 ++ b) goes.1.1 ∙ sym (append_assoc leads.0.0 goes.1.0 (left_of last)),
           ) in
           (last, (λ more. word_leads settings reference part next e more ∙ goes.0 more, read, goes.2))
-      by_turn later (Turn.done line) e leads =
-          let there = line_from_is settings reference part ∙ ap (line_then settings reference) e in
-          (part, (λ more. refl, ([], refl), leads (sym (ap is_short there) ∙ short)))
+      by_turn later (Turn.done line) e leads = grind (arith, common_steps, line_from_is)
 
 -- Each short line goes on from a part of it.
 pub short_line_goes_on : (settings : DecodeSettings) (reference : Row) (here : Bits)
@@ -584,10 +401,4 @@ short_line_goes_on settings reference here short =
 
 -- the law
 pub lines_go_on : LinesGoOn
-lines_go_on = record {
-  start_1d = λ settings reference here. refl;
-  start_2d = λ settings reference here. refl;
-  word = word_leads;
-  ends = word_ends;
-  short = short_line_goes_on;
-}
+lines_go_on = grind (arith, common_steps, word_leads, word_ends, short_line_goes_on)

@@ -1,17 +1,15 @@
 -- Lines before zeros: none is short.
-use Rattle.fax_reading.proofs.Names.{◌≡◌, ◌↔◌, ℕ, suc, ◌+◌, ◌-◌, Bool, true, false, cond, ◌&&◌, ltb, leb, List, [], ◌∷◌, ◌++◌}
-use Rattle.fax_reading.proofs.Names.{length, replicate, None, Result, Ok, Err, refl, sym, ap, subst, ◌∙◌, arith, inl, inr, ℤ}
-use Rattle.fax_reading.proofs.Names.{pos, negsuc, Color, Mode, Pass, Horizontal, Vertical, DecodeError, DecodeSettings}
-use Rattle.fax_reading.proofs.Names.{EncodingMode, Group4, Group3_1D, Group3_2D, UnexpectedEof, InvalidCode, Overflow}
-use Rattle.fax_reading.proofs.Names.{OutOfMemory, Refused, Bits, Code, mode_codes, Has, is_prefix_free, read_code, IsWord}
-use Rattle.fax_reading.proofs.Names.{Turn, Row, opposite, right_of, b2, paint, codes_of, run_turn, run_from, Line, Pen}
-use Rattle.fax_reading.proofs.Names.{Drawing, start, draw_1d, draw_2d, draw_mode, draw_run, go_on, mode_here, run_here}
-use Rattle.fax_reading.proofs.Names.{painted, painted_to, place_by, place_from, unless_fault, unless_full, turn_behind, ◌>>=◌}
-use Rattle.fax_reading.proofs.Names.{line_by, line_here, line_1d, line_2d, LineIsSettled, LinesSettle, StaysAsRead, is_short}
-use Rattle.fax_reading.proofs.Names.{append_assoc, line_before, misses_end}
+use Rattle.fax_reading.proofs.Names.{common_steps, ◌≡◌, ◌↔◌, ℕ, suc, ◌+◌, Bool, true, false, cond, ltb, List, [], ◌∷◌, ◌++◌}
+use Rattle.fax_reading.proofs.Names.{length, replicate, None, Result, Ok, Err, refl, sym, ap, subst, ◌∙◌, arith, inl, inr, ℤ, pos}
+use Rattle.fax_reading.proofs.Names.{negsuc, Color, Mode, Pass, Horizontal, Vertical, DecodeError, DecodeSettings, EncodingMode}
+use Rattle.fax_reading.proofs.Names.{Group4, Group3_1D, Group3_2D, UnexpectedEof, InvalidCode, Overflow, OutOfMemory, Refused}
+use Rattle.fax_reading.proofs.Names.{Bits, Code, mode_codes, Has, is_prefix_free, read_code, IsWord, Turn, Row, opposite, paint}
+use Rattle.fax_reading.proofs.Names.{codes_of, run_turn, run_from, Line, Pen, Drawing, start, draw_1d, draw_2d, draw_mode}
+use Rattle.fax_reading.proofs.Names.{draw_run, go_on, mode_here, run_here, painted, place_from, unless_fault, unless_full}
+use Rattle.fax_reading.proofs.Names.{turn_behind, ◌>>=◌, line_by, line_here, line_1d, line_2d, LineIsSettled, LinesSettle}
+use Rattle.fax_reading.proofs.Names.{StaysAsRead, is_short, append_assoc, line_before, misses_end}
 use Rattle.fax_bits.specs.CodeReading.{IsCut}
-use Rattle.fax_bits.proofs.BitReading.ZerosInWords.{scan, scan-append, scan_holds, quiet_is, word_quiet, codes_free}
-use Rattle.fax_bits.proofs.BitReading.ZerosInWords.{modes_free}
+use Rattle.fax_bits.proofs.BitReading.ZerosInWords.{scan, scan-append, scan_holds, quiet_is, word_quiet, codes_free, modes_free}
 use Rattle.fax_bits.proofs.CodeWords.CodeReadings.{reads_codes}
 use Rattle.fax_bits.proofs.CodeWords.ReadCodes.{read_code_found}
 use Rattle.fax_bits.proofs.CodeWords.ReadRuns.{run_shrinks, size}
@@ -107,18 +105,10 @@ Anything x = Unit {0}
 
 pub paint_known : (strict : Bool) (columns : ℕ) (front : Row) (color : Color) (n : ℕ)
     → GoesOrEnds Anything (unless_fault front (paint strict columns front color n))
-paint_known strict columns front color n = either_way (strict && ltb (columns - length front) n) _
-  where
-    either_way : (b : Bool) (row : Row) → GoesOrEnds Anything (unless_fault front (cond b (Err InvalidCode) (Ok row)))
-    either_way true row = refl
-    either_way false row = tt
+paint_known strict columns front color n = grind (arith, common_steps)
 
 pub place_known : (front : Row) (z : ℤ) → GoesOrEnds Anything (unless_fault front (place_from (length front) z))
-place_known front (pos p) = either_way (leb (length front) p && leb p 4294967295)
-  where
-    either_way : (b : Bool) → GoesOrEnds Anything (unless_fault front (cond b (Ok p) (Err Overflow)))
-    either_way true = tt
-    either_way false = refl
+place_known front (pos p) = grind (arith, common_steps)
 place_known front (negsuc p) = refl
 
 -- a pen before such zeros
@@ -127,8 +117,7 @@ IsBeforeZeros pen = HasZeros pen.rest
 
 module _ (strict : Bool) (columns : ℕ) where
   drew_run_known : (pen : Pen) → IsBeforeZeros pen → GoesOrEnds IsBeforeZeros (draw_run strict columns pen).turn
-  drew_run_known pen zeros =
-      behind_known (λ run. HasZeros run.1) IsBeforeZeros (run_here pen).turn (λ run. (drew run).turn)
+  drew_run_known pen zeros = behind_known (λ run. HasZeros run.1) IsBeforeZeros (run_here pen).turn (λ run. (drew run).turn)
       (found_known (λ run. HasZeros run.1) pen.front (run_from pen.color (0, pen.rest)) (run_known pen.color pen.rest zeros))
       (λ run left. behind_known Anything IsBeforeZeros (painted strict columns pen run.0).turn
       (λ front. Turn.next (record { front = front; color = opposite pen.color; rest = run.1 }))
@@ -140,34 +129,16 @@ module _ (strict : Bool) (columns : ℕ) where
 
   drew_mode_known : (reference : Row) (pen : Pen) (mode : Mode) → IsBeforeZeros pen
       → GoesOrEnds IsBeforeZeros (draw_mode strict columns reference pen mode).turn
-  drew_mode_known reference pen Pass zeros =
-      let place : ℕ = b2 reference (right_of pen.front) pen.color in
-      behind_known Anything IsBeforeZeros (painted_to strict columns pen place).turn
-      (λ front. Turn.next (record pen { front = front }))
-      (paint_known strict columns pen.front pen.color (place - length pen.front)) (λ front any. zeros)
-  drew_mode_known reference pen Horizontal zeros =
-      behind_known IsBeforeZeros IsBeforeZeros (draw_run strict columns pen).turn (λ p. (draw_run strict columns p).turn)
-      (drew_run_known pen zeros) drew_run_known
-  drew_mode_known reference pen (Vertical k) zeros =
-      behind_known Anything IsBeforeZeros (place_by reference pen k).turn (λ place. (drew place).turn) (place_known pen.front _)
-      (λ place any. behind_known Anything IsBeforeZeros (painted_to strict columns pen place).turn
-      (λ front. Turn.next (record pen { front = front; color = opposite pen.color }))
-      (paint_known strict columns pen.front pen.color (place - length pen.front)) (λ front too. zeros))
-    where
-      drew : ℕ → Drawing Pen
-      drew place = painted_to strict columns pen place
-          >>= (λ front. go_on (record pen { front = front; color = opposite pen.color }))
+  drew_mode_known reference pen Pass zeros = grind (arith, common_steps, behind_known, paint_known)
+  drew_mode_known reference pen Horizontal zeros = behind_known IsBeforeZeros IsBeforeZeros
+      (draw_run strict columns pen).turn (λ p. (draw_run strict columns p).turn) (drew_run_known pen zeros) drew_run_known
+  drew_mode_known reference pen (Vertical k) zeros = grind (arith, common_steps, behind_known, place_known, paint_known)
 
   full_known : (pen : Pen) → IsBeforeZeros pen → GoesOrEnds IsBeforeZeros (unless_full columns pen).turn
-  full_known pen zeros = either_way (leb columns (length pen.front))
-    where
-      either_way : (b : Bool) → GoesOrEnds IsBeforeZeros (cond b (Turn.done (Line.whole pen.front pen.rest)) (Turn.next pen))
-      either_way true = refl
-      either_way false = zeros
+  full_known pen zeros = grind (arith, common_steps)
 
   drew_1d_known : (pen : Pen) → IsBeforeZeros pen → GoesOrEnds IsBeforeZeros (draw_1d strict columns pen).turn
-  drew_1d_known pen zeros = behind_known IsBeforeZeros IsBeforeZeros (unless_full columns pen).turn
-      (λ p. (draw_run strict columns p).turn) (full_known pen zeros) drew_run_known
+  drew_1d_known pen zeros = grind (arith, common_steps, behind_known, full_known, drew_run_known)
 
   drew_2d_known : (reference : Row) (pen : Pen) → IsBeforeZeros pen
       → GoesOrEnds IsBeforeZeros (draw_2d strict columns reference pen).turn
@@ -213,12 +184,9 @@ zeros_end_line settings reference here = by_encoding settings.encoding here
         → is_short (line_by encoding settings.strict settings.columns reference (bits ++ replicate 16 false)) ≡ false
     by_encoding Group3_1D bits = line_1d_known settings.strict settings.columns (bits ++ replicate 16 false) (zeros_there bits)
     by_encoding Group3_2D [] = line_2d_known settings.strict settings.columns reference (replicate 15 false) refl
-    by_encoding Group3_2D (true ∷ bits) =
-        line_1d_known settings.strict settings.columns (bits ++ replicate 16 false) (zeros_there bits)
-    by_encoding Group3_2D (false ∷ bits) =
-        line_2d_known settings.strict settings.columns reference (bits ++ replicate 16 false) (zeros_there bits)
-    by_encoding Group4 bits =
-        line_2d_known settings.strict settings.columns reference (bits ++ replicate 16 false) (zeros_there bits)
+    by_encoding Group3_2D (true ∷ bits) = grind (arith, common_steps, line_1d_known, zeros_there)
+    by_encoding Group3_2D (false ∷ bits) = grind (arith, common_steps, line_2d_known, zeros_there)
+    by_encoding Group4 bits = grind (arith, common_steps, line_2d_known, zeros_there)
 
 -- No line is short with an EOL among its bits.
 pub eol_ends_line : (settings : DecodeSettings) (reference : Row) (fill behind : Bits)
@@ -226,23 +194,15 @@ pub eol_ends_line : (settings : DecodeSettings) (reference : Row) (fill behind :
 eol_ends_line settings reference fill behind = by_encoding settings.encoding fill
   where
     eol_there : (fill : Bits) → HasZeros (fill ++ replicate 11 false ++ true ∷ behind)
-    eol_there fill =
-        ap (scan 3) (append_assoc fill (replicate 11 false) (true ∷ behind)) ∙ scan_holds 3 fill (true ∷ behind) (omega arith)
+    eol_there fill = grind (arith, common_steps, append_assoc, scan_holds)
 
     by_encoding : (encoding : EncodingMode) (fill : Bits) → is_short (line_by encoding settings.strict settings.columns
         reference (fill ++ replicate 11 false ++ true ∷ behind)) ≡ false
-    by_encoding Group3_1D fill =
-        line_1d_known settings.strict settings.columns (fill ++ replicate 11 false ++ true ∷ behind) (eol_there fill)
-    by_encoding Group3_2D [] =
-        line_2d_known settings.strict settings.columns reference (replicate 10 false ++ true ∷ behind) refl
-    by_encoding Group3_2D (true ∷ fill) =
-        line_1d_known settings.strict settings.columns (fill ++ replicate 11 false ++ true ∷ behind) (eol_there fill)
-    by_encoding Group3_2D (false ∷ fill) =
-        line_2d_known settings.strict settings.columns reference (fill ++ replicate 11 false ++ true ∷ behind)
-        (eol_there fill)
-    by_encoding Group4 fill =
-        line_2d_known settings.strict settings.columns reference (fill ++ replicate 11 false ++ true ∷ behind)
-        (eol_there fill)
+    by_encoding Group3_1D fill = grind (arith, common_steps, line_1d_known, eol_there)
+    by_encoding Group3_2D [] = grind (arith, common_steps, line_2d_known)
+    by_encoding Group3_2D (true ∷ fill) = grind (arith, common_steps, line_1d_known, eol_there)
+    by_encoding Group3_2D (false ∷ fill) = grind (arith, common_steps, line_2d_known, eol_there)
+    by_encoding Group4 fill = grind (arith, common_steps, line_2d_known, eol_there)
 
 same_shortness : (more : Bits) (line : Line) → is_short (line_before more line) ≡ is_short line
 same_shortness more (Line.whole row rest) = refl
@@ -251,25 +211,18 @@ same_shortness more (Line.broken front fault) = refl
 -- A line that is settled isn't short.
 pub settled_not_short : (settings : DecodeSettings) (reference : Row) (here : Bits) → LineIsSettled settings reference here
     → is_short (line_here settings reference here) ≡ false
-settled_not_short settings reference here settled =
-    sym (same_shortness (replicate 16 false) (line_here settings reference here))
+settled_not_short settings reference here settled = sym (same_shortness (replicate 16 false) (line_here settings reference here))
     ∙ sym (ap is_short (settled (replicate 16 false))) ∙ zeros_end_line settings reference here
 
 -- Exactly the lines that aren't short are settled.
 pub line_settled_exactly : (settings : DecodeSettings) (reference : Row) (here : Bits)
     → (is_short (line_here settings reference here) ≡ false) ↔ LineIsSettled settings reference here
-line_settled_exactly settings reference here =
-    (line_settled settings reference here, settled_not_short settings reference here)
+line_settled_exactly settings reference here = grind (arith, common_steps, line_settled, settled_not_short)
 
 -- A line that isn't short stays as it was read.
 pub line_stays : (settings : DecodeSettings) (reference : Row) (here : Bits)
     → is_short (line_here settings reference here) ≡ false → StaysAsRead settings reference here
-line_stays settings reference here known = record {
-  line = line_settled settings reference here known;
-  strict = strict_settled settings reference here known;
-  found = λ more. found_settled settings reference here more known;
-  row = λ has_eols more bytes. row_continues settings reference has_eols here more bytes known;
-}
+line_stays settings reference here known = grind (arith, common_steps, line_settled, strict_settled, found_settled, row_continues)
 
 -- the law
 pub lines_settle : LinesSettle

@@ -1,11 +1,10 @@
 -- The strict reading of a line that isn't short.
-use Rattle.fax_reading.proofs.Names.{◌≡◌, ℕ, zero, suc, ◌-◌, Bool, true, false, cond, ltb, [], ◌∷◌, length, Ok, Err, refl, ap}
-use Rattle.fax_reading.proofs.Names.{◌∙◌, ◌⊎◌, inl, inr, Color, Mode, Pass, Horizontal, Vertical, DecodeSettings, EncodingMode}
-use Rattle.fax_reading.proofs.Names.{Group4, Group3_1D, Group3_2D, UnexpectedEof, InvalidCode, Bits, Turn, repeated, Row}
-use Rattle.fax_reading.proofs.Names.{opposite, right_of, b2, paint, Line, Pen, Drawing, start, draw_1d, draw_2d, draw_mode}
-use Rattle.fax_reading.proofs.Names.{draw_run, go_on, mode_here, run_here, painted, painted_to, place_by, unless_fault}
-use Rattle.fax_reading.proofs.Names.{unless_full, turn_behind, ◌>>=◌, line_by, line_here, line_1d, line_2d, LineIsSettled}
-use Rattle.fax_reading.proofs.Names.{is_short}
+use Rattle.fax_reading.proofs.Names.{arith, common_steps, ◌≡◌, ℕ, zero, suc, ◌-◌, Bool, true, false, [], ◌∷◌, length, refl, ap}
+use Rattle.fax_reading.proofs.Names.{◌⊎◌, inl, inr, Color, Mode, Pass, Horizontal, Vertical, DecodeSettings, EncodingMode, Group4}
+use Rattle.fax_reading.proofs.Names.{Group3_1D, Group3_2D, UnexpectedEof, InvalidCode, Bits, Turn, repeated, Row, opposite}
+use Rattle.fax_reading.proofs.Names.{paint, Line, Pen, Drawing, start, draw_1d, draw_2d, draw_mode, draw_run, go_on}
+use Rattle.fax_reading.proofs.Names.{mode_here, run_here, painted, painted_to, place_by, unless_fault, unless_full, turn_behind}
+use Rattle.fax_reading.proofs.Names.{◌>>=◌, line_by, line_here, line_1d, line_2d, LineIsSettled, is_short}
 use Rattle.fax_reading.specs.Laws.{strictly}
 use Rattle.fax_reading.proofs.Continuations.LinesContinued.{line_settled}
 use Rattle.fax_bits.proofs.Repetition.Repeated.{after_turn}
@@ -16,29 +15,15 @@ IsStricter turn other = (turn ≡ other) ⊎ ((front : Row) × (turn ≡ Turn.do
 
 -- one step after another
 strict_behind : {A B : Type 0} (turn other : Turn A Line) (behind other_behind : A → Turn B Line) → IsStricter turn other
-    → ((x : A) → IsStricter (behind x) (other_behind x))
-    → IsStricter (turn_behind turn behind) (turn_behind other other_behind)
-strict_behind {A} {B} turn other behind other_behind (inl same) second = by_turn other same
-  where
-    by_turn : (t : Turn A Line) → turn ≡ t → IsStricter (turn_behind turn behind) (turn_behind t other_behind)
-    by_turn (Turn.next x) e = elim (second x) [
-      | inl is ↦ inl (ap (λ (u : Turn A Line). turn_behind u behind) e ∙ is)
-      | inr ends ↦ inr (ends.0, ap (λ (u : Turn A Line). turn_behind u behind) e ∙ ends.1)
-    ]
-    by_turn (Turn.done line) e = inl (ap (λ (u : Turn A Line). turn_behind u behind) e)
-strict_behind {A} turn other behind other_behind (inr ends) second =
-    inr (ends.0, ap (λ (u : Turn A Line). turn_behind u behind) ends.1)
+    → ((x : A) → IsStricter (behind x) (other_behind x)) → IsStricter (turn_behind turn behind) (turn_behind other other_behind)
+strict_behind {A} {B} turn other behind other_behind (inl same) second = grind (arith, common_steps)
+strict_behind {A} turn other behind other_behind (inr ends) second = grind (arith, common_steps)
 
 -- painting
 strict_paint : (strict : Bool) (columns : ℕ) (front : Row) (color : Color) (n : ℕ)
     → IsStricter (unless_fault front (paint true columns front color n)) (unless_fault front (paint strict columns front color n))
 strict_paint true columns front color n = inl refl
-strict_paint false columns front color n = either_way (ltb (columns - length front) n) _
-  where
-    either_way : (beyond : Bool) (row : Row)
-        → IsStricter (unless_fault front (cond beyond (Err InvalidCode) (Ok row))) (unless_fault front (Ok row))
-    either_way true row = inr (front, refl)
-    either_way false row = inl refl
+strict_paint false columns front color n = grind (arith, common_steps)
 
 module _ (strict : Bool) (columns : ℕ) where
   strict_run : (pen : Pen) → IsStricter (draw_run true columns pen).turn (draw_run strict columns pen).turn
@@ -55,19 +40,13 @@ module _ (strict : Bool) (columns : ℕ) where
 
   strict_mode : (reference : Row) (pen : Pen) (mode : Mode)
       → IsStricter (draw_mode true columns reference pen mode).turn (draw_mode strict columns reference pen mode).turn
-  strict_mode reference pen Pass =
-      let place : ℕ = b2 reference (right_of pen.front) pen.color in
-      strict_behind (painted_to true columns pen place).turn (painted_to strict columns pen place).turn
-      (λ front. Turn.next (record pen { front = front })) (λ front. Turn.next (record pen { front = front }))
-      (strict_paint strict columns pen.front pen.color (place - length pen.front)) (λ front. inl refl)
-  strict_mode reference pen Horizontal =
-      strict_behind (draw_run true columns pen).turn (draw_run strict columns pen).turn (λ p. (draw_run true columns p).turn)
-      (λ p. (draw_run strict columns p).turn) (strict_run pen) strict_run
+  strict_mode reference pen Pass = grind (arith, common_steps, strict_behind, strict_paint)
+  strict_mode reference pen Horizontal = strict_behind (draw_run true columns pen).turn (draw_run strict columns pen).turn
+      (λ p. (draw_run true columns p).turn) (λ p. (draw_run strict columns p).turn) (strict_run pen) strict_run
   strict_mode reference pen (Vertical k) =
       strict_behind (place_by reference pen k).turn (place_by reference pen k).turn (λ place. (drew true place).turn)
       (λ place. (drew strict place).turn) (inl refl) (λ place. strict_behind (painted_to true columns pen place).turn
-      (painted_to strict columns pen place).turn
-      (λ front. Turn.next (record pen { front = front; color = opposite pen.color }))
+      (painted_to strict columns pen place).turn (λ front. Turn.next (record pen { front = front; color = opposite pen.color }))
       (λ front. Turn.next (record pen { front = front; color = opposite pen.color }))
       (strict_paint strict columns pen.front pen.color (place - length pen.front)) (λ front. inl refl))
     where
@@ -102,16 +81,13 @@ strict_turns step other late stricter (suc n) pen known =
     by_turn : ((p : Pen) → is_short (repeated other late n p) ≡ false → is_short (repeated step late n p) ≡ false)
         → (turn : Turn Pen Line) → other pen ≡ turn → is_short (after_turn (repeated other late n) turn) ≡ false
         → IsStricter (step pen) (other pen) → is_short (after_turn (repeated step late n) (step pen)) ≡ false
-    by_turn on (Turn.next p) e k (inl same) =
-        ap (λ (t : Turn Pen Line). is_short (after_turn (repeated step late n) t)) (same ∙ e) ∙ on p k
-    by_turn on (Turn.done line) e k (inl same) =
-        ap (λ (t : Turn Pen Line). is_short (after_turn (repeated step late n) t)) (same ∙ e) ∙ k
+    by_turn on (Turn.next p) e k (inl same) = grind (arith, common_steps)
+    by_turn on (Turn.done line) e k (inl same) = grind (arith, common_steps)
     by_turn on turn e k (inr ends) = ap (λ (t : Turn Pen Line). is_short (after_turn (repeated step late n) t)) ends.1
 
 -- A line that isn't short isn't when it is read strictly.
-pub strict_not_short : (encoding : EncodingMode) (strict : Bool) (columns : ℕ) (reference : Row) (here : Bits)
-    → is_short (line_by encoding strict columns reference here) ≡ false
-    → is_short (line_by encoding true columns reference here) ≡ false
+pub strict_not_short : (encoding : EncodingMode) (strict : Bool) (columns : ℕ) (reference : Row) (here : Bits) → is_short
+    (line_by encoding strict columns reference here) ≡ false → is_short (line_by encoding true columns reference here) ≡ false
 strict_not_short encoding strict columns reference here known = by_encoding encoding here known
   where
     runs : (bits : Bits) → is_short (line_1d strict columns bits) ≡ false → is_short (line_1d true columns bits) ≡ false
@@ -135,6 +111,5 @@ strict_not_short encoding strict columns reference here known = by_encoding enco
 -- The strict reading of a line that isn't short is settled too.
 pub strict_settled : (settings : DecodeSettings) (reference : Row) (here : Bits)
     → is_short (line_here settings reference here) ≡ false → LineIsSettled (strictly settings) reference here
-strict_settled settings reference here known =
-    line_settled (strictly settings) reference here
-    (strict_not_short settings.encoding settings.strict settings.columns reference here known)
+strict_settled settings reference here known = line_settled
+    (strictly settings) reference here (strict_not_short settings.encoding settings.strict settings.columns reference here known)

@@ -1,10 +1,9 @@
 -- Code words and runs where more bits follow.
-use Rattle.fax_reading.proofs.Names.{◌≡◌, ℕ, zero, suc, ◌+◌, ◌-◌, ◌<◌, Bool, true, false, cond, ltb, List, [], ◌∷◌, ◌++◌}
-use Rattle.fax_reading.proofs.Names.{length, take, Result, Ok, Err, refl, sym, ap, ◌∙◌, append_assoc, arith, inl, inr}
-use Rattle.fax_reading.proofs.Names.{cases_lt, false≢true, length-append, Color, DecodeError, UnexpectedEof, InvalidCode}
-use Rattle.fax_reading.proofs.Names.{Overflow, OutOfMemory, Refused, Bits, Code, is_prefix_free, read_code, Turn, repeated}
-use Rattle.fax_reading.proofs.Names.{gathered, codes_of, run_of_word, run_turn, run_from, run_found, run_gives, word_found}
-use Rattle.fax_reading.proofs.Names.{misses_end}
+use Rattle.fax_reading.proofs.Names.{common_steps, ◌≡◌, ℕ, zero, suc, ◌-◌, ◌<◌, Bool, true, false, List, [], ◌∷◌, ◌++◌, length}
+use Rattle.fax_reading.proofs.Names.{take, Result, Ok, Err, refl, sym, ap, ◌∙◌, append_assoc, arith, inl, inr, cases_lt}
+use Rattle.fax_reading.proofs.Names.{false≢true, length-append, Color, DecodeError, UnexpectedEof, InvalidCode, Overflow}
+use Rattle.fax_reading.proofs.Names.{OutOfMemory, Refused, Bits, Code, is_prefix_free, read_code, Turn, repeated, gathered}
+use Rattle.fax_reading.proofs.Names.{codes_of, run_of_word, run_turn, run_from, run_found, run_gives, word_found, misses_end}
 use Rattle.fax_bits.specs.CodeReading.{NoneStands, IsCut, ReadsCodes}
 use Rattle.fax_bits.proofs.BitReading.ZerosInWords.{prefix_of_prefix, codes_free}
 use Rattle.fax_bits.proofs.CodeWords.CodeReadings.{reads_codes}
@@ -57,13 +56,7 @@ module _ {S R A : Type 0} (step : S → Turn S R) (gives : S → List A) (late :
             ap (λ (x : Turn S R). gives (on s) ++ gathered_after (gathered step gives m) x) there
                 ∙ ap (λ (x : List A). gives (on s) ++ x) b.1 ∙ ap (λ (x : List A). x ++ gathered step gives n t) a.1,
           )
-      by_step later (Turn.done r) e k =
-          let a = goes s (ap (turn_waits waits) e ∙ k) in
-          let there : step (on s) ≡ Turn.done (ends r) = a.0 ∙ ap (turn_on on ends) e in (
-            ap (after_turn (repeated step late m)) there,
-            ap (λ (x : Turn S R). gives (on s) ++ gathered_after (gathered step gives m) x) there
-                ∙ ap (λ (x : List A). x ++ []) a.1,
-          )
+      by_step later (Turn.done r) e k = grind (arith, common_steps)
 
 -- ---- Code words
 
@@ -87,9 +80,7 @@ word_of here (Ok found) = take (length here - length found.1) here ∷ []
 word_of here (Err fault) = []
 
 word_taken : (here word rest : Bits) → here ≡ word ++ rest → take (length here - length rest) here ≡ word
-word_taken here word rest e =
-    let long : length here - length rest ≡ length word = omega (arith, ap length e, length-append word rest) in
-    ap (λ (n : ℕ). take n here) long ∙ ap (take (length word)) e ∙ take_front word rest
+word_taken here word rest e = grind (arith, common_steps, length-append, take_front)
 
 module _ {V : Type 0} (list : List (Code V)) (free : is_prefix_free list ≡ true) (here more : Bits) where
   codes : ReadsCodes list
@@ -102,8 +93,7 @@ module _ {V : Type 0} (list : List (Code V)) (free : is_prefix_free list ≡ tru
   ]
 
   uncut_further : (IsCut list here → ⊥) → IsCut list (here ++ more) → ⊥
-  uncut_further uncut (v, w, has, begins) =
-      uncut (v, w, has, (more ++ begins.0, begins.1 ∙ append_assoc here more begins.0))
+  uncut_further uncut (v, w, has, begins) = grind (arith, common_steps, append_assoc)
 
   -- A word that is found stays, and a wrong code stays wrong. Only where the end is missing can more bits change what is read.
   pub code_continues : result_waits (read_code list here) ≡ false
@@ -113,10 +103,7 @@ module _ {V : Type 0} (list : List (Code V)) (free : is_prefix_free list ≡ tru
     where
       other : (fault : DecodeError) → read_code list here ≡ Err fault → (fault ≡ UnexpectedEof → ⊥)
           → (fault ≡ InvalidCode → ⊥) → ⊥
-      other fault e not_end not_wrong = elim (cases_reading list here (Err fault) e) [
-        | inl a ↦ cc
-        | inr b ↦ elim b [ inl c ↦ not_end (let f = c.0 in cc) | inr c ↦ not_wrong (let f = c.0 in cc) ]
-      ]
+      other fault e not_end not_wrong = grind (arith, common_steps, cases_reading)
 
       by_read_code : (r : Result (V × Bits) DecodeError) → read_code list here ≡ r → result_waits r ≡ false
           → (read_code list (here ++ more) ≡ result_on (rest_on more) r)
@@ -124,10 +111,9 @@ module _ {V : Type 0} (list : List (Code V)) (free : is_prefix_free list ≡ tru
       by_read_code (Ok (v, rest)) e k =
           let again = codes.alone here v rest more e in
           let (w, has, is) = (codes.found here v rest).0 e in
-          let taken : take (length (here ++ more) - length (rest ++ more)) (here ++ more)
-          ≡ take (length here - length rest) here =
-          word_taken (here ++ more) w (rest ++ more) (ap (λ (b : Bits). b ++ more) is ∙ append_assoc w rest more)
-          ∙ sym (word_taken here w rest is) in
+          let taken : take (length (here ++ more) - length (rest ++ more))
+          (here ++ more) ≡ take (length here - length rest) here = word_taken (here ++ more) w
+          (rest ++ more) (ap (λ (b : Bits). b ++ more) is ∙ append_assoc w rest more) ∙ sym (word_taken here w rest is) in
           (again, ap (word_of (here ++ more)) again ∙ ap (λ (b : Bits). b ∷ []) taken)
       by_read_code (Err InvalidCode) e k =
           let wrong = (codes.wrong here).0 e in
@@ -142,39 +128,22 @@ module _ {V : Type 0} (list : List (Code V)) (free : is_prefix_free list ≡ tru
 
 run_word_on : (total : ℕ) (more : Bits) (found : ℕ × Bits)
     → run_of_word total (rest_on more found) ≡ turn_on (rest_on more) (result_on (rest_on more)) (run_of_word total found)
-run_word_on total more (n, rest) = either_way (ltb 4294967295 (total + n)) (ltb n 64)
-  where
-    turn : Bits → Bool → Bool → Turn (ℕ × Bits) (Result (ℕ × Bits) DecodeError)
-    turn bits b c = cond b (Turn.done (Err Overflow)) (cond c (Turn.done (Ok (total + n, bits))) (Turn.next (total + n, bits)))
-
-    either_way : (b c : Bool) → turn (rest ++ more) b c ≡ turn_on (rest_on more) (result_on (rest_on more)) (turn rest b c)
-    either_way true c = refl
-    either_way false true = refl
-    either_way false false = refl
+run_word_on total more (n, rest) = grind (arith, common_steps)
 
 run_turn_on : (color : Color) (more : Bits)
     → StepGoesOn (run_turn color) (run_gives color) (rest_on more) (result_on (rest_on more)) result_waits
 run_turn_on color more (total, here) known = by_read_code (read_code (codes_of color) here) refl
   where
-    by_read_code : (r : Result (ℕ × Bits) DecodeError) → read_code (codes_of color) here ≡ r
-        → (run_turn color (total, here ++ more)
-        ≡ turn_on (rest_on more) (result_on (rest_on more)) (run_turn color (total, here)))
+    by_read_code : (r : Result (ℕ × Bits) DecodeError) → read_code (codes_of color) here ≡ r →
+        (run_turn color (total, here ++ more) ≡ turn_on (rest_on more) (result_on (rest_on more)) (run_turn color (total, here)))
         × (word_found (codes_of color) (here ++ more) ≡ word_found (codes_of color) here)
-    by_read_code (Ok found) e =
-        let a = code_continues (codes_of color) (codes_free color) here more (ap result_waits e) in
-        let there : read_code (codes_of color) (here ++ more) ≡ Ok (rest_on more found) = a.0 ∙ ap (result_on (rest_on more)) e in
-        (rw (e, there, run_turn) (run_word_on total more found), a.1)
-    by_read_code (Err fault) e =
-        let waits : result_waits {A = ℕ × Bits} (Err fault) ≡ false = sym (rw (e, run_turn) refl) ∙ known in
-        let a = code_continues (codes_of color) (codes_free color) here more (ap result_waits e ∙ waits) in
-        let there : read_code (codes_of color) (here ++ more) ≡ Err fault = a.0 ∙ ap (result_on (rest_on more)) e in
-        (rw (e, there, run_turn) refl, a.1)
+    by_read_code (Ok found) e = grind (arith, common_steps, code_continues, codes_free, run_word_on)
+    by_read_code (Err fault) e = grind (arith, common_steps, code_continues, codes_free)
 
 -- A run whose words so far sum to a total stays, with the words that it finds, unless the end is missing.
 pub run_continues : (color : Color) (total : ℕ) (here more : Bits) → result_waits (run_from color (total, here)) ≡ false
     → (run_from color (total, here ++ more) ≡ result_on (rest_on more) (run_from color (total, here)))
     × (run_found color (total, here ++ more) ≡ run_found color (total, here))
-run_continues color total here more known =
-    repeated_on (run_turn color) (run_gives color) (Err UnexpectedEof) size (run_shrinks color) (rest_on more)
-    (result_on (rest_on more)) result_waits (run_turn_on color more) (suc (length here)) (suc (length (here ++ more)))
-    (total, here) (omega arith) (omega arith) known
+run_continues color total here more known = repeated_on (run_turn color)
+    (run_gives color) (Err UnexpectedEof) size (run_shrinks color) (rest_on more) (result_on (rest_on more)) result_waits
+    (run_turn_on color more) (suc (length here)) (suc (length (here ++ more))) (total, here) (omega arith) (omega arith) known

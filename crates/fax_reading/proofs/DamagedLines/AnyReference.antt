@@ -11,15 +11,13 @@ use Rattle.fax_reading.proofs.Names.{EncodesLine2D, after_eol, ReadsModes, behin
 use Rattle.fax_reading.proofs.Names.{behind_second_run, common_steps}
 use Rattle.fax_reading.proofs.DamagedLines.PastEol.{past}
 use Rattle.fax_bits.proofs.CodeWords.ReadCodes.{read_code_again}
-use Rattle.fax_bits.proofs.Repetition.Repeated.{repeated_keeps}
+use Rattle.fax_bits.proofs.Repetition.Repeated.{repeated_keeps, next_is}
 use Rattle.fax_bits.proofs.BitReading.ZerosInWords.{scan, is_quiet, scan_below, scan-append, quiet_is, word_quiet, codes_free}
 use Rattle.fax_bits.proofs.BitReading.ZerosInWords.{modes_free}
 use Rattle.fax_bits.proofs.CodeWords.ReadRuns.{run_passes, run_ends, run_goes_on}
 use Rattle.fax_reading.proofs.DamagedLines.LineTails.{after_eol_is}
 use Rattle.fax_reading.proofs.DrawingLines.Drawings.{try, run_then, mode_step, step_2d, step_2d_is, horizontal_is}
-use Rattle.fax_reading.proofs.DrawingLines.ReadLines.{try_next, unless_full_next, try_goes_on, draw_mode_goes_on}
-use Rattle.fax_reading.proofs.DrawingLines.ReadLines.{full_by}
-use Rattle.fax_bits.proofs.Repetition.Repeated.{next_is}
+use Rattle.fax_reading.proofs.DrawingLines.ReadLines.{try_next, unless_full_next, try_goes_on, draw_mode_goes_on, full_by}
 
 -- ---- Words contain no EOL
 
@@ -106,8 +104,7 @@ left_behind color here last ReadsModes.over = by_found (behind_mode color here)
     by_found : (found : Option (Color × Bits)) → LeftBehind here here found
     by_found (Some (next, rest)) = inl refl
     by_found None = refl
-left_behind color here last (ReadsModes.mode next rest found more) =
-    subst (LeftBehind here last) (sym found) (inr more)
+left_behind color here last (ReadsModes.mode next rest found more) = grind (arith, common_steps)
 
 -- ---- A whole line ends behind modes that are read
 abbrev pen_with : Row → Color → Bits → Pen
@@ -206,19 +203,12 @@ long bits tail rest e = omega (arith, ap length e, length-append bits tail)
 runs_are : (color : Color) (n m : ℕ) (run1 run2 more : Bits) → Spells color n run1 → Spells (opposite color) m run2
     → (behind_first_run color (read_run color (run1 ++ (run2 ++ more))) ≡ Some (color, more))
     ⊎ (behind_first_run color (read_run color (run1 ++ (run2 ++ more))) ≡ None)
-runs_are color n m run1 run2 more spells1 spells2 = elim (spelled_is_read color n run1 0 (run2 ++ more) spells1) [
-  | inl e ↦ elim (spelled_is_read (opposite color) m run2 0 more spells2) [
-    | inl f ↦ inl (ap (behind_first_run color) e ∙ ap (behind_second_run color) f)
-    | inr f ↦ inr (ap (behind_first_run color) e ∙ ap (behind_second_run color) f.1)
-  ]
-  | inr e ↦ inr (ap (behind_first_run color) e.1)
-]
+runs_are color n m run1 run2 more spells1 spells2 = grind (arith, common_steps, spelled_is_read)
 
 -- what its words leave, from the zeros of an EOL on, is left by the modes that are read
 encoded_from : (reference row : Row) (from : ℕ) (color : Color) (bits tail rest : Bits) → EncodesLine2D reference row from color
     bits → read_code mode_codes tail ≡ Err InvalidCode → ReadsModes color (bits ++ tail) rest → length tail ≤ length rest
-encoded_from reference row from color bits tail rest EncodesLine2D.over none reads =
-    omega (arith, ap length (subst (LeftBehind tail rest) (ap (behind_read color) none) (left_behind color tail rest reads)))
+encoded_from reference row from color bits tail rest EncodesLine2D.over none reads = grind (arith, common_steps, left_behind)
 encoded_from reference row from color bits tail rest (EncodesLine2D.pass from2 word {bits = next} inside has left_of steps) none
     reads =
     elim (subst (LeftBehind ((word ++ next) ++ tail) rest) (ap (behind_read color) (mode_is Pass word next tail has))

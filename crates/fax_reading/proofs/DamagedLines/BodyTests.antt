@@ -2,7 +2,7 @@
 use Rattle.fax_reading.proofs.DamagedLines.LineStarts.{not_some}
 use Rattle.fax_reading.proofs.Names.{◌≡◌, ◌≢◌, ℕ, zero, suc, ◌+◌, ◌-◌, ◌<◌, ◌≤◌, ◌⊎◌, Bool, true, false, cond, eqb, ltb, leb, []}
 use Rattle.fax_reading.proofs.Names.{◌∷◌, ◌++◌, length, take, drop, replicate, Option, Some, None, Err, IsTrue, refl, sym, ap}
-use Rattle.fax_reading.proofs.Names.{subst, ◌∙◌, arith, inl, inr, ◌↔◌, is_some, cases_lt, lt-ltb, le-leb, lt-leb, ltb-true}
+use Rattle.fax_reading.proofs.Names.{subst, ◌∙◌, arith, ◌↔◌, is_some, cases_lt, lt-ltb, le-leb, lt-leb, ltb-true}
 use Rattle.fax_reading.proofs.Names.{leb-true, eqb-true, eq-eqb, none-some, length-append, length-drop}
 use Rattle.fax_reading.proofs.Names.{take-append-drop, drop-drop, DecodeError, OutOfMemory, DecodeSettings, Group3_1D, DrawsLine}
 use Rattle.fax_reading.proofs.Names.{line_from_1d, Bits, BitsAt, here, leading_zeros, Held, fresh, after_eol, next_eol, Line}
@@ -17,16 +17,8 @@ use Rattle.fax_reading.proofs.DamagedLines.PastEol.{past, past_is, then_after}
 pub behind_eol : (bits : Bits) (place end : ℕ) → 12 ≤ place → place ≤ length bits → end ≤ length bits
     → after_eol 0 (drop (place - 12) bits) ≡ Some (drop end bits)
     → IsTrue (eqb end place) ↔ ((place ≡ 0) ⊎ ((12 ≤ place) × (after_eol 0 (drop (place - 12) bits) ≡ Some (drop place bits))))
-behind_eol bits place end far within there eol = (
-  λ test. inr (far, eol ∙ ap (λ (n : ℕ). Some (drop n bits)) (eqb-true end place test)),
-  λ before. elim before [
-    | inl none ↦ absurd (omega (arith, none, far))
-    | inr found ↦
-        let both : ◌≡◌ {A = Option Bits} (Some (drop end bits)) (Some (drop place bits)) = sym eol ∙ found.1 in
-        let same : drop end bits ≡ drop place bits = cc in
-        eq-eqb end place (omega (arith, ap length same, length-drop end bits, length-drop place bits, within, there))
-  ],
-)
+behind_eol bits place end far within there eol =
+    grind (arith, common_steps, eqb-true, eq-eqb, length-drop end bits, length-drop place bits)
 
 -- ---- A one in a body.
 zeros_only : (m : ℕ) (here : Bits) → m ≤ leading_zeros here → take m here ≡ replicate m false
@@ -83,12 +75,9 @@ no_eol_in_front m here none = found_ends (take m here) ∙ by_past (past 0 (take
   where
     by_past : (o : Option Bits) → past 0 (take m here) ≡ o → is_some (past 0 (take m here)) ≡ false
     by_past None e = rw e refl
-    by_past (Some after) e = absurd (
-        let whole = past-front 0 (take m here) after (drop m here) e in
-        let nothing : past 0 here ≡ None = past_is here ∙ ap then_after none in
-        let both : ◌≡◌ {A = Option Bits} None (Some (after ++ drop m here)) =
-        sym nothing ∙ ap (past 0) (sym (take-append-drop m here)) ∙ whole in
-        cc)
+    by_past (Some after) e = absurd (let whole = past-front 0 (take m here) after (drop m here) e in let nothing : past 0 here
+        ≡ None = past_is here ∙ ap then_after none in let both : ◌≡◌ {A = Option Bits} None
+        (Some (after ++ drop m here)) = sym nothing ∙ ap (past 0) (sym (take-append-drop m here)) ∙ whole in cc)
 
 -- the next EOL is in the first bits if it ends there
 eol_in_front : (m : ℕ) (here found after : Bits) → next_eol here ≡ Some found → after_eol 0 found ≡ Some after
@@ -129,9 +118,8 @@ eol_found_stands here found next none = let stands = next_eol_found here found n
 -- the line that a lenient context reads
 pub lenient_line : (held : Held) (settings : DecodeSettings) (at : BitsAt) (rest : Bits) → held ≡ fresh settings
     → settings.strict ≡ false → here at ≡ rest → line_from_1d held (here at) ≡ line_1d false settings.columns rest
-lenient_line held settings at rest is lenient same =
-    ap (λ (h : Held). line_from_1d h (here at)) is ∙ ap (λ (b : Bool). line_1d b settings.columns (here at)) lenient
-    ∙ ap (λ (b : Bits). line_1d false settings.columns b) same
+lenient_line held settings at rest is lenient same = ap (λ (h : Held). line_from_1d h (here at)) is
+    ∙ ap (λ (b : Bool). line_1d b settings.columns (here at)) lenient ∙ ap (λ (b : Bits). line_1d false settings.columns b) same
 
 -- a whole line ends before an EOL does by twelve bits
 pub whole_ends : (columns place end : ℕ) (bits here rest : Bits) (row : Row) → line_1d false columns here ≡ Line.whole row rest

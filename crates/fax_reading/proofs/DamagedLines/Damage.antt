@@ -1,22 +1,21 @@
 -- Damage to one line changes its row alone.
-use Rattle.fax_reading.proofs.Names.{◌≡◌, ℕ, suc, ◌+◌, ◌-◌, ◌*◌, ◌/◌, ◌<◌, ◌≤◌, Bool, true, false, ◌||◌, eqb, ltb, List, [], ◌∷◌}
-use Rattle.fax_reading.proofs.Names.{◌++◌, length, take, drop, replicate, set, None, Some, Result, Ok, Err, refl, sym, ap, subst}
-use Rattle.fax_reading.proofs.Names.{◌∙◌, append_assoc, arith, ◌⊎◌, inl, inr, cases_lt, cases_eq, ne_eqb, or_right, cond-false}
-use Rattle.fax_reading.proofs.Names.{length-append, length-drop, take-append-drop, append-nil, append_cancel_right}
-use Rattle.fax_reading.proofs.Names.{replicate-append-replicate, set_at, DecodeError, UnexpectedEof, EncodingMode, Group3_2D}
-use Rattle.fax_reading.proofs.Names.{DecodeSettings, Bits, AreWholeBytes, AreSettings, repeated, Reaches, Row, after_eol}
-use Rattle.fax_reading.proofs.Names.{all_eols, eols_here, line_of_turn, row_before, Progress, Ending, first_line, move_on}
-use Rattle.fax_reading.proofs.Names.{first_gap, ending_behind, end_of, bytes_before, plain, Reading, whole_reading, IsEol}
-use Rattle.fax_reading.proofs.Names.{IsLocal, ComesToLine, OneRowDiffers, EndsAt, EndAlike, DamageStaysInRow, Locality}
-use Rattle.fax_reading.proofs.Names.{IsTagOfLine, common_steps}
-use Rattle.fax_reading.proofs.Readings.GapsAndRows.{ending_t4}
+use Rattle.fax_reading.proofs.Names.{◌≡◌, ℕ, suc, ◌+◌, ◌-◌, ◌*◌, ◌/◌, ◌<◌, ◌≤◌, Bool, true, false, ◌||◌, ltb, List, [], ◌∷◌, ◌++◌}
+use Rattle.fax_reading.proofs.Names.{length, take, drop, None, Some, Result, Ok, Err, refl, sym, ap, subst, ◌∙◌}
+use Rattle.fax_reading.proofs.Names.{append_assoc, arith, ◌⊎◌, inl, inr, cases_lt, cases_eq, or_right, length-append, length-drop}
+use Rattle.fax_reading.proofs.Names.{take-append-drop, append-nil, append_cancel_right, set_at, DecodeError, UnexpectedEof}
+use Rattle.fax_reading.proofs.Names.{Group3_2D, DecodeSettings, Bits, AreWholeBytes, AreSettings, repeated, Reaches, Row}
+use Rattle.fax_reading.proofs.Names.{after_eol, all_eols, eols_here, line_of_turn, row_before, Progress, Ending, first_line}
+use Rattle.fax_reading.proofs.Names.{move_on, end_of, bytes_before, plain, Reading, IsEol, IsLocal, ComesToLine, OneRowDiffers}
+use Rattle.fax_reading.proofs.Names.{EndsAt, EndAlike, DamageStaysInRow, Locality, IsTagOfLine, common_steps}
+use Rattle.fax_reading.proofs.Readings.GapsAndRows.{end_t4, plain_is}
 use Rattle.fax_bits.proofs.Repetition.Repeated.{reached_follows}
 use Rattle.fax_reading.proofs.DamagedLines.EolsAlike.{Closes, RestAlike, leaves_length, all_eols_alike}
-use Rattle.fax_reading.proofs.DamagedLines.LineTails.{after_eol_is, drop_at, is_tail, stays_1d}
+use Rattle.fax_reading.proofs.DamagedLines.LineTails.{drop_at, eol_closes, is_tail, stays_1d}
 use Rattle.fax_reading.proofs.DamagedLines.LinesByEols.{past_shorter, seeks}
 use Rattle.fax_reading.proofs.DamagedLines.PastEol.{past}
 use Rattle.fax_bits.proofs.BitReading.ConsecutiveEols.{all_eols-none, all_tagged}
-use Rattle.fax_reading.proofs.DamagedLines.RunsAlike.{IsGroup3, Settles, RowsAlike, EndsAlike, RunsAlike, IsTail, moves_alike}
+use Rattle.fax_reading.proofs.DamagedLines.RunsAlike.{IsGroup3, not_group4, Settles, RowsAlike, EndsAlike, RunsAlike, IsTail}
+use Rattle.fax_reading.proofs.DamagedLines.RunsAlike.{moves_alike}
 use Rattle.fax_reading.proofs.DamagedLines.SoughtTurns.{sought, rest_of, sought_line_is}
 use Rattle.fax_reading.proofs.DrawingLines.LinesLeaveBits.{LeavesBits, leaves_trans}
 use Rattle.fax_reading.proofs.Readings.TurnsMoveOn.{left_to_read, left_below, move_shrinks}
@@ -26,8 +25,7 @@ use Rattle.fax_reading.proofs.Readings.TurnsMoveOn.{left_to_read, left_below, mo
 -- the count at a position
 count_at : (bits : Bits) (rest : Bits) (place : ℕ) → place + length rest ≡ length bits
     → bytes_before bits (Ok rest) ≡ Ok ((place + 7) / 8)
-count_at bits rest place e = let sum : length bits - length rest ≡ place = omega (arith, e) in
-    ap (λ (n : ℕ). Ok ((n + 7) / 8)) sum
+count_at bits rest place e = grind (arith, common_steps)
 
 module _ (settings : DecodeSettings) (wide : 0 < settings.columns) (one two : Bits) (differ from : ℕ)
     (x y after : Bits) (whole_one : AreWholeBytes one) (whole_two : AreWholeBytes two) (length_one : length one ≡ from + length x)
@@ -41,15 +39,12 @@ module _ (settings : DecodeSettings) (wide : 0 < settings.columns) (one two : Bi
   abbrev end_two : Ending
   end_two = end_of settings two
 
-  plain_is : (bits : Bits) → plain settings bits ≡ whole_reading bits (end_of settings bits)
-  plain_is bits = cond-false (eqb settings.columns 0) _ _ (ne_eqb settings.columns 0 (λ e. absurd (omega (arith, e, wide))))
-
   pub rows_of : (bits : Bits) → (plain settings bits).rows ≡ (end_of settings bits).rows
-  rows_of bits = ap (λ (a : Reading). a.rows) (plain_is bits)
+  rows_of bits = ap (λ (a : Reading). a.rows) (plain_is settings wide bits)
 
   outcome_of : (bits : Bits) (r : Result Bits DecodeError) → (end_of settings bits).outcome ≡ r
       → (plain settings bits).outcome ≡ bytes_before bits r
-  outcome_of bits r e = ap (λ (a : Reading). a.outcome) (plain_is bits) ∙ ap (bytes_before bits) e
+  outcome_of bits r e = ap (λ (a : Reading). a.outcome) (plain_is settings wide bits) ∙ ap (bytes_before bits) e
 
   -- in both readings the line is read after these rows
   abbrev pub Begins : List Row → Type 0
@@ -73,8 +68,7 @@ module _ (settings : DecodeSettings) (wide : 0 < settings.columns) (one two : Bi
 
   ends_at : (bits : Bits) (rest : Bits) (place : ℕ) → (end_of settings bits).outcome ≡ Ok rest
       → place + length rest ≡ length bits → EndsAt settings bits (plain settings bits).outcome place ((place + 7) / 8)
-  ends_at bits rest place e at =
-      record { rest = rest; ends = e; place_is = at; count_is = outcome_of bits (Ok rest) e ∙ count_at bits rest place at }
+  ends_at bits rest place e at = grind (arith, common_steps, outcome_of, count_at)
 
   shorter_x : length after < length x
   shorter_x = past_shorter 0 x after tail_x.next
@@ -142,20 +136,8 @@ module _ (settings : DecodeSettings) (wide : 0 < settings.columns) (one two : Bi
 ends_eol : (bits : Bits) (from : ℕ) (place : ℕ) → IsEol bits place from → (front : Bits) × Closes front
     × (bits ≡ front ++ true ∷ drop from bits)
 ends_eol bits from place eol =
-    let is = after_eol_is 0 (drop place bits) (drop from bits) eol.2 in
-    let more : ℕ = is.0 - 11 in
-    let sum : more + 11 ≡ is.0 = omega (arith, is.2) in
-    let fill : replicate is.0 false ≡ replicate more false ++ replicate 11 false = ap (λ (n : ℕ). replicate n false) (sym sum)
-    ∙ sym (replicate-append-replicate more 11 false) in (
-      take place bits ++ replicate is.0 false,
-      (
-        take place bits ++ replicate more false,
-        ap (λ (b : Bits). take place bits ++ b) fill
-            ∙ sym (append_assoc (take place bits) (replicate more false) (replicate 11 false)),
-      ),
-      sym (take-append-drop place bits) ∙ ap (λ (b : Bits). take place bits ++ b) is.1
-          ∙ sym (append_assoc (take place bits) (replicate is.0 false) (true ∷ drop from bits)),
-    )
+    let f = eol_closes (take place bits) (drop place bits) (drop from bits) eol.2 in
+    (f.0, f.1, sym (take-append-drop place bits) ∙ f.2)
 
 -- what is known of two data, in both of which a line begins at a position that may be damaged
 pub record LinesDiffer (settings : DecodeSettings) (one two : Bits) (from : ℕ) (after : Bits) (lines : ℕ) : Type 0 where
@@ -179,8 +161,7 @@ pub record LinesDiffer (settings : DecodeSettings) (one two : Bits) (from : ℕ)
 -- a suffix of the bits before a one, with what follows
 leaves_ahead : (whole front bits z : Bits) → whole ≡ front ++ true ∷ z → LeavesBits front bits
     → LeavesBits whole (bits ++ true ∷ z)
-leaves_ahead whole front bits z e leaves =
-    (leaves.0, e ∙ ap (λ (b : Bits). b ++ true ∷ z) leaves.1 ∙ append_assoc leaves.0 bits (true ∷ z))
+leaves_ahead whole front bits z e leaves = grind (arith, common_steps, append_assoc)
 
 -- the EOLs that end where the line begins are few, from wherever they are counted
 few_from : (bits found : Bits) (from count : ℕ) → IsTagOfLine bits from → LeavesBits bits found
@@ -283,12 +264,12 @@ module _ (settings : DecodeSettings) (one two : Bits) (from : ℕ) (after : Bits
 
   module _ (wide : 0 < settings.columns) where
     -- readings that start alike end alike
-    ends_alike : Start (first one) (first two)
-        → EndsAlike settings Begun (suc lines) from (drop from one) (drop from two) after (end_of settings one)
-        (end_of settings two)
+    ends_alike : Start (first one) (first two) → EndsAlike settings Begun
+        (suc lines) from (drop from one) (drop from two) after (end_of settings one) (end_of settings two)
     ends_alike alike =
         let late : Progress → Ending = λ run. record { rows = run.rows; has_eols = run.has_eols; outcome = Err UnexpectedEof } in
-        rw (whole one given.group3, whole two given.group3)
+        let other = not_group4 settings.encoding given.group3 in
+        rw (end_t4 settings one other, end_t4 settings two other)
         (reached_follows (move_on settings) (late (first one)) left_to_read (move_shrinks settings wide) (move_on settings)
         (late (first two)) left_to_read (move_shrinks settings wide)
         Start (EndsAlike settings Begun (suc lines) from (drop from one) (drop from two) after)
@@ -311,16 +292,11 @@ module _ (settings : DecodeSettings) (one two : Bits) (from : ℕ) (after : Bits
         (omega (arith, past_shorter 0 (drop from two) after given.tail_two.next)))
         (suc (suc (length (first one).rest))) (suc (suc (length (first two).rest))) (left_below (first one))
         (left_below (first two)) alike)
-      where
-        whole : (bits : Bits) → IsGroup3 settings.encoding → end_of settings bits ≡ ending_t4 settings bits
-        whole bits (inl e) = ap (λ (e : EncodingMode). ending_behind settings (first_gap e settings bits)) e
-        whole bits (inr e) = ap (λ (e : EncodingMode). ending_behind settings (first_gap e settings bits)) e
 
     -- so rows and results are alike
     pub damage : AreWholeBytes one → AreWholeBytes two
-        → RowsAlike (suc lines) Begun (plain settings one).rows (plain settings two).rows
-        × EndAlike settings one two from (suc lines) (plain settings one).rows (plain settings one).outcome
-        (plain settings two).outcome
+        → RowsAlike (suc lines) Begun (plain settings one).rows (plain settings two).rows × EndAlike settings one two from
+        (suc lines) (plain settings one).rows (plain settings one).outcome (plain settings two).outcome
     damage whole_one whole_two =
         answers_alike settings wide one two (suc lines) from (drop from one) (drop from two) after whole_one whole_two
         (omega (arith, given.fits_one, length-drop from one)) (omega (arith, given.fits_two, length-drop from two)) refl refl
@@ -336,13 +312,7 @@ one_row_differs : (settings : DecodeSettings) (one two : Bits) (from : ℕ) (row
 one_row_differs settings one two from rows others (inl e) = inl (sym e)
 one_row_differs settings one two from rows others (inr (before, [], [], more, same, few, e, f, begins)) = inl (f ∙ sym e)
 one_row_differs settings one two from rows others (inr (before, a ∷ [], b ∷ [], more, same, few, e, f, begins)) =
-    inr (
-      length before,
-      b,
-      (sought before (drop from one), begins.0, refl, refl),
-      (sought before (drop from two), begins.1, refl, refl),
-      f ∙ sym (set_at before a more b (length before) refl) ∙ ap (λ (r : List Row). set r (length before) b) (sym e),
-    )
+    grind (arith, common_steps, set_at before a more b (length before) refl)
 one_row_differs settings one two from rows others (inr (before, [], b ∷ those, more, same, few, e, f, begins)) = absurd
     (omega (arith, same))
 one_row_differs settings one two from rows others (inr (before, a ∷ these, [], more, same, few, e, f, begins)) = absurd

@@ -1,30 +1,26 @@
 -- Damage to a line of two-dimensional data ends at the next one-dimensional line.
-use Rattle.fax_reading.proofs.Names.{◌≡◌, ℕ, zero, suc, ◌+◌, ◌-◌, ◌<◌, ◌≤◌, eqb, true, false, List, [], ◌∷◌, ◌++◌, length, take}
-use Rattle.fax_reading.proofs.Names.{drop, replicate, Option, Some, None, Result, Ok, refl, sym, ap, subst, ◌∙◌, append_assoc}
-use Rattle.fax_reading.proofs.Names.{arith, ◌⊎◌, inl, inr, cases_lt, cases_eq, cond-true, eq-eqb, length-append}
-use Rattle.fax_reading.proofs.Names.{length-replicate, White, DecodeError, EncodingMode, Group3_2D, DecodeSettings, Bits}
-use Rattle.fax_reading.proofs.Names.{AreWholeBytes, AreSettings, Reaches, Row, EncodesLine2D, after_eol, one_more, pass_last_tag}
-use Rattle.fax_reading.proofs.Names.{tagged_eols, first_line, move_on, line_by, eols_by, line_here, eols_here, plain, Reading}
-use Rattle.fax_reading.proofs.Names.{nothing_read, whole_reading, end_of, IsEolAt, EndAlike, IsTaggedBody, ComesBefore1D}
-use Rattle.fax_reading.proofs.Names.{IsLine2D, ComeBefore1D, RowsDiffer, DamageEndsAt1D, LocalityByK}
+use Rattle.fax_reading.proofs.Names.{common_steps, ◌≡◌, ℕ, zero, suc, ◌+◌, ◌-◌, ◌<◌, ◌≤◌, true, false, List, [], ◌∷◌, ◌++◌}
+use Rattle.fax_reading.proofs.Names.{length, take, drop, Option, Some, None, Result, refl, sym, ap, subst, ◌∙◌, append_assoc}
+use Rattle.fax_reading.proofs.Names.{arith, ◌⊎◌, inl, inr, cases_lt, cases_eq, cond-true, eq-eqb, length-append, length-replicate}
+use Rattle.fax_reading.proofs.Names.{White, DecodeError, EncodingMode, Group3_2D, DecodeSettings, Bits, AreWholeBytes}
+use Rattle.fax_reading.proofs.Names.{AreSettings, Reaches, Row, EncodesLine2D, after_eol, one_more, pass_last_tag, tagged_eols}
+use Rattle.fax_reading.proofs.Names.{first_line, move_on, line_by, eols_by, line_here, eols_here, plain, IsEolAt, EndAlike}
+use Rattle.fax_reading.proofs.Names.{IsTaggedBody, ComesBefore1D, IsLine2D, ComeBefore1D, RowsDiffer, DamageEndsAt1D, LocalityByK}
 use Rattle.fax_reading.proofs.DamagedLines.AnyReference.{quiet_line, scan_past, modes_read, encoded_ends}
 use Rattle.fax_reading.proofs.DamagedLines.Damage.{LinesDiffer, damage}
 use Rattle.fax_reading.proofs.DamagedLines.LineTails.{after_eol_is, past_before, line_past_by, is_tagged_tail, stays_2d}
 use Rattle.fax_reading.proofs.DamagedLines.PastEol.{past, past_is, then_after}
-use Rattle.fax_bits.proofs.BitReading.ConsecutiveEols.{all_tagged-some, all_tagged-none}
+use Rattle.fax_bits.proofs.BitReading.ConsecutiveEols.{all_tagged-some, all_tagged-none, after_eol_shorter, next_eol_found}
 use Rattle.fax_reading.proofs.DamagedLines.RunsAlike.{RowsAlike, Settles, Unreferred, IsTail}
 use Rattle.fax_reading.proofs.DamagedLines.SoughtTurns.{sought, rest_of, found_next, eols_here_same}
 use Rattle.fax_reading.proofs.EncodedPictures.PicturesT4.{line_2d_after_tag}
 use Rattle.fax_reading.proofs.Readings.TurnsMoveOn.{eols_end}
-use Rattle.fax_bits.proofs.BitReading.ConsecutiveEols.{after_eol_shorter, next_eol_found}
 
 -- ---- The lines that follow
 
 -- an EOL is twelve bits at least
 eol_longer : (next after : Bits) → after_eol 0 next ≡ Some after → length after + 12 ≤ length next
-eol_longer next after e =
-    let eol = after_eol_is 0 next after e in
-    omega (arith, eol.2, ap length eol.1, length-append (replicate eol.0 false) (true ∷ after), length-replicate eol.0 false)
+eol_longer next after e = grind (arith, common_steps, after_eol_is, length-append, length-replicate)
 
 module _ (settings : DecodeSettings) (encoding : settings.encoding ≡ Group3_2D) where
   -- the EOL before the lines that follow
@@ -49,16 +45,14 @@ module _ (settings : DecodeSettings) (encoding : settings.encoding ≡ Group3_2D
           ⊎ (((line : Bits) × ((eols_by Group3_2D settings.end_of_block here).1 ≡ true ∷ line))
           ⊎ ((eols_by Group3_2D settings.end_of_block here).1 ≡ []))
           → Unreferred settings (eols_by Group3_2D settings.end_of_block here)
-      in_each_case (inl (block, six)) =
-          inl ((eols_end settings (eols_by Group3_2D settings.end_of_block here).0).2 block six)
+      in_each_case (inl (block, six)) = inl ((eols_end settings (eols_by Group3_2D settings.end_of_block here).0).2 block six)
       in_each_case (inr (inl (line, e))) = inr (rw e (same (true ∷ line) (λ reference other. refl)))
       in_each_case (inr (inr e)) = inr (rw e (same [] (λ reference other. refl)))
 
   -- one EOL is counted before a two-dimensional line
   one_before : (line found : Bits) → after_eol 0 (false ∷ line) ≡ None → after_eol 0 found ≡ Some (false ∷ line)
       → eols_here settings found ≡ (1, false ∷ line)
-  one_before line found none e =
-      ap (λ (e : EncodingMode). eols_by e settings.end_of_block found) encoding
+  one_before line found none e = ap (λ (e : EncodingMode). eols_by e settings.end_of_block found) encoding
       ∙ ap pass_last_tag (all_tagged-some found (false ∷ line) e ∙ ap one_more (all_tagged-none (false ∷ line) none))
 
   -- the next EOL is the one behind it, whatever it is read against
@@ -95,8 +89,7 @@ module _ (settings : DecodeSettings) (encoding : settings.encoding ≡ Group3_2D
         subst (λ (c : ℕ × Bits). ((settings.end_of_block ≡ true) × (6 ≤ c.0))
             ⊎ (((line : Bits) × (c.1 ≡ true ∷ line)) ⊎ (c.1 ≡ []))) same ends,
       )
-  comes_same (suc lines) here there after e f (line, next, g, is, more) =
-      (line, next, f ∙ sym e ∙ g, is, more)
+  comes_same (suc lines) here there after e f (line, next, g, is, more) = grind (arith, common_steps)
 
   -- a two-dimensional line of an encoding is such a line
   pub encoded_follows : (lines : ℕ) (reference row : Row) (line next here : Bits) → EncodesLine2D reference row 0 White line
@@ -131,9 +124,7 @@ module _ (settings : DecodeSettings) (encoding : settings.encoding ≡ Group3_2D
 drop_past : {A : Type 0} (n : ℕ) (front rest : List A) → length front ≤ n → drop n (front ++ rest) ≡ drop (n - length front) rest
 drop_past n [] rest le = ap (λ (m : ℕ). drop m rest) (let e : n ≡ n - 0 = omega arith in e)
 drop_past zero (a ∷ front) rest le = absurd (omega arith)
-drop_past (suc n) (a ∷ front) rest le =
-    let less : n - length front ≡ suc n - suc (length front) = omega arith in
-    drop_past n front rest (omega arith) ∙ ap (λ (m : ℕ). drop m rest) less
+drop_past (suc n) (a ∷ front) rest le = grind (arith, common_steps, drop_past n front rest (omega arith))
 
 pub take_front : {A : Type 0} (front rest : List A) → take (length front) (front ++ rest) ≡ front
 take_front [] rest = refl
@@ -146,34 +137,7 @@ rows_differ : (settings : DecodeSettings) (one two : Bits) (from differ : ℕ) (
     → RowsDiffer settings one two from differ rows others
 rows_differ settings one two from differ rows others (inl e) = inl (sym e)
 rows_differ settings one two from differ rows others (inr (before, these, those, more, same, few, e, f, begins)) =
-    inr (
-      length before,
-      (sought before (drop from one), begins.0, refl, refl),
-      (sought before (drop from two), begins.1, refl, refl),
-      (
-        omega (
-          arith,
-          ap length e,
-          ap length f,
-          same,
-          length-append before (these ++ more),
-          length-append before (those ++ more),
-          length-append these more,
-          length-append those more,
-        ),
-        ap (take (length before)) f ∙ take_front before (those ++ more)
-            ∙ sym (ap (take (length before)) e ∙ take_front before (these ++ more)),
-        behind those others f (omega (arith, same, few))
-            ∙ ap (λ (n : ℕ). drop (length before + differ - (length before + n)) more) (sym same) ∙ sym (behind these rows e few),
-      ),
-    )
-  where
-    behind : (some all : List Row) → all ≡ before ++ (some ++ more) → length some ≤ differ
-        → drop (length before + differ) all ≡ drop (length before + differ - (length before + length some)) more
-    behind some all g le =
-        ap (drop (length before + differ)) (g ∙ sym (append_assoc before some more))
-        ∙ drop_past (length before + differ) (before ++ some) more (omega (arith, length-append before some, le))
-        ∙ ap (λ (n : ℕ). drop (length before + differ - n) more) (length-append before some)
+    grind (arith, common_steps, take_front before (these ++ more), append_assoc, drop_past)
 
 -- the law
 pub locality_by_k : LocalityByK
@@ -186,10 +150,7 @@ locality_by_k settings one are whole_one two from to to2 lines whole_two differ 
     other = differ.other
 
     same_after : other.closes.0 ≡ body.closes.0
-    same_after =
-        let same : ◌≡◌ {A = Option Bits} (Some other.closes.0) (Some body.closes.0) = sym other.closes.1
-        ∙ ap (after_eol 0) (sym differ.behind) ∙ body.closes.1 in
-        cc
+    same_after = grind (arith, common_steps)
 
     lines_differ : LinesDiffer settings one two from body.closes.0 lines
     lines_differ = record {
@@ -209,17 +170,10 @@ locality_by_k settings one are whole_one two from to to2 lines whole_two differ 
       settles = settles settings differ.encoding lines (drop to one) body.closes.0 differ.follow body.closes.1;
     }
 
-    in_each_case : (settings.columns ≡ 0) ⊎ (settings.columns ≡ 0 → ⊥)
-        → RowsDiffer settings one two from (suc lines) (plain settings one).rows (plain settings two).rows
-        × EndAlike settings one two from (suc lines) (plain settings one).rows (plain settings one).outcome
-        (plain settings two).outcome
-    in_each_case (inl e) =
-        let nothing : (bits : Bits) → plain settings bits ≡ nothing_read
-        = λ bits. cond-true (eqb settings.columns 0) nothing_read (whole_reading bits (end_of settings bits))
-        (eq-eqb settings.columns 0 e) in
-        let outcome : (bits : Bits) → (plain settings bits).outcome ≡ Ok 0 = λ bits. ap (λ (r : Reading). r.outcome)
-        (nothing bits) in
-        (inl (ap (λ (r : Reading). r.rows) (nothing two ∙ sym (nothing one))), EndAlike.no_columns e (outcome one) (outcome two))
+    in_each_case : (settings.columns ≡ 0) ⊎ (settings.columns ≡ 0 → ⊥) → RowsDiffer settings one two from
+        (suc lines) (plain settings one).rows (plain settings two).rows × EndAlike settings one two from
+        (suc lines) (plain settings one).rows (plain settings one).outcome (plain settings two).outcome
+    in_each_case (inl e) = grind (arith, common_steps, cond-true, eq-eqb)
     in_each_case (inr e) =
         let wide : 0 < settings.columns = elim (cases_lt 0 settings.columns) [ inl lt ↦ lt | inr ge ↦ absurd (e (omega arith)) ]
         in

@@ -26,23 +26,14 @@ suffix_of (x ∷ a) b c (y ∷ before, e) = suffix_of a b c (before, cc)
 
 -- a suffix that is long enough ends with the second
 suffix_ends_with : (a b c : Bits) → LeavesBits (a ++ b) c → length b ≤ length c → (more : Bits) × (c ≡ more ++ b)
-suffix_ends_with a b c leaves le = by_more (suffix_of a b c leaves)
-  where
-    by_more : LeavesBits b c ⊎ ((more : Bits) × (c ≡ more ++ b)) → (more : Bits) × (c ≡ more ++ b)
-    by_more (inl ([], e)) = ([], sym e)
-    by_more (inl (x ∷ before, e)) = absurd (omega (arith, le, ap length e, length-append before c))
-    by_more (inr given) = given
+suffix_ends_with a b c leaves le = grind (arith, common_steps, suffix_of a b c leaves, length-append)
 
 -- ---- EOLs in order
 
 -- the next EOL ends first
 past_first : (seen : ℕ) (before here rest next : Bits) → after_eol 0 here ≡ Some rest → past seen (before ++ here) ≡ Some next
     → length rest ≤ length next
-past_first seen [] here rest next e f =
-    let same : ◌≡◌ {A = Option Bits} (Some rest) (Some next)
-    = sym (past-eol seen here rest (after_eol_more 0 seen here rest (omega arith) e)) ∙ f in
-    let is : rest ≡ next = cc in
-    omega (arith, ap length is)
+past_first seen [] here rest next e f = grind (arith, common_steps, past-eol, after_eol_more)
 past_first seen (false ∷ before) here rest next e f = past_first (suc seen) before here rest next e f
 past_first seen (true ∷ before) here rest next e f = elim (cases_lt seen 11) [
   | inl lt ↦
@@ -68,33 +59,20 @@ tag_leaves (true ∷ here) = by_after_eol (after_eol 0 here) refl
 tag_short : (here : Bits) → length here ≤ suc (length (past_tag here))
 tag_short [] = omega arith
 tag_short (false ∷ here) = omega arith
-tag_short (true ∷ here) = by_after_eol (after_eol 0 here) refl
-  where
-    by_after_eol : (o : Option Bits) → after_eol 0 here ≡ o → length (true ∷ here) ≤ suc (length (past_tag (true ∷ here)))
-    by_after_eol None e = rw (e, past_tag) (omega arith)
-    by_after_eol (Some rest) e = rw (e, past_tag) (omega arith)
+tag_short (true ∷ here) = grind (arith, common_steps)
 
 -- where there is an EOL some are counted
 not_none : (here rest last : Bits) → after_eol 0 here ≡ Some rest → all_tagged here ≡ (0, last) → ⊥
-not_none here rest last f e =
-    let g : one_more (all_tagged (past_tag rest)) ≡ (0, last) = sym (all_tagged-some here rest f) ∙ e in
-    let count : suc (all_tagged (past_tag rest)).0 ≡ 0 = ap (λ (c : ℕ × Bits). c.0) g in
-    omega (arith, count)
+not_none here rest last f e = grind (arith, common_steps, all_tagged-some)
 
 -- where no more EOLs are counted behind a tag there was no tag
 no_tag : (here last : Bits) → all_tagged (past_tag here) ≡ (0, last) → here ≡ last
 no_tag [] last e = ap (λ (f : ℕ × Bits). f.1) e
-no_tag (false ∷ here) last e = by_after_eol (after_eol 0 (false ∷ here)) refl
-  where
-    by_after_eol : (o : Option Bits) → after_eol 0 (false ∷ here) ≡ o → (false ∷ here) ≡ last
-    by_after_eol None f = ap (λ (c : ℕ × Bits). c.1) (sym (all_tagged-none (false ∷ here) f) ∙ e)
-    by_after_eol (Some rest) f = absurd (not_none (false ∷ here) rest last f e)
+no_tag (false ∷ here) last e = grind (arith, common_steps, all_tagged-none, not_none)
 no_tag (true ∷ here) last e = by_after_eol (after_eol 0 here) refl
   where
     by_after_eol : (o : Option Bits) → after_eol 0 here ≡ o → (true ∷ here) ≡ last
-    by_after_eol None f =
-        let same : past_tag (true ∷ here) ≡ true ∷ here = rw (f, past_tag) refl in
-        ap (λ (c : ℕ × Bits). c.1) (sym (all_tagged-none (true ∷ here) refl) ∙ ap all_tagged (sym same) ∙ e)
+    by_after_eol None f = grind (arith, common_steps, all_tagged-none)
     by_after_eol (Some rest) f =
         let same : past_tag (true ∷ here) ≡ here = rw (f, past_tag) refl in
         absurd (not_none here rest last f (ap all_tagged (sym same) ∙ e))
@@ -104,8 +82,7 @@ one_left : (here last : Bits) → all_tagged here ≡ (1, last) → after_eol 0 
 one_left here last e = by_after_eol (after_eol 0 here) refl
   where
     by_after_eol : (o : Option Bits) → after_eol 0 here ≡ o → after_eol 0 here ≡ Some last
-    by_after_eol None f =
-        absurd (let g : 0 ≡ 1 = ap (λ (c : ℕ × Bits). c.0) (sym (all_tagged-none here f) ∙ e) in omega (arith, g))
+    by_after_eol None f = grind (arith, common_steps, all_tagged-none)
     by_after_eol (Some rest) f =
         let g : one_more (all_tagged (past_tag rest)) ≡ (1, last) = sym (all_tagged-some here rest f) ∙ e in
         let none : all_tagged (past_tag rest) ≡ (0, last) = grind (arith, common_steps) in
@@ -124,8 +101,7 @@ last_two (suc n) count here last lt e =
 
     by_after_eol : ((c : ℕ) (next : Bits) → length next < n → all_tagged next ≡ (suc (suc c), last) → Two next) → (count : ℕ)
         → all_tagged here ≡ (suc (suc count), last) → (o : Option Bits) → after_eol 0 here ≡ o → Two here
-    by_after_eol on count e None f = absurd (let g : 0 ≡ suc (suc count) = ap (λ (c : ℕ × Bits). c.0)
-        (sym (all_tagged-none here f) ∙ e) in omega (arith, g))
+    by_after_eol on count e None f = grind (arith, common_steps, all_tagged-none)
     by_after_eol on zero e (Some rest) f =
         let g : one_more (all_tagged (past_tag rest)) ≡ (2, last) = sym (all_tagged-some here rest f) ∙ e in
         let one : all_tagged (past_tag rest) ≡ (1, last) = grind (arith, common_steps) in
@@ -158,11 +134,7 @@ module _ (front words next : Bits) (tag : Bool) (fill : ℕ) (quiet : Quiet word
   behind = words ++ (eol fill ++ next)
 
   next_is : past 0 (tag ∷ behind) ≡ Some next
-  next_is = past_before 0 (tag ∷ words) (eol fill ++ next) next (none tag) (eol_stands fill next)
-    where
-      none : (tag : Bool) → past 0 (tag ∷ words) ≡ None
-      none true = let q = quiet 0 (omega arith) in scan_past 0 q.0 words (omega arith) q.1
-      none false = let q = quiet 1 (omega arith) in scan_past 1 q.0 words (omega arith) q.1
+  next_is = grind (arith, common_steps, past_before, eol_stands, scan_past)
 
   -- two consecutive EOLs don't end there
   not_two : (found rest : Bits) → LeavesBits (front ++ true ∷ (tag ∷ behind)) found → after_eol 0 found ≡ Some rest
@@ -233,8 +205,7 @@ one_at (false ∷ bits) e = let more = one_at bits e in (false ∷ more.0, more.
 
 -- so do these bits with what follows them
 one_more_bits : (word more : Bits) → HoldsOne word → HoldsOne (word ++ more)
-one_more_bits word more one =
-    (one.0, one.1 ++ more, ap (λ (b : Bits). b ++ more) one.2 ∙ append_assoc one.0 (true ∷ one.1) more)
+one_more_bits word more one = (one.0, one.1 ++ more, ap (λ (b : Bits). b ++ more) one.2 ∙ append_assoc one.0 (true ∷ one.1) more)
 
 word_holds : (word : Bits) → IsWord word → HoldsOne word
 word_holds word is = one_at word (word_one word is)
@@ -277,20 +248,9 @@ pub record IsTagged (line : Bits) : Type 0 where
 
 tagged : (above row : Row) (line : Bits) → EncodesLine Group3_2D above row line → 0 < length row → IsTagged line
 tagged above row line (words, inl (is, encodes)) some =
-    record {
-      tag = true;
-      words = words;
-      is = is;
-      quiet = quiet_1d White row words encodes;
-      one = holds_1d White row words encodes some;
-    }
-tagged above row line (words, inr (is, encodes)) some = record {
-  tag = false;
-  words = words;
-  is = is;
-  quiet = quiet_line above row 0 White words encodes;
-  one = holds_2d above row 0 White words encodes (omega arith);
-}
+    grind (arith, common_steps, quiet_1d White row words encodes, holds_1d White row words encodes some)
+tagged above row line (words, inr (is, encodes)) some = grind
+    (arith, common_steps, quiet_line above row 0 White words encodes, holds_2d above row 0 White words encodes (omega arith))
 
 -- the last of some lines, each with an EOL before it
 abbrev LastLine : Bits → Type 0
@@ -346,16 +306,10 @@ module _ (settings : DecodeSettings) (encoding : settings.encoding ≡ Group3_2D
 
   -- the next EOL behind its start
   next_from : past 0 (line ++ next) ≡ Some after
-  next_from = rw is.is (past_before 0 (is.tag ∷ is.words) next after (none is.tag) eol_next)
-    where
-      none : (tag : Bool) → past 0 (tag ∷ is.words) ≡ None
-      none true = let q = is.quiet 0 (omega arith) in scan_past 0 q.0 is.words (omega arith) q.1
-      none false = let q = is.quiet 1 (omega arith) in scan_past 1 q.0 is.words (omega arith) q.1
+  next_from = grind (arith, common_steps, past_before, scan_past)
 
   longer : length after + 12 ≤ length next
-  longer =
-      let eol = after_eol_is 0 next after eol_next in
-      omega (arith, eol.2, ap length eol.1, length-append (replicate eol.0 false) (true ∷ after), length-replicate eol.0 false)
+  longer = grind (arith, common_steps, after_eol_is, length-append, length-replicate)
 
   no_eol_in : (place end : ℕ) → from ≤ place → end ≤ to → IsEol whole place end → ⊥
   no_eol_in place end le le2 (lt, within, stands) =
@@ -421,26 +375,16 @@ module _ (settings : DecodeSettings) (encoding : settings.encoding ≡ Group3_2D
   }
     where
       sizes : from ≡ length front + (12 + fill)
-      sizes = omega (
-        arith,
-        length-append front (eol fill),
-        length-append (replicate (11 + fill) false) (true ∷ []),
-        length-replicate (11 + fill) false,
-      )
+      sizes = grind (arith, common_steps, length-append, length-replicate)
 
       stands : after_eol 0 (drop (length front) whole) ≡ Some (drop from whole)
-      stands =
-          ap (λ (b : Bits). after_eol 0 (drop (length front) b)) (append_assoc front (eol fill) (line ++ next))
-          ∙ ap (after_eol 0) (drop_front front (eol fill ++ (line ++ next))) ∙ eol_stands fill (line ++ next)
-          ∙ ap Some (sym line_on)
+      stands = grind (arith, common_steps, append_assoc, drop_front, eol_stands, line_on)
 
       line_is : line ++ next ≡ (is.tag ∷ is.one.0) ++ true ∷ (is.one.1 ++ next)
-      line_is = ap (λ (b : Bits). b ++ next) is.is ∙ ap (λ (b : Bits). (is.tag ∷ b) ++ next) is.one.2
-          ∙ ap (λ (b : Bits). is.tag ∷ b) (append_assoc is.one.0 (true ∷ is.one.1) next)
+      line_is = grind (arith, common_steps, append_assoc)
 
       one_there : drop (from + (1 + length is.one.0)) whole ≡ true ∷ (is.one.1 ++ next)
-      one_there =
-          sym (drop-drop (1 + length is.one.0) from whole) ∙ ap (drop (1 + length is.one.0)) line_on
+      one_there = sym (drop-drop (1 + length is.one.0) from whole) ∙ ap (drop (1 + length is.one.0)) line_on
           ∙ drop_at (line ++ next) (is.tag ∷ is.one.0) (true ∷ (is.one.1 ++ next)) (1 + length is.one.0) line_is (omega arith)
 
 -- the tag behind lines of an encoding is a line's
@@ -471,15 +415,7 @@ few_tags front line fill (inr (before, last, fill2, split, is)) here count leave
   where
     same : (front ++ eol fill) ++ line ≡ (before ++ replicate (11 + fill2) false)
         ++ true ∷ (is.tag ∷ (is.words ++ (eol fill ++ line)))
-    same =
-        append_assoc front (eol fill) line
-        ∙ ap (λ (b : Bits). b ++ (eol fill ++ line)) (split ∙ ap (λ (b : Bits). before ++ (eol fill2 ++ b)) is.is)
-        ∙ append_assoc before (eol fill2 ++ (is.tag ∷ is.words)) (eol fill ++ line)
-        ∙ ap (λ (b : Bits). before ++ (b ++ (eol fill ++ line)))
-        (append_assoc (replicate (11 + fill2) false) (true ∷ []) (is.tag ∷ is.words))
-        ∙ ap (λ (b : Bits). before ++ b) (append_assoc (replicate (11 + fill2) false) (true ∷ (is.tag ∷ is.words))
-        (eol fill ++ line))
-        ∙ sym (append_assoc before (replicate (11 + fill2) false) (true ∷ (is.tag ∷ (is.words ++ (eol fill ++ line)))))
+    same = grind (arith, common_steps, append_assoc)
 
 -- the law
 pub encoded_lines_are_bodies : EncodedLinesAreBodies

@@ -1,13 +1,13 @@
 -- EOLs of two data that are equal up to one position, where an EOL ends and none begins.
 use Rattle.fax_reading.proofs.Names.{◌≡◌, ℕ, zero, suc, ◌<◌, ◌≤◌, Bool, true, false, cond, leb, [], ◌∷◌, ◌++◌, length, replicate}
 use Rattle.fax_reading.proofs.Names.{Option, Some, None, refl, sym, ap, ◌∙◌, append_assoc, arith, ◌⊎◌, inl, inr, lt-leb}
-use Rattle.fax_reading.proofs.Names.{length-append, Bits, after_eol, all_eols, past_tag, pass_last_tag, common_steps}
+use Rattle.fax_reading.proofs.Names.{EncodingMode, Group4, Group3_1D, Group3_2D, Row, line_by, length-append, Bits, after_eol}
+use Rattle.fax_reading.proofs.Names.{all_eols, past_tag, pass_last_tag, common_steps}
 use Rattle.fax_bits.proofs.BitReading.ZerosInWords.{scan, scan_holds}
-use Rattle.fax_reading.proofs.DamagedLines.LinesBeforeEol.{Inside}
+use Rattle.fax_reading.proofs.DamagedLines.LinesBeforeEol.{Inside, LineAlike, line_1d_alike, line_2d_alike}
 use Rattle.fax_reading.proofs.DamagedLines.PastEol.{past}
-use Rattle.fax_bits.proofs.BitReading.ConsecutiveEols.{all_tagged}
+use Rattle.fax_bits.proofs.BitReading.ConsecutiveEols.{all_tagged, CountsEols, count_all-some, counts_plain, counts_tagged}
 use Rattle.fax_reading.proofs.DrawingLines.LinesLeaveBits.{LeavesBits, leaves_trans}
-use Rattle.fax_bits.proofs.BitReading.ConsecutiveEols.{CountsEols, count_all-some, counts_plain, counts_tagged}
 
 -- bits that end with the zeros of an EOL
 abbrev pub Closes : Bits → Type 0
@@ -36,8 +36,7 @@ closes_inside bits closes =
 
 -- what follows a one within them ends in them too
 pub inside_after : (bits before after : Bits) → Inside bits → bits ≡ before ++ true ∷ after → Closes after
-inside_after bits before after inside e =
-    closes_after (inside.last.0 ++ before) after inside.last.1
+inside_after bits before after inside e = closes_after (inside.last.0 ++ before) after inside.last.1
     (append_assoc inside.last.0 before (true ∷ after) ∙ ap (λ (x : Bits). inside.last.0 ++ x) (sym e) ∙ inside.last.2)
 
 -- what follows a one is a suffix
@@ -57,6 +56,27 @@ pub last_tag_few : (count : ℕ) (here : Bits) → count < 6 → pass_last_tag (
 last_tag_few count [] few = refl
 last_tag_few count (true ∷ here) few = rw (lt-leb 6 count few) refl
 last_tag_few count (false ∷ here) few = refl
+
+-- behind the first of bits that end with the zeros of an EOL there are enough zeros left
+pub closes_tail : (tag : Bool) (bits : Bits) → Closes (tag ∷ bits) → Inside bits
+closes_tail tag bits ([], e) =
+    let ten : bits ≡ replicate 10 false = cc in
+    record { holds = ap (scan 3) ten; last = (tag ∷ [], [], e) }
+closes_tail tag bits (b ∷ first, e) = closes_inside bits (first, cc)
+
+-- a line that begins before an EOL among the equal bits
+pub line_alike : (encoding : EncodingMode) (columns : ℕ) (reference : Row) (u v bits : Bits) → Closes bits
+    → LineAlike u v (line_by encoding false columns reference (bits ++ u)) (line_by encoding false columns reference (bits ++ v))
+line_alike Group3_1D columns reference u v bits closes =
+    line_1d_alike u v columns _ _ (bits, closes_inside bits closes, refl, refl)
+line_alike Group3_2D columns reference u v [] closes = absurd (let e = closes.1 in omega
+    (arith, ap length e, length-append closes.0 (replicate 11 false)))
+line_alike Group3_2D columns reference u v (true ∷ bits) closes =
+    line_1d_alike u v columns _ _ (bits, closes_tail true bits closes, refl, refl)
+line_alike Group3_2D columns reference u v (false ∷ bits) closes =
+    line_2d_alike u v columns reference _ _ (bits, closes_tail false bits closes, refl, refl)
+line_alike Group4 columns reference u v bits closes =
+    line_2d_alike u v columns reference _ _ (bits, closes_inside bits closes, refl, refl)
 
 module _ (x y : Bits) where
   -- what follows an EOL: within the equal bits; or just past them; or there is none
@@ -97,10 +117,7 @@ module _ (x y : Bits) where
           → PastAlike (true ∷ bits) (cond b (Some (bits ++ true ∷ x)) (past 0 (bits ++ true ∷ x)))
           (cond b (Some (bits ++ true ∷ y)) (past 0 (bits ++ true ∷ y)))
       either_way true on = inl ([], bits, refl, refl, refl)
-      either_way false on = elim on [
-        | inl a ↦ inl (true ∷ a.0, a.1, ap (λ (z : Bits). true ∷ z) a.2, a.3, a.4)
-        | inr a ↦ inr a
-      ]
+      either_way false on = elim on [ inl a ↦ inl (true ∷ a.0, a.1, ap (λ (z : Bits). true ∷ z) a.2, a.3, a.4) | inr a ↦ inr a ]
 
   -- where counting EOLs ends: within the equal bits, or just past them
   abbrev pub RestAlike : Bits → Bits → Bits → Type 0
@@ -165,9 +182,7 @@ module _ (x y : Bits) where
                 none x none_x,
                 none y none_y,
               ) (refl, inr (refl, refl))
-          by_after_eol on o p e f (inr (inr a)) =
-              rw (none (bits ++ true ∷ x) (e ∙ a.0), none (bits ++ true ∷ y) (f ∙ a.1))
-              (refl, inl (bits, ([], refl), λ closes. closes, refl, refl))
+          by_after_eol on o p e f (inr (inr a)) = grind (arith, common_steps)
 
       -- the consecutive EOLs are alike in both
       pub count_alike : (bits : Bits) → CountAlike bits (all (bits ++ true ∷ x)) (all (bits ++ true ∷ y))
@@ -220,13 +235,8 @@ module _ (x y : Bits) where
               (bits, (true ∷ [], refl), behind, rw (e ∙ a.3, past_tag) refl, rw (f ∙ a.4, past_tag) refl)
           by_after_eol o p e f (inr (inl a)) =
               (bits, (true ∷ [], refl), behind, rw (e ∙ a.0, past_tag) refl, rw (f ∙ a.1, past_tag) refl)
-          by_after_eol o p e f (inr (inr a)) = (
-            true ∷ bits,
-            ([], refl),
-            λ closes. closes,
-            rw (e ∙ a.0, past_tag) refl,
-            rw (f ∙ a.1, past_tag) refl,
-          )
+          by_after_eol o p e f (inr (inr a)) =
+              (true ∷ bits, ([], refl), λ closes. closes, rw (e ∙ a.0, past_tag) refl, rw (f ∙ a.1, past_tag) refl)
 
       pub all_tagged_alike : (bits : Bits) → CountAlike bits (all_tagged (bits ++ true ∷ x)) (all_tagged (bits ++ true ∷ y))
       all_tagged_alike bits = count_alike counts_tagged tag_x tag_y past_tag_alike bits
@@ -238,12 +248,7 @@ module _ (x y : Bits) where
       -- so they are after the tag of RTC, unless it is the one with which the different bits begin
       pub last_tag_alike : (bits : Bits) (f g : ℕ × Bits) → CountAlike bits f g → ((count : ℕ) → f ≡ (count, x) → count < 6)
           → ((count : ℕ) → g ≡ (count, y) → count < 6) → CountAlike bits (pass_last_tag f) (pass_last_tag g)
-      last_tag_alike bits (n, here) (m, there) (same, inl ([], le, keeps, e, f)) few_x few_y =
-          rw (← same, e, f) (either_way (leb 6 n))
-        where
-          either_way : (b : Bool) → CountAlike bits (cond b (n, x) (n, true ∷ x)) (cond b (n, y) (n, true ∷ y))
-          either_way true = (refl, inr (refl, refl))
-          either_way false = (refl, inl ([], le, keeps, refl, refl))
+      last_tag_alike bits (n, here) (m, there) (same, inl ([], le, keeps, e, f)) few_x few_y = grind (arith, common_steps)
       last_tag_alike bits (n, here) (m, there) (same, inl (false ∷ rest, le, keeps, e, f)) few_x few_y =
           rw (← same, e, f) (refl, inl (false ∷ rest, le, keeps, refl, refl))
       last_tag_alike bits (n, here) (m, there) (same, inl (true ∷ rest, le, keeps, e, f)) few_x few_y = rw (← same, e, f)

@@ -1,6 +1,6 @@
 -- Where lines begin, by positions.
 use Rattle.fax_reading.proofs.Readings.TurnsMoveOn.{at_end_length}
-use Rattle.fax_bits.proofs.BitReading.ConsecutiveEols.{after_eol_shorter, eol_of}
+use Rattle.fax_bits.proofs.BitReading.ConsecutiveEols.{after_eol_shorter, eol_of, all_eols-some, all_eols-none}
 use Rattle.fax_reading.proofs.Names.{◌≡◌, ℕ, zero, suc, ◌+◌, ◌<◌, ◌≤◌, Bool, true, false, cond, not, ◌&&◌, leb, List, [], ◌∷◌}
 use Rattle.fax_reading.proofs.Names.{◌++◌, length, take, drop, replicate, Option, Some, None, refl, sym, ap, subst, ◌∙◌}
 use Rattle.fax_reading.proofs.Names.{append_assoc, arith, ◌⊎◌, inl, inr, Contains, All, is_some, cases_lt, le-leb, leb-true}
@@ -11,27 +11,17 @@ use Rattle.fax_reading.proofs.Names.{begins_line, later_starts, starts, IsStart,
 use Rattle.fax_reading.proofs.DrawingLines.LinesLeaveBits.{LeavesBits}
 use Rattle.fax_bits.proofs.BitReading.ZerosInWords.{prefix_of_prefix}
 use Rattle.fax_reading.proofs.DamagedLines.LineTails.{after_eol_is, first_one, drop_at}
-use Rattle.fax_bits.proofs.BitReading.ConsecutiveEols.{all_eols-some, all_eols-none}
 
 -- ---- Later starts come in order
 later_below : (seen : ℕ) (here : Bits) → All (λ other. length other < length here) (later_starts seen here)
 later_below seen [] = All-nil (λ other. length other < 0)
 later_below seen (false ∷ here) = grind (arith, common_steps, later_below (suc seen) here)
-later_below seen (true ∷ here) =
-    All-append (λ other. length other < suc (length here)) (cond (leb 11 seen && begins_line here) (here ∷ []) [])
-    (later_starts 0 here) (either_way (leb 11 seen && begins_line here)) (All-weaker (λ other. length other < length here)
-    (λ other. length other < suc (length here)) (λ other lt. omega arith) (later_starts 0 here) (later_below 0 here))
-  where
-    either_way : (b : Bool) → All (λ other. length other < suc (length here)) (cond {A = List Bits} b (here ∷ []) [])
-    either_way b = grind (arith, common_steps)
+later_below seen (true ∷ here) = grind (arith, All-append, All-weaker, later_below 0 here)
 
 later_descends : (seen : ℕ) (here : Bits) → Descends (later_starts seen here)
 later_descends seen [] = tt
 later_descends seen (false ∷ here) = later_descends (suc seen) here
-later_descends seen (true ∷ here) = either_way (leb 11 seen && begins_line here) (later_descends 0 here)
-  where
-    either_way : (b : Bool) → Descends (later_starts 0 here) → Descends (cond b (here ∷ []) [] ++ later_starts 0 here)
-    either_way b d = grind (arith, common_steps, later_below)
+later_descends seen (true ∷ here) = grind (arith, common_steps, later_below, later_descends 0 here)
 
 -- ---- An EOL ends at each, and none begins
 
@@ -54,8 +44,7 @@ from_later : (seen : ℕ) (here end : Bits) → Contains (later_starts seen here
     × (begins_line end ≡ true)
 from_later seen [] end c = absurd (contains_none end c)
 from_later seen (false ∷ here) end c = grind (arith, common_steps, common_steps, zeros_along, from_later (suc seen) here end c)
-from_later seen (true ∷ here) end c =
-    by_leb (leb 11 seen && begins_line here) refl (from_later 0 here end)
+from_later seen (true ∷ here) end c = by_leb (leb 11 seen && begins_line here) refl (from_later 0 here end)
     (Contains-append_cases (cond (leb 11 seen && begins_line here) (here ∷ []) []) (later_starts 0 here) end c)
   where
     by_leb : (b : Bool) → (leb 11 seen && begins_line here) ≡ b → (Contains (later_starts 0 here) end → EndsLater 0 here end
@@ -88,12 +77,7 @@ shorter_end xs ys us vs e le =
     grind (arith, common_steps, append_assoc, append_cancel_left, prefix_of_prefix)
 
 same_end : (xs ys us vs : Bits) → xs ++ ys ≡ us ++ vs → length ys ≡ length vs → ys ≡ vs
-same_end xs ys us vs e len =
-    let f = shorter_end xs ys us vs e (omega (arith, len)) in
-    by_ys f.0 f.1
-  where
-    by_ys : (before : Bits) → ys ≡ before ++ vs → ys ≡ vs
-    by_ys before g = grind (arith, common_steps)
+same_end xs ys us vs e len = grind (arith, common_steps, shorter_end xs ys us vs e (omega (arith, len)))
 
 to_later : (seen : ℕ) (here end : Bits) → EndsLater seen here end → begins_line end ≡ true → Contains (later_starts seen here) end
 to_later seen [] end (at, leaves, eol, lt) b = absurd (omega arith)
@@ -137,12 +121,10 @@ to_later seen (true ∷ here) end (at, leaves, eol, lt) b = elim (cases_lt (leng
 
     inside : length end < length here → LeavesBits here at
     inside less = elim (cases_lt (length here) (length at)) [
-      | inl longer ↦ absurd (
-          let f = shorter_end leaves.0 at (replicate seen false) (true ∷ here) (sym leaves.1) (omega arith) in
-          let step = length-append (replicate is.0 false) (true ∷ end) in
-          let step2 = first_one is.0 end f.0 here (sym is.1 ∙ f.1) in
-          let step3 = length-append f.0 (true ∷ here) in
-          omega (arith, less, step2, ap length f.1, step3, ap length is.1, step, length-replicate is.0 false))
+      | inl longer ↦ absurd (let f = shorter_end leaves.0 at
+          (replicate seen false) (true ∷ here) (sym leaves.1) (omega arith) in let step = length-append (replicate is.0 false)
+          (true ∷ end) in let step2 = first_one is.0 end f.0 here (sym is.1 ∙ f.1) in let step3 = length-append f.0
+          (true ∷ here) in omega (arith, less, step2, ap length f.1, step3, ap length is.1, step, length-replicate is.0 false))
       | inr short ↦ shorter_end (replicate seen false ++ true ∷ []) here leaves.0 at
           (append_assoc (replicate seen false) (true ∷ []) here ∙ leaves.1) short
     ]
@@ -259,7 +241,4 @@ module _ (bits : Bits) where
 
 -- the law
 pub starts_are : StartsAre
-starts_are bits = (
-  λ place le. (is_start bits place le, has_start bits place le),
-  (later_below 0 (all_eols bits).1, later_descends 0 (all_eols bits).1),
-)
+starts_are bits = grind (arith, common_steps, is_start, has_start, later_below, later_descends)

@@ -4,7 +4,8 @@ use Rattle.fax_reading.proofs.Names.{replicate, Option, Some, None, refl, sym, a
 use Rattle.fax_reading.proofs.Names.{le-leb, length-append, length-take-le, length-drop, length-replicate, take-append-drop}
 use Rattle.fax_reading.proofs.Names.{drop-drop, DecodeSettings, Bits, IsPrefix, after_eol, past_tag, Reaches, Row, Line}
 use Rattle.fax_reading.proofs.Names.{first_line, row_before, line_here, line_of_turn, move_on, IsEol, IsLocal, IsTaggedBody}
-use Rattle.fax_reading.proofs.Names.{common_steps}
+use Rattle.fax_reading.proofs.Names.{common_steps, replicate-append-replicate}
+use Rattle.fax_reading.proofs.DamagedLines.EolsAlike.{Closes}
 use Rattle.fax_reading.proofs.DamagedLines.PastEol.{past, past-eol, past_later, next_eol_leaves}
 use Rattle.fax_reading.proofs.DamagedLines.RunsAlike.{IsTail}
 use Rattle.fax_reading.proofs.DamagedLines.SoughtTurns.{sought, rest_of, found_next, sought_line_is}
@@ -29,8 +30,28 @@ pub after_eol_is : (seen : ℕ) (here rest : Bits) → after_eol seen here ≡ S
 after_eol_is seen [] rest e = absurd cc
 after_eol_is seen (false ∷ here) rest e = let f = after_eol_is (suc seen) here rest e in
     (suc f.0, ap (λ (x : Bits). false ∷ x) f.1, omega (arith, f.2))
-after_eol_is seen (true ∷ here) rest e = let f = eol_at_one seen here rest e in
-    (0, ap (λ (x : Bits). true ∷ x) f.1, omega (arith, f.0))
+after_eol_is seen (true ∷ here) rest e = grind (arith, common_steps, eol_at_one)
+
+-- they are eleven zeros behind more
+pub zeros_of_eol : (here rest : Bits) → after_eol 0 here ≡ Some rest
+    → (more : ℕ) × (here ≡ (replicate more false ++ replicate 11 false) ++ true ∷ rest)
+zeros_of_eol here rest e =
+    let is = after_eol_is 0 here rest e in
+    let more : ℕ = is.0 - 11 in
+    let sum : is.0 ≡ more + 11 = omega (arith, is.2) in
+    let zeros = ap (λ (n : ℕ). replicate n false) sum ∙ sym (replicate-append-replicate more 11 false) in
+    (more, is.1 ∙ ap (λ (bits : Bits). bits ++ true ∷ rest) zeros)
+
+-- what precedes its one ends with them
+pub eol_closes : (before here rest : Bits) → after_eol 0 here ≡ Some rest → (front : Bits) × Closes front
+    × (before ++ here ≡ front ++ true ∷ rest)
+eol_closes before here rest e =
+    let is = zeros_of_eol here rest e in
+    let zeros : Bits = replicate is.0 false ++ replicate 11 false in (
+      before ++ zeros,
+      (before ++ replicate is.0 false, sym (append_assoc before (replicate is.0 false) (replicate 11 false))),
+      ap (λ (b : Bits). before ++ b) is.1 ∙ sym (append_assoc before zeros (true ∷ rest)),
+    )
 
 -- the first one is at or before any other
 pub first_one : (k : ℕ) (rest before after : Bits) → replicate k false ++ true ∷ rest ≡ before ++ true ∷ after → k ≤ length before
@@ -43,16 +64,14 @@ pub after_eol_more : (seen more : ℕ) (here rest : Bits) → seen ≤ more → 
     → after_eol more here ≡ Some rest
 after_eol_more seen more [] rest le e = absurd cc
 after_eol_more seen more (false ∷ here) rest le e = after_eol_more (suc seen) (suc more) here rest (omega arith) e
-after_eol_more seen more (true ∷ here) rest le e = let f = eol_at_one seen here rest e in
-    rw (le-leb 11 more (omega (arith, f.0))) (ap Some f.1)
+after_eol_more seen more (true ∷ here) rest le e = grind (arith, common_steps, eol_at_one, le-leb)
 
 -- an EOL stays one, whatever follows
 pub after_eol-append : (seen : ℕ) (here rest z : Bits) → after_eol seen here ≡ Some rest
     → after_eol seen (here ++ z) ≡ Some (rest ++ z)
 after_eol-append seen [] rest z e = absurd cc
 after_eol-append seen (false ∷ here) rest z e = after_eol-append (suc seen) here rest z e
-after_eol-append seen (true ∷ here) rest z e = let f = eol_at_one seen here rest e in
-    rw (le-leb 11 seen f.0) (ap (λ (b : Bits). Some (b ++ z)) f.1)
+after_eol-append seen (true ∷ here) rest z e = grind (arith, common_steps, eol_at_one, le-leb)
 
 -- if no EOL ends within some bits, the next is the one after them
 pub past_before : (seen : ℕ) (bits z after : Bits) → past seen bits ≡ None → after_eol 0 z ≡ Some after
@@ -108,7 +127,6 @@ module _ (bits : Bits) (from to : ℕ) (after : Bits) (local : IsBody bits from 
   not_within before rest k found e f eol le =
       grind (
         arith,
-        common_steps,
         append_assoc,
         drop_at bits (take from bits ++ before) found (from + length before),
         drop_at bits ((take from bits ++ before) ++ (replicate k false ++ true ∷ [])) rest (from + (length before + (k + 1))),
@@ -166,8 +184,7 @@ line_past_of (Line.broken front fault) here after leaves next stays = next
 pub line_past_by : (settings : DecodeSettings) (reference : Row) (here after : Bits) → past 0 here ≡ Some after
     → ((row : Row) (rest : Bits) → line_here settings reference here ≡ Line.whole row rest → length after + 12 ≤ length rest)
     → past 0 (rest_of (line_here settings reference here) here) ≡ Some after
-line_past_by settings reference here after next stays =
-    line_past_of (line_here settings reference here) here after
+line_past_by settings reference here after next stays = line_past_of (line_here settings reference here) here after
     (line_by_leaves settings.encoding settings.strict settings.columns reference here) next stays
 
 -- ---- One-dimensional data
@@ -175,8 +192,7 @@ line_past_by settings reference here after next stays =
 -- the body of a one-dimensional line
 pub body_1d : (settings : DecodeSettings) (bits : Bits) (from to : ℕ) (local : IsLocal settings bits from to)
     → IsBody bits from to local.closes.0
-body_1d settings bits from to local =
-    record { order = local.order; within = local.within; one = local.one; no_eol = local.no_eol; eol = local.closes.1 }
+body_1d settings bits from to local = grind (arith, common_steps)
 
 -- a local body begins such a tail
 pub is_tail : (settings : DecodeSettings) (bits : Bits) (from to : ℕ) (local : IsLocal settings bits from to)
@@ -192,35 +208,21 @@ is_tail settings bits from to local =
 -- the next EOL behind its line is the one behind it
 pub stays_1d : (settings : DecodeSettings) (bits : Bits) (from to : ℕ) (local : IsLocal settings bits from to) (reference : Row)
     → past 0 (rest_of (line_here settings reference (drop from bits)) (drop from bits)) ≡ Some local.closes.0
-stays_1d settings bits from to local reference =
-    line_past_by settings reference (drop from bits) local.closes.0
-    (next_line_is bits from to local.closes.0 (body_1d settings bits from to local))
-    (λ row rest e. local.closes.2 row rest (sym (sought_line_is settings local.encoding local.lenient reference (drop from bits))
-    ∙ e))
+stays_1d settings bits from to local reference = line_past_by settings reference (drop from bits) local.closes.0
+    (next_line_is bits from to local.closes.0 (body_1d settings bits from to local)) (λ row rest e. local.closes.2 row rest
+    (sym (sought_line_is settings local.encoding local.lenient reference (drop from bits)) ∙ e))
 
 -- ---- Two-dimensional data
 
 -- the tag and the body of a line of two-dimensional data
 body_2d : (settings : DecodeSettings) (bits : Bits) (from to : ℕ) (local : IsTaggedBody settings bits from to)
     → IsBody bits from to local.closes.0
-body_2d settings bits from to local = record {
-  order = omega (arith, local.one.1, local.one.2);
-  within = local.within;
-  one = (local.one.0, omega (arith, local.one.1), local.one.2, local.one.3);
-  no_eol = local.no_eol;
-  eol = local.closes.1;
-}
+body_2d settings bits from to local = grind (arith, common_steps)
 
 -- the body alone
 body_behind_tag : (settings : DecodeSettings) (bits : Bits) (from to : ℕ) (local : IsTaggedBody settings bits from to)
     → IsBody bits (suc from) to local.closes.0
-body_behind_tag settings bits from to local = record {
-  order = omega (arith, local.one.1, local.one.2);
-  within = local.within;
-  one = (local.one.0, local.one.1, local.one.2, local.one.3);
-  no_eol = λ place end le le2 eol. local.no_eol place end (omega (arith, le)) le2 eol;
-  eol = local.closes.1;
-}
+body_behind_tag settings bits from to local = grind (arith, common_steps)
 
 -- it begins such a tail
 pub is_tagged_tail : (settings : DecodeSettings) (bits : Bits) (from to : ℕ) (local : IsTaggedBody settings bits from to)
@@ -248,10 +250,8 @@ is_tagged_tail settings bits from to local =
 
 -- the next EOL behind its line, as it is read, is the one behind it
 pub stays_2d : (settings : DecodeSettings) (bits : Bits) (from to : ℕ) (local : IsTaggedBody settings bits from to)
-    (rows : List Row)
-    → Reaches (move_on settings) (first_line settings bits) (sought rows (drop from bits))
+    (rows : List Row) → Reaches (move_on settings) (first_line settings bits) (sought rows (drop from bits))
     → past 0 (rest_of (line_of_turn settings (sought rows (drop from bits))) (drop from bits)) ≡ Some local.closes.0
-stays_2d settings bits from to local rows reached =
-    line_past_by settings (row_before settings.columns rows) (drop from bits) local.closes.0
-    (next_line_is bits from to local.closes.0 (body_2d settings bits from to local))
+stays_2d settings bits from to local rows reached = line_past_by settings (row_before settings.columns rows)
+    (drop from bits) local.closes.0 (next_line_is bits from to local.closes.0 (body_2d settings bits from to local))
     (λ row rest e. local.closes.2 (sought rows (drop from bits)) reached refl row rest e)

@@ -1,10 +1,10 @@
 -- A line that begins before the zeros of an EOL ends before their end, whatever comes after them.
-use Rattle.fax_reading.proofs.Names.{◌≡◌, ℕ, suc, ◌-◌, ◌≤◌, Bool, true, false, cond, leb, List, [], ◌∷◌, ◌++◌, length, replicate}
-use Rattle.fax_reading.proofs.Names.{Option, Some, None, Result, Ok, Err, refl, sym, ap, ◌∙◌, append_assoc, arith, inl, inr, pos}
-use Rattle.fax_reading.proofs.Names.{◌+ℤ◌, cases_lt, lt-ltb, le-ltb, append_cancel_left, Color, Mode, Pass, Horizontal, Vertical}
+use Rattle.fax_reading.proofs.Names.{◌≡◌, ℕ, suc, ◌≤◌, Bool, true, false, cond, leb, List, [], ◌∷◌, ◌++◌, length, replicate}
+use Rattle.fax_reading.proofs.Names.{Option, Some, None, Result, Ok, Err, refl, sym, ap, ◌∙◌, append_assoc, arith, inl, inr}
+use Rattle.fax_reading.proofs.Names.{cases_lt, lt-ltb, le-ltb, append_cancel_left, Color, Mode, Pass, Horizontal, Vertical}
 use Rattle.fax_reading.proofs.Names.{DecodeError, UnexpectedEof, Bits, Code, mode_codes, Has, is_prefix_free, read_code, IsWord}
-use Rattle.fax_reading.proofs.Names.{Turn, Row, opposite, right_of, b1, paint, codes_of, run_turn, run_from, Line, Pen, start}
-use Rattle.fax_reading.proofs.Names.{line_1d, line_2d, place_from, Step, common_steps}
+use Rattle.fax_reading.proofs.Names.{Turn, Row, opposite, paint, codes_of, run_turn, run_from, Line, Pen, start}
+use Rattle.fax_reading.proofs.Names.{line_1d, line_2d, Step, common_steps}
 use Rattle.fax_bits.proofs.BitReading.ZerosInWords.{scan, is_quiet, scan_below, scan-append, quiet_is, word_quiet}
 use Rattle.fax_bits.proofs.BitReading.ZerosInWords.{prefix_of_prefix, codes_free, modes_free}
 use Rattle.fax_bits.proofs.CodeWords.ReadCodes.{read_code_found, read_code_again}
@@ -87,17 +87,9 @@ module _ {V : Type 0} (list : List (Code V)) (free : is_prefix_free list ≡ tru
     where
       by_read_code : (r q : Result (V × Bits) DecodeError) → read_code list (bits ++ x) ≡ r → read_code list (bits ++ y) ≡ q
           → FoundAlike x y r q
-      by_read_code (Ok (v, rest)) (Ok (w, other)) e f =
-          let g = reads_too bits x y v rest inside e in
-          let same : ◌≡◌ {A = Result (V × Bits) DecodeError} (Ok (v, g.0 ++ y)) (Ok (w, other)) = sym g.3 ∙ f in
-          let pairs : (v, g.0 ++ y) ≡ (w, other) = cc in
-          (ap (λ (p : V × Bits). p.0) pairs, (g.0, g.1, g.2, sym (ap (λ (p : V × Bits). p.1) pairs)))
-      by_read_code (Ok (v, rest)) (Err fault) e f =
-          let g = reads_too bits x y v rest inside e in
-          let same : ◌≡◌ {A = Result (V × Bits) DecodeError} (Ok (v, g.0 ++ y)) (Err fault) = sym g.3 ∙ f in cc
-      by_read_code (Err fault) (Ok (w, other)) e f =
-          let g = reads_too bits y x w other inside f in
-          let same : ◌≡◌ {A = Result (V × Bits) DecodeError} (Ok (w, g.0 ++ x)) (Err fault) = sym g.3 ∙ e in cc
+      by_read_code (Ok (v, rest)) (Ok (w, other)) e f = grind (arith, common_steps, reads_too bits x y v rest inside e)
+      by_read_code (Ok (v, rest)) (Err fault) e f = grind (arith, common_steps, reads_too bits x y v rest inside e)
+      by_read_code (Err fault) (Ok (w, other)) e f = grind (arith, common_steps, reads_too bits y x w other inside f)
       by_read_code (Err fault) (Err other) e f = tt
 
   words_in_front : (x y here there : Bits) → InFront x y here there → FoundAlike x y (read_code list here) (read_code list there)
@@ -105,8 +97,7 @@ module _ {V : Type 0} (list : List (Code V)) (free : is_prefix_free list ≡ tru
 
 read_code_alike : (color : Color) (bits x y : Bits) → Inside bits
     → FoundAlike x y (read_code (codes_of color) (bits ++ x)) (read_code (codes_of color) (bits ++ y))
-read_code_alike color bits x y inside = words_alike (codes_of color) (codes_free color)
-    (λ n word has. inl (color, n, has)) bits x y inside
+read_code_alike color bits x y inside = grind (arith, common_steps, words_alike, codes_free)
 
 read_mode_alike : (x y here there : Bits) → InFront x y here there
     → FoundAlike x y (read_code mode_codes here) (read_code mode_codes there)
@@ -134,10 +125,9 @@ module _ (x y : Bits) where
 
   run_alike : (color : Color) (total : ℕ) (here there : Bits) → InFront x y here there
       → FoundAlike x y (run_from color (total, here)) (run_from color (total, there))
-  run_alike color total here there front =
-      repeated_follows (run_turn color) (Err UnexpectedEof) size (run_shrinks color) (run_turn color) (Err UnexpectedEof) size
-      (run_shrinks color) Runs (FoundAlike x y) (states_alike color _) (suc (length here)) (suc (length there)) (total, here)
-      (total, there) (omega arith) (omega arith) (refl, front)
+  run_alike color total here there front = repeated_follows (run_turn color) (Err UnexpectedEof) size (run_shrinks color)
+      (run_turn color) (Err UnexpectedEof) size (run_shrinks color) Runs (FoundAlike x y) (states_alike color _)
+      (suc (length here)) (suc (length there)) (total, here) (total, there) (omega arith) (omega arith) (refl, front)
 
   -- ---- Lines
   abbrev pub LineAlike : Line → Line → Type 0
@@ -178,11 +168,10 @@ module _ (x y : Bits) where
   -- a line of two data at one position, inside, is the same, and ends inside
   pub line_1d_alike : (columns : ℕ) (here there : Bits) → InFront x y here there
       → LineAlike (line_1d false columns here) (line_1d false columns there)
-  line_1d_alike columns here there front =
-      repeated_follows (step_1d false columns) (Line.broken [] UnexpectedEof) pen_left (step_1d_shrinks false columns)
-      (step_1d false columns) (Line.broken [] UnexpectedEof) pen_left (step_1d_shrinks false columns) Pens LineAlike
-      (pens_alike columns _) (suc (length here)) (suc (length there)) (start here) (start there) (omega arith) (omega arith)
-      ([], Color.White, here, there, refl, refl, front)
+  line_1d_alike columns here there front = repeated_follows (step_1d false columns) (Line.broken [] UnexpectedEof) pen_left
+      (step_1d_shrinks false columns) (step_1d false columns) (Line.broken [] UnexpectedEof) pen_left
+      (step_1d_shrinks false columns) Pens LineAlike (pens_alike columns _) (suc (length here)) (suc (length there))
+      (start here) (start there) (omega arith) (omega arith) ([], Color.White, here, there, refl, refl, front)
 
   -- the same of a two-dimensional line, against one reference row
   module _ (columns : ℕ) (reference : Row) (rest : Pen → Line) where
@@ -220,16 +209,7 @@ module _ (x y : Bits) where
         second : (s t : Pen) → Pens s t → Both (run_then false columns s Turn.next) (run_then false columns t Turn.next)
         second s t (more, color2, here2, there2, a, b, still) = rw (a, b)
             (run_then_alike more color2 here2 there2 Turn.next still (λ u v pens. pens))
-    mode_alike front color here there (Vertical k) infront = by_result
-        (place_from (length front) (pos (b1 reference (right_of front) color) +ℤ k))
-      where
-        by_result : (r : Result ℕ DecodeError)
-            → Both (try front r (λ place. try front (paint false columns front color (place - length front))
-            (λ more. Turn.next (record { front = more; color = opposite color; rest = here }))))
-            (try front r (λ place. try front (paint false columns front color (place - length front))
-            (λ more. Turn.next (record { front = more; color = opposite color; rest = there }))))
-        by_result (Ok place) = (_, opposite color, here, there, refl, refl, infront)
-        by_result (Err fault) = refl
+    mode_alike front color here there (Vertical k) infront = grind (arith, common_steps)
 
     step_2d_alike : (s t : Pen) → Pens s t → Both (step_2d false columns reference s) (step_2d false columns reference t)
     step_2d_alike s t (front, color, here, there, a, b, infront) =
@@ -245,8 +225,7 @@ module _ (x y : Bits) where
             (record { front = front; color = color; rest = mode.1 }) mode.0)
 
         by_result : (r q : Result (Mode × Bits) DecodeError) → FoundAlike x y r q → Both (step r) (step q)
-        by_result (Ok (mode, left)) (Ok (same_mode, other)) (same, still) =
-            rw (← same) (mode_alike front color left other mode still)
+        by_result (Ok (mode, left)) (Ok (same_mode, other)) (same, still) = grind (arith, common_steps, mode_alike)
         by_result (Ok found) (Err fault) alike = absurd alike
         by_result (Err fault) (Ok found) alike = absurd alike
         by_result (Err fault) (Err other) alike = refl

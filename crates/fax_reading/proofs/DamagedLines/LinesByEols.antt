@@ -8,14 +8,12 @@ use Rattle.fax_reading.proofs.Names.{line_1d, after_eol, all_eols, Progress, End
 use Rattle.fax_reading.proofs.Names.{begins_line, later_starts, starts, row_at, StaysBefore, IsEolAt, LinesByEols, common_steps}
 use Rattle.fax_reading.proofs.{Readings.GapsAndRows.ending_t4, Readings.RowsAndGaps.after_row, Readings.RowsAndGaps.unless_over}
 use Rattle.fax_reading.proofs.DamagedLines.PastEol.{past, past-eol}
-use Rattle.fax_bits.proofs.BitReading.ConsecutiveEols.{all_eols-some}
+use Rattle.fax_bits.proofs.BitReading.ConsecutiveEols.{all_eols-some, after_eol_shorter, count_shorter, counts_plain}
 use Rattle.fax_reading.proofs.DamagedLines.LineTails.{line_past_of}
 use Rattle.fax_reading.proofs.DamagedLines.SoughtTurns.{sought, rest_of, found_next, after_row_past, move_line}
 use Rattle.fax_reading.proofs.DrawingLines.LinesLeaveBits.{line_1d_leaves}
 use Rattle.fax_bits.proofs.Repetition.Repeated.{after_turn, repeated_turn, repeated_same}
-use Rattle.fax_reading.proofs.Readings.TurnsMoveOn.{eols_end, left_to_read}
-use Rattle.fax_bits.proofs.BitReading.ConsecutiveEols.{after_eol_shorter, count_shorter, counts_plain}
-use Rattle.fax_reading.proofs.Readings.TurnsMoveOn.{left_below, move_shrinks}
+use Rattle.fax_reading.proofs.Readings.TurnsMoveOn.{eols_end, left_to_read, left_below, move_shrinks}
 
 -- what follows the next EOL is shorter
 pub past_shorter : (seen : ℕ) (here after : Bits) → past seen here ≡ Some after → length after < length here
@@ -105,9 +103,8 @@ module _ (settings : DecodeSettings) (encoding : settings.encoding ≡ Group3_1D
           (here ∷ later_starts 0 here) → IsPrefix (rows ++ map (row_at settings.columns) (here ∷ later_starts 0 here)) (rest_end
           (sought rows here)).rows) → (o : Option Bits) → past 0 here ≡ o → IsPrefix (rows ++ map (row_at settings.columns)
           (here ∷ later_starts 0 here)) (after_turn rest_end (after_row settings (sought (rows ++ first ∷ []) rest))).rows
-      by_past on None e = rw (starts-none 0 here e)
-          (turn_extends rest_end extends (rows ++ first ∷ []) (after_row settings (sought (rows ++ first ∷ []) rest))
-          (after_row_keeps settings (sought (rows ++ first ∷ []) rest)))
+      by_past on None e = rw (starts-none 0 here e) (turn_extends rest_end extends (rows ++ first ∷ [])
+          (after_row settings (sought (rows ++ first ∷ []) rest)) (after_row_keeps settings (sought (rows ++ first ∷ []) rest)))
       by_past on (Some after) e = go (all_eols after).1 refl
         where
           others : List Row
@@ -115,8 +112,7 @@ module _ (settings : DecodeSettings) (encoding : settings.encoding ≡ Group3_1D
 
           turn : (there : Bits) → (all_eols after).1 ≡ there → after_row settings (sought others rest)
               ≡ cond (at_end there) (ends_with (sought others rest) (Ok there)) (Turn.next (sought others there))
-          turn there is =
-              after_row_past settings encoding lenient others rest after (not_met (length others))
+          turn there is = after_row_past settings encoding lenient others rest after (not_met (length others))
               (line_past settings.columns here after (All-head (StaysBefore settings.columns) here (later_starts 0 here) stay) e)
               ∙ over_is others rest (suc (all_eols after).0) (all_eols after).1
               ∙ ap (λ (x : Bits). cond (at_end x) (ends_with (sought others rest) (Ok x)) (Turn.next (sought others x))) is

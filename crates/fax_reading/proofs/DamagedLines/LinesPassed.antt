@@ -1,12 +1,12 @@
 -- Two-dimensional lines that are passed without their reference rows.
-use Rattle.fax_reading.proofs.Names.{◌≡◌, ℕ, zero, suc, ◌+◌, ◌-◌, ◌<◌, ◌≤◌, ◌⊎◌, Bool, cond, true, false, [], ◌∷◌, length, drop}
-use Rattle.fax_reading.proofs.Names.{Option, Some, None, Result, Ok, Err, refl, sym, ap, subst, ◌∙◌, arith, inl, inr, ◌↔◌, Color}
-use Rattle.fax_reading.proofs.Names.{White, Mode, Pass, Horizontal, Vertical, DecodeError, DecodeSettings, Group3_2D, Bits}
-use Rattle.fax_reading.proofs.Names.{mode_codes, read_code, after_eol, next_eol, one_more, pass_last_tag, tagged_eols, ReadsModes}
-use Rattle.fax_reading.proofs.Names.{IsLine2D, ComesBefore1D, ComeBefore1D, IsFollowedBy, behind_mode, behind_read, behind_word}
-use Rattle.fax_reading.proofs.Names.{behind_first_run, behind_second_run, opposite, read_run}
+use Rattle.fax_reading.proofs.Names.{common_steps, ◌≡◌, ℕ, zero, suc, ◌+◌, ◌-◌, ◌<◌, ◌≤◌, ◌⊎◌, Bool, cond, true, false, [], ◌∷◌}
+use Rattle.fax_reading.proofs.Names.{length, drop, Option, Some, None, Result, Ok, Err, refl, sym, ap, subst, ◌∙◌, arith, inl}
+use Rattle.fax_reading.proofs.Names.{inr, ◌↔◌, Color, White, Mode, Pass, Horizontal, Vertical, DecodeError, DecodeSettings}
+use Rattle.fax_reading.proofs.Names.{Group3_2D, Bits, mode_codes, read_code, after_eol, next_eol, one_more, pass_last_tag}
+use Rattle.fax_reading.proofs.Names.{tagged_eols, ReadsModes, IsLine2D, ComesBefore1D, ComeBefore1D, IsFollowedBy, behind_mode}
+use Rattle.fax_reading.proofs.Names.{behind_read, behind_word, behind_first_run, behind_second_run, opposite, read_run}
 use Rattle.fax_bits.proofs.CodeWords.ReadRuns.{read_code_shorter, run_shorter}
-use Rattle.fax_reading.proofs.DamagedLines.AnyReference.{LeftBehind, left_behind}
+use Rattle.fax_reading.proofs.DamagedLines.AnyReference.{left_behind}
 use Rattle.fax_bits.proofs.BitReading.ConsecutiveEols.{all_tagged-some, all_tagged-none}
 use Rattle.fax_reading.proofs.DrawingLines.ReadLines.{modes_not_empty}
 
@@ -54,44 +54,27 @@ ReadFurther start color here = ((last : Bits) → ReadsModes color here last →
 
 pub further : (start : Bits) (color : Color) (here : Bits) (next : Color) (rest : Bits) → ReadFurther start color here
     → behind_mode color here ≡ Some (next, rest) → ReadFurther start next rest
-further start color here next rest so_far found = (
-  λ last reads. so_far.0 last (ReadsModes.mode next rest found reads),
-  λ last reads. by_last last (so_far.1 last reads),
-)
+further start color here next rest so_far found =
+    (λ last reads. so_far.0 last (ReadsModes.mode next rest found reads), λ last reads. by_last last (so_far.1 last reads))
   where
     less : length rest < length here
     less = behind_mode_shorter color here (next, rest) found
 
     by_last : (last : Bits) → ReadsModes color here last ⊎ (length here ≤ length last)
         → ReadsModes next rest last ⊎ (length rest ≤ length last)
-    by_last last (inl reads) = elim (subst (LeftBehind here last) found (left_behind color here last reads)) [
-      | inl e ↦ inr (omega (arith, less, ap length e))
-      | inr more ↦ inl more
-    ]
+    by_last last (inl reads) = grind (arith, common_steps, left_behind, less)
     by_last last (inr le) = inr (omega (arith, less, le))
 
 -- where no more is read all were
 pub all_read : (start : Bits) (color : Color) (here : Bits) → ReadFurther start color here → behind_mode color here ≡ None
     → (last : Bits) → ReadsModes White start last → length here ≤ length last
-all_read start color here so_far none last reads = in_each_case (so_far.1 last reads)
-  where
-    in_each_case : ReadsModes color here last ⊎ (length here ≤ length last) → length here ≤ length last
-    in_each_case (inl more) = omega (arith, ap length (subst (LeftBehind here last) none (left_behind color here last more)))
-    in_each_case (inr le) = le
+all_read start color here so_far none last reads = grind (arith, common_steps, left_behind)
 
 -- ---- A line that is passed
 pub line_passed : (here line found after rest : Bits) → here ≡ false ∷ line → after_eol 0 here ≡ None → next_eol here ≡ Some found
     → after_eol 0 found ≡ Some after → ((last : Bits) → ReadsModes White line last → length rest ≤ length last)
     → length after + 12 ≤ length rest → (tagged : Bits) × (here ≡ false ∷ tagged) × IsLine2D tagged found
-line_passed here line found after rest is none next eol all le = (
-  line,
-  is,
-  record {
-    no_eol = ap (after_eol 0) (sym is) ∙ none;
-    next_is = ap next_eol (sym is) ∙ next;
-    ends = (after, eol, λ last reads. omega (arith, all last reads, le));
-  },
-)
+line_passed here line found after rest is none next eol all le = grind (arith, common_steps)
 
 -- where there is an EOL, it is what was passed
 pub eol_passed : (is_one : Bool) (found rest new : Bits) → after_eol 0 found ≡ Some rest
@@ -105,11 +88,7 @@ eol_passed false found rest new e f = absurd (let none : ◌≡◌ {A = Option B
 pub before_1d : (settings : DecodeSettings) (here after rest : Bits) (count : ℕ)
     → after_eol 0 here ≡ Some after → tagged_eols here ≡ (count, rest) → ((settings.end_of_block ≡ true) × (6 ≤ count))
     ⊎ (((line : Bits) × (rest ≡ true ∷ line)) ⊎ (rest ≡ [])) → ComesBefore1D settings here
-before_1d settings here after rest count eol counted ends = (
-  (after, eol),
-  subst (λ (c : ℕ × Bits). ((settings.end_of_block ≡ true) × (6 ≤ c.0))
-      ⊎ (((line : Bits) × (c.1 ≡ true ∷ line)) ⊎ (c.1 ≡ []))) (sym counted) ends,
-)
+before_1d settings here after rest count eol counted ends = grind (arith, common_steps)
 
 no_tag_of_one : (rest line other : Bits) → rest ≡ false ∷ line → rest ≡ true ∷ other → ⊥
 no_tag_of_one rest line other e f = let both : false ∷ line ≡ true ∷ other = sym e ∙ f in cc
@@ -119,14 +98,7 @@ not_over rest line e f = let both : ◌≡◌ {A = Bits} (false ∷ line) [] = s
 
 pub not_before_1d : (settings : DecodeSettings) (here rest line : Bits) (count : ℕ) → tagged_eols here ≡ (count, rest)
     → (settings.end_of_block ≡ true → 6 ≤ count → ⊥) → rest ≡ false ∷ line → ComesBefore1D settings here → ⊥
-not_before_1d settings here rest line count counted no_rtc tag (eol, ends) =
-    in_each_case (subst (λ (c : ℕ × Bits). ((settings.end_of_block ≡ true) × (6 ≤ c.0))
-    ⊎ (((line : Bits) × (c.1 ≡ true ∷ line)) ⊎ (c.1 ≡ []))) counted ends)
-  where
-    in_each_case : ((settings.end_of_block ≡ true) × (6 ≤ count)) ⊎ (((line : Bits) × (rest ≡ true ∷ line)) ⊎ (rest ≡ [])) → ⊥
-    in_each_case (inl (block, six)) = no_rtc block six
-    in_each_case (inr (inl (other, e))) = no_tag_of_one rest line other tag e
-    in_each_case (inr (inr e)) = not_over rest line tag e
+not_before_1d settings here rest line count counted no_rtc tag (eol, ends) = grind (arith, common_steps, no_tag_of_one, not_over)
 
 -- a two-dimensional line is none of these
 line_not_before_1d : (settings : DecodeSettings) (here line next : Bits) → after_eol 0 here ≡ Some (false ∷ line)
@@ -143,15 +115,11 @@ CountsRows settings start rows here =
     ((lines : ℕ) → ComeBefore1D settings lines start → (left : ℕ) × (lines ≡ left + (rows - 1)) × ComeBefore1D settings left here)
 
 same_line : (line other : Bits) (o : Option Bits) → o ≡ Some (false ∷ line) → o ≡ Some (false ∷ other) → line ≡ other
-same_line line other o e f =
-    let both : ◌≡◌ {A = Option Bits} (Some (false ∷ line)) (Some (false ∷ other)) = sym e ∙ f in
-    cc
+same_line line other o e f = grind (arith, common_steps)
 
 same_next : (line other next found : Bits) → line ≡ other → next_eol (false ∷ line) ≡ Some next
     → next_eol (false ∷ other) ≡ Some found → next ≡ found
-same_next line other next found same e f =
-    let both : ◌≡◌ {A = Option Bits} (Some next) (Some found) = sym e ∙ ap (λ (b : Bits). next_eol (false ∷ b)) same ∙ f in
-    cc
+same_next line other next found same e f = grind (arith, common_steps)
 
 pub counted_on : (settings : DecodeSettings) (start here line next : Bits) (rows : ℕ) → CountsRows settings start rows here
     → after_eol 0 here ≡ Some (false ∷ line) → IsLine2D line next → CountsRows settings start (rows + 1) next
@@ -166,36 +134,26 @@ counted_on settings start here line next rows so_far e is = (
     by_left : (lines : ℕ) → (left : ℕ) × (lines ≡ left + (rows - 1)) × ComeBefore1D settings left here
         → (left : ℕ) × (lines ≡ left + (rows + 1 - 1)) × ComeBefore1D settings left next
     by_left lines (zero, same, comes) = absurd (line_not_before_1d settings here line next e is comes)
-    by_left lines (suc left, same, (other, found, f, is2, more)) = (
-      left,
-      omega (arith, same, so_far.0),
-      subst (ComeBefore1D settings left)
-          (same_next other line found next (same_line other line (after_eol 0 here) f e) is2.next_is is.next_is) more,
-    )
+    by_left lines (suc left, same, (other, found, f, is2, more)) = grind (arith, common_steps, same_next, same_line)
 
 pub last_line_counted : (settings : DecodeSettings) (start here : Bits) (rows : ℕ) → CountsRows settings start rows here
     → ComesBefore1D settings here → (lines : ℕ) → (Some rows ≡ Some (suc lines)) ↔ ComeBefore1D settings lines start
-last_line_counted settings start here rows so_far comes lines = (
-  λ e. subst (λ (n : ℕ). ComeBefore1D settings n start) (less e) (so_far.1 0 comes),
-  λ given. by_left (so_far.2 lines given),
-)
+last_line_counted settings start here rows so_far comes lines =
+    (λ e. subst (λ (n : ℕ). ComeBefore1D settings n start) (less e) (so_far.1 0 comes), λ given. by_left (so_far.2 lines given))
   where
     less : Some rows ≡ Some (suc lines) → 0 + (rows - 1) ≡ lines
     less e = let same : rows ≡ suc lines = cc in omega (arith, same)
 
     by_left : (left : ℕ) × (lines ≡ left + (rows - 1)) × ComeBefore1D settings left here → Some rows ≡ Some (suc lines)
-    by_left (zero, same, again) =
-        ap (λ (n : ℕ). Some n) (let rows_are : rows ≡ suc lines = omega (arith, same, so_far.0) in rows_are)
+    by_left (zero, same, again) = grind (arith, common_steps)
     by_left (suc left, same, (line, next, e, is, more)) = absurd (line_not_before_1d settings here line next e is comes)
 
 -- if none of these is here, there is no number of lines
 pub counted_none : (settings : DecodeSettings) (start here : Bits) (rows : ℕ) → CountsRows settings start rows here
     → (ComesBefore1D settings here → ⊥) → ((line next : Bits) → after_eol 0 here ≡ Some (false ∷ line) → IsLine2D line next → ⊥)
     → (lines : ℕ) → (None ≡ Some (suc lines)) ↔ ComeBefore1D settings lines start
-counted_none settings start here rows so_far no_end no_line lines = (
-  λ e. absurd cc,
-  λ given. absurd (by_left (so_far.2 lines given)),
-)
+counted_none settings start here rows so_far no_end no_line lines =
+    (λ e. absurd cc, λ given. absurd (by_left (so_far.2 lines given)))
   where
     by_left : (left : ℕ) × (lines ≡ left + (rows - 1)) × ComeBefore1D settings left here → ⊥
     by_left (zero, same, comes) = no_end comes
@@ -219,10 +177,7 @@ pub reaches_if : (settings : DecodeSettings) (bits : Bits) (to : ℕ) (result : 
     → settings.strict ≡ false → to ≤ length bits
     → ((lines : ℕ) → (result ≡ Some (suc lines)) ↔ ComeBefore1D settings lines (drop to bits))
     → (lines : ℕ) → (result ≡ Some (suc lines)) ↔ IsFollowedBy settings bits to lines
-reaches_if settings bits to result encoding lenient within counts lines = (
-  λ e. record { encoding = encoding; lenient = lenient; within = within; follow = (counts lines).0 e },
-  λ given. (counts lines).1 given.follow,
-)
+reaches_if settings bits to result encoding lenient within counts lines = grind (arith, common_steps)
 
 pub reaches_none : (settings : DecodeSettings) (bits : Bits) (to : ℕ) → ((lines : ℕ) → IsFollowedBy settings bits to lines → ⊥)
     → (lines : ℕ) → (None ≡ Some (suc lines)) ↔ IsFollowedBy settings bits to lines

@@ -1,17 +1,16 @@
 -- What passing lines counts.
-use Rattle.fax_reading.proofs.Names.{◌≡◌, ℕ, suc, ◌+◌, ◌*◌, ◌<◌, ◌≤◌, true, false, List, [], ◌∷◌, ◌++◌, length, drop, Option}
-use Rattle.fax_reading.proofs.Names.{Some, None, Result, Ok, Err, refl, sym, ap, subst, ◌∙◌, arith, none-some, inr, length-append}
-use Rattle.fax_reading.proofs.Names.{Color, Mode, Pass, Horizontal, Vertical, DecodeError, Bits, mode_codes, read_code, opposite}
-use Rattle.fax_reading.proofs.Names.{read_run, after_eol, next_eol, one_more, pass_last_tag, tagged_eols, behind_mode}
-use Rattle.fax_reading.proofs.Names.{behind_read, behind_word, behind_first_run, behind_second_run, looked, mode_found}
-use Rattle.fax_reading.proofs.Names.{runs_found, runs_found_behind, second_run_found, run_found, word_found, most_for_lines}
-use Rattle.fax_reading.proofs.Names.{IsLine2D}
+use Rattle.fax_reading.proofs.Names.{common_steps, ◌≡◌, ℕ, suc, ◌+◌, ◌*◌, ◌<◌, ◌≤◌, true, false, List, [], ◌∷◌, ◌++◌, length}
+use Rattle.fax_reading.proofs.Names.{drop, Option, Some, None, Result, Ok, Err, refl, sym, ap, subst, ◌∙◌, arith, none-some, inr}
+use Rattle.fax_reading.proofs.Names.{length-append, Color, Mode, Pass, Horizontal, Vertical, DecodeError, Bits, mode_codes}
+use Rattle.fax_reading.proofs.Names.{read_code, opposite, read_run, after_eol, next_eol, tagged_eols}
+use Rattle.fax_reading.proofs.Names.{behind_mode, behind_read, behind_word, behind_first_run, behind_second_run, looked}
+use Rattle.fax_reading.proofs.Names.{mode_found, runs_found, runs_found_behind, second_run_found, run_found, word_found}
+use Rattle.fax_reading.proofs.Names.{most_for_lines, IsLine2D}
 use Rattle.fax_bits.proofs.BitReading.ZeroRuns.{looked_eol}
 use Rattle.fax_reading.proofs.CodeWords.WordsFound.{WordsStand, RunEnds, stands_none, stands_append, word_stands, no_word_stands}
 use Rattle.fax_reading.proofs.CodeWords.WordsFound.{run_stands}
 use Rattle.fax_reading.proofs.DamagedLines.LineTails.{after_eol_more}
-use Rattle.fax_bits.proofs.BitReading.ConsecutiveEols.{all_tagged-some, all_tagged-none}
-use Rattle.fax_bits.proofs.BitReading.ConsecutiveEols.{next_eol_found}
+use Rattle.fax_bits.proofs.BitReading.ConsecutiveEols.{all_tagged-some, next_eol_found}
 use Rattle.fax_reading.proofs.Work.EolsPassed.{looked_most, next_eol_within}
 use Rattle.fax_reading.proofs.Work.WordsPay.{stands_count, stands_before_eol}
 
@@ -29,12 +28,7 @@ second_ends color (Err fault) rest ends = tt
 
 second_stands : (color : Color) (r : Result (ℕ × Bits) DecodeError) (middle : Bits) → RunEnds r middle
     → (rest : Bits) × WordsStand middle (second_run_found color r) rest × ModeEnds (behind_first_run color r) rest
-second_stands color (Ok (n, left)) middle ends =
-    let run = run_stands (opposite color) 0 left in (
-      run.0,
-      subst (λ (b : Bits). WordsStand b (run_found (opposite color) (0, left)) run.0) ends run.1,
-      second_ends color (read_run (opposite color) left) run.0 run.2,
-    )
+second_stands color (Ok (n, left)) middle ends = grind (arith, common_steps, run_stands (opposite color) 0 left, second_ends)
 second_stands color (Err fault) middle ends = (middle, stands_none middle, tt)
 
 runs_stand : (color : Color) (mode : Mode) (here : Bits) → (rest : Bits) × WordsStand here (runs_found color mode here) rest
@@ -54,9 +48,8 @@ mode_words_stand : (color : Color) (here : Bits) → (rest : Bits) × WordsStand
     × ModeEnds (behind_mode color here) rest
 mode_words_stand color here = by_read_code (read_code mode_codes here) refl
   where
-    by_read_code : (r : Result (Mode × Bits) DecodeError) → read_code mode_codes here ≡ r
-        → (rest : Bits) × WordsStand here (word_found mode_codes here ++ runs_found_behind color r) rest
-        × ModeEnds (behind_read color r) rest
+    by_read_code : (r : Result (Mode × Bits) DecodeError) → read_code mode_codes here ≡ r → (rest : Bits)
+        × WordsStand here (word_found mode_codes here ++ runs_found_behind color r) rest × ModeEnds (behind_read color r) rest
     by_read_code (Ok (mode, left)) e =
         let runs = runs_stand color mode left in (
           runs.0,
@@ -126,14 +119,8 @@ looked_before_eol : (seen : ℕ) (here next : Bits) → after_eol seen here ≡ 
     → looked here + length next ≤ length here
 looked_before_eol seen [] next none sought = absurd cc
 looked_before_eol seen (true ∷ here) next none sought = omega (arith, (next_eol_found here next sought).0)
-looked_before_eol seen (false ∷ here) next none sought = by_after_eol (looked_before_eol (suc seen) here next none)
-    (after_eol 0 (false ∷ here)) refl
-  where
-    by_after_eol : (next_eol here ≡ Some next → looked here + length next ≤ length here) → (o : Option Bits)
-        → after_eol 0 (false ∷ here) ≡ o → looked (false ∷ here) + length next ≤ length (false ∷ here)
-    by_after_eol on None is = omega (arith, on (rw (is, next_eol) at sought))
-    by_after_eol on (Some after) is =
-        absurd (none-some after (sym none ∙ after_eol_more 0 seen (false ∷ here) after (omega arith) is))
+looked_before_eol seen (false ∷ here) next none sought =
+    grind (arith, common_steps, none-some, after_eol_more, looked_before_eol (suc seen) here next none)
 
 -- behind the tag the next EOL is the same
 pub next_behind_tag : (line next : Bits) → after_eol 0 (false ∷ line) ≡ None → next_eol (false ∷ line) ≡ Some next
@@ -147,16 +134,7 @@ pub line_work : (old line next after : Bits) (start at_tag sought read now : ℕ
     → ((found end : Bits) → next_eol line ≡ Some found → after_eol 0 found ≡ Some end → now + length end ≤ read + length line)
     → now + 3 * length next ≤ start + 3 * length old + 3 * looked next
 line_work old line next after start at_tag sought read now is none found eol tag passed again modes =
-    omega (
-      arith,
-      ap length is,
-      tag,
-      passed,
-      again,
-      looked_eol 0 next after eol,
-      looked_before_eol 0 old next none found,
-      modes next after (next_behind_tag line next (ap (after_eol 0) (sym is) ∙ none) (ap next_eol (sym is) ∙ found)) eol,
-    )
+    grind (arith, looked_eol 0 next after eol, looked_before_eol 0 old next none found)
 
 -- ---- A line after another
 
@@ -170,17 +148,9 @@ pub line_paid : (start here line next rest : Bits) (count begun before eol tags 
     → tags + 2 * length rest ≤ eol + 2 * length here + 3 + looked (drop 1 rest)
     → now + 3 * length next ≤ tags + 3 * length (false ∷ line) + 3 * looked next → LinesPaid start next begun now
 line_paid start here line next rest count begun before eol tags now paid e is counted read ahead passed =
-    let one : tagged_eols here ≡ (1, false ∷ line) =
-    ap pass_last_tag (all_tagged-some here (false ∷ line) e ∙ ap one_more (all_tagged-none (false ∷ line) is.no_eol)) in
-    let same : rest ≡ false ∷ line = ap (λ (c : ℕ × Bits). c.1) (sym counted ∙ one) in
-    omega (
+    grind (
       arith,
-      paid,
-      read,
-      ahead,
-      passed,
-      ap length same,
-      ap (λ (b : Bits). looked (drop 1 b)) same,
+      all_tagged-some here (false ∷ line) e,
       looked_eol 0 here (false ∷ line) e,
       looked_before_eol 0 (false ∷ line) next is.no_eol is.next_is,
     )
@@ -196,8 +166,7 @@ looked_behind (bit ∷ rest) = omega (arith, looked_most rest)
 
 -- an EOL, and no line behind it
 pub lines_end_behind : (start here behind rest : Bits) (begun before eol tags now : ℕ) → LinesPaid start here begun before
-    → after_eol 0 here ≡ Some behind → eol ≡ before + looked here
-    → tags + 2 * length rest ≤ eol + 2 * length here + 3 + looked (drop 1 rest) → now ≤ tags + 3 * length behind
-    → now ≤ begun + most_for_lines (length start)
+    → after_eol 0 here ≡ Some behind → eol ≡ before + looked here → tags + 2 * length rest ≤ eol + 2 * length here + 3 + looked
+    (drop 1 rest) → now ≤ tags + 3 * length behind → now ≤ begun + most_for_lines (length start)
 lines_end_behind start here behind rest begun before eol tags now paid e read ahead passed =
     omega (arith, paid, read, ahead, passed, looked_eol 0 here behind e, looked_behind rest)

@@ -1,10 +1,8 @@
 -- What follows the next EOL.
 use Rattle.fax_reading.proofs.Names.{◌≡◌, ℕ, suc, ◌+◌, ◌≤◌, true, false, cond, leb, [], ◌∷◌, ◌++◌, length, Option, Some, None}
-use Rattle.fax_reading.proofs.Names.{refl, ap, arith, cases_lt, lt-leb, le-leb, length-append, Bits, after_eol}
-use Rattle.fax_reading.proofs.Names.{next_eol, common_steps, Bool, DecodeSettings}
-use Rattle.fax_reading.proofs.Names.{EncodingMode, Group4, Group3_1D, Group3_2D, pass_last_tag, eols_by, eols_here, ◌∙◌}
-use Rattle.fax_bits.proofs.BitReading.ConsecutiveEols.{eols-none}
-use Rattle.fax_bits.proofs.BitReading.ConsecutiveEols.{all_eols-none, all_tagged-none}
+use Rattle.fax_reading.proofs.Names.{refl, ap, arith, cases_lt, lt-leb, le-leb, length-append, Bits, after_eol, next_eol}
+use Rattle.fax_reading.proofs.Names.{common_steps, DecodeSettings, eols_here}
+use Rattle.fax_bits.proofs.BitReading.ConsecutiveEols.{eols-none, all_eols-none, all_tagged-none}
 
 -- what follows the next EOL that ends further on, given the number of zeros just before
 abbrev pub past : ℕ → Bits → Option Bits
@@ -33,26 +31,11 @@ then_after (Some found) = after_eol 0 found
 pub past_is : (here : Bits) → past 0 here ≡ then_after (next_eol here)
 past_is [] = refl
 past_is (true ∷ here) = past_is here
-past_is (false ∷ here) = by_after_eol (past_is here) (after_eol 0 (false ∷ here)) refl
-  where
-    by_after_eol : past 0 here ≡ then_after (next_eol here) → (o : Option Bits) → after_eol 0 (false ∷ here) ≡ o
-        → past 0 (false ∷ here) ≡ then_after (next_eol (false ∷ here))
-    by_after_eol same given e = grind (arith, common_steps, past-eol, past-none)
+past_is (false ∷ here) = grind (arith, common_steps, past-eol, past-none, past_is here)
 
 -- no EOL is counted where there is none
 pub eols_here-none : (settings : DecodeSettings) (here : Bits) → after_eol 0 here ≡ None → eols_here settings here ≡ (0, here)
-eols_here-none settings here e = by_encoding settings.encoding settings.end_of_block
-  where
-    no_tag : (bits : Bits) → pass_last_tag (0, bits) ≡ (0, bits)
-    no_tag [] = refl
-    no_tag (true ∷ bits) = refl
-    no_tag (false ∷ bits) = refl
-
-    by_encoding : (encoding : EncodingMode) (block : Bool) → eols_by encoding block here ≡ (0, here)
-    by_encoding Group3_1D block = all_eols-none here e
-    by_encoding Group3_2D block = ap pass_last_tag (all_tagged-none here e) ∙ no_tag here
-    by_encoding Group4 true = eols-none 2 here e
-    by_encoding Group4 false = all_eols-none here e
+eols_here-none settings here e = grind (arith, common_steps, all_eols-none, all_tagged-none, eols-none)
 
 -- the next EOL is further on in the same bits
 pub next_eol_leaves : (here found : Bits) → next_eol here ≡ Some found → (before : Bits) × (here ≡ before ++ found)

@@ -1,66 +1,140 @@
 -- Two runs over data that differ in one line.
-use Rattle.fax_reading.proofs.Names.{◌≡◌, ℕ, zero, suc, ◌+◌, ◌-◌, ◌%◌, ◌<◌, ◌≤◌, Bool, true, false, cond, not, ◌&&◌, ◌||◌, eqb}
-use Rattle.fax_reading.proofs.Names.{List, [], ◌∷◌, ◌++◌, length, replicate, Option, Some, None, Ok, Err, refl, sym, ap, subst}
+use Rattle.fax_reading.proofs.Names.{common_steps, ◌≡◌, ℕ, zero, suc, ◌+◌, ◌%◌, ◌<◌, ◌≤◌, Bool, true, false, cond, not, ◌&&◌}
+use Rattle.fax_reading.proofs.Names.{◌||◌, eqb, List, [], ◌∷◌, ◌++◌, length, Option, Some, None, Ok, Err, refl, sym, ap, subst}
 use Rattle.fax_reading.proofs.Names.{◌∙◌, append_assoc, arith, ◌⊎◌, inl, inr, cases_Bool, and_parts, eqb-true, length-append}
 use Rattle.fax_reading.proofs.Names.{length-drop, append_cancel_right, DecodeError, InvalidCode, EncodingMode, Group4, Group3_1D}
-use Rattle.fax_reading.proofs.Names.{Group3_2D, DecodeSettings, Bits, Turn, Row, Line, after_eol, all_eols, next_eol, past_tag}
+use Rattle.fax_reading.proofs.Names.{Group3_2D, DecodeSettings, Bits, Turn, Row, Line, after_eol, next_eol, past_tag}
 use Rattle.fax_reading.proofs.Names.{is_end_of_block, is_over, misses_eol, Progress, Ending, Move, row_before, aligned, limit_met}
-use Rattle.fax_reading.proofs.Names.{at_end, ends_with, line_by, eols_by, eols_here, line_here, line_of_turn, after_line, move_on}
-use Rattle.fax_reading.proofs.Names.{row_of}
-use Rattle.fax_bits.proofs.BitReading.ZerosInWords.{scan}
+use Rattle.fax_reading.proofs.Names.{at_end, ends_with, eols_by, eols_here, line_here, line_of_turn, after_line, move_on, row_of}
+use Rattle.fax_reading.proofs.Names.{repaired, eols, eols_with_tags, ◌≢◌}
 use Rattle.fax_bits.proofs.Repetition.Repeated.{Follows}
 use Rattle.fax_reading.proofs.DamagedLines.EolsAlike.{Closes, closes_inside, inside_after, leaves_after, leaves_length}
 use Rattle.fax_reading.proofs.DamagedLines.EolsAlike.{past_alike, PastAlike, CountAlike, RestAlike, all_eols_alike, eols_found}
-use Rattle.fax_reading.proofs.DamagedLines.EolsAlike.{all_tagged_alike, tagged_found, last_tag_alike, last_tag_few}
-use Rattle.fax_reading.proofs.DamagedLines.LinesBeforeEol.{Inside, LineAlike, line_1d_alike, line_2d_alike}
+use Rattle.fax_reading.proofs.DamagedLines.EolsAlike.{all_tagged_alike, tagged_found, last_tag_alike, last_tag_few, line_alike}
+use Rattle.fax_reading.proofs.DamagedLines.LinesBeforeEol.{Inside, LineAlike}
 use Rattle.fax_reading.proofs.DamagedLines.PastEol.{past}
-use Rattle.fax_bits.proofs.BitReading.ConsecutiveEols.{all_eols-some, all_eols-none, all_tagged, all_tagged-some}
-use Rattle.fax_bits.proofs.BitReading.ConsecutiveEols.{all_tagged-none}
+use Rattle.fax_bits.proofs.BitReading.ConsecutiveEols.{all_eols-some, all_eols-none, all_tagged, all_tagged-some, all_tagged-none}
+use Rattle.fax_bits.proofs.BitReading.ConsecutiveEols.{cond_le, length-one_more, count_shorter, counts_plain, counts_tagged}
+use Rattle.fax_bits.proofs.BitReading.ConsecutiveEols.{last_tag_shorter, next_eol_found, count_past, eols-some}
 use Rattle.fax_reading.proofs.DamagedLines.SoughtTurns.{sought, rest_of, not_past_end, eols_here_same, row_past, move_sought}
 use Rattle.fax_reading.proofs.DamagedLines.SoughtTurns.{sought_done}
 use Rattle.fax_reading.proofs.DrawingLines.LinesLeaveBits.{LeavesBits, LineLeaves, line_by_leaves}
 use Rattle.fax_reading.proofs.EncodedPictures.PictureLines.{row_before_push}
 use Rattle.fax_reading.proofs.Readings.RowsAndGaps.{unless_over, seek_from, seek_eol, after_row, row_added, after_whole-is}
 use Rattle.fax_reading.proofs.Readings.RowsAndGaps.{after_damage-is}
-use Rattle.fax_bits.proofs.BitReading.ConsecutiveEols.{cond_le, length-one_more, count_shorter, counts_plain, counts_tagged}
 use Rattle.fax_reading.proofs.Readings.TurnsMoveOn.{eols_here_counted}
-use Rattle.fax_bits.proofs.BitReading.ConsecutiveEols.{past_tag_shorter, last_tag_shorter, next_eol_found}
 
 -- ---- Rows of which some may differ
 
 -- the rows are equal, or all but a number of consecutive ones, of which something is said by the rows before them
 abbrev pub RowsAlike : ℕ → (List Row → Type 0) → List Row → List Row → Type 0
-RowsAlike differ Begins xs ys = (xs ≡ ys)
-    ⊎ ((before these those more : List Row) × (length these ≡ length those) × (length these ≤ differ)
-    × (xs ≡ before ++ (these ++ more)) × (ys ≡ before ++ (those ++ more)) × Begins before)
+RowsAlike differ Begins xs ys = (xs ≡ ys) ⊎ ((before these those more : List Row) × (length these ≡ length those)
+    × (length these ≤ differ) × (xs ≡ before ++ (these ++ more)) × (ys ≡ before ++ (those ++ more)) × Begins before)
 
 rows_length : (differ : ℕ) (Begins : List Row → Type 0) (xs ys : List Row) → RowsAlike differ Begins xs ys → length xs ≡ length ys
 rows_length differ Begins xs ys (inl e) = ap length e
 rows_length differ Begins xs ys (inr (before, these, those, more, same, few, e, f, begins)) =
-    omega (
-      arith,
-      ap length e,
-      ap length f,
-      same,
-      length-append before (these ++ more),
-      length-append before (those ++ more),
-      length-append these more,
-      length-append those more,
-    )
+    grind (arith, common_steps, length-append)
 
 rows_more : (differ : ℕ) (Begins : List Row → Type 0) (xs ys : List Row) (row : Row) → RowsAlike differ Begins xs ys
     → RowsAlike differ Begins (xs ++ row ∷ []) (ys ++ row ∷ [])
 rows_more differ Begins xs ys row (inl e) = inl (ap (λ (x : List Row). x ++ row ∷ []) e)
-rows_more differ Begins xs ys row (inr (before, these, those, more, same, few, e, f, begins)) =
-    inr (before, these, those, more ++ row ∷ [], same, few, moved these xs e, moved those ys f, begins)
-  where
-    moved : (some all : List Row) → all ≡ before ++ (some ++ more) → all ++ row ∷ [] ≡ before ++ (some ++ (more ++ row ∷ []))
-    moved some all g = ap (λ (x : List Row). x ++ row ∷ []) g ∙ append_assoc before (some ++ more) (row ∷ [])
-        ∙ ap (λ (x : List Row). before ++ x) (append_assoc some more (row ∷ []))
+rows_more differ Begins xs ys row (inr (before, these, those, more, same, few, e, f, begins)) = grind (arith, append_assoc)
 
 -- a state between lines
 abbrev pub run_at : List Row → Bool → Bits → Progress
 run_at rows has_eols rest = record { rows = rows; has_eols = has_eols; rest = rest }
+
+-- ---- Runs at the same bits whose next lines are the same
+
+-- the line here is the same after both
+abbrev pub SameLine : DecodeSettings → List Row → List Row → Bits → Type 0
+SameLine settings xs ys here =
+    line_here settings (row_before settings.columns xs) here ≡ line_here settings (row_before settings.columns ys) here
+
+-- Rows after which runs stay alike where they are at the same bits: the row limit is met by both, the same row is added to
+-- both, and they go on, end or fail together.
+pub record StayAlike (settings : DecodeSettings) (most : ℕ) (Alike : List Row → List Row → Type 0)
+    (Run : Progress → Progress → Type 0) (End : Ending → Ending → Type 0) : Type 0 where
+  pub limits : (xs ys : List Row) → Alike xs ys → limit_met settings (length xs) ≡ limit_met settings (length ys)
+  pub longer : (xs ys : List Row) (row : Row) → Alike xs ys → Alike (xs ++ row ∷ []) (ys ++ row ∷ [])
+  pub goes_on : (xs ys : List Row) (h : Bool) (here : Bits) → Alike xs ys → length here ≤ most → SameLine settings xs ys here
+      → Run (run_at xs h here) (run_at ys h here)
+  pub ends : (xs ys : List Row) (h : Bool) (here : Bits) → Alike xs ys → length here ≤ most
+      → End (record { rows = xs; has_eols = h; outcome = Ok here }) (record { rows = ys; has_eols = h; outcome = Ok here })
+  pub fails : (xs ys : List Row) (h : Bool) (fault : DecodeError) → Alike xs ys
+      → End (record { rows = xs; has_eols = h; outcome = Err fault }) (record { rows = ys; has_eols = h; outcome = Err fault })
+
+module _ (settings : DecodeSettings) (most : ℕ) (Alike : List Row → List Row → Type 0) (Run : Progress → Progress → Type 0)
+    (End : Ending → Ending → Type 0) (stay : StayAlike settings most Alike Run End) (rest : Progress → Ending) where
+  abbrev Together : Move → Move → Type 0
+  Together m n = Follows Run End rest m n
+
+  pub unless_beyond : (xs ys : List Row) (h : Bool) (a b : Bits) (found : ℕ × Bits) → Alike xs ys → length found.1 ≤ most
+      → (is_end_of_block settings found.0 ≡ true) ⊎ SameLine settings xs ys found.1
+      → Together (unless_over settings (run_at xs h a) found) (unless_over settings (run_at ys h b) found)
+  unless_beyond xs ys h a b (count, here) alike short same = grind arith
+
+  row_beyond : (xs ys : List Row) (h : Bool) (here : Bits) → Alike xs ys → length here ≤ most
+      → ((there : Bits) → SameLine settings xs ys there)
+      → Together (after_row settings (run_at xs h here)) (after_row settings (run_at ys h here))
+  row_beyond xs ys h here alike short same =
+      subst (λ (met : Bool). Together (after_row settings (run_at xs h here))
+      (passed ys (((eqb (eols_here settings here).0 0 && h) && not met) && not (at_end here)))) (stay.limits xs ys alike)
+      (either_way (misses_eol settings (length xs) h here))
+    where
+      passed : List Row → Bool → Move
+      passed rows t = cond t (seek_eol settings (run_at rows h here))
+          (unless_over settings (run_at rows h here) (eols_here settings here))
+
+      from_next : (o : Option Bits) → next_eol here ≡ o
+          → Together (seek_from settings (run_at xs h here) o) (seek_from settings (run_at ys h here) o)
+      from_next None e = stay.goes_on xs ys false here alike short (same here)
+      from_next (Some found) e = unless_beyond xs ys h here here (eols_here settings found) alike
+          (omega (arith, (next_eol_found here found e).0, (eols_here_counted settings found).0, short))
+          (inr (same (eols_here settings found).1))
+
+      sought_in : List Row → Bool → Move
+      sought_in rows t = cond t (ends_with (run_at rows h here) (Err InvalidCode))
+          (seek_from settings (run_at rows h here) (next_eol here))
+
+      strictly : (t : Bool) → Together (sought_in xs t) (sought_in ys t)
+      strictly true = stay.fails xs ys h InvalidCode alike
+      strictly false = from_next (next_eol here) refl
+
+      either_way : (t : Bool) → Together (passed xs t) (passed ys t)
+      either_way true = strictly settings.strict
+      either_way false = unless_beyond xs ys h here here (eols_here settings here) alike
+          (omega (arith, (eols_here_counted settings here).0, short)) (inr (same (eols_here settings here).1))
+
+  -- a row is added to both, after which the next line is the same
+  added_beyond : (xs ys : List Row) (h : Bool) (u v : Bits) (row : Row) (here : Bits) → Alike xs ys → length here ≤ most
+      → Together (row_added settings (run_at xs h u) row here) (row_added settings (run_at ys h v) row here)
+  added_beyond xs ys h u v row here alike short =
+      let al : Bool = settings.rows_are_byte_aligned && not h in
+      let shorter : length (cond al (aligned here) here) ≤ length here
+      = cond_le al (aligned here) here (length here) (omega (arith, length-drop (length here % 8) here)) (omega arith) in
+      row_beyond (xs ++ row ∷ []) (ys ++ row ∷ []) h (cond al (aligned here) here) (stay.longer xs ys row alike)
+      (omega (arith, shorter, short)) (λ there. ap (λ (r : Row). line_here settings r there)
+      (row_before_push settings.columns xs row ∙ sym (row_before_push settings.columns ys row)))
+
+  line_beyond : (xs ys : List Row) (h : Bool) (here : Bits) (line : Line) → Alike xs ys → length here ≤ most
+      → LineLeaves here line
+      → Together (after_line settings (run_at xs h here) line) (after_line settings (run_at ys h here) line)
+  line_beyond xs ys h here (Line.whole row left) alike short leaves =
+      rw (after_whole-is settings (run_at xs h here) row left, after_whole-is settings (run_at ys h here) row left)
+      (added_beyond xs ys h here here row left alike (omega (arith, short, ap length leaves.1, length-append leaves.0 left)))
+  line_beyond xs ys h here (Line.broken front fault) alike short leaves =
+      grind (
+        arith,
+        after_damage-is settings (run_at xs h here) front fault,
+        after_damage-is settings (run_at ys h here) front fault,
+        added_beyond xs ys h here here (repaired settings.columns front) here alike short,
+      )
+
+  pub move_beyond : (xs ys : List Row) (h : Bool) (here : Bits) → Alike xs ys → length here ≤ most
+      → SameLine settings xs ys here → Together (move_on settings (run_at xs h here)) (move_on settings (run_at ys h here))
+  move_beyond xs ys h here alike short same = grind (arith, common_steps, line_beyond, line_by_leaves)
 
 -- how two runs end: with one fault; at one position among the equal bits; past the EOL after the line; or at the limit
 pub data EndsAlike (settings : DecodeSettings) (Begins : List Row → Type 0) (differ from : ℕ) (x y after : Bits)
@@ -114,12 +188,40 @@ pub record IsTail (settings : DecodeSettings) (after x : Bits) : Type 0 where
 abbrev pub IsGroup3 : EncodingMode → Type 0
 IsGroup3 encoding = (encoding ≡ Group3_1D) ⊎ (encoding ≡ Group3_2D)
 
--- behind the first of bits that end with the zeros of an EOL there are enough zeros left
-pub closes_tail : (tag : Bool) (bits : Bits) → Closes (tag ∷ bits) → Inside bits
-closes_tail tag bits ([], e) =
-    let ten : bits ≡ replicate 10 false = cc in
-    record { holds = ap (scan 3) ten; last = (tag ∷ [], [], e) }
-closes_tail tag bits (b ∷ first, e) = closes_inside bits (first, cc)
+pub not_group4 : (encoding : EncodingMode) → IsGroup3 encoding → encoding ≢ Group4
+not_group4 encoding (inl is) e = cc
+not_group4 encoding (inr is) e = cc
+
+-- bits before a one aren't the end
+pub not_end : (bits z : Bits) → at_end (bits ++ true ∷ z) ≡ false
+not_end [] z = refl
+not_end (b ∷ bits) z = refl
+
+-- one EOL is counted before the line
+pub alone : (settings : DecodeSettings) (after z found : Bits) → IsGroup3 settings.encoding → IsTail settings after z
+    → after_eol 0 found ≡ Some z → eols_here settings found ≡ (1, z)
+alone settings after z found group3 tail e = by_encoding settings.encoding settings.end_of_block group3 tail.tag
+  where
+    by_encoding : (encoding : EncodingMode) (block : Bool) → IsGroup3 encoding → (encoding ≡ Group3_2D → past_tag z ≡ z)
+        → eols_by encoding block found ≡ (1, z)
+    by_encoding Group3_1D block is tag = rw (all_eols-some found z e, all_eols-none z tail.none) refl
+    by_encoding Group3_2D block is tag = rw (all_tagged-some found z e, tag refl, all_tagged-none z tail.none)
+        (last_tag_few 1 z (omega arith))
+    by_encoding Group4 block (inl is) tag = absurd cc
+    by_encoding Group4 block (inr is) tag = absurd cc
+
+-- counting EOLs consumes the first
+pub eols_past : (settings : DecodeSettings) (here rest : Bits) → after_eol 0 here ≡ Some rest
+    → length (eols_here settings here).1 ≤ length rest
+eols_past settings here rest e = by_encoding settings.encoding settings.end_of_block
+  where
+    by_encoding : (encoding : EncodingMode) (block : Bool) → length (eols_by encoding block here).1 ≤ length rest
+    by_encoding Group3_1D block = count_past counts_plain here rest e
+    by_encoding Group3_2D block = omega
+        (arith, last_tag_shorter (eols_with_tags (length here) here), count_past counts_tagged here rest e)
+    by_encoding Group4 true = rw (eols-some 1 here rest e)
+        (omega (arith, length-one_more (eols 1 rest), count_shorter counts_plain 1 rest))
+    by_encoding Group4 false = count_past counts_plain here rest e
 
 module _ (settings : DecodeSettings) (group3 : IsGroup3 settings.encoding) (lenient : settings.strict ≡ false)
     (Begins : List Row → Type 0) (differ from : ℕ) (x y after : Bits)
@@ -142,147 +244,24 @@ module _ (settings : DecodeSettings) (group3 : IsGroup3 settings.encoding) (leni
   abbrev Alike : List Row → List Row → Type 0
   Alike xs ys = RowsAlike differ Begins xs ys
 
-  -- the line here is the same after both
-  abbrev SameLine : List Row → List Row → Bits → Type 0
-  SameLine xs ys here = line_here settings (row_before settings.columns xs) here ≡ line_here settings
-      (row_before settings.columns ys) here
+  -- past the lines that may differ everything is alike except their rows
+  stay : StayAlike settings (length after) Alike (RunsAlike settings Begins differ Within x y after)
+      (EndsAlike settings Begins differ from x y after)
+  stay = record {
+    limits = λ xs ys alike. ap (limit_met settings) (rows_length differ Begins xs ys alike);
+    longer = rows_more differ Begins;
+    goes_on = λ xs ys h here alike short same. RunsAlike.beyond xs ys h here alike short same refl refl;
+    ends = λ xs ys h here alike short. EndsAlike.later here short refl refl alike;
+    fails = λ xs ys h fault alike. EndsAlike.faults fault refl refl alike;
+  }
 
-  -- ---- Past the lines that may differ everything is alike except their rows
-
-  unless_beyond : (xs ys : List Row) (has_eols : Bool) (a b : Bits) (found : ℕ × Bits) → Alike xs ys → length found.1
-      ≤ length after → ((is_end_of_block settings found.0 ≡ true) ⊎ SameLine xs ys found.1)
-      → Both (unless_over settings (run_at xs has_eols a) found) (unless_over settings (run_at ys has_eols b) found)
-  unless_beyond xs ys has_eols a b (count, here) alike short same =
-      subst (λ (n : ℕ). Both (unless_over settings (run_at xs has_eols a) (count, here))
-      (cond (is_over settings n (count, here)) (ends_with (run_at ys has_eols b) (Ok here))
-      (Turn.next (run_at ys has_eols here)))) (rows_length differ Begins xs ys alike) (by_line same)
-    where
-      either_way : (t : Bool) → (t ≡ false → SameLine xs ys here)
-          → Both (cond t (ends_with (run_at xs has_eols a) (Ok here)) (Turn.next (run_at xs has_eols here)))
-          (cond t (ends_with (run_at ys has_eols b) (Ok here)) (Turn.next (run_at ys has_eols here)))
-      either_way true line = EndsAlike.later here short refl refl alike
-      either_way false line = RunsAlike.beyond xs ys has_eols here alike short (line refl) refl refl
-
-      by_line : ((is_end_of_block settings count ≡ true) ⊎ SameLine xs ys here)
-          → Both (unless_over settings (run_at xs has_eols a) (count, here)) (cond (is_over settings (length xs) (count, here))
-          (ends_with (run_at ys has_eols b) (Ok here)) (Turn.next (run_at ys has_eols here)))
-      by_line (inl ends) = rw ends (EndsAlike.later here short refl refl alike)
-      by_line (inr line) = either_way (is_over settings (length xs) (count, here)) (λ e. line)
-
-  row_beyond : (xs ys : List Row) (has_eols : Bool) (here : Bits) → Alike xs ys → length here ≤ length after
-      → ((there : Bits) → SameLine xs ys there)
-      → Both (after_row settings (run_at xs has_eols here)) (after_row settings (run_at ys has_eols here))
-  row_beyond xs ys has_eols here alike short same =
-      subst (λ (n : ℕ). Both (after_row settings (run_at xs has_eols here)) (cond (misses_eol settings n has_eols here)
-      (seek_eol settings (run_at ys has_eols here)) (unless_over settings (run_at ys has_eols here) (eols_here settings here))))
-      (rows_length differ Begins xs ys alike) (either_way (misses_eol settings (length xs) has_eols here))
-    where
-      from_next : (o : Option Bits) → next_eol here ≡ o
-          → Both (seek_from settings (run_at xs has_eols here) o) (seek_from settings (run_at ys has_eols here) o)
-      from_next None e = RunsAlike.beyond xs ys false here alike short (same here) refl refl
-      from_next (Some found) e = unless_beyond xs ys has_eols here here (eols_here settings found) alike
-          (omega (arith, (next_eol_found here found e).0, (eols_here_counted settings found).0, short))
-          (inr (same (eols_here settings found).1))
-
-      strictly : (t : Bool) → Both (cond t (ends_with (run_at xs has_eols here) (Err InvalidCode))
-          (seek_from settings (run_at xs has_eols here) (next_eol here))) (cond t
-          (ends_with (run_at ys has_eols here) (Err InvalidCode)) (seek_from settings (run_at ys has_eols here) (next_eol here)))
-      strictly true = EndsAlike.faults InvalidCode refl refl alike
-      strictly false = from_next (next_eol here) refl
-
-      either_way : (t : Bool) → Both (cond t (seek_eol settings (run_at xs has_eols here)) (unless_over settings
-          (run_at xs has_eols here) (eols_here settings here))) (cond t (seek_eol settings (run_at ys has_eols here))
-          (unless_over settings (run_at ys has_eols here) (eols_here settings here)))
-      either_way true = strictly settings.strict
-      either_way false = unless_beyond xs ys has_eols here here (eols_here settings here) alike
-          (omega (arith, (eols_here_counted settings here).0, short)) (inr (same (eols_here settings here).1))
-
-  -- after the same row the next line is the same
-  same_after : (xs ys : List Row) (row : Row) (here : Bits) → SameLine (xs ++ row ∷ []) (ys ++ row ∷ []) here
-  same_after xs ys row here =
-      ap (λ (r : Row). line_here settings r here)
-      (row_before_push settings.columns xs row ∙ sym (row_before_push settings.columns ys row))
-
-  line_beyond : (xs ys : List Row) (has_eols : Bool) (here : Bits) (line : Line) → Alike xs ys → length here ≤ length after
-      → LineLeaves here line
-      → Both (after_line settings (run_at xs has_eols here) line) (after_line settings (run_at ys has_eols here) line)
-  line_beyond xs ys has_eols here (Line.whole row left) alike short leaves =
-      let al : Bool = settings.rows_are_byte_aligned && not has_eols in
-      let shorter : length (cond al (aligned left) left) ≤ length left
-      = cond_le al (aligned left) left (length left) (omega (arith, length-drop (length left % 8) left)) (omega arith) in
-      rw (after_whole-is settings (run_at xs has_eols here) row left, after_whole-is settings (run_at ys has_eols here) row left)
-      (row_beyond (xs ++ row ∷ []) (ys ++ row ∷ []) has_eols (cond al (aligned left) left)
-      (rows_more differ Begins xs ys row alike)
-      (omega (arith, shorter, short, ap length leaves.1, length-append leaves.0 left)) (same_after xs ys row))
-  line_beyond xs ys has_eols here (Line.broken front fault) alike short leaves =
-      rw (
-        after_damage-is settings (run_at xs has_eols here) front fault,
-        after_damage-is settings (run_at ys has_eols here) front fault,
-      ) (either_way (settings.strict || not has_eols))
-    where
-      row : Row
-      row = front ++ replicate (settings.columns - length front) false
-
-      al : Bool
-      al = settings.rows_are_byte_aligned && not has_eols
-
-      shorter : length (cond al (aligned here) here) ≤ length here
-      shorter = cond_le al (aligned here) here (length here) (omega (arith, length-drop (length here % 8) here)) (omega arith)
-
-      either_way : (t : Bool) → Both
-          (cond t (ends_with (run_at xs has_eols here) (Err fault)) (row_added settings (run_at xs has_eols here) row here))
-          (cond t (ends_with (run_at ys has_eols here) (Err fault)) (row_added settings (run_at ys has_eols here) row here))
-      either_way true = EndsAlike.faults fault refl refl alike
-      either_way false = row_beyond (xs ++ row ∷ []) (ys ++ row ∷ []) has_eols (cond al (aligned here) here)
-          (rows_more differ Begins xs ys row alike) (omega (arith, shorter, short)) (same_after xs ys row)
-
-  move_beyond : (xs ys : List Row) (has_eols : Bool) (here : Bits) → Alike xs ys → length here ≤ length after
-      → SameLine xs ys here → Both (move_on settings (run_at xs has_eols here)) (move_on settings (run_at ys has_eols here))
-  move_beyond xs ys has_eols here alike short same =
-      let line : Line = line_here settings (row_before settings.columns xs) here in
-      subst (λ (other : Line). Both (after_line settings (run_at xs has_eols here) line)
-      (after_line settings (run_at ys has_eols here) other)) same
-      (line_beyond xs ys has_eols here line alike short
-      (line_by_leaves settings.encoding settings.strict settings.columns (row_before settings.columns xs) here))
+  unless_on : (xs ys : List Row) (h : Bool) (a b : Bits) (found : ℕ × Bits) → Alike xs ys → length found.1 ≤ length after
+      → (is_end_of_block settings found.0 ≡ true) ⊎ SameLine settings xs ys found.1
+      → Both (unless_over settings (run_at xs h a) found) (unless_over settings (run_at ys h b) found)
+  unless_on = unless_beyond settings (length after) Alike (RunsAlike settings Begins differ Within x y after)
+      (EndsAlike settings Begins differ from x y after) stay rest
 
   -- ---- At or before the line
-  not_end : (bits z : Bits) → at_end (bits ++ true ∷ z) ≡ false
-  not_end [] z = refl
-  not_end (b ∷ bits) z = refl
-
-  -- one EOL is counted before the line
-  alone : (z found : Bits) → IsTail settings after z → after_eol 0 found ≡ Some z → eols_here settings found ≡ (1, z)
-  alone z found tail e = by_encoding settings.encoding settings.end_of_block group3 tail.tag
-    where
-      by_encoding : (encoding : EncodingMode) (block : Bool) → IsGroup3 encoding → (encoding ≡ Group3_2D → past_tag z ≡ z)
-          → eols_by encoding block found ≡ (1, z)
-      by_encoding Group3_1D block is tag = rw (all_eols-some found z e, all_eols-none z tail.none) refl
-      by_encoding Group3_2D block is tag = rw (all_tagged-some found z e, tag refl, all_tagged-none z tail.none)
-          (last_tag_few 1 z (omega arith))
-      by_encoding Group4 block (inl is) tag = absurd cc
-      by_encoding Group4 block (inr is) tag = absurd cc
-
-  -- counting EOLs goes on behind the first
-  counted_shorter : (found z : Bits) → after_eol 0 found ≡ Some z → length (eols_here settings found).1 ≤ length z
-  counted_shorter found z e = by_encoding settings.encoding settings.end_of_block group3
-    where
-      by_encoding : (encoding : EncodingMode) (block : Bool) → IsGroup3 encoding
-          → length (eols_by encoding block found).1 ≤ length z
-      by_encoding Group3_1D block is = rw (all_eols-some found z e)
-          (omega (arith, length-one_more (all_eols z), count_shorter counts_plain (length z) z))
-      by_encoding Group3_2D block is =
-          let more : ℕ × Bits = all_tagged (past_tag z) in
-          omega (
-            arith,
-            last_tag_shorter (all_tagged found),
-            ap (λ (f : ℕ × Bits). length f.1) (all_tagged-some found z e),
-            length-one_more more,
-            count_shorter counts_tagged (length (past_tag z)) (past_tag z),
-            past_tag_shorter z,
-          )
-      by_encoding Group4 block (inl is) = absurd cc
-      by_encoding Group4 block (inr is) = absurd cc
-
   -- the EOLs from here on are alike
   counted_here : (bits : Bits) → Within bits
       → CountAlike x y bits (eols_here settings (bits ++ true ∷ x)) (eols_here settings (bits ++ true ∷ y))
@@ -365,43 +344,25 @@ module _ (settings : DecodeSettings) (group3 : IsGroup3 settings.encoding) (leni
       by_past open_limit o p e f (inr (inl (g, h))) =
           let one = row_past settings lenient rows (bits ++ true ∷ x) x open_limit (e ∙ g) in
           let two = row_past settings lenient rows (bits ++ true ∷ y) y open_limit (f ∙ h) in
-          rw (one.3, two.3, alone x one.0 tail_x one.2, alone y two.0 tail_y two.2)
+          rw (one.3, two.3, alone settings after x one.0 group3 tail_x one.2, alone settings after y two.0 group3 tail_y two.2)
           (unless_there rows (bits ++ true ∷ x) (bits ++ true ∷ y) 1)
       by_past open_limit o p e f (inr (inr (g, h))) =
           let one = row_past settings lenient rows (bits ++ true ∷ x) after open_limit (e ∙ g ∙ tail_x.next) in
           let two = row_past settings lenient rows (bits ++ true ∷ y) after open_limit (f ∙ h ∙ tail_y.next) in
-          rw (one.3, two.3, eols_here_same settings two.0 one.0 after two.2 one.2)
-          (unless_beyond rows rows true (bits ++ true ∷ x) (bits ++ true ∷ y) (eols_here settings one.0) (inl refl)
-          (counted_shorter one.0 after one.2) (inr refl))
+          rw (one.3, two.3, eols_here_same settings two.0 one.0 after two.2 one.2) (unless_on rows rows true (bits ++ true ∷ x)
+          (bits ++ true ∷ y) (eols_here settings one.0) (inl refl) (eols_past settings one.0 after one.2) (inr refl))
 
       by_limit : (limit_met settings (length rows) ≡ true) ⊎ (limit_met settings (length rows) ≡ false)
           → Both (after_row settings (sought rows (bits ++ true ∷ x))) (after_row settings (sought rows (bits ++ true ∷ y)))
-      by_limit (inl met) = rw (
-        sought_done settings rows (bits ++ true ∷ x) met,
-        sought_done settings rows (bits ++ true ∷ y) met,
-      ) (at_limit (eols_here settings (bits ++ true ∷ x)) (eols_here settings (bits ++ true ∷ y)) (counted_here bits within).1)
+      by_limit (inl met) = rw (sought_done settings rows (bits ++ true ∷ x) met, sought_done settings rows (bits ++ true ∷ y) met)
+          (at_limit (eols_here settings (bits ++ true ∷ x)) (eols_here settings (bits ++ true ∷ y)) (counted_here bits within).1)
       by_limit (inr open_limit) =
           by_past open_limit (past 0 (bits ++ true ∷ x)) (past 0 (bits ++ true ∷ y)) refl refl (past_alike x y 0 bits)
 
   -- a line that begins before is the same
-  line_in_front : (reference : Row) (bits : Bits) → Closes bits
-      → LineAlike (true ∷ x) (true ∷ y) (line_here settings reference (bits ++ true ∷ x))
-      (line_here settings reference (bits ++ true ∷ y))
-  line_in_front reference bits closes = rw lenient (by_encoding settings.encoding group3 bits closes)
-    where
-      by_encoding : (encoding : EncodingMode) → IsGroup3 encoding → (bits : Bits) → Closes bits
-          → LineAlike (true ∷ x) (true ∷ y) (line_by encoding false settings.columns reference (bits ++ true ∷ x))
-          (line_by encoding false settings.columns reference (bits ++ true ∷ y))
-      by_encoding Group3_1D is bits closes = line_1d_alike (true ∷ x) (true ∷ y) settings.columns _ _
-          (bits, closes_inside bits closes, refl, refl)
-      by_encoding Group3_2D is [] closes = absurd (let e = closes.1 in omega
-          (arith, ap length e, length-append closes.0 (replicate 11 false)))
-      by_encoding Group3_2D is (true ∷ bits) closes = line_1d_alike (true ∷ x) (true ∷ y) settings.columns _ _
-          (bits, closes_tail true bits closes, refl, refl)
-      by_encoding Group3_2D is (false ∷ bits) closes =
-          line_2d_alike (true ∷ x) (true ∷ y) settings.columns reference _ _ (bits, closes_tail false bits closes, refl, refl)
-      by_encoding Group4 (inl is) bits closes = absurd cc
-      by_encoding Group4 (inr is) bits closes = absurd cc
+  line_in_front : (reference : Row) (bits : Bits) → Closes bits → LineAlike (true ∷ x) (true ∷ y)
+      (line_here settings reference (bits ++ true ∷ x)) (line_here settings reference (bits ++ true ∷ y))
+  line_in_front reference bits closes = grind (arith, common_steps, line_alike)
 
   line_ahead : (rows : List Row) (bits : Bits) → Closes bits → Within bits
       → Both (move_on settings (sought rows (bits ++ true ∷ x))) (move_on settings (sought rows (bits ++ true ∷ y)))
@@ -422,9 +383,7 @@ module _ (settings : DecodeSettings) (group3 : IsGroup3 settings.encoding) (leni
           rw (← is, e, f) (row_ahead (rows ++ row ∷ []) a inside (within_later bits a within suffix))
       by_line (Line.whole row here) (Line.broken front fault) alike leaves = absurd alike
       by_line (Line.broken front fault) (Line.whole row here) alike leaves = absurd alike
-      by_line (Line.broken front fault) (Line.broken same other) is leaves =
-          rw (← is) (row_ahead (rows ++ row_of settings.columns (Line.broken front fault) ∷ []) bits
-          (closes_inside bits closes) within)
+      by_line (Line.broken front fault) (Line.broken same other) is leaves = grind (arith, common_steps, row_ahead, closes_inside)
 
   -- ---- At the line, and at those that are read against its row
   -- after a row that may differ, if the next EOL is the same
@@ -439,32 +398,20 @@ module _ (settings : DecodeSettings) (group3 : IsGroup3 settings.encoding) (leni
       as_many = omega (arith, same, length-append before these, length-append before those)
 
       limit_is : limit_met settings (length (before ++ these)) ≡ true → settings.rows ≡ length before + length these
-      limit_is met = eqb-true settings.rows (length (before ++ these))
-          (and_parts (not (eqb settings.rows 0)) (eqb settings.rows (length (before ++ these))) met).1
-          ∙ length-append before these
+      limit_is met = grind (arith, common_steps, eqb-true, and_parts, length-append)
 
       nil : (rows : List Row) → rows ++ [] ≡ rows
       nil [] = refl
       nil (row ∷ rows) = ap (λ (r : List Row). row ∷ r) (nil rows)
 
       alike : Alike (before ++ these) (before ++ those)
-      alike = inr (
-        before,
-        these,
-        those,
-        [],
-        same,
-        omega arith,
-        ap (λ (r : List Row). before ++ r) (sym (nil these)),
-        ap (λ (r : List Row). before ++ r) (sym (nil those)),
-        begins,
-      )
+      alike = grind (arith, common_steps, nil)
 
       settle : (n : ℕ) → length these + n ≤ differ → Settles settings n z → (found : Bits) → after_eol 0 found ≡ Some z
           → Both (unless_over settings (sought (before ++ these) u) (eols_here settings found))
           (unless_over settings (sought (before ++ those) v) (eols_here settings found))
-      settle zero most unreferred found g = unless_beyond (before ++ these)
-          (before ++ those) true u v (eols_here settings found) alike (omega (arith, counted_shorter found z g, short))
+      settle zero most unreferred found g = unless_on (before ++ these)
+          (before ++ those) true u v (eols_here settings found) alike (omega (arith, eols_past settings found z g, short))
           (elim (unreferred found g) [ inl ends ↦ inl ends | inr line ↦ inr (line _ _) ])
       settle (suc n) most (next, shorter, one, behind, further) found g = rw (one found g)
           (subst (λ (m : ℕ). Both (unless_over settings (sought (before ++ these) u) (1, z))
@@ -554,4 +501,5 @@ module _ (settings : DecodeSettings) (group3 : IsGroup3 settings.encoding) (leni
       rw (e, f) (line_among before these those here left given same few (omega (arith, short, le))
       (omega (arith, short, le2)) settled short)
   moves_alike s t begins le le2 (RunsAlike.beyond xs ys has_eols here alike short same e f) = rw (e, f)
-      (move_beyond xs ys has_eols here alike short same)
+      (move_beyond settings (length after) Alike (RunsAlike settings Begins differ Within x y after)
+      (EndsAlike settings Begins differ from x y after) stay rest xs ys has_eols here alike short same)

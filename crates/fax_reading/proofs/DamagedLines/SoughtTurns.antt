@@ -1,19 +1,16 @@
 -- A turn of a lenient run that seeks EOLs.
-use Rattle.fax_reading.proofs.Names.{◌≡◌, ℕ, Bool, true, false, not, eqb, List, [], ◌∷◌, ◌++◌, length, Option, Some, None}
-use Rattle.fax_reading.proofs.Names.{Ok, refl, sym, ap, ◌∙◌, arith, and_from, not_from_false, cond-true, cond-false, ne_eqb}
+use Rattle.fax_reading.proofs.Names.{◌≡◌, ℕ, Bool, true, false, not, eqb, List, [], ◌∷◌, ◌++◌, length, Option, Some, None, Ok}
+use Rattle.fax_reading.proofs.Names.{refl, sym, ap, ◌∙◌, arith, and_from, not_from_false, cond-true, cond-false, ne_eqb}
 use Rattle.fax_reading.proofs.Names.{EncodingMode, Group4, Group3_1D, Group3_2D, DecodeSettings, Bits, Row, Line, line_1d}
-use Rattle.fax_reading.proofs.Names.{after_eol, one_more, all_eols, next_eol, pass_last_tag, Progress, row_before, line_by}
-use Rattle.fax_reading.proofs.Names.{eols_by, line_here, limit_met, at_end, ends_with, eols_here, after_line, move_on}
-use Rattle.fax_reading.proofs.Names.{line_of_turn, row_of, row_at, misses_eol, repaired, ◌||◌, common_steps}
-use Rattle.fax_reading.proofs.DamagedLines.PastEol.{past, past-eol, past_is, then_after, eols_here-none}
-use Rattle.fax_bits.proofs.BitReading.ConsecutiveEols.{all_eols-some}
-use Rattle.fax_reading.proofs.DamagedLines.PastEol.{next_eol_leaves}
-use Rattle.fax_bits.proofs.BitReading.ConsecutiveEols.{all_tagged-some}
+use Rattle.fax_reading.proofs.Names.{after_eol, one_more, all_eols, next_eol, pass_last_tag, Progress, line_by, eols_by}
+use Rattle.fax_reading.proofs.Names.{line_here, limit_met, at_end, ends_with, eols_here, after_line, move_on, line_of_turn}
+use Rattle.fax_reading.proofs.Names.{row_of, row_at, misses_eol, repaired, ◌||◌, common_steps}
+use Rattle.fax_reading.proofs.DamagedLines.PastEol.{past, past-eol, past_is, then_after, eols_here-none, next_eol_leaves}
+use Rattle.fax_bits.proofs.BitReading.ConsecutiveEols.{all_eols-some, all_tagged-some, eols-some}
 use Rattle.fax_reading.proofs.DrawingLines.LinesLeaveBits.{LeavesBits}
 use Rattle.fax_reading.proofs.Readings.RowsAndGaps.{unless_over, seek_from, after_row, row_added, after_whole-is, after_damage-is}
 use Rattle.fax_reading.proofs.Readings.RowsAndGaps.{behind_with_eols}
 use Rattle.fax_reading.proofs.Readings.TurnsMoveOn.{eols_here_some}
-use Rattle.fax_bits.proofs.BitReading.ConsecutiveEols.{eols-some}
 
 -- a run that seeks EOLs
 abbrev pub sought : List Row → Bits → Progress
@@ -63,12 +60,7 @@ module _ (settings : DecodeSettings) where
         by_after_eol : (o : Option Bits) → after_eol 0 here ≡ o → (found : Bits) × LeavesBits here found
             × (after_eol 0 found ≡ Some after)
             × (after_row settings (sought rows here) ≡ unless_over settings (sought rows here) (eols_here settings found))
-        by_after_eol (Some next) f =
-            let same : ◌≡◌ {A = Option Bits} (Some next) (Some after) = sym (past-eol 0 here next f) ∙ e in
-            let counts = eols_here_some settings here next f in
-            let none : misses_eol settings (length rows) true here ≡ false =
-            rw (ne_eqb (eols_here settings here).0 0 (λ z. absurd (omega (arith, z, counts)))) refl in
-            (here, ([], refl), f ∙ same, cond-false (misses_eol settings (length rows) true here) _ _ none)
+        by_after_eol (Some next) f = grind (arith, common_steps, past-eol, eols_here_some, ne_eqb, cond-false)
         by_after_eol None f =
             let next = found_next here after e in
             let none : eqb (eols_here settings here).0 0 ≡ true =
@@ -91,8 +83,7 @@ module _ (settings : DecodeSettings) where
       where
         unaligned : (row : Row) (rest : Bits) → row_added settings (sought rows here) row rest
             ≡ after_row settings (sought (rows ++ row ∷ []) rest)
-        unaligned row rest = ap (λ (x : Bits). after_row settings (sought (rows ++ row ∷ []) x))
-            (behind_with_eols settings.rows_are_byte_aligned rest)
+        unaligned row rest = grind (arith, common_steps, behind_with_eols)
 
         by_line : (line : Line) → after_line settings (sought rows here) line ≡ after_row settings
             (sought (rows ++ row_of settings.columns line ∷ []) (rest_of line here))
@@ -120,9 +111,6 @@ module _ (settings : DecodeSettings) (encoding : settings.encoding ≡ Group3_1D
       ∙ ap (λ (s : Bool). line_1d s settings.columns here) lenient
 
   -- a line's row is added, and the EOLs after it are counted
-  pub move_line : (rows : List Row) (here : Bits)
-      → move_on settings (sought rows here) ≡ after_row settings
+  pub move_line : (rows : List Row) (here : Bits) → move_on settings (sought rows here) ≡ after_row settings
       (sought (rows ++ row_at settings.columns here ∷ []) (rest_of (line_1d false settings.columns here) here))
-  move_line rows here = move_sought settings lenient rows here
-      ∙ ap (λ (line : Line). after_row settings (sought (rows ++ row_of settings.columns line ∷ []) (rest_of line here)))
-      (sought_line_is (row_before settings.columns rows) here)
+  move_line rows here = grind (arith, common_steps, move_sought, sought_line_is)

@@ -1,13 +1,11 @@
 -- The words that a line finds, step by step.
-use Rattle.fax_reading.proofs.Names.{◌≡◌, ℕ, ◌+◌, ◌*◌, ◌<◌, ◌≤◌, Bool, true, false, cond, leb, List, [], ◌++◌, length, Result, Ok}
-use Rattle.fax_reading.proofs.Names.{Err, refl, sym, ap, subst, ◌∙◌, arith, false≢true, lt-leb, length-append, append-nil, Mode}
-use Rattle.fax_reading.proofs.Names.{DecodeError, Bits, Line, Pen, turn_behind, words_behind, unless_fault, painted, draw_run}
-use Rattle.fax_reading.proofs.Names.{draw_mode, draw_1d, draw_2d, words_drawn, IsFault, OnAnswer, Step, DrawsStep, pen_of}
-use Rattle.fax_reading.proofs.Names.{step_of_run, step_of_mode, words_of_run, words_of_mode, Held, redrawn, DecodeSettings}
-use Rattle.fax_reading.proofs.Names.{kind_of, mode_codes, read_code, Turn, Row}
-use Rattle.fax_reading.proofs.Names.{paint, run_from, run_found, word_found}
+use Rattle.fax_reading.proofs.Names.{common_steps, ◌≡◌, ℕ, ◌+◌, ◌*◌, ◌<◌, ◌≤◌, Bool, true, false, cond, leb, List, [], ◌++◌}
+use Rattle.fax_reading.proofs.Names.{length, Result, Ok, Err, refl, sym, ap, subst, ◌∙◌, arith, false≢true, lt-leb, length-append}
+use Rattle.fax_reading.proofs.Names.{append-nil, Mode, DecodeError, Bits, Line, Pen, turn_behind, words_behind, unless_fault}
+use Rattle.fax_reading.proofs.Names.{painted, draw_run, draw_mode, draw_1d, draw_2d, words_drawn, IsFault, OnAnswer, Step}
+use Rattle.fax_reading.proofs.Names.{DrawsStep, pen_of, step_of_run, step_of_mode, words_of_run, words_of_mode, Held, redrawn}
+use Rattle.fax_reading.proofs.Names.{DecodeSettings, mode_codes, read_code, Turn, Row, run_from, run_found, word_found}
 use Rattle.fax_bits.proofs.CodeWords.RunWords.{one_word}
-use Rattle.fax_bits.proofs.ErrorKinds.{at_fault_kind}
 use Rattle.fax_bits.proofs.Repetition.Gathered.{gathered_turn}
 use Rattle.fax_reading.proofs.DrawingLines.Drawings.{try, mode_step, step_1d, step_2d}
 use Rattle.fax_reading.proofs.DrawingLines.ReadLines.{pen_left, step_1d_shrinks, step_2d_shrinks}
@@ -26,9 +24,7 @@ words_run strict columns pen = by_result (run_from pen.color (0, pen.rest))
     by_result : (result : Result (ℕ × Bits) DecodeError)
         → run_found pen.color (0, pen.rest) ++ words_behind (unless_fault pen.front result)
         (λ run. [] ++ words_behind (painted strict columns pen run.0).turn (λ front. [])) ≡ run_found pen.color (0, pen.rest)
-    by_result (Ok run) =
-        ap (λ (words : List Bits). run_found pen.color (0, pen.rest) ++ words)
-        (none_painted pen.front (paint strict columns pen.front pen.color run.0)) ∙ append-nil (run_found pen.color (0, pen.rest))
+    by_result (Ok run) = grind (arith, common_steps, none_painted, append-nil)
     by_result (Err fault) = append-nil (run_found pen.color (0, pen.rest))
 
 -- ---- The words that are found from a pen on.
@@ -64,9 +60,8 @@ mode_words strict columns reference pen =
     (λ mode. (draw_mode strict columns reference (record pen { rest = mode.1 }) mode.0).words)
 
 abbrev mode_turn : Bool → ℕ → Row → Pen → Step
-mode_turn strict columns reference pen =
-    try pen.front (read_code mode_codes pen.rest)
-    (λ mode. mode_step strict columns reference (record pen { rest = mode.1 }) mode.0)
+mode_turn strict columns reference pen = try pen.front
+    (read_code mode_codes pen.rest) (λ mode. mode_step strict columns reference (record pen { rest = mode.1 }) mode.0)
 
 -- a one-dimensional line whose row isn't full finds the words of its next run, and then those after it
 pub found_1d_on : (strict : Bool) (columns : ℕ) (pen : Pen) → length pen.front < columns → found_1d_from strict columns pen
@@ -98,17 +93,7 @@ pub found_2d_on : (strict : Bool) (columns : ℕ) (reference : Row) (pen : Pen) 
     ≡ 1 + length (draw_mode strict columns reference (record pen { rest = rest }) mode).words + length (found_after
     (found_2d_from strict columns reference) (draw_mode strict columns reference (record pen { rest = rest }) mode).turn)
 found_2d_on strict columns reference pen mode rest open_row reads =
-    let drawing = draw_mode strict columns reference (record pen { rest = rest }) mode in
-    let behind : List Bits = found_after (found_2d_from strict columns reference) drawing.turn in
-    let turn : found_2d_from strict columns reference pen ≡ (word_found mode_codes pen.rest ++ drawing.words) ++ behind
-    = found_2d_turn strict columns reference pen open_row ∙ rw reads refl in
-    omega (
-      arith,
-      ap length turn,
-      length-append (word_found mode_codes pen.rest ++ drawing.words) behind,
-      length-append (word_found mode_codes pen.rest) drawing.words,
-      one_word mode_codes pen.rest (mode, rest) reads,
-    )
+    grind (arith, common_steps, found_2d_turn, length-append, one_word)
 
 -- ---- What the calls that draw a step need of them.
 
@@ -139,9 +124,7 @@ counted_by_mode before now at rest mode kept open_row reads =
 -- a step that ends in a fault of the data is the last to find words
 pub none_after_fault : (rest : Pen → List Bits) (step : Step) (fault : DecodeError) (pen : Pen) → IsFault fault
     → DrawsStep step (Err fault) pen → length (found_after rest step) ≡ 0
-none_after_fault rest step fault pen is draws =
-    let ends : step ≡ Turn.done (Line.broken pen.front fault) = at_fault_kind (kind_of fault) _ _ _ is draws in
-    rw ends refl
+none_after_fault rest step fault pen is draws = grind (arith, common_steps)
 
 -- Between two modes of a line, of whose words some are found and some are still to come: each word found was counted,
 -- as were the changes passed and three more for each word, and nothing if there are no words.

@@ -1,17 +1,12 @@
 -- Runs that are cut: where a strict reading breaks a line.
-use Rattle.fax_reading.proofs.Names.{◌≡◌, ◌<◌, ◌≤◌, ◌-◌, inl, inr, ℕ, Bool, true, false, cond, ◌||◌, ltb, length}
-use Rattle.fax_reading.proofs.Names.{[], Ok, Err, Result, refl, sym, ap, subst, ◌∙◌, false≢true, le-leb}
-use Rattle.fax_reading.proofs.Names.{OnOk, cond-true, cond-false, Color, White, DecodeError, InvalidCode, Step, Bits}
-use Rattle.fax_reading.proofs.Names.{BitsAt}
-use Rattle.fax_reading.proofs.Names.{here, Context, Held, redrawn, Mode, Pass, Horizontal, Row, Line}
-use Rattle.fax_reading.proofs.Names.{Pen}
-use Rattle.fax_reading.proofs.Names.{Turn, turn_behind, is_broken, breaks, TellsCut, exceeds, painted_front, paint}
-use Rattle.fax_reading.proofs.Names.{pen_of}
-use Rattle.fax_reading.proofs.Names.{line_1d, line_2d, read_code, mode_codes, run_from, opposite, right_of, b2}
-use Rattle.fax_reading.proofs.Names.{strict_step_of_run, strict_step_of_mode, GoesOn, GoesOn2d}
+use Rattle.fax_reading.proofs.Names.{arith, common_steps, ◌≡◌, ◌<◌, ◌≤◌, ◌-◌, inl, inr, ℕ, Bool, true, false, cond, ◌||◌, ltb}
+use Rattle.fax_reading.proofs.Names.{length, [], Ok, Err, Result, refl, sym, ap, subst, ◌∙◌, false≢true, le-leb, OnOk, cond-true}
+use Rattle.fax_reading.proofs.Names.{cond-false, Color, White, DecodeError, InvalidCode, Step, Bits, BitsAt, here, Context, Held}
+use Rattle.fax_reading.proofs.Names.{redrawn, Mode, Pass, Horizontal, Row, Line, Pen, Turn, turn_behind, is_broken, TellsCut}
+use Rattle.fax_reading.proofs.Names.{exceeds, painted_front, paint, pen_of, line_1d, line_2d, read_code, mode_codes, run_from}
+use Rattle.fax_reading.proofs.Names.{opposite, right_of, b2, strict_step_of_run, strict_step_of_mode, GoesOn, GoesOn2d}
 use Rattle.fax_bits.proofs.Repetition.Repeated.{after_turn}
-use Rattle.fax_reading.proofs.DrawingLines.Drawings.{try, run_then, mode_step, step_unless_full, drawn_by, step_1d, step_2d}
-use Rattle.fax_reading.proofs.DrawingLines.Drawings.{step_1d_is, step_2d_is}
+use Rattle.fax_reading.proofs.DrawingLines.Drawings.{try, drawn_by, step_1d, step_2d, step_1d_is, step_2d_is}
 use Rattle.fax_reading.proofs.DrawingLines.DrawnLines.{run_open, line_mode}
 use Rattle.fax_reading.proofs.DrawingLines.ReadLines.{drawn1, drawn2}
 
@@ -37,29 +32,8 @@ or_false false = refl
 pub paint_cuts : (strict : Bool) (columns : ℕ) (front : Row) (color : Color) (n : ℕ) (row : Row) (go_on : Row → Step) (pen : Pen)
     (before now : Bool) → paint strict columns front color n ≡ Ok row → now ≡ (before || ltb (columns - length front) n)
     → go_on row ≡ Turn.next pen → TellsCut (try front (paint true columns front color n) go_on) pen before now
-paint_cuts strict columns front color n row go_on pen before now paints told on = by_beyond (ltb (columns - length front) n) refl
-  where
-    by_before : (before now : Bool) → now ≡ (before || false) → (step : Step) → step ≡ Turn.next pen
-        → TellsCut step pen before now
-    by_before true true is step e = inl refl
-    by_before true false is step e = absurd (false≢true is)
-    by_before false true is step e = absurd (false≢true (sym is))
-    by_before false false is step e = (refl, e)
-
-    by_beyond : (beyond : Bool) → ltb (columns - length front) n ≡ beyond
-        → TellsCut (try front (paint true columns front color n) go_on) pen before now
-    by_beyond true e =
-        let step : try front (paint true columns front color n) go_on ≡ Turn.done (Line.broken front InvalidCode) =
-        ap (λ (r : Result Row DecodeError). try front r go_on)
-        (paint_tells strict columns front color n row paints true e) in
-        let cut : now ≡ true = told ∙ ap (λ (b : Bool). before || b) e ∙ or_true before in
-        subst (TellsCut (try front (paint true columns front color n) go_on) pen before) (sym cut) (inr (ap breaks step))
-    by_beyond false e =
-        let step : try front (paint true columns front color n) go_on ≡ go_on row =
-        ap (λ (r : Result Row DecodeError). try front r go_on)
-        (paint_tells strict columns front color n row paints false e) in
-        by_before before now (told ∙ ap (λ (b : Bool). before || b) e) (try front (paint true columns front color n) go_on)
-        (step ∙ on)
+paint_cuts strict columns front color n row go_on pen before now paints told on =
+    grind (arith, common_steps, false≢true, paint_tells, or_true)
 
 -- two steps, one after the other
 pub two_cut : (first : Step) (middle : Pen) (behind : Pen → Step) (last : Pen) (a b c : Bool) → TellsCut first middle a b
@@ -69,10 +43,8 @@ two_cut (Turn.done line) middle behind last a true true (inr is) second = inr is
 two_cut (Turn.next pen) middle behind last a true true (inr is) second = absurd (false≢true is)
 two_cut first middle behind last a true false tells second = absurd (false≢true (sym second.0))
 two_cut first middle behind last a false true tells (inl is) = absurd (false≢true is)
-two_cut first middle behind last a false true tells (inr is) =
-    inr (ap (λ (s : Step). breaks (turn_behind s behind)) tells.1 ∙ is)
-two_cut first middle behind last a false false tells second =
-    (tells.0, ap (λ (s : Step). turn_behind s behind) tells.1 ∙ second.1)
+two_cut first middle behind last a false true tells (inr is) = grind (arith, common_steps)
+two_cut first middle behind last a false false tells second = grind (arith, common_steps)
 
 -- ---- A line
 
@@ -104,21 +76,11 @@ strict_end line now false so_far whole = sym (ap is_broken so_far ∙ whole)
 
 -- a full row is whole
 pub full_1d : (columns : ℕ) (pen : Pen) → columns ≤ length pen.front → is_broken (drawn_by (step_1d true columns) pen) ≡ false
-full_1d columns pen full =
-    let whole : step_unless_full columns pen (run_then true columns pen Turn.next) ≡ Turn.done (Line.whole pen.front pen.rest) =
-    rw (le-leb columns (length pen.front) full) refl in
-    ap is_broken (drawn1 true columns pen ∙ ap (after_turn (drawn_by (step_1d true columns))) (step_1d_is true columns pen
-    ∙ whole))
+full_1d columns pen full = grind (arith, common_steps, le-leb, drawn1, step_1d_is)
 
 pub full_2d : (columns : ℕ) (reference : Row) (pen : Pen) → columns ≤ length pen.front
     → is_broken (drawn_by (step_2d true columns reference) pen) ≡ false
-full_2d columns reference pen full =
-    let step : Step = try pen.front (read_code mode_codes pen.rest)
-    (λ mode. mode_step true columns reference (record pen { rest = mode.1 }) mode.0) in
-    let whole : step_unless_full columns pen step ≡ Turn.done (Line.whole pen.front pen.rest) =
-    rw (le-leb columns (length pen.front) full) refl in
-    ap is_broken (drawn2 true columns reference pen
-    ∙ ap (after_turn (drawn_by (step_2d true columns reference))) (step_2d_is true columns reference pen ∙ whole))
+full_2d columns reference pen full = grind (arith, common_steps, le-leb, drawn2, step_2d_is)
 
 -- ---- The steps of a context
 
@@ -143,22 +105,7 @@ pub pass_cuts : (old mid new : Context) (count : ℕ) (rest : Bits) (r : Result 
       space = new.space;
     }) → OnOk r (TellsCut (strict_step_of_mode old.held rest Pass) (pen_of new.held rest) old.cut new.cut)
 pass_cuts old mid new count rest (Err e) same cut counts painted frame = tt
-pass_cuts old mid new count rest (Ok x) same cut counts painted frame =
-    let h = mid.held in
-    let color : new.held.color ≡ h.color = ap (λ (x : Context). x.held.color) frame in
-    let at_mid : TellsCut (try h.front (paint true h.settings.columns h.front h.color count)
-    (λ front. Turn.next (record (pen_of h rest) { front = front }))) (pen_of new.held rest) mid.cut new.cut =
-    paint_cuts h.settings.strict h.settings.columns h.front h.color count new.held.front
-    (λ front. Turn.next (record (pen_of h rest) { front = front })) (pen_of new.held rest) mid.cut new.cut painted
-    (ap (λ (x : Context). x.cut) frame)
-    (ap (λ (c : Color). Turn.next (record { front = new.held.front; color = c; rest = rest })) (sym color)) in
-    let at_old = subst (λ (h : Held). TellsCut (try h.front (paint true h.settings.columns h.front h.color count)
-    (λ front. Turn.next (record (pen_of h rest) { front = front }))) (pen_of new.held rest) mid.cut new.cut) same at_mid in
-    let there = subst (λ (n : ℕ). TellsCut (try old.held.front
-    (paint true old.held.settings.columns old.held.front old.held.color n)
-    (λ front. Turn.next (record (pen_of old.held rest) { front = front })))
-    (pen_of new.held rest) mid.cut new.cut) counts at_old in
-    subst (λ (b : Bool). TellsCut (strict_step_of_mode old.held rest Pass) (pen_of new.held rest) b new.cut) cut there
+pass_cuts old mid new count rest (Ok x) same cut counts painted frame = grind (arith, common_steps, paint_cuts)
 
 -- horizontal mode
 pub horizontal_cuts : (old mid new : Context) (from between after : Bits) (r : Result (Unit {0}) DecodeError)
@@ -167,12 +114,7 @@ pub horizontal_cuts : (old mid new : Context) (from between after : Bits) (r : R
     → OnOk r (TellsCut (strict_step_of_run mid.held between) (pen_of new.held after) mid.cut new.cut)
     → OnOk r (TellsCut (strict_step_of_mode old.held from Horizontal) (pen_of new.held after) old.cut new.cut)
 horizontal_cuts old mid new from between after (Err e) kept first second = tt
-horizontal_cuts old mid new from between after (Ok x) kept first second =
-    let columns : mid.held.settings.columns ≡ old.held.settings.columns = ap (λ (h : Held). h.settings.columns) kept in
-    two_cut (strict_step_of_run old.held from) (pen_of mid.held between)
-    (λ pen. run_then true old.held.settings.columns pen Turn.next) (pen_of new.held after) old.cut mid.cut new.cut first
-    (subst (λ (n : ℕ). TellsCut (run_then true n (pen_of mid.held between) Turn.next) (pen_of new.held after) mid.cut new.cut)
-    columns second)
+horizontal_cuts old mid new from between after (Ok x) kept first second = grind (arith, common_steps, two_cut)
 
 -- ---- A line of a context, step by step
 
@@ -181,10 +123,9 @@ module _ (before now new : Held) (line : Line) (first cut : Bool) (kept : now �
   columns_are = ap (λ (h : Held). h.settings.columns) kept
 
   -- a run
-  pub cut_by_run : (at to : Bits) → length now.front < now.settings.columns
-      → StrictSoFar line (drawn_by (step_1d true before.settings.columns) (pen_of now at)) first
-      → TellsCut (strict_step_of_run now at) (pen_of new to) first cut
-      → StrictSoFar line (drawn_by (step_1d true before.settings.columns) (pen_of new to)) cut
+  pub cut_by_run : (at to : Bits) → length now.front < now.settings.columns → StrictSoFar line
+      (drawn_by (step_1d true before.settings.columns) (pen_of now at)) first → TellsCut (strict_step_of_run now at)
+      (pen_of new to) first cut → StrictSoFar line (drawn_by (step_1d true before.settings.columns) (pen_of new to)) cut
   cut_by_run at to open_row so_far tells =
       let here = subst (λ (n : ℕ). StrictSoFar line (drawn_by (step_1d true n) (pen_of now at)) first) (sym columns_are) so_far in
       subst (λ (n : ℕ). StrictSoFar line (drawn_by (step_1d true n) (pen_of new to)) cut) columns_are
@@ -192,9 +133,8 @@ module _ (before now new : Held) (line : Line) (first cut : Bool) (kept : now �
       (run_open true now.settings.columns (pen_of now at) open_row) tells)
 
   -- a mode
-  pub cut_by_mode : (at rest to : Bits) (mode : Mode) → length now.front < now.settings.columns
-      → read_code mode_codes at ≡ Ok (mode, rest)
-      → StrictSoFar line (drawn_by (step_2d true before.settings.columns before.reference) (pen_of now at)) first
+  pub cut_by_mode : (at rest to : Bits) (mode : Mode) → length now.front < now.settings.columns → read_code mode_codes at ≡ Ok
+      (mode, rest) → StrictSoFar line (drawn_by (step_2d true before.settings.columns before.reference) (pen_of now at)) first
       → TellsCut (strict_step_of_mode now rest mode) (pen_of new to) first cut
       → StrictSoFar line (drawn_by (step_2d true before.settings.columns before.reference) (pen_of new to)) cut
   cut_by_mode at rest to mode open_row reads so_far tells =
@@ -253,14 +193,9 @@ cut_begun_2d before now new begun next frame goes same =
 pub cut_drawn_1d : (before now : Held) (cut : Bool) (line : Line) (at : Bits) → now ≡ redrawn before now.front now.color
     → now.settings.columns ≤ length now.front
     → StrictSoFar line (drawn_by (step_1d true before.settings.columns) (pen_of now at)) cut → cut ≡ is_broken line
-cut_drawn_1d before now cut line at kept full so_far =
-    strict_end line _ cut so_far (full_1d before.settings.columns (pen_of now at)
-    (subst (λ (n : ℕ). n ≤ length now.front) (ap (λ (h : Held). h.settings.columns) kept) full))
+cut_drawn_1d before now cut line at kept full so_far = grind (arith, common_steps, strict_end, full_1d)
 
-pub cut_drawn_2d : (before now : Held) (cut : Bool) (line : Line) (at : Bits) → now ≡ redrawn before now.front now.color
-    → now.settings.columns ≤ length now.front
-    → StrictSoFar line (drawn_by (step_2d true before.settings.columns before.reference) (pen_of now at)) cut → cut
-    ≡ is_broken line
-cut_drawn_2d before now cut line at kept full so_far =
-    strict_end line _ cut so_far (full_2d before.settings.columns before.reference (pen_of now at)
-    (subst (λ (n : ℕ). n ≤ length now.front) (ap (λ (h : Held). h.settings.columns) kept) full))
+pub cut_drawn_2d : (before now : Held) (cut : Bool) (line : Line)
+    (at : Bits) → now ≡ redrawn before now.front now.color → now.settings.columns ≤ length now.front → StrictSoFar line
+    (drawn_by (step_2d true before.settings.columns before.reference) (pen_of now at)) cut → cut ≡ is_broken line
+cut_drawn_2d before now cut line at kept full so_far = grind (arith, common_steps, strict_end, full_2d)

@@ -1,8 +1,8 @@
 -- The turns of drawing, one after another.
-use Rattle.fax_reading.proofs.Names.{◌≡◌, ℕ, suc, Bool, true, false, cond, leb, [], length, Result, Ok, Err, refl, Mode}
-use Rattle.fax_reading.proofs.Names.{Horizontal, DecodeError, UnexpectedEof, Step, Bits, mode_codes, read_code, Turn, repeated}
-use Rattle.fax_reading.proofs.Names.{Row, opposite, paint, run_from, Line, Pen, turn_behind, unless_fault, draw_run, draw_mode}
-use Rattle.fax_reading.proofs.Names.{draw_1d, draw_2d}
+use Rattle.fax_reading.proofs.Names.{arith, common_steps, ◌≡◌, ℕ, suc, Bool, true, false, cond, leb, [], length, Result, Ok, Err}
+use Rattle.fax_reading.proofs.Names.{refl, Mode, Horizontal, DecodeError, UnexpectedEof, Step, Bits, mode_codes, read_code, Turn}
+use Rattle.fax_reading.proofs.Names.{repeated, Row, opposite, paint, run_from, Line, Pen, turn_behind, unless_fault, draw_run}
+use Rattle.fax_reading.proofs.Names.{draw_mode, draw_1d, draw_2d}
 
 -- what comes of a value, or the line that a fault ends
 abbrev pub try : {A : Type 0} → Row → Result A DecodeError → (A → Step) → Step
@@ -42,16 +42,13 @@ unless_full_is false line pen behind = refl
 -- a step of a one-dimensional line is a run, unless the line is whole
 pub step_1d_is : (strict : Bool) (columns : ℕ) (pen : Pen)
     → step_1d strict columns pen ≡ step_unless_full columns pen (run_then strict columns pen Turn.next)
-step_1d_is strict columns pen =
-    unless_full_is (leb columns (length pen.front)) (Line.whole pen.front pen.rest) pen (λ p. (draw_run strict columns p).turn)
+step_1d_is strict columns pen = grind (arith, common_steps, unless_full_is)
 
 -- a step of a two-dimensional line is the mode that is read, unless the line is whole
 pub step_2d_is : (strict : Bool) (columns : ℕ) (reference : Row) (pen : Pen)
     → step_2d strict columns reference pen ≡ step_unless_full columns pen (try pen.front (read_code mode_codes pen.rest)
     (λ mode. mode_step strict columns reference (record pen { rest = mode.1 }) mode.0))
-step_2d_is strict columns reference pen =
-    unless_full_is (leb columns (length pen.front)) (Line.whole pen.front pen.rest) pen (λ p. try p.front
-    (read_code mode_codes p.rest) (λ mode. mode_step strict columns reference (record p { rest = mode.1 }) mode.0))
+step_2d_is strict columns reference pen = grind (arith, common_steps, unless_full_is)
 
 -- a step after a run is the run, and then that step
 pub run_then_is : (strict : Bool) (columns : ℕ) (pen : Pen) (behind : Pen → Step)

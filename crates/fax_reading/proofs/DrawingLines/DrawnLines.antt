@@ -1,21 +1,20 @@
 -- What a step of a line paints, and what that says of the finished line.
-use Rattle.fax_reading.proofs.Names.{◌≡◌, ◌≢◌, ℕ, zero, suc, ◌-◌, ◌<◌, ◌≤◌, Bool, true, false, cond, ◌&&◌, ltb, leb, [], ◌∷◌}
-use Rattle.fax_reading.proofs.Names.{◌++◌, length, replicate, append_assoc, w32, Option, Some, Result, Ok, Err, refl, sym}
-use Rattle.fax_reading.proofs.Names.{subst, ap, ◌∙◌, arith, ◌⊎◌, inl, inr, ◌↔◌, IsTrue, IfErr, OnOk, OnErr, SomeIff, min, ℤ, pos}
-use Rattle.fax_reading.proofs.Names.{negsuc, ◌+ℤ◌, false≢true, cases_lt, le-leb, lt-leb, nat_abs, FitsUnsigned, ints}
-use Rattle.fax_reading.proofs.Names.{length-append, Contains-append_left, Contains-append_right, Color, Mode, Pass, Horizontal}
-use Rattle.fax_reading.proofs.Names.{Vertical, DecodeError, DecodeSettings, UnexpectedEof, InvalidCode, OutOfMemory, kind_of}
-use Rattle.fax_reading.proofs.Names.{IsFault, front_of, HasBlack, StopsAtChange, DrawsLine, pen_of, front_after}
-use Rattle.fax_reading.proofs.Names.{DrawsStep, StoresChange, Step, step_of_run, step_of_mode, Bits, BitsAt, here, mode_codes}
-use Rattle.fax_reading.proofs.Names.{read_code, Context, Held, redrawn, Line, Pen, start, place_from, turn_behind, Turn, repeated}
-use Rattle.fax_reading.proofs.Names.{Row, is_black, opposite, right_of, b1, b2, paint, last_pixel, run_from}
-use Rattle.fax_bits.proofs.CodeWords.ReadRuns.{chosen, read_code_shorter}
-use Rattle.fax_reading.proofs.DrawingLines.Drawings.{try, run_then, mode_step, step_unless_full, drawn_by, step_1d, step_2d}
-use Rattle.fax_reading.proofs.DrawingLines.Drawings.{step_1d_is, step_2d_is, horizontal_is}
+use Rattle.fax_reading.proofs.Names.{common_steps, ◌≡◌, ◌≢◌, ℕ, zero, suc, ◌-◌, ◌<◌, ◌≤◌, Bool, true, false, cond, leb, [], ◌∷◌}
+use Rattle.fax_reading.proofs.Names.{◌++◌, length, replicate, append_assoc, w32, Option, Some, Result, Ok, Err, refl, sym, subst}
+use Rattle.fax_reading.proofs.Names.{ap, ◌∙◌, arith, ◌⊎◌, inl, inr, ◌↔◌, IsTrue, IfErr, OnOk, OnErr, SomeIff, ℤ, pos, negsuc}
+use Rattle.fax_reading.proofs.Names.{◌+ℤ◌, false≢true, cases_lt, le-leb, lt-leb, nat_abs, FitsUnsigned, ints, length-append}
+use Rattle.fax_reading.proofs.Names.{Contains-append_left, Contains-append_right, Color, Mode, Pass, Horizontal, Vertical}
+use Rattle.fax_reading.proofs.Names.{DecodeError, DecodeSettings, UnexpectedEof, InvalidCode, OutOfMemory, kind_of, IsFault}
+use Rattle.fax_reading.proofs.Names.{front_of, HasBlack, StopsAtChange, DrawsLine, pen_of, front_after, DrawsStep, StoresChange}
+use Rattle.fax_reading.proofs.Names.{Step, step_of_run, step_of_mode, Bits, BitsAt, here, mode_codes, read_code, Context, Held}
+use Rattle.fax_reading.proofs.Names.{redrawn, Line, Pen, start, place_from, turn_behind, Turn, repeated, Row, is_black, opposite}
+use Rattle.fax_reading.proofs.Names.{right_of, b1, b2, paint, last_pixel, run_from}
+use Rattle.fax_bits.proofs.CodeWords.ReadRuns.{chosen, read_code_shorter, some_where}
+use Rattle.fax_reading.proofs.DrawingLines.Drawings.{try, run_then, mode_step, drawn_by, step_1d, step_2d, step_1d_is, step_2d_is}
+use Rattle.fax_reading.proofs.DrawingLines.Drawings.{horizontal_is}
 use Rattle.fax_reading.proofs.DrawingLines.ReadLines.{draw_mode_next, modes_not_empty, drawn1, drawn2, step_1d_shrinks}
 use Rattle.fax_reading.proofs.DrawingLines.ReadLines.{step_2d_shrinks, pen_left}
 use Rattle.fax_bits.proofs.Repetition.Repeated.{Shrinks, after_turn}
-use Rattle.fax_bits.proofs.CodeWords.ReadRuns.{some_where}
 use Rattle.fax_bits.proofs.ErrorKinds.{kind_weaker, of_fault_kind}
 
 -- ---- What painting yields.
@@ -23,14 +22,7 @@ use Rattle.fax_bits.proofs.ErrorKinds.{kind_weaker, of_fault_kind}
 -- what was painted is the front and some more pixels of the colour
 pub paint_ok : (strict : Bool) (columns : ℕ) (front : Row) (color : Color) (n : ℕ) (row : Row)
     → paint strict columns front color n ≡ Ok row → (k : ℕ) × (front ++ replicate k (is_black color) ≡ row)
-paint_ok strict columns front color n row e = elim (chosen (strict && ltb (columns - length front) n) _ _ _ e) [
-  | inl a ↦ absurd (let f : ◌≡◌ {A = Result Row DecodeError} (Err InvalidCode) (Ok row) = a.1 in cc)
-  | inr a ↦ (
-    min n (columns - length front),
-    let f : ◌≡◌ {A = Result Row DecodeError} (Ok (front ++ replicate (min n (columns - length front)) (is_black color)))
-        (Ok row) = a.1 in cc,
-  )
-]
+paint_ok strict columns front color n row e = grind (arith, common_steps, chosen)
 
 -- ---- A front that ends at a change.
 
@@ -51,9 +43,7 @@ other_pixels front color (suc k) more other = (is_black color, replicate k (is_b
 
 -- if a change is stored, the front ends at a change of the new row
 pub stores_change : (held : Held) (count : ℕ) → (stored : StoresChange held count) → StopsAtChange stored.0 held.front
-stores_change held count stored =
-    let p = paint_ok held.settings.strict held.settings.columns held.front held.color count stored.0 stored.1 in
-    subst (λ (r : Row). StopsAtChange r held.front) p.1 (other_pixels held.front held.color p.0 (rw p.1 stored.2) stored.3)
+stores_change held count stored = grind (arith, paint_ok, other_pixels)
 
 first_black : (row : Row) → HasBlack (true ∷ row)
 first_black row = (0, omega arith, refl)
@@ -95,11 +85,7 @@ pub record IsUnpainted (held : Held) (count : ℕ) (e : DecodeError) : Type 0 wh
 pub unpainted : (held : Held) (count : ℕ) (r : Result (Unit {0}) DecodeError) (e : DecodeError) → r ≡ Err e → ((r
     ≡ Err InvalidCode) ↔ (paint held.settings.strict held.settings.columns held.front held.color count ≡ Err InvalidCode)) → (r
     ≡ Err OutOfMemory → StoresChange held count) → IfErr r (λ e. (e ≡ InvalidCode) ⊎ (e ≡ OutOfMemory)) → IsUnpainted held count e
-unpainted held count r e is too_many memory only = record {
-  too_many = λ f. too_many.0 (is ∙ f);
-  memory = λ f. memory (is ∙ f);
-  only = subst (λ (r : Result (Unit {0}) DecodeError). IfErr r (λ e. (e ≡ InvalidCode) ⊎ (e ≡ OutOfMemory))) is only;
-}
+unpainted held count r e is too_many memory only = grind (arith, common_steps)
 
 -- an error of painting is that of the step that paints and continues
 pub paint_fails : (held : Held) (count : ℕ) (go_on : Row → Step) (e : DecodeError) (pen : Pen) → pen.front ≡ held.front
@@ -117,8 +103,7 @@ pub paint_draws : (held new : Held) (count : ℕ) (rest : Bits) (r : Result (Uni
     (new ≡ redrawn held new.front held.color) → OnErr r (new ≡ held) → ((e : DecodeError) → r ≡ Err e → IsUnpainted held count e)
     → DrawsStep (try held.front (paint held.settings.strict held.settings.columns held.front held.color count)
     (λ front. Turn.next (record (pen_of held rest) { front = front }))) r (pen_of new rest)
-paint_draws held new count rest (Ok x) painted kept same unpainted = let color : new.color ≡ held.color =
-    ap (λ (h : Held). h.color) kept in rw (painted, color) refl
+paint_draws held new count rest (Ok x) painted kept same unpainted = grind (arith, common_steps)
 paint_draws held new count rest (Err e) painted kept same unpainted =
     paint_fails held count (λ front. Turn.next (record (pen_of held rest) { front = front })) e (pen_of new rest)
     (ap (λ (h : Held). h.front) same) (unpainted e refl) (λ row stops. stops)
@@ -128,11 +113,7 @@ pub pass_draws : (old held new : Held) (count : ℕ) (rest : Bits) (r : Result (
     ≡ b2 old.reference (right_of old.front) old.color - length old.front → DrawsStep (try held.front (paint held.settings.strict
     held.settings.columns held.front held.color count) (λ front. Turn.next (record (pen_of held rest) { front = front }))) r
     (pen_of new rest) → DrawsStep (step_of_mode old rest Pass) r (pen_of new rest)
-pass_draws old held new count rest r same counts draws =
-    let at_old = subst (λ (h : Held). DrawsStep (try h.front (paint h.settings.strict h.settings.columns h.front h.color count)
-    (λ front. Turn.next (record (pen_of h rest) { front = front }))) r (pen_of new rest)) same draws in
-    subst (λ (n : ℕ). DrawsStep (try old.front (paint old.settings.strict old.settings.columns old.front old.color n)
-    (λ front. Turn.next (record (pen_of old rest) { front = front }))) r (pen_of new rest)) counts at_old
+pass_draws old held new count rest r same counts draws = grind (arith, common_steps)
 
 -- the position of a vertical mode, where it fits in 32 bits and is not left of the pixels painted
 pub place_ok : (painted p : ℕ) (z : ℤ) → z ≡ pos p → p ≤ 4294967295 → painted ≤ p → place_from painted z ≡ Ok p
@@ -184,9 +165,7 @@ KeepsFront P go_on = (pen : Pen) → P pen.front → P (front_after (go_on pen))
 -- painting keeps what was painted
 paint_keeps : (P : Row → Type 0) → Stays P → (strict : Bool) (columns : ℕ) (front : Row) (color : Color) (n : ℕ) (row : Row)
     → paint strict columns front color n ≡ Ok row → P front → P row
-paint_keeps P on strict columns front color n row e holds =
-    let p = paint_ok strict columns front color n row e in
-    subst P p.1 (on front (replicate p.0 (is_black color)) holds)
+paint_keeps P on strict columns front color n row e holds = grind (arith, common_steps, paint_ok)
 
 try_keeps : {A : Type 0} (P : Row → Type 0) (front : Row) (r : Result A DecodeError) (go_on : A → Step) → P front
     → ((x : A) → r ≡ Ok x → P (front_after (go_on x))) → P (front_after (try front r go_on))
@@ -194,8 +173,7 @@ try_keeps P front (Ok x) go_on holds keeps = keeps x refl
 try_keeps P front (Err fault) go_on holds keeps = holds
 
 draw_run_keeps : (P : Row → Type 0) → Stays P → (strict : Bool) (columns : ℕ) (pen : Pen) (go_on : Pen → Step)
-    → ((p : Pen) → P p.front → P (front_after (go_on p))) → P pen.front
-    → P (front_after (run_then strict columns pen go_on))
+    → ((p : Pen) → P p.front → P (front_after (go_on p))) → P pen.front → P (front_after (run_then strict columns pen go_on))
 draw_run_keeps P on strict columns pen go_on keeps holds =
     try_keeps P pen.front (run_from pen.color (0, pen.rest)) _ holds (λ run e. try_keeps P pen.front (paint strict columns
     pen.front pen.color run.0) _ holds (λ front f. keeps (record { front = front; color = opposite pen.color; rest = run.1 })
@@ -203,24 +181,13 @@ draw_run_keeps P on strict columns pen go_on keeps holds =
 
 draw_mode_keeps : (P : Row → Type 0) → Stays P → (strict : Bool) (columns : ℕ) (reference : Row) (pen : Pen) (mode : Mode)
     → P pen.front → P (front_after (mode_step strict columns reference pen mode))
-draw_mode_keeps P on strict columns reference pen Pass holds =
-    let n : ℕ = b2 reference (right_of pen.front) pen.color - length pen.front in
-    try_keeps P pen.front (paint strict columns pen.front pen.color n) (λ front. Turn.next (record pen { front = front }))
-    holds (λ front f. paint_keeps P on strict columns pen.front pen.color n front f holds)
+draw_mode_keeps P on strict columns reference pen Pass holds = grind (arith, common_steps, try_keeps, paint_keeps)
 draw_mode_keeps P on strict columns reference pen Horizontal holds =
-    subst (λ (step : Step). P (front_after step)) (horizontal_is strict columns reference pen)
-    (draw_run_keeps P on strict columns pen (λ pen. run_then strict columns pen Turn.next)
-    (λ p h. draw_run_keeps P on strict columns p Turn.next (λ q g. g) h) holds)
-draw_mode_keeps P on strict columns reference pen (Vertical k) holds =
-    let paints : ℕ → Step = λ place. try pen.front (paint strict columns pen.front pen.color (place - length pen.front))
-    (λ front. Turn.next (record { front = front; color = opposite pen.color; rest = pen.rest })) in
-    try_keeps P pen.front (place_from (length pen.front) (pos (b1 reference (right_of pen.front) pen.color) +ℤ k))
-    paints holds (λ place e. try_keeps P pen.front (paint strict columns pen.front pen.color (place - length pen.front))
-    (λ front. Turn.next (record { front = front; color = opposite pen.color; rest = pen.rest })) holds
-    (λ front f. paint_keeps P on strict columns pen.front pen.color (place - length pen.front) front f holds))
+    subst (λ (step : Step). P (front_after step)) (horizontal_is strict columns reference pen) (draw_run_keeps P on strict columns
+    pen (λ pen. run_then strict columns pen Turn.next) (λ p h. draw_run_keeps P on strict columns p Turn.next (λ q g. g) h) holds)
+draw_mode_keeps P on strict columns reference pen (Vertical k) holds = grind (arith, common_steps, try_keeps, paint_keeps)
 
-keeps_either : (P : Row → Type 0) (b : Bool) (x y : Step) → P (front_after x) → P (front_after y)
-    → P (front_after (cond b x y))
+keeps_either : (P : Row → Type 0) (b : Bool) (x y : Step) → P (front_after x) → P (front_after y) → P (front_after (cond b x y))
 keeps_either P true x y one other = one
 keeps_either P false x y one other = other
 
@@ -235,8 +202,7 @@ step_2d_keeps P on strict columns reference pen holds =
     holds (λ mode e. draw_mode_keeps P on strict columns reference (record pen { rest = mode.1 }) mode.0 holds)))
 
 step_1d_keeps : (P : Row → Type 0) → Stays P → (strict : Bool) (columns : ℕ) → KeepsFront P (step_1d strict columns)
-step_1d_keeps P on strict columns pen holds =
-    subst (λ (step : Step). P (front_after step)) (sym (step_1d_is strict columns pen))
+step_1d_keeps P on strict columns pen holds = subst (λ (step : Step). P (front_after step)) (sym (step_1d_is strict columns pen))
     (keeps_either P (leb columns (length pen.front)) (Turn.done (Line.whole pen.front pen.rest))
     (run_then strict columns pen Turn.next) holds (draw_run_keeps P on strict columns pen Turn.next (λ q h. h) holds))
 
@@ -256,9 +222,8 @@ keeps_on P step shrinks keeps (suc n) pen lt holds =
 -- so what is true of a front is true of the row of the line that continues it, or of the front of a broken one
 pub drawn_1d_keeps : (P : Row → Type 0) → Stays P → (strict : Bool) (columns : ℕ) (pen : Pen) → P pen.front
     → P (front_of (drawn_by (step_1d strict columns) pen))
-drawn_1d_keeps P on strict columns pen holds =
-    keeps_on P (step_1d strict columns) (step_1d_shrinks strict columns) (step_1d_keeps P on strict columns)
-    (suc (length pen.rest)) pen (omega arith) holds
+drawn_1d_keeps P on strict columns pen holds = keeps_on P (step_1d strict columns)
+    (step_1d_shrinks strict columns) (step_1d_keeps P on strict columns) (suc (length pen.rest)) pen (omega arith) holds
 
 pub drawn_2d_keeps : (P : Row → Type 0) → Stays P → (strict : Bool) (columns : ℕ) (reference : Row) (pen : Pen) → P pen.front
     → P (front_of (drawn_by (step_2d strict columns reference) pen))
@@ -277,20 +242,12 @@ keeps_after P step shrinks keeps (Turn.done line) holds = holds
 -- a line that isn't full continues with a run, or with a mode
 pub run_open : (strict : Bool) (columns : ℕ) (pen : Pen) → length pen.front < columns → drawn_by (step_1d strict columns) pen
     ≡ after_turn (drawn_by (step_1d strict columns)) (run_then strict columns pen Turn.next)
-run_open strict columns pen open_row =
-    let on : step_unless_full columns pen (run_then strict columns pen Turn.next) ≡ run_then strict columns pen Turn.next =
-    rw (lt-leb columns (length pen.front) open_row) refl in
-    drawn1 strict columns pen ∙ ap (after_turn (drawn_by (step_1d strict columns))) (step_1d_is strict columns pen ∙ on)
+run_open strict columns pen open_row = grind (arith, common_steps, lt-leb, drawn1, step_1d_is)
 
 line_open : (strict : Bool) (columns : ℕ) (reference : Row) (pen : Pen) → length pen.front < columns
     → drawn_by (step_2d strict columns reference) pen ≡ after_turn (drawn_by (step_2d strict columns reference)) (try pen.front
     (read_code mode_codes pen.rest) (λ mode. mode_step strict columns reference (record pen { rest = mode.1 }) mode.0))
-line_open strict columns reference pen open_row =
-    let step : Step = try pen.front (read_code mode_codes pen.rest)
-    (λ mode. mode_step strict columns reference (record pen { rest = mode.1 }) mode.0) in
-    let on : step_unless_full columns pen step ≡ step = rw (lt-leb columns (length pen.front) open_row) refl in
-    drawn2 strict columns reference pen
-    ∙ ap (after_turn (drawn_by (step_2d strict columns reference))) (step_2d_is strict columns reference pen ∙ on)
+line_open strict columns reference pen open_row = grind (arith, common_steps, lt-leb, drawn2, step_2d_is)
 
 -- after a mode is read, the line is what comes of the step that draws it
 pub line_mode : (strict : Bool) (columns : ℕ) (reference : Row) (pen : Pen) (mode : Mode) (rest : Bits) → length pen.front
@@ -368,9 +325,8 @@ mode_shorter strict columns reference pen t at mode reads draws =
 -- an error of the first step is that of both, if what follows keeps what is painted
 pub behind_fails : (behind : Pen → Step) (step : Step) (e : DecodeError) (pen : Pen) → KeepsFront (stopping_at pen.front) behind
     → DrawsStep step (Err e) pen → DrawsStep (turn_behind step behind) (Err e) pen
-behind_fails behind step e pen keeps =
-    kind_weaker (kind_of e) (step ≡ Turn.done (Line.broken pen.front e)) (StopsAtChange (front_after step) pen.front) ⊥
-    (turn_behind step behind ≡ Turn.done (Line.broken pen.front e))
+behind_fails behind step e pen keeps = kind_weaker (kind_of e) (step ≡ Turn.done (Line.broken pen.front e))
+    (StopsAtChange (front_after step) pen.front) ⊥ (turn_behind step behind ≡ Turn.done (Line.broken pen.front e))
     (StopsAtChange (front_after (turn_behind step behind)) pen.front) ⊥ (λ draws. rw draws refl) (stops step) (λ draws. draws)
   where
     stops : (step : Step) → StopsAtChange (front_after step) pen.front
@@ -381,10 +337,9 @@ behind_fails behind step e pen keeps =
 -- two runs, if the first is refused
 pub first_run_fails : (held : Held) (rest : Bits) (left : Pen) (e : DecodeError) → DrawsStep (step_of_run held rest) (Err e) left
     → DrawsStep (step_of_mode held rest Horizontal) (Err e) left
-first_run_fails held rest left e draws =
-    behind_fails (λ pen. run_then held.settings.strict held.settings.columns pen Turn.next) (step_of_run held rest) e left
-    (λ p stops. draw_run_keeps (stopping_at left.front) (later_change left.front) held.settings.strict held.settings.columns
-    p Turn.next (λ q g. g) stops) draws
+first_run_fails held rest left e draws = behind_fails (λ pen. run_then held.settings.strict held.settings.columns pen Turn.next)
+    (step_of_run held rest) e left (λ p stops. draw_run_keeps (stopping_at left.front)
+    (later_change left.front) held.settings.strict held.settings.columns p Turn.next (λ q g. g) stops) draws
 
 -- Between two steps of a line: the line from the pen on is the whole line; nothing but the front and the colour of the
 -- context has changed.

@@ -1,7 +1,7 @@
 -- A whole line has all its pixels.
-use Rattle.fax_reading.proofs.Names.{◌≡◌, ◌≤◌, ℕ, suc, Bool, true, false, [], ◌∷◌, length, sym, ◌∙◌, subst, EncodingMode, Group4}
-use Rattle.fax_reading.proofs.Names.{Group3_1D, Group3_2D, line_by, UnexpectedEof, Bits, mode_codes, read_code, Turn, Row, Line}
-use Rattle.fax_reading.proofs.Names.{Pen, start, line_1d, line_2d, Step}
+use Rattle.fax_reading.proofs.Names.{arith, common_steps, ◌≡◌, ◌≤◌, ℕ, suc, Bool, true, false, [], ◌∷◌, length, EncodingMode}
+use Rattle.fax_reading.proofs.Names.{Group4, Group3_1D, Group3_2D, line_by, UnexpectedEof, Bits, mode_codes, read_code, Turn, Row}
+use Rattle.fax_reading.proofs.Names.{Line, Pen, start, line_1d, line_2d, Step}
 use Rattle.fax_reading.proofs.DrawingLines.Drawings.{try, run_then, mode_step, step_unless_full, drawn_by, step_1d, step_2d}
 use Rattle.fax_reading.proofs.DrawingLines.Drawings.{step_1d_is, step_2d_is}
 use Rattle.fax_reading.proofs.DrawingLines.ReadLines.{EndsNoLine, full_by, try_goes_on, draw_run_goes_on, draw_mode_goes_on}
@@ -16,10 +16,7 @@ module _ (columns : ℕ) (step : Pen → Step) (body : Pen → Step) (goes : (p 
     (same : (p : Pen) → step p ≡ step_unless_full columns p (body p)) where
   ends : (s : Pen) (l : Line) → step s ≡ Turn.done l → IsFull columns l
   ends s (Line.broken front fault) e = tt
-  ends s (Line.whole row rest) e =
-      let f = full_by columns s (body s) row rest (goes s) (sym (same s) ∙ e) in
-      let r : s.front ≡ row = let w = f.1 in cc in
-      subst (λ (x : Row). columns ≤ length x) r f.0
+  ends s (Line.whole row rest) e = grind (arith, common_steps, full_by)
 
   drawn_full : (pen : Pen) → IsFull columns (drawn_by step pen)
   drawn_full pen = repeated_keeps step (Line.broken [] UnexpectedEof) (λ p. Unit {0}) (IsFull columns) tt (λ s t p e. tt)
@@ -27,8 +24,7 @@ module _ (columns : ℕ) (step : Pen → Step) (body : Pen → Step) (goes : (p 
 
 -- a one-dimensional line that is whole is full
 pub line_1d_full : (strict : Bool) (columns : ℕ) (here : Bits) → IsFull columns (line_1d strict columns here)
-line_1d_full strict columns here =
-    drawn_full columns (step_1d strict columns) (λ p. run_then strict columns p Turn.next)
+line_1d_full strict columns here = drawn_full columns (step_1d strict columns) (λ p. run_then strict columns p Turn.next)
     (λ p. draw_run_goes_on strict columns p Turn.next (λ q. tt)) (λ p. step_1d_is strict columns p) (start here)
 
 -- and so is a two-dimensional one

@@ -1,10 +1,9 @@
 -- No line has more pixels than there are columns.
-use Rattle.fax_reading.proofs.Names.{ℕ, ◌≤◌, ◌-◌, suc, Bool, true, false, cond, leb, [], ◌∷◌, ◌++◌, length, replicate, min}
-use Rattle.fax_reading.proofs.Names.{Result, Ok, Err, IfOk, subst, arith, length-append, length-replicate, Color, Mode, Pass}
-use Rattle.fax_reading.proofs.Names.{Horizontal, Vertical, DecodeError, UnexpectedEof, InvalidCode, EncodingMode, Group4}
-use Rattle.fax_reading.proofs.Names.{Group3_1D, Group3_2D, front_of, Bits, Turn, Row, paint, is_black, Line, Pen, Drawing, start}
-use Rattle.fax_reading.proofs.Names.{drawn, turn_behind, unless_fault, painted, run_here, mode_here, place_by, unless_full}
-use Rattle.fax_reading.proofs.Names.{draw_run, draw_mode, draw_1d, draw_2d, line_1d, line_2d, line_by}
+use Rattle.fax_reading.proofs.Names.{common_steps, ℕ, ◌≤◌, suc, Bool, true, false, [], ◌∷◌, length, Result, Ok, Err, IfOk, subst}
+use Rattle.fax_reading.proofs.Names.{arith, length-append, length-replicate, Color, Mode, Pass, Horizontal, Vertical, DecodeError}
+use Rattle.fax_reading.proofs.Names.{UnexpectedEof, EncodingMode, Group4, Group3_1D, Group3_2D, front_of, Bits, Turn, Row, paint}
+use Rattle.fax_reading.proofs.Names.{Line, Pen, Drawing, start, drawn, turn_behind, unless_fault, painted, run_here, mode_here}
+use Rattle.fax_reading.proofs.Names.{unless_full, draw_run, draw_mode, draw_1d, draw_2d, line_1d, line_2d, line_by}
 use Rattle.fax_bits.proofs.Repetition.Repeated.{repeated_keeps}
 
 -- a turn continues with what has a property, or with a line of at most this width
@@ -42,60 +41,36 @@ any_holds columns front (Err fault) within = within
 
 paint_within : (strict : Bool) (columns : ℕ) (front : Row) (color : Color) (n : ℕ) → length front ≤ columns
     → IfOk (paint strict columns front color n) (IsWithin columns)
-paint_within strict columns front color n within = either_way _
-  where
-    more : Row
-    more = replicate (min n (columns - length front)) (is_black color)
-
-    result : Bool → Result Row DecodeError
-    result b = cond b (Err InvalidCode) (Ok (front ++ more))
-
-    either_way : (b : Bool) → IfOk (result b) (IsWithin columns)
-    either_way true = tt
-    either_way false = omega (arith, length-append front more, length-replicate (min n (columns - length front)) (is_black color))
+paint_within strict columns front color n within = grind (arith, common_steps, length-append, length-replicate)
 
 module _ (strict : Bool) (columns : ℕ) where
   painted_within : (pen : Pen) (n : ℕ) → PenWithin columns pen
       → KeepsWidth columns (IsWithin columns) (painted strict columns pen n).turn
-  painted_within pen n within = unless_fault_holds columns (IsWithin columns) pen.front
-      (paint strict columns pen.front pen.color n) within (paint_within strict columns pen.front pen.color n within)
+  painted_within pen n within = grind (arith, common_steps, unless_fault_holds, paint_within)
 
   draw_run_within : (pen : Pen) → PenWithin columns pen → KeepsWidth columns (PenWithin columns)
       (draw_run strict columns pen).turn
-  draw_run_within pen within =
-      behind_holds columns Any (PenWithin columns) (run_here pen).turn _ (any_holds columns pen.front _ within)
-      (λ run u. behind_holds columns (IsWithin columns) (PenWithin columns) (painted strict columns pen run.0).turn _
-      (painted_within pen run.0 within) (λ front h. h))
+  draw_run_within pen within = behind_holds columns Any (PenWithin columns)
+      (run_here pen).turn _ (any_holds columns pen.front _ within) (λ run u. behind_holds columns (IsWithin columns)
+      (PenWithin columns) (painted strict columns pen run.0).turn _ (painted_within pen run.0 within) (λ front h. h))
 
   draw_mode_within : (reference : Row) (pen : Pen) (mode : Mode) → PenWithin columns pen
       → KeepsWidth columns (PenWithin columns) (draw_mode strict columns reference pen mode).turn
-  draw_mode_within reference pen Pass within =
-      behind_holds columns (IsWithin columns) (PenWithin columns) _ _ (painted_within pen _ within) (λ front h. h)
-  draw_mode_within reference pen Horizontal within =
-      behind_holds columns (PenWithin columns) (PenWithin columns) (draw_run strict columns pen).turn _
-      (draw_run_within pen within) (λ p h. draw_run_within p h)
-  draw_mode_within reference pen (Vertical k) within =
-      behind_holds columns Any (PenWithin columns) (place_by reference pen k).turn _ (any_holds columns pen.front _ within)
-      (λ place u. behind_holds columns (IsWithin columns) (PenWithin columns) _ _ (painted_within pen _ within) (λ front h. h))
+  draw_mode_within reference pen Pass within = grind (arith, common_steps, behind_holds, painted_within)
+  draw_mode_within reference pen Horizontal within = behind_holds columns (PenWithin columns)
+      (PenWithin columns) (draw_run strict columns pen).turn _ (draw_run_within pen within) (λ p h. draw_run_within p h)
+  draw_mode_within reference pen (Vertical k) within = grind (arith, common_steps, behind_holds, any_holds, painted_within)
 
   unless_full_within : (pen : Pen) → PenWithin columns pen → KeepsWidth columns (PenWithin columns) (unless_full columns pen).turn
-  unless_full_within pen within = either_way (leb columns (length pen.front))
-    where
-      either_way : (b : Bool)
-          → KeepsWidth columns (PenWithin columns) (cond b (Turn.done (Line.whole pen.front pen.rest)) (Turn.next pen))
-      either_way true = within
-      either_way false = within
+  unless_full_within pen within = grind (arith, common_steps)
 
   draw_1d_within : (pen : Pen) → PenWithin columns pen → KeepsWidth columns (PenWithin columns) (draw_1d strict columns pen).turn
-  draw_1d_within pen within =
-      behind_holds columns (PenWithin columns) (PenWithin columns) (unless_full columns pen).turn _
-      (unless_full_within pen within) (λ p h. draw_run_within p h)
+  draw_1d_within pen within = grind (arith, common_steps, behind_holds, unless_full_within, draw_run_within)
 
   draw_2d_within : (reference : Row) (pen : Pen) → PenWithin columns pen
       → KeepsWidth columns (PenWithin columns) (draw_2d strict columns reference pen).turn
-  draw_2d_within reference pen within =
-      behind_holds columns (PenWithin columns) (PenWithin columns) (unless_full columns pen).turn _
-      (unless_full_within pen within) (λ p h. behind_holds columns Any (PenWithin columns) (mode_here p).turn _
+  draw_2d_within reference pen within = behind_holds columns (PenWithin columns) (PenWithin columns) (unless_full columns
+      pen).turn _ (unless_full_within pen within) (λ p h. behind_holds columns Any (PenWithin columns) (mode_here p).turn _
       (any_holds columns p.front _ h) (λ mode u. draw_mode_within reference (record p { rest = mode.1 }) mode.0 h))
 
 -- so has what is drawn by such steps

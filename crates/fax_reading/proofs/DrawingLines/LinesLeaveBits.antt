@@ -1,6 +1,6 @@
 -- What a line leaves is a suffix of the bits that it began with.
-use Rattle.fax_reading.proofs.Names.{◌≡◌, ℕ, suc, ◌+◌, Bool, true, false, cond, ltb, leb, [], ◌∷◌, ◌++◌, length, Result, Ok, Err}
-use Rattle.fax_reading.proofs.Names.{refl, sym, ap, subst, ◌∙◌, append_assoc, Color, DecodeError, UnexpectedEof, Overflow}
+use Rattle.fax_reading.proofs.Names.{arith, common_steps, ◌≡◌, ℕ, suc, Bool, true, false, cond, leb, [], ◌∷◌, ◌++◌, length}
+use Rattle.fax_reading.proofs.Names.{Result, Ok, Err, refl, sym, ap, subst, ◌∙◌, append_assoc, Color, DecodeError, UnexpectedEof}
 use Rattle.fax_reading.proofs.Names.{EncodingMode, Group4, Group3_1D, Group3_2D, Bits, read_code, Turn, Row, opposite, paint}
 use Rattle.fax_reading.proofs.Names.{codes_of, run_of_word, run_turn, run_from, Line, Pen, start, line_1d, line_2d, line_by, Step}
 use Rattle.fax_bits.proofs.CodeWords.ReadCodes.{read_code_found}
@@ -27,13 +27,7 @@ TurnLeaves here (Turn.next t) = LeavesBits here t.1
 TurnLeaves here (Turn.done r) = FoundLeaves here r
 
 word_leaves : (here : Bits) (total : ℕ) (found : ℕ × Bits) → LeavesBits here found.1 → TurnLeaves here (run_of_word total found)
-word_leaves here total (n, rest) l = either_way (ltb 4294967295 (total + n)) (ltb n 64)
-  where
-    either_way : (b c : Bool) → TurnLeaves here
-        (cond b (Turn.done (Err Overflow)) (cond c (Turn.done (Ok (total + n, rest))) (Turn.next (total + n, rest))))
-    either_way true c = tt
-    either_way false true = l
-    either_way false false = l
+word_leaves here total (n, rest) l = grind (arith, common_steps)
 
 run_turn_leaves : (color : Color) (total : ℕ) (here : Bits) → TurnLeaves here (run_turn color (total, here))
 run_turn_leaves color total here = by_read_code (read_code (codes_of color) here) refl
@@ -45,8 +39,7 @@ run_turn_leaves color total here = by_read_code (read_code (codes_of color) here
     by_read_code (Err fault) e = rw (e, run_turn) tt
 
 run_leaves : (color : Color) (total : ℕ) (here : Bits) → FoundLeaves here (run_from color (total, here))
-run_leaves color total here =
-    repeated_keeps (run_turn color) (Err UnexpectedEof) (λ s. LeavesBits here s.1) (FoundLeaves here) tt
+run_leaves color total here = repeated_keeps (run_turn color) (Err UnexpectedEof) (λ s. LeavesBits here s.1) (FoundLeaves here) tt
     (λ s t p e. leaves_trans here s.1 t.1 p (subst (TurnLeaves s.1) e (run_turn_leaves color s.0 s.1))) (λ s r p e. ends s.1 r p
     (subst (TurnLeaves s.1) e (run_turn_leaves color s.0 s.1))) (suc (length here)) (total, here) ([], refl)
   where
@@ -114,8 +107,6 @@ pub line_by_leaves : (encoding : EncodingMode) (strict : Bool) (columns : ℕ) (
     → LineLeaves here (line_by encoding strict columns reference here)
 line_by_leaves Group3_1D strict columns reference here = line_1d_leaves strict columns here
 line_by_leaves Group3_2D strict columns reference [] = tt
-line_by_leaves Group3_2D strict columns reference (true ∷ here) = behind_tag true here (line_1d strict columns here)
-    (line_1d_leaves strict columns here)
-line_by_leaves Group3_2D strict columns reference (false ∷ here) =
-    behind_tag false here (line_2d strict columns reference here) (line_2d_leaves strict columns reference here)
+line_by_leaves Group3_2D strict columns reference (true ∷ here) = grind (arith, common_steps, behind_tag, line_1d_leaves)
+line_by_leaves Group3_2D strict columns reference (false ∷ here) = grind (arith, common_steps, behind_tag, line_2d_leaves)
 line_by_leaves Group4 strict columns reference here = line_2d_leaves strict columns reference here

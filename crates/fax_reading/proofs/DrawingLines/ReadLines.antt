@@ -1,8 +1,8 @@
 -- Lines, a step at a time.
-use Rattle.fax_reading.proofs.Names.{refl, ◌∙◌, sym, ◌≡◌, ℕ, suc, ◌-◌, ◌<◌, ◌≤◌, Bool, true, leb, [], length, Result, Ok, Err}
-use Rattle.fax_reading.proofs.Names.{subst, arith, ◌⊎◌, inl, inr, pos, ◌+ℤ◌, leb-true, Mode, Pass, Horizontal, Vertical}
-use Rattle.fax_reading.proofs.Names.{DecodeError, UnexpectedEof, Bits, mode_codes, read_code, Turn, Row, opposite, b1, b2}
-use Rattle.fax_reading.proofs.Names.{right_of, paint, run_from, Line, Pen, start, line_1d, line_2d, place_from, Step}
+use Rattle.fax_reading.proofs.Names.{common_steps, refl, ◌∙◌, sym, ◌≡◌, ℕ, suc, ◌<◌, ◌≤◌, Bool, true, [], length, Result, Ok, Err}
+use Rattle.fax_reading.proofs.Names.{subst, arith, ◌⊎◌, inl, inr, leb-true, Mode, Pass, Horizontal, Vertical, DecodeError}
+use Rattle.fax_reading.proofs.Names.{UnexpectedEof, Bits, mode_codes, read_code, Turn, Row, opposite, paint, run_from, Line, Pen}
+use Rattle.fax_reading.proofs.Names.{start, line_1d, line_2d, Step}
 use Rattle.fax_bits.proofs.CodeWords.ReadRuns.{chosen, read_code_shorter, has_no_empty_word, run_shorter}
 use Rattle.fax_reading.proofs.DrawingLines.Drawings.{try, run_then, mode_step, step_unless_full, drawn_by, step_1d, step_2d}
 use Rattle.fax_reading.proofs.DrawingLines.Drawings.{step_1d_is, step_2d_is, horizontal_is}
@@ -19,10 +19,7 @@ try_next front (Err fault) f t e = absurd (not_next _ t e)
 
 pub unless_full_next : (columns : ℕ) (pen : Pen) (step : Step) (t : Pen) → step_unless_full columns pen step ≡ Turn.next t
     → step ≡ Turn.next t
-unless_full_next columns pen step t e = elim (chosen (leb columns (length pen.front)) _ _ _ e) [
-  | inl a ↦ absurd (not_next _ t a.1)
-  | inr a ↦ a.1
-]
+unless_full_next columns pen step t e = grind (arith, common_steps, chosen, not_next)
 
 abbrev pub pen_left : Pen → ℕ
 pen_left pen = length pen.rest
@@ -39,9 +36,7 @@ draw_run_next strict columns pen f t e =
 
 pub drawn_run_shorter : (strict : Bool) (columns : ℕ) (s t : Pen) → run_then strict columns s Turn.next ≡ Turn.next t
     → pen_left t < pen_left s
-drawn_run_shorter strict columns s t e =
-    let a = draw_run_next strict columns s Turn.next t e in
-    subst (λ (p : Pen). pen_left p < pen_left s) (next_is a.0 t a.1) a.2
+drawn_run_shorter strict columns s t e = grind (arith, common_steps, draw_run_next strict columns s Turn.next t e)
 
 pub step_1d_shrinks : (strict : Bool) (columns : ℕ) → Shrinks (step_1d strict columns) pen_left
 step_1d_shrinks strict columns s t e =
@@ -49,20 +44,13 @@ step_1d_shrinks strict columns s t e =
 
 pub draw_mode_next : (strict : Bool) (columns : ℕ) (reference : Row) (pen : Pen) (mode : Mode) (t : Pen)
     → mode_step strict columns reference pen mode ≡ Turn.next t → pen_left t ≤ pen_left pen
-draw_mode_next strict columns reference pen Pass t e =
-    let a = try_next pen.front _ (λ front. Turn.next (record pen { front = front })) t e in
-    subst (λ (p : Pen). pen_left p ≤ pen_left pen) (next_is _ t a.2) (omega arith)
+draw_mode_next strict columns reference pen Pass t e = grind (arith, common_steps, try_next)
 draw_mode_next strict columns reference pen Horizontal t e =
     let a = draw_run_next strict columns pen (λ pen. run_then strict columns pen Turn.next) t
     (horizontal_is strict columns reference pen ∙ e) in
     let b = draw_run_next strict columns a.0 Turn.next t a.1 in
     subst (λ (p : Pen). pen_left p ≤ pen_left pen) (next_is b.0 t b.1) (omega (arith, a.2, b.2))
-draw_mode_next strict columns reference pen (Vertical k) t e =
-    let a = try_next pen.front _ (λ place. try pen.front (paint strict columns pen.front pen.color (place - length pen.front))
-    (λ front. Turn.next (record { front = front; color = opposite pen.color; rest = pen.rest }))) t e in
-    let b =
-    try_next pen.front _ (λ front. Turn.next (record { front = front; color = opposite pen.color; rest = pen.rest })) t a.2 in
-    subst (λ (p : Pen). pen_left p ≤ pen_left pen) (next_is _ t b.2) (omega arith)
+draw_mode_next strict columns reference pen (Vertical k) t e = grind (arith, common_steps, try_next)
 
 pub step_2d_shrinks : (strict : Bool) (columns : ℕ) (reference : Row) → Shrinks (step_2d strict columns reference) pen_left
 step_2d_shrinks strict columns reference s t e =
@@ -96,36 +84,21 @@ try_goes_on front (Err fault) f g = tt
 
 pub draw_run_goes_on : (strict : Bool) (columns : ℕ) (pen : Pen) (f : Pen → Step) → ((p : Pen) → EndsNoLine (f p))
     → EndsNoLine (run_then strict columns pen f)
-draw_run_goes_on strict columns pen f g =
-    try_goes_on pen.front (run_from pen.color (0, pen.rest)) _
-    (λ run. try_goes_on pen.front (paint strict columns pen.front pen.color run.0) _ (λ front. g _))
+draw_run_goes_on strict columns pen f g = grind (arith, common_steps, try_goes_on)
 
 pub draw_mode_goes_on : (strict : Bool) (columns : ℕ) (reference : Row) (pen : Pen) (mode : Mode)
     → EndsNoLine (mode_step strict columns reference pen mode)
-draw_mode_goes_on strict columns reference pen Pass =
-    try_goes_on pen.front (paint strict columns pen.front pen.color (b2 reference
-    (right_of pen.front) pen.color - length pen.front)) (λ front. Turn.next (record pen { front = front })) (λ front. tt)
+draw_mode_goes_on strict columns reference pen Pass = grind (arith, common_steps, try_goes_on)
 draw_mode_goes_on strict columns reference pen Horizontal =
     subst EndsNoLine (horizontal_is strict columns reference pen) (draw_run_goes_on strict columns pen
     (λ pen. run_then strict columns pen Turn.next) (λ p. draw_run_goes_on strict columns p Turn.next (λ q. tt)))
-draw_mode_goes_on strict columns reference pen (Vertical k) =
-    let paints : ℕ → Step = λ place. try pen.front (paint strict columns pen.front pen.color (place - length pen.front))
-    (λ front. Turn.next (record { front = front; color = opposite pen.color; rest = pen.rest })) in
-    try_goes_on pen.front (place_from (length pen.front) (pos (b1 reference (right_of pen.front) pen.color) +ℤ k)) paints
-    (λ place. try_goes_on pen.front (paint strict columns pen.front pen.color (place - length pen.front))
-    (λ front. Turn.next (record { front = front; color = opposite pen.color; rest = pen.rest })) (λ front. tt))
+draw_mode_goes_on strict columns reference pen (Vertical k) = grind (arith, common_steps, try_goes_on)
 
 -- the row and the bits that a step ends with are those of the pen, where the row is full
 pub full_by : (columns : ℕ) (pen : Pen) (step : Step) (row : Row) (rest : Bits) → EndsNoLine step
     → step_unless_full columns pen step ≡ Turn.done (Line.whole row rest) → (columns ≤ length pen.front)
     × (Line.whole pen.front pen.rest ≡ Line.whole row rest)
-full_by columns pen step row rest g e = elim (chosen (leb columns (length pen.front)) _ _ _ e) [
-  | inl a ↦ (
-    leb-true columns (length pen.front) a.0,
-    let f : ◌≡◌ {A = Step} (Turn.done (Line.whole pen.front pen.rest)) (Turn.done (Line.whole row rest)) = a.1 in cc,
-  )
-  | inr a ↦ absurd (subst EndsNoLine a.1 g)
-]
+full_by columns pen step row rest g e = grind (arith, common_steps, chosen, leb-true)
 
 abbrev pub TookBits : ℕ → Line → Type 0
 TookBits n (Line.whole row rest) = length rest < n
@@ -139,13 +112,7 @@ module _ (columns : ℕ) (wide : 0 < columns) (step : Pen → Step) (shrinks : S
     (goes : (p : Pen) → EndsNoLine (body p)) (same : (p : Pen) → step p ≡ step_unless_full columns p (body p)) where
   ends : (n : ℕ) (s : Pen) (l : Line) → HasRead n s → step s ≡ Turn.done l → TookBits n l
   ends n s (Line.broken front fault) p e = tt
-  ends n s (Line.whole row rest) p e =
-      let f = full_by columns s (body s) row rest (goes s) (sym (same s) ∙ e) in
-      let r : s.rest ≡ rest = let w = f.1 in cc in
-      elim p [
-        | inl lt ↦ subst (λ (x : Bits). length x < n) r lt
-        | inr q ↦ absurd (omega (arith, f.0, q.1))
-      ]
+  ends n s (Line.whole row rest) p e = grind (arith, common_steps, full_by)
 
   keeps : (n : ℕ) (s t : Pen) → HasRead n s → step s ≡ Turn.next t → HasRead n t
   keeps n s t p e = elim p [ inl lt ↦ inl (omega (arith, shrinks s t e, lt)) | inr q ↦ inl (omega (arith, shrinks s t e, q.0)) ]

@@ -1,9 +1,8 @@
 -- A line that isn't read is no row.
-use Rattle.fax_reading.proofs.Names.{◌≡◌, Bool, true, false, not, ◌||◌, Result, Err, refl, sym, ap, subst, ◌∙◌}
-use Rattle.fax_reading.proofs.Names.{cond-true, or_from, or_parts, not-false, not_from_true, DecodeError, kind_of}
-use Rattle.fax_reading.proofs.Names.{OutOfMemory, Refused, DrawsLine, IsFault, IsRepairable}
-use Rattle.fax_reading.proofs.Names.{RepairStoresChange, HasBlack, front_of, Bits, Held, redrawn, TakesOneRow, Line}
-use Rattle.fax_reading.proofs.Names.{Row, row_of_line}
+use Rattle.fax_reading.proofs.Names.{arith, common_steps, ◌≡◌, Bool, true, false, not, ◌||◌, Result, Err, refl, sym, ap, subst}
+use Rattle.fax_reading.proofs.Names.{◌∙◌, cond-true, or_from, or_parts, not-false, not_from_true, DecodeError, kind_of}
+use Rattle.fax_reading.proofs.Names.{OutOfMemory, DrawsLine, IsFault, IsRepairable, RepairStoresChange, HasBlack, front_of, Bits}
+use Rattle.fax_reading.proofs.Names.{Held, redrawn, TakesOneRow, Line, Row, row_of_line}
 use Rattle.fax_bits.proofs.ErrorKinds.{at_fault_kind, by_kind}
 use Rattle.fax_reading.proofs.DrawingLines.DrawnLines.{memory_has_black, last_black}
 
@@ -12,13 +11,7 @@ module _ (line strict : Line) (row : Result (Row × Bits) DecodeError) (old new 
     (rest : Bits) where
   -- a fault of the data is the row's
   pub at_fault : (e : DecodeError) → IsFault e → row ≡ Err e → TakesOneRow line strict row old new (Err e) rest
-  at_fault e fault is = record {
-    taken = tt;
-    fault = λ f. is;
-    held = held;
-    memory = λ k. absurd (let no : e ≡ OutOfMemory = cc in subst IsFault no fault);
-    not_refused = λ k. let no : e ≡ Refused = cc in subst IsFault no fault;
-  }
+  at_fault e fault is = grind (arith, common_steps)
 
   -- an allocation fails only if the line, or what is repaired of it, paints a black pixel
   wants_rest : HasBlack (front_of line) → TakesOneRow line strict row old new (Err OutOfMemory) rest
@@ -31,10 +24,7 @@ module _ (line strict : Line) (row : Result (Row × Bits) DecodeError) (old new 
   -- a line that isn't read, and whose fault is the row's
   pub is_unread : (e : DecodeError) → ((fault : DecodeError) → line ≡ Line.broken new.front fault → row ≡ Err fault)
       → DrawsLine line (Err e) new.front rest → TakesOneRow line strict row old new (Err e) rest
-  is_unread e fails =
-      by_kind (λ e. DrawsLine line (Err e) new.front rest → TakesOneRow line strict row old new (Err e) rest)
-      (λ e fault draws. at_fault e fault (fails e (at_fault_kind (kind_of e) _ _ _ fault draws)))
-      unread_row_wants_memory (λ draws. absurd draws) e
+  is_unread e fails = grind (arith, common_steps, by_kind, at_fault, unread_row_wants_memory)
 
 -- ---- A line of Group 3 that isn't repaired
 
@@ -58,24 +48,13 @@ module _ (line strict : Line) (start : Bits) (old new : Held) (held : new ≡ re
       itself : (e : DecodeError) → DrawsLine line (Err e) new.front rest
           → ((fault : DecodeError) → line ≡ Line.broken new.front fault → row ≡ Err fault) → ◌≡◌
           {A = Result (Unit {0}) DecodeError} (Err answer) (Err e) → TakesOneRow line strict row old new (Err answer) rest
-      itself e draws fails is =
-          subst (λ (r : Result (Unit {0}) DecodeError). TakesOneRow line strict row old new r rest) (sym is)
-          (is_unread line strict row old new held rest e fails draws)
+      itself e draws fails is = grind (arith, common_steps, is_unread line strict row old new held rest e fails draws)
 
       stores : line ≡ Line.broken new.front e → IsRepairable new e → TakesOneRow line strict row old new (Err answer) rest
-      stores is repairable =
-          let wants : ◌≡◌ {A = Result (Unit {0}) DecodeError} (Err answer) (Err OutOfMemory) =
-          ap (λ (x : DecodeError). Err x) (only_memory repairable) in
-          let change = memory repairable wants in
-          let black : HasBlack new.front =
-          last_black false new.front refl (λ none. absurd (let both : true ≡ false = sym change.1 ∙ none in cc)) in
-          subst (λ (r : Result (Unit {0}) DecodeError). TakesOneRow line strict row old new r rest) (sym wants)
-          (wants_rest line strict row old new held rest (subst (λ (l : Line). HasBlack (front_of l)) (sym is) black))
+      stores is repairable = grind (arith, common_steps, last_black, wants_rest)
 
       repairs : (e : DecodeError) → IsFault e → (old.settings.strict || not old.has_eols) ≡ false → IsRepairable new e
-      repairs e fault is =
-          let parts = or_parts old.settings.strict (not old.has_eols) is in
-          record { lenient = same_strict ∙ parts.0; has_eols = same_eols ∙ not-false old.has_eols parts.1; fault = fault }
+      repairs e fault is = grind (arith, common_steps, or_parts, same_strict, same_eols, not-false)
 
       broken : (e : DecodeError) → DrawsLine line (Err e) new.front rest → IsFault e → line ≡ Line.broken new.front e
       broken e draws fault = at_fault_kind (kind_of e) _ _ _ fault draws

@@ -1,19 +1,18 @@
 -- What is read doesn't depend on what follows it.
-use Rattle.fax_reading.proofs.Names.{◌≡◌, ℕ, zero, suc, ◌+◌, ◌-◌, ◌<◌, Bool, leb, [], ◌++◌, length, Result, Ok, Err, refl, sym}
-use Rattle.fax_reading.proofs.Names.{ap, subst, ◌∙◌, append_assoc, arith, inl, inr, pos, ◌+ℤ◌, cases_lt, le-leb, Color, Mode}
-use Rattle.fax_reading.proofs.Names.{Pass, Horizontal, Vertical, DecodeError, Bits, mode_codes, Has, read_code, Turn, Row}
-use Rattle.fax_reading.proofs.Names.{opposite, right_of, b1, b2, paint, codes_of, run_from, Line, Pen, start, line_2d, place_from}
+use Rattle.fax_reading.proofs.Names.{common_steps, ◌≡◌, ℕ, zero, suc, ◌+◌, ◌<◌, Bool, leb, [], ◌++◌, length, Result, Ok, Err}
+use Rattle.fax_reading.proofs.Names.{refl, sym, ap, subst, ◌∙◌, append_assoc, arith, inl, inr, cases_lt, le-leb, Color}
+use Rattle.fax_reading.proofs.Names.{Mode, Pass, Horizontal, Vertical, DecodeError, Bits, mode_codes, Has, read_code, Turn, Row}
+use Rattle.fax_reading.proofs.Names.{opposite, paint, codes_of, run_from, Line, Pen, start, line_2d}
 use Rattle.fax_reading.proofs.Names.{Step}
 use Rattle.fax_reading.proofs.EncodedPictures.EncodedRuns.{draws}
-use Rattle.fax_bits.proofs.Repetition.Repeated.{after_turn}
+use Rattle.fax_bits.proofs.Repetition.Repeated.{after_turn, not_next}
 use Rattle.fax_bits.proofs.BitReading.ZerosInWords.{codes_free, modes_free}
 use Rattle.fax_bits.proofs.CodeWords.ReadCodes.{read_code_found, read_code_again}
 use Rattle.fax_bits.proofs.CodeWords.ReadRuns.{chosen, read_code_shorter, words_not_empty, run_fails, run_passes, run_ends}
 use Rattle.fax_bits.proofs.CodeWords.ReadRuns.{run_goes_on}
 use Rattle.fax_reading.proofs.DrawingLines.Drawings.{try, run_then, mode_step, drawn_by, step_2d, step_2d_is, horizontal_is}
-use Rattle.fax_reading.proofs.DrawingLines.ReadLines.{try_next, full_by, try_goes_on, draw_mode_goes_on}
-use Rattle.fax_reading.proofs.DrawingLines.ReadLines.{pen_left, drawn2, step_2d_shrinks}
-use Rattle.fax_bits.proofs.Repetition.Repeated.{next_is, not_next}
+use Rattle.fax_reading.proofs.DrawingLines.ReadLines.{try_next, full_by, try_goes_on, draw_mode_goes_on, pen_left, drawn2}
+use Rattle.fax_reading.proofs.DrawingLines.ReadLines.{step_2d_shrinks}
 
 -- ---- A run.
 abbrev pub RunFound : Color → ℕ → Bits → ℕ → Bits → Type 0
@@ -67,9 +66,7 @@ Carries f = (pen t : Pen) → f pen ≡ Turn.next t → (w : Bits) × (pen.rest 
     × ((more : Bits) → f (record pen { rest = w ++ more }) ≡ Turn.next (record t { rest = more }))
 
 pub next_carries : Carries Turn.next
-next_carries pen t e =
-    let same = next_is pen t e in
-    ([], ap (λ (p : Pen). p.rest) same, λ more. ap (λ (p : Pen). Turn.next (record p { rest = more })) same)
+next_carries pen t e = grind (arith, common_steps)
 
 -- what keeps the bits is preserved
 keeps_carries : (f : Pen → Step) → ((pen t : Pen) → f pen ≡ Turn.next t → (pen.rest ≡ t.rest)
@@ -93,33 +90,12 @@ draw_run_carries strict columns g carries pen t e =
 
 mode_carries : (strict : Bool) (columns : ℕ) (reference : Row) (mode : Mode)
     → Carries (λ pen. mode_step strict columns reference pen mode)
-mode_carries strict columns reference Pass = keeps_carries (λ pen. mode_step strict columns reference pen Pass) (λ pen t e.
-    let painted = paint strict columns pen.front pen.color (b2 reference (right_of pen.front) pen.color - length pen.front) in
-    let a = try_next pen.front painted (λ front. Turn.next (record pen { front = front })) t e in
-    let same : record pen { front = a.0 } ≡ t = next_is _ t a.2 in (
-      ap (λ (p : Pen). p.rest) same,
-      λ more. ap (λ (r : Result Row DecodeError).
-          try pen.front r (λ front. Turn.next (record { front = front; color = pen.color; rest = more }))) a.1
-          ∙ ap (λ (p : Pen). Turn.next (record p { rest = more })) same,
-    ))
+mode_carries strict columns reference Pass = grind (arith, common_steps, keeps_carries, try_next)
 mode_carries strict columns reference Horizontal = λ pen t e.
     let two = draw_run_carries strict columns (λ pen. run_then strict columns pen Turn.next)
     (draw_run_carries strict columns Turn.next next_carries) pen t (horizontal_is strict columns reference pen ∙ e) in
     (two.0, two.1, λ more. sym (horizontal_is strict columns reference (record pen { rest = two.0 ++ more })) ∙ two.2 more)
-mode_carries strict columns reference (Vertical k) =
-    keeps_carries (λ pen. mode_step strict columns reference pen (Vertical k)) (λ pen t e.
-    let place = place_from (length pen.front) (pos (b1 reference (right_of pen.front) pen.color) +ℤ k) in
-    let paints : Bits → ℕ → Step = λ rest place. try pen.front (paint strict columns pen.front pen.color
-    (place - length pen.front)) (λ front. Turn.next (record { front = front; color = opposite pen.color; rest = rest })) in
-    let a = try_next pen.front place (paints pen.rest) t e in
-    let b = try_next pen.front (paint strict columns pen.front pen.color (a.0 - length pen.front))
-    (λ front. Turn.next (record { front = front; color = opposite pen.color; rest = pen.rest })) t a.2 in
-    let same : record { front = b.0; color = opposite pen.color; rest = pen.rest } ≡ t = next_is _ t b.2 in (
-      ap (λ (p : Pen). p.rest) same,
-      λ more. ap (λ (r : Result ℕ DecodeError). try pen.front r (paints more)) a.1 ∙ ap (λ (r : Result Row DecodeError).
-          try pen.front r (λ front. Turn.next (record { front = front; color = opposite pen.color; rest = more }))) b.1
-          ∙ ap (λ (p : Pen). Turn.next (record p { rest = more })) same,
-    ))
+mode_carries strict columns reference (Vertical k) = grind (arith, keeps_carries, try_next)
 
 -- a step of a two-dimensional line, which begins with the word of its mode
 record StepFound (strict : Bool) (columns : ℕ) (reference : Row) (pen t : Pen) : Type 0 where
@@ -211,5 +187,4 @@ line_found_by (suc fuel) strict columns reference pen row rest lt e =
 -- a line that was read is read again, whatever follows
 pub line_2d_found : (strict : Bool) (columns : ℕ) (reference : Row) (here : Bits) (row : Row) (rest : Bits)
     → line_2d strict columns reference here ≡ Line.whole row rest → LineFound strict columns reference (start here) row rest
-line_2d_found strict columns reference here row rest e =
-    line_found_by (suc (length here)) strict columns reference (start here) row rest (omega arith) e
+line_2d_found strict columns reference here row rest e = grind (arith, common_steps, line_found_by)

@@ -3,10 +3,9 @@ use Rattle.fax_reading.proofs.Names.{◌≡◌, ℕ, zero, suc, ◌+◌, ◌*◌
 use Rattle.fax_reading.proofs.Names.{◌++◌, length, take, drop, Option, Some, None, Ok, refl, sym, ap, subst, ◌∙◌, append_assoc}
 use Rattle.fax_reading.proofs.Names.{arith, ◌⊎◌, inl, inr, or_parts, or_from, cond-false, cases_lt, length-append, length-take-le}
 use Rattle.fax_reading.proofs.Names.{take-append-drop, drop_at, EncodingMode, Group4, DecodeSettings, Bits, AreWholeBytes, Turn}
-use Rattle.fax_reading.proofs.Names.{Reaches, Line, line_2d, after_eol, one_more, eols, eols_by, eols_here, is_over, Progress}
-use Rattle.fax_reading.proofs.Names.{Ending, row_before, aligned, line_by, line_of_turn, row_of_line, ends_with, pass_gap}
-use Rattle.fax_reading.proofs.Names.{at_front, nothing_read, end_of, plain, AfterEofb, add_row_alone, row_behind, gap_and_row}
-use Rattle.fax_reading.proofs.Names.{for_t6, common_steps}
+use Rattle.fax_reading.proofs.Names.{Reaches, Line, line_2d, after_eol, one_more, eols, eols_here, is_over, Progress, Ending}
+use Rattle.fax_reading.proofs.Names.{row_before, aligned, line_of_turn, row_of_line, ends_with, pass_gap, at_front, nothing_read}
+use Rattle.fax_reading.proofs.Names.{end_of, plain, AfterEofb, add_row_alone, row_behind, gap_and_row, for_t6, common_steps}
 use Rattle.fax_bits.proofs.BitReading.ZerosInWords.{prefix_of_prefix}
 use Rattle.fax_bits.proofs.CodeWords.ReadRuns.{chosen}
 use Rattle.fax_reading.proofs.{DrawingLines.WhatFollows.line_2d_found, EncodedPictures.Bodies.gap_at_eofb}
@@ -97,12 +96,10 @@ module _ (settings : DecodeSettings) (four : settings.encoding ≡ Group4) (bloc
     (wide : 0 < settings.columns) where
   -- the EOLs that are counted, at most two, and the line after them
   counts_two : (here : Bits) → eols_here settings here ≡ eols 2 here
-  counts_two here =
-      ap (λ (e : EncodingMode). eols_by e settings.end_of_block here) four ∙ ap (λ (b : Bool). eols_by Group4 b here) block
+  counts_two here = grind (arith, common_steps)
 
   line_is : (run : Progress) (here : Bits) → line_of_turn settings (record run { rest = here }) ≡ reader settings run here
-  line_is run here =
-      ap (λ (e : EncodingMode). line_by e settings.strict settings.columns (row_before settings.columns run.rows) here) four
+  line_is run here = grind (arith, common_steps)
 
   by_line : (run after : Progress) (count : ℕ) (t : Bits) (line : Line) → run.has_eols ≡ false → eols 2 run.rest ≡ (count, t)
       → is_over settings (length run.rows) (count, t) ≡ false → reader settings run t ≡ line → add_row_alone
@@ -155,9 +152,7 @@ module _ (settings : DecodeSettings) (four : settings.encoding ≡ Group4) (bloc
 
   move_found : (run after : Progress) → run.has_eols ≡ false → gap_and_row settings run ≡ Turn.next after
       → MoveFound settings run after
-  move_found run after unsought e = by_eols run after (eols 2 run.rest) unsought refl
-      (sym (ap (row_behind settings) (gap_unsought settings run unsought
-      ∙ ap (unless_over settings run) (counts_two run.rest))) ∙ e)
+  move_found run after unsought e = grind (arith, by_eols, gap_unsought, counts_two)
 
   -- ---- A run that reaches two EOLs.
   abbrev ended_at : Progress → Bits → Ending

@@ -1,9 +1,9 @@
 -- Lines without EOLs are read as their rows, in every encoding: bodies of T.6 data, and of T.4 data that the limit ends.
 use Rattle.fax_reading.proofs.Names.{◌≡◌, ◌≢◌, ◌+◌, ◌%◌, ◌<◌, ◌≤◌, Bool, true, false, ◌&&◌, List, [], ◌∷◌, ◌++◌, length}
-use Rattle.fax_reading.proofs.Names.{replicate, Ok, refl, sym, ap, subst, ◌∙◌, append_assoc, arith, inr, All, and_from}
+use Rattle.fax_reading.proofs.Names.{replicate, Ok, sym, ap, subst, ◌∙◌, append_assoc, arith, inr, All, and_from}
 use Rattle.fax_reading.proofs.Names.{not_from_false, eq-eqb, ne_eqb, length-append, length-replicate, append-nil, All-head}
 use Rattle.fax_reading.proofs.Names.{All-tail, White, DecodeSettings, EncodingMode, Group4, Group3_1D, Group3_2D, Bits, Turn}
-use Rattle.fax_reading.proofs.Names.{Reaches, Row, Line, cond-true, is_over, eols, eols_here, Progress, row_before, limit_met}
+use Rattle.fax_reading.proofs.Names.{Reaches, Row, Line, cond-true, eols, eols_here, Progress, row_before, limit_met}
 use Rattle.fax_reading.proofs.Names.{ends_with, line_here, pass_gap, ending_behind, end_of, EncodesLine, IsPicture, EncodesRows}
 use Rattle.fax_reading.proofs.Names.{Allows, gap_and_row, row_behind, ReadsLimitedRowsT4, common_steps}
 use Rattle.fax_reading.proofs.EncodedPictures.EncodedLines.{line_2d_again}
@@ -11,7 +11,7 @@ use Rattle.fax_bits.proofs.BitReading.ConsecutiveEols.{eols-none}
 use Rattle.fax_reading.proofs.EncodedPictures.PictureLines.{IsLineStart, line_2d_starts, allows_sum, not_met, row_before_push}
 use Rattle.fax_reading.proofs.EncodedPictures.PictureLines.{plain_ends, fill, aligned_again, aligned_on, between, ended_with}
 use Rattle.fax_reading.proofs.EncodedPictures.PicturesT4.{line_t4_again, line_t4_starts}
-use Rattle.fax_reading.proofs.{Readings.RowsAndGaps.unless_over, Readings.TurnsMoveOn.eols_end}
+use Rattle.fax_reading.proofs.{Readings.TurnsMoveOn.eols_end}
 use Rattle.fax_reading.proofs.Readings.GapsAndRows.{gap_unsought, first_gap_t4, reaches_end}
 
 -- ---- No EOL is counted where there is none.
@@ -35,9 +35,7 @@ module _ (settings : DecodeSettings) where
   -- so does EOFB
   pub gap_at_eofb : (run : Progress) (rest : Bits) → run.has_eols ≡ false → settings.encoding ≡ Group4
       → settings.end_of_block ≡ true → eols 2 run.rest ≡ (2, rest) → pass_gap settings run ≡ ends_with run (Ok rest)
-  gap_at_eofb run rest unsought four block two =
-      gap_unsought settings run unsought ∙ ap (unless_over settings run) (rw (four, block) two)
-      ∙ cond-true (is_over settings (length run.rows) (2, rest)) _ _ (rw ((eols_end settings 2).3 block four (omega arith)) refl)
+  gap_at_eofb run rest unsought four block two = grind (arith, common_steps, gap_unsought, cond-true, eols_end)
 
 -- ---- Lines
 
@@ -68,9 +66,8 @@ module _ (settings : DecodeSettings) (wide : 0 < settings.columns) (small : sett
       → IsLineStart here → limit_met settings (length rows) ≡ false → (b ≡ true → length ((line ++ fill b line) ++ tail) % 8 ≡ 0)
       → line_here settings (row_before settings.columns rows) here ≡ Line.whole row (fill b line ++ tail)
       → gap_and_row settings (between rows here) ≡ Turn.next (between (rows ++ row ∷ []) tail)
-  row_read rows here row line tail start open_limit whole read =
-      ap (row_behind settings) (gap_at_line settings rows here start open_limit)
-      ∙ grind (arith, common_steps, aligned_again, between, fill, with_true)
+  row_read rows here row line tail start open_limit whole read = ap (row_behind settings)
+      (gap_at_line settings rows here start open_limit) ∙ grind (arith, common_steps, aligned_again, between, fill, with_true)
 
   module _ (encoding : EncodingMode) (same : settings.encoding ≡ encoding) where
     -- from a line's start, at a whole byte if lines are aligned, the lines are read and what follows is left

@@ -3,12 +3,11 @@ use Rattle.fax_reading.proofs.Names.{reverse, ◌≡◌, ℕ, zero, suc, ◌+◌
 use Rattle.fax_reading.proofs.Names.{eqb, List, [], ◌∷◌, ◌++◌, length, replicate, Option, Some, None, is_some, refl, sym, ap}
 use Rattle.fax_reading.proofs.Names.{subst, ◌∙◌, arith, ◌⊎◌, inl, inr, All, agree_below_at, eqb-true, false≢true, cases_lt}
 use Rattle.fax_reading.proofs.Names.{All-head, All-tail, All-cons, length-reverse, reverse-reverse, length-append}
-use Rattle.fax_reading.proofs.Names.{length-replicate, bit_at_cat_high, Color, White, Black, BitOrder}
-use Rattle.fax_reading.proofs.Names.{HighestFirst, LowestFirst, Bits, bit_of, bits_of_byte, bits_in, low_bits, Code, Has, Row}
-use Rattle.fax_reading.proofs.Names.{is_black, opposite, a1, a2, codes_of, Spells, EncodesLine1D, EncodesLine2D, EncodesLine}
-use Rattle.fax_reading.proofs.Names.{padding, EncodesRows, eol, EncodesRowsWithEols, tag_of, ClosesWithEols}
-use Rattle.fax_reading.proofs.Names.{EveryPictureHasAnEncoding, BytesBeginWithAnyBits, Group4, Group3_1D, Group3_2D, EncodingMode}
-use Rattle.fax_reading.proofs.Names.{common_steps}
+use Rattle.fax_reading.proofs.Names.{length-replicate, bit_at_cat_high, Color, White, Black, BitOrder, HighestFirst, LowestFirst}
+use Rattle.fax_reading.proofs.Names.{Bits, bit_of, bits_of_byte, bits_in, low_bits, Code, Has, Row, is_black, opposite, a1, a2}
+use Rattle.fax_reading.proofs.Names.{codes_of, Spells, EncodesLine1D, EncodesLine2D, EncodesLine, padding, EncodesRows, eol}
+use Rattle.fax_reading.proofs.Names.{EncodesRowsWithEols, tag_of, ClosesWithEols, EveryPictureHasAnEncoding}
+use Rattle.fax_reading.proofs.Names.{BytesBeginWithAnyBits, Group4, Group3_1D, Group3_2D, EncodingMode, common_steps}
 use Rattle.fax_bits.proofs.BitReading.WordRanges.{low_bits_below, same_bit}
 use Rattle.fax_bits.proofs.CodeWords.ReadRuns.{chosen}
 use Rattle.fax_reading.proofs.PixelRows.ChangePlaces.{a1_next, a2_next, a2_least}
@@ -181,10 +180,8 @@ power_doubles n = omega arith
 value_below : (bits : Bits) → value bits < 2 ^ length bits
 unfolding value
 value_below [] = omega arith
-value_below (true ∷ bits) =
-    subst (λ (n : ℕ). 1 * 2 ^ length bits + value bits < n) (sym (power_doubles (length bits))) (omega (arith, value_below bits))
-value_below (false ∷ bits) =
-    subst (λ (n : ℕ). 0 * 2 ^ length bits + value bits < n) (sym (power_doubles (length bits))) (omega (arith, value_below bits))
+value_below (true ∷ bits) = grind (arith, common_steps, power_doubles, value_below bits)
+value_below (false ∷ bits) = grind (arith, common_steps, power_doubles, value_below bits)
 
 digit_bit : (bit : Bool) → bit_of (digit bit) 0 ≡ bit
 digit_bit bit = grind (arith, common_steps)
@@ -224,8 +221,7 @@ byte_of LowestFirst front eight =
 -- one byte more
 bits_more : (order : BitOrder) (front rest bits : Bits) (byte : ℕ) (bytes : List ℕ) → bits_of_byte order byte ≡ front
     → bits_in order bytes ≡ rest → bits ≡ front ++ rest → bits_in order (byte ∷ bytes) ≡ bits
-bits_more order front rest bits byte bytes one more is =
-    ap (λ (b : Bits). b ++ bits_in order bytes) one ∙ ap (λ (b : Bits). front ++ b) more ∙ sym is
+bits_more order front rest bits byte bytes one more is = grind (arith, common_steps)
 
 bytes_of : (order : BitOrder) (n : ℕ) (bits : Bits) → length bits ≡ 8 * n → (bytes : List ℕ) × All (λ byte. byte < 256) bytes
     × (bits_in order bytes ≡ bits)

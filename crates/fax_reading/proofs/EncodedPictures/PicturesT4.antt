@@ -6,7 +6,7 @@ use Rattle.fax_reading.proofs.Names.{arith, inl, inr, All, and_right, and_from, 
 use Rattle.fax_reading.proofs.Names.{ne_eqb, length-append, length-replicate, append-nil, All-head, All-tail, Color, White}
 use Rattle.fax_reading.proofs.Names.{UnexpectedEof, EncodingMode, Group3_1D, Group3_2D, Group4, DecodeSettings, Bits, Turn}
 use Rattle.fax_reading.proofs.Names.{repeated, Row, codes_of, Line, line_1d, line_2d, after_eol, one_more, eols, all_eols}
-use Rattle.fax_reading.proofs.Names.{past_tag, eols_with_tags, tagged_eols, is_over, misses_eol, cond-true, ending_behind}
+use Rattle.fax_reading.proofs.Names.{past_tag, eols_with_tags, tagged_eols, is_over, cond-true}
 use Rattle.fax_reading.proofs.Names.{Progress, Ending, row_before, aligned, at_end, limit_met, line_here, eols_here, after_line}
 use Rattle.fax_reading.proofs.Names.{move_on, ending_from, end_of, Spells, EncodesLine1D, EncodesLine2D, EncodesLine, eol, tag_of}
 use Rattle.fax_reading.proofs.Names.{IsPicture, EncodesRowsWithEols, ClosesWithEols, PictureT4, each_word, ReadsPictureT4}
@@ -51,8 +51,7 @@ record IsTagStart (here : Bits) : Type 0 where
 
 -- ---- EOLs that are there.
 pub eol_stands : (fill : ℕ) (more : Bits) → after_eol 0 (eol fill ++ more) ≡ Some more
-eol_stands fill more =
-    ap (after_eol 0) (append_assoc (replicate (11 + fill) false) (true ∷ []) more) ∙ eol_of 0 (11 + fill) more (omega arith)
+eol_stands fill more = grind (arith, common_steps, append_assoc, eol_of)
 
 length-eol : (fill : ℕ) (more : Bits) → length (eol fill ++ more) ≡ suc (11 + fill + length more)
 length-eol fill more = grind (arith, common_steps)
@@ -61,8 +60,7 @@ eols_more : (most fill : ℕ) (more : Bits) → eols (suc most) (eol fill ++ mor
 eols_more most fill more = rw (eol_stands fill more, eols) refl
 
 all_eols_more : (fill : ℕ) (more : Bits) → all_eols (eol fill ++ more) ≡ one_more (eols (11 + fill + length more) more)
-all_eols_more fill more =
-    ap (λ (n : ℕ). eols n (eol fill ++ more)) (length-eol fill more) ∙ eols_more (11 + fill + length more) fill more
+all_eols_more fill more = grind (arith, common_steps, length-eol, eols_more)
 
 -- one EOL before a line
 pub one_eol : (fill : ℕ) (here : Bits) → after_eol 0 here ≡ None → all_eols (eol fill ++ here) ≡ (1, here)
@@ -147,11 +145,9 @@ ended_with_eols rows rest = record { rows = rows; has_eols = true; outcome = Ok 
 six_close : (settings : DecodeSettings) (encoding : EncodingMode) (closing more : Bits) → Matches encoding settings
     → ClosesWithEols encoding 6 closing → 6 ≤ (eols_here settings (closing ++ more)).0
 six_close settings Group4 closing more matches is = absurd matches
-six_close settings Group3_1D closing more matches is =
-    rw (eols_here_one settings (closing ++ more) matches)
+six_close settings Group3_1D closing more matches is = rw (eols_here_one settings (closing ++ more) matches)
     (eols_closing 6 (length (closing ++ more)) closing more is (length-closing Group3_1D 6 closing more is))
-six_close settings Group3_2D closing more matches is =
-    rw (eols_here_two settings (closing ++ more) matches) (six_tagged closing more is)
+six_close settings Group3_2D closing more matches is = grind (arith, common_steps, eols_here_two, six_tagged)
 
 module _ (settings : DecodeSettings) (wide : 0 < settings.columns) (small : settings.columns ≤ 4294967295) where
   -- a line is read
@@ -174,8 +170,7 @@ module _ (settings : DecodeSettings) (wide : 0 < settings.columns) (small : sett
       → EncodesLine encoding reference row line → length row ≡ settings.columns → IsLineStart (line ++ more)
   line_t4_starts Group4 reference row line more matches is row_len = absurd matches
   line_t4_starts Group3_1D reference row line more matches is row_len = line_1d_starts White row line more is (omega arith)
-  line_t4_starts Group3_2D reference row line more matches (rest, inl is) row_len =
-      rw is.0 (record { no_eol = refl; open_end = refl })
+  line_t4_starts Group3_2D reference row line more matches (rest, inl is) row_len = grind (arith, common_steps)
   line_t4_starts Group3_2D reference row line more matches (rest, inr is) row_len = grind (arith, common_steps, line_2d_after_tag)
 
   tag_starts : (reference row : Row) (line more : Bits) → EncodesLine Group3_2D reference row line → length row ≡ settings.columns
@@ -201,9 +196,8 @@ module _ (settings : DecodeSettings) (wide : 0 < settings.columns) (small : sett
   -- one row is added
   row_added : (before : List Row) (row : Row) (here tail : Bits) → line_here settings (row_before settings.columns before) here
       ≡ Line.whole row tail → move_on settings (with_eols before here) ≡ after_row settings (with_eols (before ++ row ∷ []) tail)
-  row_added before row here tail read =
-      ap (after_line settings (with_eols before here)) read ∙ after_whole-is settings (with_eols before here) row tail
-      ∙ ap (λ (x : Bits). after_row settings (with_eols (before ++ row ∷ []) x)) (cond-false
+  row_added before row here tail read = ap (after_line settings (with_eols before here)) read ∙ after_whole-is settings
+      (with_eols before here) row tail ∙ ap (λ (x : Bits). after_row settings (with_eols (before ++ row ∷ []) x)) (cond-false
       (settings.rows_are_byte_aligned && false) (aligned tail) tail (and_right settings.rows_are_byte_aligned false refl))
 
   module _ (encoding : EncodingMode) (matches : Matches encoding settings) (late : Ending)
@@ -248,11 +242,7 @@ module _ (settings : DecodeSettings) (wide : 0 < settings.columns) (small : sett
   -- six EOLs end it
   six_stop : (rows : List Row) (here : Bits) → settings.end_of_block ≡ true → 6 ≤ (eols_here settings here).0
       → after_row settings (with_eols rows here) ≡ Turn.done (ended_with_eols rows (eols_here settings here).1)
-  six_stop rows here block six =
-      cond-false (misses_eol settings (length rows) true here) _ _
-      (rw (ne_eqb (eols_here settings here).0 0 (λ none. absurd (omega (arith, none, six)))) refl)
-      ∙ cond-true (is_over settings (length rows) (eols_here settings here)) _ _
-      (rw ((eols_end settings (eols_here settings here).0).2 block six) refl)
+  six_stop rows here block six = grind (arith, common_steps, cond-false, ne_eqb, cond-true, eols_end)
 
   -- and so does the limit
   limit_stops : (rows : List Row) (here : Bits) → limit_met settings (length rows) ≡ true
@@ -262,15 +252,13 @@ module _ (settings : DecodeSettings) (wide : 0 < settings.columns) (small : sett
   -- data of Group 3 are read as such
   pub end_of_three : (encoding : EncodingMode) (bits : Bits) → Matches encoding settings
       → end_of settings bits ≡ ending_t4 settings bits
-  end_of_three encoding bits matches =
-      ap (ending_behind settings) (first_gap_t4 settings bits (matches_t4 settings encoding matches))
+  end_of_three encoding bits matches = grind (arith, common_steps, first_gap_t4, matches_t4)
 
   length-lines : (encoding : EncodingMode) (reference : Row) (rows : List Row) (bits : Bits)
       → EncodesRowsWithEols encoding reference rows bits → length rows ≤ length bits
   length-lines encoding reference [] bits lines = omega arith
   length-lines encoding reference (row ∷ rows) bits (fill, line, next, is, lines, split) =
-      let on = length-lines encoding row rows next lines in
-      grind (arith, common_steps, append_assoc, length-append, length-eol)
+      grind (arith, common_steps, append_assoc, length-append, length-eol, length-lines encoding row rows next lines)
 
   -- lines with their EOLs are read, and the run ends where it does after the last
   pub lines_t4_end : (encoding : EncodingMode) (rows : List Row) (lines tail last : Bits) → Matches encoding settings → 0
@@ -327,7 +315,6 @@ one_picture_at : (settings : DecodeSettings) (encoding : EncodingMode) (rows oth
 one_picture_at settings encoding rows others bits more small matches block none one two =
     grind (
       arith,
-      common_steps,
       append-nil two.1,
       append_assoc one.0 one.1 more,
       closed_t4_end settings one.3.0 small encoding rows one.0 one.1 more matches block one.2 one.3 one.4 one.5 (inl none),

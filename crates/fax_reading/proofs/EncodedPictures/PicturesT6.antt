@@ -30,19 +30,15 @@ pub picture_t6_end : (settings : DecodeSettings) (rows : List Row) (bits more : 
 picture_t6_end settings rows bits more four block small limit whole pic =
     let wide : 0 < settings.columns = pic.1.0 in
     let tail : Bits = eol 0 ++ (eol 0 ++ more) in
-    t6_end settings wide (bits ++ more) (between rows tail) (ended_with rows more) four
-    (picture_t6_reaches settings rows bits more
-    four small limit whole pic) (gap_at_eofb settings (between rows tail) more refl four block (eofb_stands more))
+    t6_end settings wide (bits ++ more) (between rows tail) (ended_with rows more) four (picture_t6_reaches settings
+    rows bits more four small limit whole pic) (gap_at_eofb settings (between rows tail) more refl four block (eofb_stands more))
 
 -- Such data are among those that `AfterEofb` is about.
 pub picture_t6_comes : (settings : DecodeSettings) (rows : List Row) (bits more : Bits) → settings.columns ≤ 4294967295
     → Allows settings (length rows) → (settings.rows_are_byte_aligned ≡ true → length (bits ++ more) % 8 ≡ 0)
     → PictureT6 settings.columns settings.rows_are_byte_aligned rows bits → ComesToEofb settings (bits ++ more)
-picture_t6_comes settings rows bits more small limit whole pic = (
-  between rows (eol 0 ++ (eol 0 ++ more)),
-  picture_t6_reaches (for_t6 settings) rows bits more refl small limit whole pic,
-  refl,
-)
+picture_t6_comes settings rows bits more small limit whole pic =
+    grind (arith, common_steps, picture_t6_reaches (for_t6 settings) rows bits more refl small limit whole pic)
 
 -- the law
 pub closed_picture_t6 : ReadsPictureT6

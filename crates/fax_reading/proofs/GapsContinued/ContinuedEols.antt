@@ -1,7 +1,7 @@
 -- EOLs with more bits behind.
-use Rattle.fax_reading.proofs.Names.{◌≡◌, ℕ, zero, suc, ◌<◌, ◌≤◌, Bool, true, false, cond, leb, [], ◌∷◌, ◌++◌, length}
-use Rattle.fax_reading.proofs.Names.{Option, Some, None, refl, sym, ap, ◌∙◌, ◌⊎◌, inl, inr, arith, length-append, Bits}
-use Rattle.fax_reading.proofs.Names.{after_eol, one_more, eols, all_eols, next_eol}
+use Rattle.fax_reading.proofs.Names.{common_steps, ◌≡◌, ℕ, zero, suc, ◌<◌, ◌≤◌, Bool, true, false, [], ◌∷◌, ◌++◌, Option, Some}
+use Rattle.fax_reading.proofs.Names.{None, refl, sym, ap, ◌∙◌, ◌⊎◌, inl, inr, arith, length-append, Bits, after_eol, one_more}
+use Rattle.fax_reading.proofs.Names.{eols, all_eols, next_eol}
 use Rattle.fax_reading.specs.GapsContinued.{holds_one}
 use Rattle.fax_bits.proofs.BitReading.ConsecutiveEols.{eol_of, eols-some, eols-none}
 use Rattle.fax_bits.proofs.BitReading.ZeroRuns.{eols_enough, eols_fewer}
@@ -26,11 +26,7 @@ pub after_eol-more : (more : Bits) (seen : ℕ) (here : Bits) → holds_one here
     → after_eol seen (here ++ more) ≡ then_more more (after_eol seen here)
 after_eol-more more seen [] one = absurd cc
 after_eol-more more seen (false ∷ here) one = after_eol-more more (suc seen) here one
-after_eol-more more seen (true ∷ here) one = either_way (leb 11 seen)
-  where
-    either_way : (b : Bool) → cond b (Some (here ++ more)) None ≡ then_more more (cond b (Some here) None)
-    either_way true = refl
-    either_way false = refl
+after_eol-more more seen (true ∷ here) one = grind (arith, common_steps)
 
 -- an EOL has a one
 pub eol_holds_one : (seen : ℕ) (here rest : Bits) → after_eol seen here ≡ Some rest → holds_one here ≡ true
@@ -42,17 +38,10 @@ eol_holds_one seen (true ∷ here) rest e = refl
 pub eol-more : (more : Bits) (here rest : Bits) → after_eol 0 here ≡ Some rest → after_eol 0 (here ++ more) ≡ Some (rest ++ more)
 eol-more more here rest e = after_eol-more more 0 here (eol_holds_one 0 here rest e) ∙ ap (then_more more) e
 
--- where no one is left, there is no EOL
-pub no_one_no_eol : (seen : ℕ) (here : Bits) → holds_one here ≡ false → after_eol seen here ≡ None
-no_one_no_eol seen [] none = refl
-no_one_no_eol seen (false ∷ here) none = no_one_no_eol (suc seen) here none
-no_one_no_eol seen (true ∷ here) none = absurd cc
-
 -- two bytes that are an EOL
 abbrev pub bytes_of_eol : Bits
-bytes_of_eol =
-    false ∷ false ∷ false ∷ false ∷ false ∷ false ∷ false ∷ false ∷ false ∷ false ∷ false ∷ false ∷ false ∷ false ∷ false
-    ∷ true ∷ []
+bytes_of_eol = false
+    ∷ false ∷ false ∷ false ∷ false ∷ false ∷ false ∷ false ∷ false ∷ false ∷ false ∷ false ∷ false ∷ false ∷ false ∷ true ∷ []
 
 -- fifteen zeros and a one are an EOL, after any number of zeros
 fifteen_zeros : (seen : ℕ) → after_eol seen bytes_of_eol ≡ Some []
@@ -68,12 +57,7 @@ eol_may_come seen (true ∷ here) none = absurd cc
 pub next_eol_holds_one : (here found : Bits) → next_eol here ≡ Some found → holds_one here ≡ true
 next_eol_holds_one [] found e = absurd cc
 next_eol_holds_one (true ∷ here) found e = refl
-next_eol_holds_one (false ∷ here) found e = by_after_eol (next_eol_holds_one here found) (after_eol 0 (false ∷ here)) refl
-  where
-    by_after_eol : (next_eol here ≡ Some found → holds_one here ≡ true) → (o : Option Bits) → after_eol 0 (false ∷ here) ≡ o
-        → holds_one here ≡ true
-    by_after_eol on None f = on (rw (f, next_eol) at e)
-    by_after_eol on (Some rest) f = eol_holds_one 1 here rest f
+next_eol_holds_one (false ∷ here) found e = grind (arith, common_steps, eol_holds_one, next_eol_holds_one here found)
 
 -- the next EOL stays the next
 pub next_eol-more : (more here found : Bits) → next_eol here ≡ Some found → next_eol (here ++ more) ≡ Some (found ++ more)
@@ -82,14 +66,8 @@ next_eol-more more (bit ∷ here) found e = by_after_eol (next_eol-more more her
   where
     by_after_eol : (next_eol here ≡ Some found → next_eol (here ++ more) ≡ Some (found ++ more)) → (o : Option Bits)
         → after_eol 0 (bit ∷ here) ≡ o → next_eol ((bit ∷ here) ++ more) ≡ Some (found ++ more)
-    by_after_eol on None f =
-        let none : after_eol 0 (bit ∷ here ++ more) ≡ None =
-        after_eol-more more 0 (bit ∷ here) (next_eol_holds_one (bit ∷ here) found e) ∙ ap (then_more more) f in
-        let later : next_eol here ≡ Some found = rw (f, next_eol) at e in
-        rw (none, next_eol) (on later)
-    by_after_eol on (Some rest) f =
-        let same : ◌≡◌ {A = Option Bits} (Some (bit ∷ here)) (Some found) = rw (f, next_eol) at e in
-        rw (eol-more more (bit ∷ here) rest f, next_eol) (ap (then_more more) same)
+    by_after_eol on None f = grind (arith, common_steps, after_eol-more, next_eol_holds_one)
+    by_after_eol on (Some rest) f = grind (arith, common_steps, eol-more more (bit ∷ here) rest f)
 
 -- where there is no next EOL, one may come
 pub next_eol_may_come : (here : Bits) → next_eol here ≡ None
@@ -100,11 +78,7 @@ next_eol_may_come (bit ∷ here) e = by_after_eol (next_eol_may_come here) (afte
     by_one : (b : Bool) → holds_one (bit ∷ here) ≡ b → after_eol 0 (bit ∷ here) ≡ None → next_eol here ≡ None
         → (next_eol here ≡ None → (found : Bits) × (next_eol (here ++ bytes_of_eol) ≡ Some found) × (after_eol 0 found ≡ Some []))
         → (found : Bits) × (next_eol (bit ∷ here ++ bytes_of_eol) ≡ Some found) × (after_eol 0 found ≡ Some [])
-    by_one true one f none on =
-        let still : after_eol 0 (bit ∷ here ++ bytes_of_eol) ≡ None =
-        after_eol-more bytes_of_eol 0 (bit ∷ here) one ∙ ap (then_more bytes_of_eol) f in
-        let later = on none in
-        (later.0, rw (still, next_eol) later.1, later.2)
+    by_one true one f none on = grind (arith, common_steps, after_eol-more)
     by_one false zeros f none on =
         let comes = eol_may_come 0 (bit ∷ here) zeros in (bit ∷ here ++ bytes_of_eol, rw (comes, next_eol) refl, comes)
 
@@ -112,47 +86,33 @@ next_eol_may_come (bit ∷ here) e = by_after_eol (next_eol_may_come here) (afte
         × (after_eol 0 found ≡ Some [])) → (o : Option Bits) → after_eol 0 (bit ∷ here) ≡ o
         → (found : Bits) × (next_eol (bit ∷ here ++ bytes_of_eol) ≡ Some found) × (after_eol 0 found ≡ Some [])
     by_after_eol on None f = by_one (holds_one (bit ∷ here)) refl f (rw (f, next_eol) at e) on
-    by_after_eol on (Some rest) f =
-        let same : ◌≡◌ {A = Option Bits} (Some (bit ∷ here)) None = rw (f, next_eol) at e in absurd cc
+    by_after_eol on (Some rest) f = grind (arith, common_steps)
 
 -- ---- Consecutive EOLs without tags
 -- as many as were sought are settled, and so are those before a one
-pub eols-more : (more : Bits) (most : ℕ) (here : Bits)
-    → (most ≤ (eols most here).0) ⊎ (holds_one (eols most here).1 ≡ true)
-    → eols most (here ++ more) ≡ count_then_more more (eols most here)
+pub eols-more : (more : Bits) (most : ℕ) (here : Bits) → (most ≤ (eols most here).0)
+    ⊎ (holds_one (eols most here).1 ≡ true) → eols most (here ++ more) ≡ count_then_more more (eols most here)
 eols-more more zero here settled = refl
 eols-more more (suc most) here settled = by_after_eol (λ rest. eols-more more most rest) (after_eol 0 here) refl
   where
     by_after_eol : ((rest : Bits) → (most ≤ (eols most rest).0) ⊎ (holds_one (eols most rest).1 ≡ true)
         → eols most (rest ++ more) ≡ count_then_more more (eols most rest)) → (o : Option Bits) → after_eol 0 here ≡ o
         → eols (suc most) (here ++ more) ≡ count_then_more more (eols (suc most) here)
-    by_after_eol on None e = elim settled [
-      | inl all ↦
-          let none : (eols (suc most) here).0 ≡ 0 = ap (λ (found : ℕ × Bits). found.0) (eols-none (suc most) here e) in
-          absurd (omega (arith, all, none))
-      | inr one ↦
-          let left : holds_one here ≡ true =
-          sym (ap (λ (found : ℕ × Bits). holds_one found.1) (eols-none (suc most) here e)) ∙ one in
-          eols-none (suc most) (here ++ more) (after_eol-more more 0 here left ∙ ap (then_more more) e)
-          ∙ sym (ap (count_then_more more) (eols-none (suc most) here e))
-    ]
+    by_after_eol on None e = grind (arith, common_steps, eols-none, after_eol-more)
     by_after_eol on (Some rest) e =
         let stepped : eols (suc most) here ≡ one_more (eols most rest) = eols-some most here rest e in
         let inside : (most ≤ (eols most rest).0) ⊎ (holds_one (eols most rest).1 ≡ true) = elim settled [
-          | inl all ↦
-              let fewer : (eols (suc most) here).0 ≡ suc (eols most rest).0 = ap (λ (found : ℕ × Bits). found.0) stepped in
-              inl (omega (arith, all, fewer))
+          | inl all ↦ let fewer :
+              (eols (suc most) here).0 ≡ suc (eols most rest).0 = ap (λ (found : ℕ × Bits). found.0) stepped in inl
+              (omega (arith, all, fewer))
           | inr one ↦ inr (sym (ap (λ (found : ℕ × Bits). holds_one found.1) stepped) ∙ one)
         ] in
-        eols-some most (here ++ more) (rest ++ more) (eol-more more here rest e) ∙ ap one_more (on rest inside)
-        ∙ one_then_more more (eols most rest) ∙ sym (ap (count_then_more more) stepped)
+        eols-some most (here ++ more) (rest ++ more) (eol-more more here rest e)
+        ∙ ap one_more (on rest inside) ∙ one_then_more more (eols most rest) ∙ sym (ap (count_then_more more) stepped)
 
 pub all_eols-more : (more here : Bits) → holds_one (all_eols here).1 ≡ true
     → all_eols (here ++ more) ≡ count_then_more more (all_eols here)
-all_eols-more more here one =
-    let most = length (here ++ more) in
-    let enough : eols most here ≡ all_eols here = eols_enough most here (omega (arith, length-append here more)) in
-    eols-more more most here (inr (ap (λ (found : ℕ × Bits). holds_one found.1) enough ∙ one)) ∙ ap (count_then_more more) enough
+all_eols-more more here one = grind (arith, common_steps, eols_enough, length-append, eols-more)
 
 -- where neither is so, an EOL more may come
 pub eols_may_come : (most : ℕ) (here : Bits) → (eols most here).0 < most → holds_one (eols most here).1 ≡ false
@@ -163,24 +123,9 @@ eols_may_come (suc most) here few none = by_after_eol (λ rest. eols_may_come mo
     by_after_eol : ((rest : Bits) → (eols most rest).0 < most → holds_one (eols most rest).1 ≡ false
         → eols most (rest ++ bytes_of_eol) ≡ (suc (eols most rest).0, [])) → (o : Option Bits) → after_eol 0 here ≡ o
         → eols (suc most) (here ++ bytes_of_eol) ≡ (suc (eols (suc most) here).0, [])
-    by_after_eol on None e =
-        let is : eols (suc most) here ≡ (0, here) = eols-none (suc most) here e in
-        let zeros : holds_one here ≡ false = sym (ap (λ (found : ℕ × Bits). holds_one found.1) is) ∙ none in
-        eols-some most (here ++ bytes_of_eol) [] (eol_may_come 0 here zeros) ∙ ap one_more (eols-none most [] refl)
-        ∙ ap (λ (found : ℕ × Bits). (suc found.0, [])) (sym is)
-    by_after_eol on (Some rest) e =
-        let is : eols (suc most) here ≡ one_more (eols most rest) = eols-some most here rest e in
-        let count : (eols (suc most) here).0 ≡ suc (eols most rest).0 = ap (λ (found : ℕ × Bits). found.0) is in
-        eols-some most (here ++ bytes_of_eol) (rest ++ bytes_of_eol) (eol-more bytes_of_eol here rest e)
-        ∙ ap one_more (on rest (omega (arith, few, count)) (sym (ap (λ (found : ℕ × Bits). holds_one found.1) is) ∙ none))
-        ∙ ap (λ (n : ℕ). (suc n, [])) (sym count)
+    by_after_eol on None e = grind (arith, common_steps, eols-none, eols-some, eol_may_come)
+    by_after_eol on (Some rest) e = grind (arith, common_steps, eols-some, eol-more)
 
 pub all_eols_may_come : (here : Bits) → holds_one (all_eols here).1 ≡ false
     → all_eols (here ++ bytes_of_eol) ≡ (suc (all_eols here).0, [])
-all_eols_may_come here none =
-    let most = length (here ++ bytes_of_eol) in
-    let long = length-append here bytes_of_eol in
-    let enough : eols most here ≡ all_eols here = eols_enough most here (omega (arith, long)) in
-    let few : (eols most here).0 < most = omega (arith, long, eols_fewer most here) in
-    eols_may_come most here few (ap (λ (found : ℕ × Bits). holds_one found.1) enough ∙ none)
-    ∙ ap (λ (found : ℕ × Bits). (suc found.0, [])) enough
+all_eols_may_come here none = grind (arith, common_steps, length-append, eols_enough, eols_fewer, eols_may_come)

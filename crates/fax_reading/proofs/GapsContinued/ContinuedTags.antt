@@ -1,13 +1,12 @@
 -- EOLs with tags between them, with more bits behind.
-use Rattle.fax_reading.proofs.Names.{◌≡◌, ℕ, zero, suc, ◌<◌, ◌≤◌, Bool, true, false, cond, leb, ltb, ◌&&◌, [], ◌∷◌, ◌++◌}
-use Rattle.fax_reading.proofs.Names.{length, Option, Some, None, refl, sym, ap, ◌∙◌, inl, inr, cases_lt, arith, length-append}
-use Rattle.fax_reading.proofs.Names.{le-leb, lt-leb, lt-ltb, le-ltb, Bits, after_eol, one_more, past_tag}
-use Rattle.fax_reading.proofs.Names.{eols_with_tags, pass_last_tag, tagged_eols}
+use Rattle.fax_reading.proofs.Names.{common_steps, ◌≡◌, ℕ, zero, suc, ◌<◌, ◌≤◌, true, false, [], ◌∷◌, ◌++◌, length, Option, Some}
+use Rattle.fax_reading.proofs.Names.{None, refl, sym, ap, ◌∙◌, cases_lt, arith, length-append, le-leb, lt-leb, lt-ltb, le-ltb}
+use Rattle.fax_reading.proofs.Names.{Bits, after_eol, one_more, past_tag, eols_with_tags, pass_last_tag, tagged_eols}
 use Rattle.fax_reading.specs.GapsContinued.{holds_one, behind_line_tag}
 use Rattle.fax_bits.proofs.BitReading.ConsecutiveEols.{eols_with_tags-some, eols_with_tags-none, all_tagged, count_same}
 use Rattle.fax_bits.proofs.BitReading.ConsecutiveEols.{counts_tagged, last_tag_count}
-use Rattle.fax_reading.proofs.GapsContinued.ContinuedEols.{then_more, count_then_more, one_then_more, after_eol-more}
-use Rattle.fax_reading.proofs.GapsContinued.ContinuedEols.{eol_holds_one, eol-more, bytes_of_eol, eol_may_come}
+use Rattle.fax_reading.proofs.GapsContinued.ContinuedEols.{count_then_more, one_then_more, after_eol-more, eol_holds_one}
+use Rattle.fax_reading.proofs.GapsContinued.ContinuedEols.{eol-more, bytes_of_eol, eol_may_come}
 
 -- the bits behind a tag of one
 abbrev pub behind_one : Bits → Bits
@@ -26,33 +25,19 @@ one_behind_one (true ∷ here) one = refl
 past_tag-more : (more here : Bits) → holds_one (behind_one here) ≡ true → past_tag (here ++ more) ≡ past_tag here ++ more
 past_tag-more more [] one = absurd cc
 past_tag-more more (false ∷ here) one = refl
-past_tag-more more (true ∷ here) one = by_after_eol (after_eol 0 here) refl
-  where
-    by_after_eol : (o : Option Bits) → after_eol 0 here ≡ o → past_tag (true ∷ here ++ more) ≡ past_tag (true ∷ here) ++ more
-    by_after_eol None e =
-        let still : after_eol 0 (here ++ more) ≡ None = after_eol-more more 0 here one ∙ ap (then_more more) e in
-        rw (e, still, past_tag) refl
-    by_after_eol (Some rest) e = rw (e, eol-more more here rest e, past_tag) refl
+past_tag-more more (true ∷ here) one = grind (arith, common_steps, after_eol-more, eol-more)
 
 -- a one is left behind the tag if one is left behind the next tag
 one_behind_past : (here : Bits) → holds_one (behind_one (past_tag here)) ≡ true → holds_one (behind_one here) ≡ true
 one_behind_past [] one = one
 one_behind_past (false ∷ here) one = one
-one_behind_past (true ∷ here) one = by_after_eol (after_eol 0 here) refl
-  where
-    by_after_eol : (o : Option Bits) → after_eol 0 here ≡ o → holds_one here ≡ true
-    by_after_eol None e = rw (e, past_tag) at one
-    by_after_eol (Some rest) e = eol_holds_one 0 here rest e
+one_behind_past (true ∷ here) one = grind (arith, common_steps, eol_holds_one)
 
 -- or if an EOL is behind the tag
 one_in_eol : (here rest : Bits) → after_eol 0 (past_tag here) ≡ Some rest → holds_one (behind_one here) ≡ true
 one_in_eol [] rest f = absurd cc
 one_in_eol (false ∷ here) rest f = eol_holds_one 0 (false ∷ here) rest f
-one_in_eol (true ∷ here) rest f = by_after_eol (after_eol 0 here) refl
-  where
-    by_after_eol : (o : Option Bits) → after_eol 0 here ≡ o → holds_one here ≡ true
-    by_after_eol None e = let g : after_eol 0 (true ∷ here) ≡ Some rest = rw (e, past_tag) at f in absurd cc
-    by_after_eol (Some after) e = eol_holds_one 0 here after e
+one_in_eol (true ∷ here) rest f = grind (arith, common_steps, eol_holds_one)
 
 -- where no one is left behind the tag, an EOL may come
 tag_may_come : (here : Bits) → holds_one (behind_one here) ≡ false → after_eol 0 (past_tag (here ++ bytes_of_eol)) ≡ Some []
@@ -65,11 +50,7 @@ none_behind_past : (here : Bits) → after_eol 0 (past_tag here) ≡ None → ho
     → holds_one (behind_one here) ≡ false
 none_behind_past [] f none = none
 none_behind_past (false ∷ here) f none = none
-none_behind_past (true ∷ here) f none = by_after_eol (after_eol 0 here) refl
-  where
-    by_after_eol : (o : Option Bits) → after_eol 0 here ≡ o → holds_one here ≡ false
-    by_after_eol None e = rw (e, past_tag) at none
-    by_after_eol (Some rest) e = let g : after_eol 0 here ≡ None = rw (e, past_tag) at f in absurd cc
+none_behind_past (true ∷ here) f none = grind (arith, common_steps)
 
 -- ---- The EOLs after an EOL
 -- the EOLs behind a tag
@@ -88,13 +69,7 @@ tagged_past-more more (suc most) here one = by_after_eol (λ rest. tagged_past-m
         → after_eol 0 (past_tag here) ≡ o
         → tagged_past (suc most) (here ++ more) ≡ count_then_more more (tagged_past (suc most) here)
     by_after_eol on None e =
-        let is = eols_with_tags-none (suc most) (past_tag here) e in
-        let left : holds_one (behind_one (past_tag here)) ≡ true =
-        sym (ap (λ (found : ℕ × Bits). holds_one (behind_one found.1)) is) ∙ one in
-        let none : after_eol 0 (past_tag here ++ more) ≡ None =
-        after_eol-more more 0 (past_tag here) (one_behind_one (past_tag here) left) ∙ ap (then_more more) e in
-        ap (eols_with_tags (suc most)) (past_tag-more more here (one_behind_past here left))
-        ∙ eols_with_tags-none (suc most) (past_tag here ++ more) none ∙ sym (ap (count_then_more more) is)
+        grind (arith, common_steps, eols_with_tags-none, after_eol-more, one_behind_one, past_tag-more, one_behind_past)
     by_after_eol on (Some rest) e =
         let is = eols_with_tags-some most (past_tag here) rest e in
         let left : holds_one (behind_one (tagged_past most rest).1) ≡ true =
@@ -104,9 +79,8 @@ tagged_past-more more (suc most) here one = by_after_eol (λ rest. tagged_past-m
         ∙ ap one_more (on rest left) ∙ one_then_more more (tagged_past most rest) ∙ sym (ap (count_then_more more) is)
 
 -- where no one is, an EOL more may come
-tagged_past_may_come : (most : ℕ) (here : Bits) → (tagged_past most here).0 < most
-    → holds_one (behind_one (tagged_past most here).1) ≡ false
-    → tagged_past most (here ++ bytes_of_eol) ≡ (suc (tagged_past most here).0, [])
+tagged_past_may_come : (most : ℕ) (here : Bits) → (tagged_past most here).0 < most → holds_one
+    (behind_one (tagged_past most here).1) ≡ false → tagged_past most (here ++ bytes_of_eol) ≡ (suc (tagged_past most here).0, [])
 tagged_past_may_come zero here few none = absurd (omega arith)
 tagged_past_may_come (suc most) here few none = by_after_eol (λ rest. tagged_past_may_come most rest)
     (after_eol 0 (past_tag here)) refl
@@ -115,21 +89,8 @@ tagged_past_may_come (suc most) here few none = by_after_eol (λ rest. tagged_pa
         → tagged_past most (rest ++ bytes_of_eol) ≡ (suc (tagged_past most rest).0, [])) → (o : Option Bits)
         → after_eol 0 (past_tag here) ≡ o
         → tagged_past (suc most) (here ++ bytes_of_eol) ≡ (suc (tagged_past (suc most) here).0, [])
-    by_after_eol on None e =
-        let is = eols_with_tags-none (suc most) (past_tag here) e in
-        let left : holds_one (behind_one (past_tag here)) ≡ false =
-        sym (ap (λ (found : ℕ × Bits). holds_one (behind_one found.1)) is) ∙ none in
-        eols_with_tags-some most (past_tag (here ++ bytes_of_eol)) [] (tag_may_come here (none_behind_past here e left))
-        ∙ ap one_more (eols_with_tags-none most [] refl) ∙ ap (λ (found : ℕ × Bits). (suc found.0, [])) (sym is)
-    by_after_eol on (Some rest) e =
-        let is = eols_with_tags-some most (past_tag here) rest e in
-        let count : (tagged_past (suc most) here).0 ≡ suc (tagged_past most rest).0 = ap (λ (found : ℕ × Bits). found.0) is in
-        let left : holds_one (behind_one (tagged_past most rest).1) ≡ false =
-        sym (ap (λ (found : ℕ × Bits). holds_one (behind_one found.1)) is) ∙ none in
-        ap (eols_with_tags (suc most)) (past_tag-more bytes_of_eol here (one_in_eol here rest e))
-        ∙ eols_with_tags-some most (past_tag here ++ bytes_of_eol) (rest ++ bytes_of_eol)
-        (eol-more bytes_of_eol (past_tag here) rest e)
-        ∙ ap one_more (on rest (omega (arith, few, count)) left) ∙ ap (λ (n : ℕ). (suc n, [])) (sym count)
+    by_after_eol on None e = grind (arith, common_steps, eols_with_tags-none, eols_with_tags-some, tag_may_come, none_behind_past)
+    by_after_eol on (Some rest) e = grind (arith, common_steps, eols_with_tags-some, past_tag-more, one_in_eol, eol-more)
 
 -- ---- The EOLs here
 -- the bits behind the tag that EOLs are before
@@ -141,25 +102,8 @@ eols_with_tags-more : (more : Bits) (most : ℕ) (here : Bits) → 0 < most
     → holds_one (behind_first_tag (eols_with_tags most here)) ≡ true
     → eols_with_tags most (here ++ more) ≡ count_then_more more (eols_with_tags most here)
 eols_with_tags-more more zero here some one = absurd (omega arith)
-eols_with_tags-more more (suc most) here some one = by_after_eol (after_eol 0 here) refl
-  where
-    inside : (found : ℕ × Bits) → holds_one (behind_first_tag (one_more found)) ≡ holds_one (behind_one found.1)
-    inside (count, rest) = refl
-
-    by_after_eol : (o : Option Bits) → after_eol 0 here ≡ o
-        → eols_with_tags (suc most) (here ++ more) ≡ count_then_more more (eols_with_tags (suc most) here)
-    by_after_eol None e =
-        let is = eols_with_tags-none (suc most) here e in
-        let left : holds_one here ≡ true = sym (ap (λ (found : ℕ × Bits). holds_one (behind_first_tag found)) is) ∙ one in
-        eols_with_tags-none (suc most) (here ++ more) (after_eol-more more 0 here left ∙ ap (then_more more) e)
-        ∙ sym (ap (count_then_more more) is)
-    by_after_eol (Some rest) e =
-        let is = eols_with_tags-some most here rest e in
-        let left : holds_one (behind_one (tagged_past most rest).1) ≡ true =
-        sym (inside (tagged_past most rest)) ∙ sym (ap (λ (found : ℕ × Bits). holds_one (behind_first_tag found)) is) ∙ one in
-        eols_with_tags-some most (here ++ more) (rest ++ more) (eol-more more here rest e)
-        ∙ ap one_more (tagged_past-more more most rest left) ∙ one_then_more more (tagged_past most rest)
-        ∙ sym (ap (count_then_more more) is)
+eols_with_tags-more more (suc most) here some one = grind
+    (arith, common_steps, eols_with_tags-none, after_eol-more, eols_with_tags-some, eol-more, tagged_past-more, one_then_more)
 
 eols_with_tags_may_come : (most : ℕ) (here : Bits) → (eols_with_tags most here).0 < most
     → holds_one (behind_first_tag (eols_with_tags most here)) ≡ false
@@ -172,11 +116,7 @@ eols_with_tags_may_come (suc most) here few none = by_after_eol (after_eol 0 her
 
     by_after_eol : (o : Option Bits) → after_eol 0 here ≡ o
         → eols_with_tags (suc most) (here ++ bytes_of_eol) ≡ (suc (eols_with_tags (suc most) here).0, [])
-    by_after_eol None e =
-        let is = eols_with_tags-none (suc most) here e in
-        let zeros : holds_one here ≡ false = sym (ap (λ (found : ℕ × Bits). holds_one (behind_first_tag found)) is) ∙ none in
-        eols_with_tags-some most (here ++ bytes_of_eol) [] (eol_may_come 0 here zeros)
-        ∙ ap one_more (eols_with_tags-none most [] refl) ∙ ap (λ (found : ℕ × Bits). (suc found.0, [])) (sym is)
+    by_after_eol None e = grind (arith, common_steps, eols_with_tags-none, eols_with_tags-some, eol_may_come)
     by_after_eol (Some rest) e =
         let is = eols_with_tags-some most here rest e in
         let count : (eols_with_tags (suc most) here).0 ≡ suc (tagged_past most rest).0 = ap (λ (found : ℕ × Bits). found.0) is in
@@ -192,24 +132,15 @@ tagged_at_most (suc most) here = by_after_eol (λ rest. tagged_at_most most rest
   where
     by_after_eol : ((rest : Bits) → (eols_with_tags most rest).0 ≤ most) → (o : Option Bits) → after_eol 0 here ≡ o
         → (eols_with_tags (suc most) here).0 ≤ suc most
-    by_after_eol on None e =
-        let none : (eols_with_tags (suc most) here).0 ≡ 0 =
-        ap (λ (found : ℕ × Bits). found.0) (eols_with_tags-none (suc most) here e) in omega (arith, none)
-    by_after_eol on (Some rest) e =
-        let count : (eols_with_tags (suc most) here).0 ≡ suc (tagged_past most rest).0 =
-        ap (λ (found : ℕ × Bits). found.0) (eols_with_tags-some most here rest e) in
-        omega (arith, count, on (past_tag rest))
+    by_after_eol on None e = grind (arith, common_steps, eols_with_tags-none)
+    by_after_eol on (Some rest) e = grind (arith, common_steps, eols_with_tags-some)
 
 -- ---- The tag of RTC
 -- from six EOLs on no tag is a line's
 no_line_tag : (count : ℕ) (rest : Bits) → 6 ≤ count → behind_line_tag (count, rest) ≡ rest
 no_line_tag count [] many = refl
 no_line_tag count (false ∷ rest) many = refl
-no_line_tag count (true ∷ rest) many = rw (le-ltb count 6 many) (either_way (ltb 0 count))
-  where
-    either_way : (b : Bool) → cond (b && false) rest (true ∷ rest) ≡ true ∷ rest
-    either_way true = refl
-    either_way false = refl
+no_line_tag count (true ∷ rest) many = grind (arith, common_steps, le-ltb)
 
 -- the bits behind the last tag, whether it is a line's or that of RTC
 pub last_tag_tested : (found : ℕ × Bits) → behind_line_tag (pass_last_tag found) ≡ behind_first_tag found
@@ -218,10 +149,7 @@ last_tag_tested (suc count, []) = refl
 last_tag_tested (zero, false ∷ rest) = refl
 last_tag_tested (suc count, false ∷ rest) = refl
 last_tag_tested (zero, true ∷ rest) = refl
-last_tag_tested (suc count, true ∷ rest) = elim (cases_lt (suc count) 6) [
-  | inl few ↦ rw (lt-leb 6 (suc count) few, lt-ltb (suc count) 6 few, lt-ltb 0 (suc count) (omega arith)) refl
-  | inr many ↦ rw (le-leb 6 (suc count) many) (no_line_tag (suc count) rest many)
-]
+last_tag_tested (suc count, true ∷ rest) = grind (arith, common_steps, cases_lt, lt-leb, lt-ltb, le-leb, no_line_tag)
 
 -- where a bit is left, more bits make no difference to whether the tag is that of RTC
 last_tag-more : (more : Bits) (found : ℕ × Bits) → holds_one (behind_first_tag found) ≡ true
@@ -229,12 +157,7 @@ last_tag-more : (more : Bits) (found : ℕ × Bits) → holds_one (behind_first_
 last_tag-more more (zero, []) one = absurd cc
 last_tag-more more (suc count, []) one = absurd cc
 last_tag-more more (count, false ∷ rest) one = refl
-last_tag-more more (count, true ∷ rest) one = either_way (leb 6 count)
-  where
-    either_way : (b : Bool) → cond {A = ℕ × Bits} b (count, rest ++ more) (count, true ∷ rest ++ more)
-        ≡ count_then_more more (cond {A = ℕ × Bits} b (count, rest) (count, true ∷ rest))
-    either_way true = refl
-    either_way false = refl
+last_tag-more more (count, true ∷ rest) one = grind (arith, common_steps)
 
 -- where a one is left behind the tag, more bits make no difference
 pub tagged_eols-more : (more here : Bits) → holds_one (behind_line_tag (tagged_eols here)) ≡ true
@@ -259,16 +182,15 @@ pub tagged_eols_may_come : (here : Bits) → holds_one (behind_line_tag (tagged_
 tagged_eols_may_come here none =
     let most = suc (length (here ++ bytes_of_eol)) in
     let long = length-append here bytes_of_eol in
-    let fewer : eols_with_tags most here ≡ all_tagged here =
-    count_same counts_tagged most (length here) here (omega (arith, long)) (omega arith) in
-    let all : eols_with_tags most (here ++ bytes_of_eol) ≡ all_tagged (here ++ bytes_of_eol) =
-    count_same counts_tagged most (length (here ++ bytes_of_eol)) (here ++ bytes_of_eol) (omega arith) (omega arith) in
-    let left : holds_one (behind_first_tag (all_tagged here)) ≡ false =
-    sym (ap holds_one (last_tag_tested (all_tagged here))) ∙ none in
-    let few : (eols_with_tags most here).0 < most =
-    omega (arith, long, ap (λ (found : ℕ × Bits). found.0) fewer, tagged_at_most (length here) here) in
-    let counted : all_tagged (here ++ bytes_of_eol) ≡ (suc (all_tagged here).0, []) =
-    sym all ∙ eols_with_tags_may_come most here few
-    (ap (λ (found : ℕ × Bits). holds_one (behind_first_tag found)) fewer ∙ left)
+    let fewer : eols_with_tags most here ≡ all_tagged here = count_same counts_tagged most
+    (length here) here (omega (arith, long)) (omega arith) in
+    let all : eols_with_tags most (here ++ bytes_of_eol) ≡ all_tagged (here ++ bytes_of_eol) = count_same counts_tagged most
+    (length (here ++ bytes_of_eol)) (here ++ bytes_of_eol) (omega arith) (omega arith) in
+    let left : holds_one
+    (behind_first_tag (all_tagged here)) ≡ false = sym (ap holds_one (last_tag_tested (all_tagged here))) ∙ none in
+    let few : (eols_with_tags most here).0
+    < most = omega (arith, long, ap (λ (found : ℕ × Bits). found.0) fewer, tagged_at_most (length here) here) in
+    let counted : all_tagged (here ++ bytes_of_eol) ≡ (suc (all_tagged here).0, []) = sym all
+    ∙ eols_with_tags_may_come most here few (ap (λ (found : ℕ × Bits). holds_one (behind_first_tag found)) fewer ∙ left)
     ∙ ap (λ (found : ℕ × Bits). (suc found.0, [])) fewer in
     ap pass_last_tag counted ∙ ap (λ (n : ℕ). (suc n, [])) (sym (last_tag_count (all_tagged here)))

@@ -1,22 +1,18 @@
 -- Gaps with more bits behind.
-use Rattle.fax_reading.proofs.Names.{◌≡◌, ◌≢◌, ℕ, suc, Bool, true, false, not, ◌&&◌, ◌||◌, cond, leb, eqb}
-use Rattle.fax_reading.proofs.Names.{[], ◌∷◌, ◌++◌, length, Option, Some, None, Result, Ok, Err, refl, sym, ap, ◌∙◌}
-use Rattle.fax_reading.proofs.Names.{inl, inr, arith, length-append, and_parts, or_parts, cases_Bool, not-false}
-use Rattle.fax_reading.proofs.Names.{leb-true, ne_eqb, AreWholeBytes, Bits, after_eol, eols, all_eols}
-use Rattle.fax_reading.proofs.Names.{tagged_eols, pass_last_tag, next_eol, at_end, DecodeSettings, DecodeError, InvalidCode}
-use Rattle.fax_reading.proofs.Names.{EncodingMode, Group4, Group3_1D, Group3_2D, Gap, Move, Turn, Held}
-use Rattle.fax_reading.proofs.Names.{eols_by, eols_here, is_end_of_block, is_over, limit_met, behind_eols, from_next_eol}
-use Rattle.fax_reading.proofs.Names.{misses_eol, gap_behind_row, at_gap, at_front, first_gap, repairs_behind}
-use Rattle.fax_reading.proofs.Names.{with_missed}
+use Rattle.fax_reading.proofs.Names.{common_steps, ◌≡◌, ◌≢◌, ℕ, suc, Bool, true, false, not, ◌&&◌, ◌||◌, cond, leb, eqb, [], ◌∷◌}
+use Rattle.fax_reading.proofs.Names.{◌++◌, length, Option, Some, None, Ok, Err, refl, sym, ap, ◌∙◌, inl, inr, arith}
+use Rattle.fax_reading.proofs.Names.{length-append, and_parts, or_parts, cases_Bool, not-false, leb-true, ne_eqb, AreWholeBytes}
+use Rattle.fax_reading.proofs.Names.{Bits, after_eol, eols, all_eols, tagged_eols, next_eol, DecodeSettings}
+use Rattle.fax_reading.proofs.Names.{InvalidCode, EncodingMode, Group4, Group3_1D, Group3_2D, Gap, Move, Turn, Held}
+use Rattle.fax_reading.proofs.Names.{eols_by, eols_here, is_end_of_block, limit_met, behind_eols, from_next_eol, misses_eol}
+use Rattle.fax_reading.proofs.Names.{gap_behind_row, at_gap, at_front, first_gap, repairs_behind}
 use Rattle.std.proofs.lemmas.Bool.{or_cases, leb-false}
-use Rattle.fax_reading.specs.PlainReading.{eols_of_end}
 use Rattle.fax_reading.specs.GapsContinued.{holds_one, behind_line_tag, eols_are_settled, eols_here_are_settled}
-use Rattle.fax_reading.specs.GapsContinued.{next_eols_are_settled, gap_is_settled, first_gap_is_settled, gap_before}
-use Rattle.fax_reading.specs.GapsContinued.{move_before, GapIsSettled, FirstGapIsSettled, GapsSettle}
+use Rattle.fax_reading.specs.GapsContinued.{next_eols_are_settled, gap_is_settled, first_gap_is_settled, gap_before, move_before}
+use Rattle.fax_reading.specs.GapsContinued.{GapIsSettled, FirstGapIsSettled, GapsSettle}
 use Rattle.fax_bits.proofs.BitReading.ConsecutiveEols.{all_eols-some, all_tagged-some, eols-some}
-use Rattle.fax_reading.proofs.GapsContinued.ContinuedEols.{count_then_more, next_eol-more, next_eol_may_come}
-use Rattle.fax_reading.proofs.GapsContinued.ContinuedEols.{eols-more, all_eols-more, eols_may_come, all_eols_may_come}
-use Rattle.fax_reading.proofs.GapsContinued.ContinuedEols.{bytes_of_eol}
+use Rattle.fax_reading.proofs.GapsContinued.ContinuedEols.{count_then_more, next_eol-more, next_eol_may_come, eols-more}
+use Rattle.fax_reading.proofs.GapsContinued.ContinuedEols.{all_eols-more, eols_may_come, all_eols_may_come, bytes_of_eol}
 use Rattle.fax_reading.proofs.GapsContinued.ContinuedTags.{tagged_eols-more, tagged_eols_may_come}
 
 -- ---- The test, by encodings
@@ -63,59 +59,29 @@ eols_here_may_come settings here unsettled = by_encoding settings.encoding setti
 
 -- an EOL at the end is counted alone
 last_eol_counted : (settings : DecodeSettings) (here : Bits) → after_eol 0 here ≡ Some [] → eols_here settings here ≡ (1, [])
-last_eol_counted settings here e = by_encoding settings.encoding settings.end_of_block
-  where
-    by_encoding : (encoding : EncodingMode) (block : Bool) → eols_by encoding block here ≡ (1, [])
-    by_encoding Group3_1D block = all_eols-some here [] e
-    by_encoding Group3_2D block = ap pass_last_tag (all_tagged-some here [] e)
-    by_encoding Group4 true = eols-some 1 here [] e
-    by_encoding Group4 false = all_eols-some here [] e
+last_eol_counted settings here e = grind (arith, common_steps, all_eols-some here [] e, all_tagged-some here [] e, eols-some)
 
 -- without bits nothing is settled
 none_is_settled : (settings : DecodeSettings) → eols_here_are_settled settings [] ≡ false
-none_is_settled settings = by_encoding settings.encoding settings.end_of_block
-  where
-    by_encoding : (encoding : EncodingMode) (block : Bool) → eols_are_settled encoding block (eols_by encoding block []) ≡ false
-    by_encoding Group3_1D block = refl
-    by_encoding Group3_2D block = refl
-    by_encoding Group4 true = refl
-    by_encoding Group4 false = refl
+none_is_settled settings = grind (arith, common_steps)
 
 -- ---- What follows them
 -- where no bit is left and the EOLs are settled, they are the end
 settled_end : (settings : DecodeSettings) (count : ℕ)
     → eols_are_settled settings.encoding settings.end_of_block (count, []) ≡ true → is_end_of_block settings count ≡ true
-settled_end settings count settled = by_encoding settings.encoding settings.end_of_block settled
-  where
-    by_encoding : (encoding : EncodingMode) (block : Bool) → eols_are_settled encoding block (count, []) ≡ true
-        → (block && leb (eols_of_end encoding) count) ≡ true
-    by_encoding Group3_1D block is = absurd cc
-    by_encoding Group3_2D block is = absurd cc
-    by_encoding Group4 block is = elim (or_cases (block && leb 2 count) false is) [ inl both ↦ both | inr none ↦ absurd cc ]
+settled_end settings count settled = grind (arith, common_steps)
 
 -- what follows settled EOLs is the same with more bits behind
 behind_eols-more : (more : Bits) (settings : DecodeSettings) (taken : ℕ) (has_eols : Bool) (found : ℕ × Bits)
-    → eols_are_settled settings.encoding settings.end_of_block found ≡ true
-    → behind_eols settings taken has_eols (count_then_more more found)
-    ≡ gap_before more (behind_eols settings taken has_eols found)
+    → eols_are_settled settings.encoding settings.end_of_block found ≡ true → behind_eols settings taken has_eols
+    (count_then_more more found) ≡ gap_before more (behind_eols settings taken has_eols found)
 behind_eols-more more settings taken has_eols (count, []) settled = rw (settled_end settings count settled) refl
-behind_eols-more more settings taken has_eols (count, bit ∷ rest) settled = either_way
-    (is_over settings taken (count, bit ∷ rest))
-  where
-    either_way : (b : Bool) → cond b (Gap.over (Ok (bit ∷ rest ++ more))) (Gap.line_at has_eols (bit ∷ rest ++ more))
-        ≡ gap_before more (cond b (Gap.over (Ok (bit ∷ rest))) (Gap.line_at has_eols (bit ∷ rest)))
-    either_way true = refl
-    either_way false = refl
+behind_eols-more more settings taken has_eols (count, bit ∷ rest) settled = grind (arith, common_steps)
 
 -- where no bit is left the reading ends
 behind_eols-end : (settings : DecodeSettings) (taken : ℕ) (has_eols : Bool) (count : ℕ)
     → behind_eols settings taken has_eols (count, []) ≡ Gap.over (Ok [])
-behind_eols-end settings taken has_eols count = either_way (is_end_of_block settings count) (limit_met settings taken)
-  where
-    either_way : (a b : Bool) → cond (a || b || true) (Gap.over (Ok [])) (Gap.line_at has_eols []) ≡ Gap.over (Ok [])
-    either_way true b = refl
-    either_way false true = refl
-    either_way false false = refl
+behind_eols-end settings taken has_eols count = grind (arith, common_steps)
 
 -- ---- The gap
 -- whether an EOL is missed
@@ -134,18 +100,14 @@ gap_settled settings taken has_eols here passes more = by_missed (misses_eol set
   where
     parts : (eols_here_are_settled settings here ≡ true) × ((not (misses_eol settings taken has_eols here)
         || settings.strict || next_eols_are_settled settings (next_eol here)) ≡ true)
-    parts =
-        and_parts (eols_here_are_settled settings here) (not (misses_eol settings taken has_eols here) || settings.strict
-        || next_eols_are_settled settings (next_eol here)) passes
+    parts = grind (arith, common_steps, and_parts)
 
-    by_next : (o : Option Bits) → next_eol here ≡ o → next_eols_are_settled settings o ≡ true
-        → from_next_eol settings taken (here ++ more) (next_eol (here ++ more))
-        ≡ gap_before more (from_next_eol settings taken here o)
+    by_next : (o : Option Bits) → next_eol here ≡ o → next_eols_are_settled settings o ≡ true → from_next_eol settings taken
+        (here ++ more) (next_eol (here ++ more)) ≡ gap_before more (from_next_eol settings taken here o)
     by_next None e is = absurd cc
     by_next (Some found) e is =
-        ap (from_next_eol settings taken (here ++ more)) (next_eol-more more here found e)
-        ∙ ap (behind_eols settings taken true) (eols_here-more more settings found is)
-        ∙ behind_eols-more more settings taken true (eols_here settings found) is
+        ap (from_next_eol settings taken (here ++ more)) (next_eol-more more here found e) ∙ ap (behind_eols settings taken true)
+        (eols_here-more more settings found is) ∙ behind_eols-more more settings taken true (eols_here settings found) is
 
     by_strict : (b : Bool) → (b || next_eols_are_settled settings (next_eol here)) ≡ true
         → cond b (Gap.over (Err InvalidCode)) (from_next_eol settings taken (here ++ more) (next_eol (here ++ more)))
@@ -157,15 +119,8 @@ gap_settled settings taken has_eols here passes more = by_missed (misses_eol set
         → (not (misses_eol settings taken has_eols here) || settings.strict || next_eols_are_settled settings (next_eol here))
         ≡ true
         → gap_behind_row settings taken has_eols (here ++ more) ≡ gap_before more (gap_behind_row settings taken has_eols here)
-    by_missed true e is =
-        let still : misses_eol settings taken has_eols (here ++ more) ≡ true =
-        misses_eol-more more settings taken has_eols here parts.0 ∙ e in
-        rw (still, e) (by_strict settings.strict (rw e at is))
-    by_missed false e is =
-        let still : misses_eol settings taken has_eols (here ++ more) ≡ false =
-        misses_eol-more more settings taken has_eols here parts.0 ∙ e in
-        rw (still, e) (ap (behind_eols settings taken has_eols) (eols_here-more more settings here parts.0)
-        ∙ behind_eols-more more settings taken has_eols (eols_here settings here) parts.0)
+    by_missed true e is = grind (arith, common_steps, misses_eol-more, parts, by_strict)
+    by_missed false e is = grind (arith, common_steps, misses_eol-more, parts, eols_here-more, behind_eols-more)
 
 -- behind one that doesn't, an EOL may come with which the data ends
 pub gap_may_end : (settings : DecodeSettings) (taken : ℕ) (has_eols : Bool) (here : Bits)
@@ -175,37 +130,16 @@ gap_may_end settings taken has_eols here fails = by_eols (eols_here_are_settled 
   where
     by_next : (o : Option Bits) → next_eol here ≡ o → next_eols_are_settled settings o ≡ false
         → from_next_eol settings taken (here ++ bytes_of_eol) (next_eol (here ++ bytes_of_eol)) ≡ Gap.over (Ok [])
-    by_next None e is =
-        let comes = next_eol_may_come here e in
-        ap (from_next_eol settings taken (here ++ bytes_of_eol)) comes.1
-        ∙ ap (behind_eols settings taken true) (last_eol_counted settings comes.0 comes.2)
-        ∙ behind_eols-end settings taken true 1
-    by_next (Some found) e is =
-        ap (from_next_eol settings taken (here ++ bytes_of_eol)) (next_eol-more bytes_of_eol here found e)
-        ∙ ap (behind_eols settings taken true) (eols_here_may_come settings found is)
-        ∙ behind_eols-end settings taken true (suc (eols_here settings found).0)
+    by_next None e is = grind (arith, common_steps, next_eol_may_come, last_eol_counted, behind_eols-end)
+    by_next (Some found) e is = ap (from_next_eol settings taken (here ++ bytes_of_eol))
+        (next_eol-more bytes_of_eol here found e) ∙ ap (behind_eols settings taken true)
+        (eols_here_may_come settings found is) ∙ behind_eols-end settings taken true (suc (eols_here settings found).0)
 
     by_eols : (b : Bool) → eols_here_are_settled settings here ≡ b → (b && (not (misses_eol settings taken has_eols here)
         || settings.strict || next_eols_are_settled settings (next_eol here))) ≡ false
         → gap_behind_row settings taken has_eols (here ++ bytes_of_eol) ≡ Gap.over (Ok [])
-    by_eols false e is =
-        let comes = eols_here_may_come settings here e in
-        let found : misses_eol settings taken has_eols (here ++ bytes_of_eol) ≡ false =
-        ap (λ (f : ℕ × Bits). (eqb f.0 0) && has_eols && not (limit_met settings taken)
-        && not (at_end (here ++ bytes_of_eol))) comes
-        ∙ ap (λ (b : Bool). b && has_eols && not (limit_met settings taken) && not (at_end (here ++ bytes_of_eol)))
-        (ne_eqb (suc (eols_here settings here).0) 0 (λ none. omega (arith, none))) in
-        rw found (ap (behind_eols settings taken has_eols) comes
-        ∙ behind_eols-end settings taken has_eols (suc (eols_here settings here).0))
-    by_eols true e is =
-        let each =
-        or_parts (not (misses_eol settings taken has_eols here) || settings.strict)
-        (next_eols_are_settled settings (next_eol here)) is in
-        let lenient = or_parts (not (misses_eol settings taken has_eols here)) settings.strict each.0 in
-        let missed : misses_eol settings taken has_eols (here ++ bytes_of_eol) ≡ true =
-        misses_eol-more bytes_of_eol settings taken has_eols here e
-        ∙ not-false (misses_eol settings taken has_eols here) lenient.0 in
-        rw (missed, lenient.1) (by_next (next_eol here) refl each.1)
+    by_eols false e is = grind (arith, common_steps, eols_here_may_come, ne_eqb, behind_eols-end)
+    by_eols true e is = grind (arith, common_steps, or_parts, misses_eol-more, not-false, by_next)
 
 -- ---- The law
 -- bits that are left with more behind them aren't the end of the data
@@ -216,40 +150,27 @@ over_differs (Gap.over (Ok rest)) e = let same : [] ≡ rest ++ bytes_of_eol = c
     absurd (omega (arith, ap length same, length-append rest bytes_of_eol))
 
 -- whole bytes change a gap that doesn't pass the test
-gap_unsettled : (settings : DecodeSettings) (taken : ℕ) (has_eols : Bool) (here : Bits)
-    → gap_is_settled settings taken has_eols here ≡ false
-    → (more : Bits) × AreWholeBytes more × (gap_behind_row settings taken has_eols (here ++ more)
-    ≢ gap_before more (gap_behind_row settings taken has_eols here))
-gap_unsettled settings taken has_eols here fails = (
-  bytes_of_eol,
-  refl,
-  λ same. over_differs (gap_behind_row settings taken has_eols here)
-      (sym (gap_may_end settings taken has_eols here fails) ∙ same),
-)
+gap_unsettled : (settings : DecodeSettings) (taken : ℕ)
+    (has_eols : Bool) (here : Bits) → gap_is_settled settings taken has_eols here ≡ false → (more : Bits) × AreWholeBytes more
+    × (gap_behind_row settings taken has_eols (here ++ more) ≢ gap_before more (gap_behind_row settings taken has_eols here))
+gap_unsettled settings taken has_eols here fails =
+    grind (arith, common_steps, over_differs, gap_may_end settings taken has_eols here fails)
 
 -- so each settled gap passes it
 gap_passes : (settings : DecodeSettings) (taken : ℕ) (has_eols : Bool) (here : Bits)
     → GapIsSettled settings taken has_eols here → gap_is_settled settings taken has_eols here ≡ true
-gap_passes settings taken has_eols here settled = elim (cases_Bool (gap_is_settled settings taken has_eols here)) [
-  | inl passes ↦ passes
-  | inr fails ↦ let changed = gap_unsettled settings taken has_eols here fails in absurd (changed.2 (settled changed.0))
-]
+gap_passes settings taken has_eols here settled = grind (arith, common_steps, cases_Bool, gap_unsettled)
 
 -- whether an EOL is missed is the same at a settled gap
 missed_settled : (settings : DecodeSettings) (taken : ℕ) (has_eols : Bool) (here more : Bits)
     → gap_is_settled settings taken has_eols here ≡ true
     → misses_eol settings taken has_eols (here ++ more) ≡ misses_eol settings taken has_eols here
-missed_settled settings taken has_eols here more passes = misses_eol-more more settings taken has_eols here (and_parts
-    (eols_here_are_settled settings here)
-    (not (misses_eol settings taken has_eols here) || settings.strict || next_eols_are_settled settings (next_eol here)) passes).0
+missed_settled settings taken has_eols here more passes = grind (arith, common_steps, misses_eol-more, and_parts)
 
 -- so what is counted is the same
-pub repairs_behind-more : (held : Held) (here more : Bits)
-    → gap_is_settled held.settings held.taken held.has_eols here ≡ true
+pub repairs_behind-more : (held : Held) (here more : Bits) → gap_is_settled held.settings held.taken held.has_eols here ≡ true
     → repairs_behind held (here ++ more) ≡ repairs_behind held here
-repairs_behind-more held here more passes =
-    ap (λ (b : Bool). cond (b && not held.settings.strict) (with_missed held.taken held.repairs) held.repairs)
-    (missed_settled held.settings held.taken held.has_eols here more passes)
+repairs_behind-more held here more passes = grind (arith, common_steps, missed_settled)
 
 -- ---- The first gap
 -- a gap after no row, with more bits behind
@@ -260,20 +181,7 @@ at_gap-more more bits (Gap.over outcome) = refl
 
 first_settled : (settings : DecodeSettings) (bits : Bits) → first_gap_is_settled settings.encoding settings bits ≡ true
     → FirstGapIsSettled settings bits
-first_settled settings bits passes more = by_encoding settings.encoding passes
-  where
-    by_encoding : (encoding : EncodingMode) → first_gap_is_settled encoding settings bits ≡ true
-        → first_gap encoding settings (bits ++ more) ≡ move_before more (first_gap encoding settings bits)
-    by_encoding Group4 is =
-        ap (at_gap (at_front (bits ++ more))) (gap_settled settings 0 false bits is more)
-        ∙ at_gap-more more bits (gap_behind_row settings 0 false bits)
-    by_encoding Group3_1D is = rw (all_eols-more more bits is) refl
-    by_encoding Group3_2D is = rw (all_eols-more more bits is) refl
-
--- how a reading ended at the first gap, and the bits that are left there where it didn't
-abbrev outcome_at : Move → Option (Result Bits DecodeError)
-outcome_at (Turn.next so_far) = None
-outcome_at (Turn.done end) = Some end.outcome
+first_settled settings bits passes more = grind (arith, common_steps, gap_settled, at_gap-more, all_eols-more)
 
 abbrev left_at : Move → Bits
 left_at (Turn.next so_far) = so_far.rest
@@ -282,14 +190,9 @@ left_at (Turn.done end) = []
 -- a first gap with more bits behind it isn't the end of the data
 done_differs : (bits more : Bits) (gap : Gap)
     → at_gap (at_front more) (Gap.over (Ok [])) ≢ move_before bytes_of_eol (at_gap (at_front bits) gap)
-done_differs bits more (Gap.line_at has_eols rest) e =
-    let f : ◌≡◌ {A = Option (Result Bits DecodeError)} (Some (Ok [])) None = ap outcome_at e in absurd cc
-done_differs bits more (Gap.over (Err fault)) e =
-    let f : ◌≡◌ {A = Option (Result Bits DecodeError)} (Some (Ok [])) (Some (Err fault)) = ap outcome_at e in absurd cc
-done_differs bits more (Gap.over (Ok rest)) e =
-    let f : ◌≡◌ {A = Option (Result Bits DecodeError)} (Some (Ok [])) (Some (Ok (rest ++ bytes_of_eol))) = ap outcome_at e in
-    let same : [] ≡ rest ++ bytes_of_eol = cc in
-    absurd (omega (arith, ap length same, length-append rest bytes_of_eol))
+done_differs bits more (Gap.line_at has_eols rest) e = grind (arith, common_steps)
+done_differs bits more (Gap.over (Err fault)) e = grind (arith, common_steps)
+done_differs bits more (Gap.over (Ok rest)) e = grind (arith, common_steps, length-append rest bytes_of_eol)
 
 first_unsettled : (settings : DecodeSettings) (bits : Bits) → first_gap_is_settled settings.encoding settings bits ≡ false
     → (more : Bits) × AreWholeBytes more × (first_gap settings.encoding settings (bits ++ more)
@@ -301,20 +204,14 @@ first_unsettled settings bits fails = (bytes_of_eol, refl, by_encoding settings.
 
     by_encoding : (encoding : EncodingMode) → first_gap_is_settled encoding settings bits ≡ false
         → first_gap encoding settings (bits ++ bytes_of_eol) ≢ move_before bytes_of_eol (first_gap encoding settings bits)
-    by_encoding Group4 is same =
-        done_differs bits (bits ++ bytes_of_eol) (gap_behind_row settings 0 false bits)
+    by_encoding Group4 is same = done_differs bits (bits ++ bytes_of_eol) (gap_behind_row settings 0 false bits)
         (sym (ap (at_gap (at_front (bits ++ bytes_of_eol))) (gap_may_end settings 0 false bits is)) ∙ same)
-    by_encoding Group3_1D is same =
-        left_over (all_eols bits).1 (sym (ap (λ (found : ℕ × Bits). found.1) (all_eols_may_come bits is)) ∙ ap left_at same)
-    by_encoding Group3_2D is same =
-        left_over (all_eols bits).1 (sym (ap (λ (found : ℕ × Bits). found.1) (all_eols_may_come bits is)) ∙ ap left_at same)
+    by_encoding Group3_1D is same = grind (arith, common_steps, left_over, all_eols_may_come)
+    by_encoding Group3_2D is same = grind (arith, common_steps, left_over, all_eols_may_come)
 
 first_passes : (settings : DecodeSettings) (bits : Bits) → FirstGapIsSettled settings bits
     → first_gap_is_settled settings.encoding settings bits ≡ true
-first_passes settings bits settled = elim (cases_Bool (first_gap_is_settled settings.encoding settings bits)) [
-  | inl passes ↦ passes
-  | inr fails ↦ let changed = first_unsettled settings bits fails in absurd (changed.2 (settled changed.0))
-]
+first_passes settings bits settled = grind (arith, common_steps, cases_Bool, first_unsettled)
 
 -- exactly the settled gaps pass the test
 pub gaps_settle : GapsSettle

@@ -1,13 +1,12 @@
 -- EOLs of two data that begin with the same bits: what is found ahead of a one among these is found in both.
-use Rattle.fax_reading.proofs.Names.{◌≡◌, ℕ, zero, suc, ◌<◌, ◌≤◌, Bool, true, false, cond, leb, [], ◌∷◌, ◌++◌, length, Option}
-use Rattle.fax_reading.proofs.Names.{Some, None, refl, sym, ap, ◌∙◌, arith, length-append, append_cancel_right}
+use Rattle.fax_reading.proofs.Names.{common_steps, ◌≡◌, ℕ, zero, suc, ◌<◌, ◌≤◌, Bool, true, false, cond, leb, [], ◌∷◌, ◌++◌}
+use Rattle.fax_reading.proofs.Names.{length, Option, Some, None, refl, sym, ap, ◌∙◌, arith, length-append, append_cancel_right}
 use Rattle.fax_reading.proofs.Names.{false≢true, Bits, after_eol, all_eols, eols, one_more, past_tag, pass_last_tag, tagged_eols}
 use Rattle.fax_reading.proofs.Names.{EncodingMode, Group4, Group3_1D, Group3_2D, eols_by}
 use Rattle.fax_bits.proofs.BitReading.ZerosInWords.{holds_a_one}
 use Rattle.fax_reading.proofs.DamagedLines.LinesByEols.{past_shorter}
 use Rattle.fax_reading.proofs.DamagedLines.PastEol.{past}
-use Rattle.fax_bits.proofs.BitReading.ConsecutiveEols.{all_eols-some, all_eols-none, all_tagged, all_tagged-some}
-use Rattle.fax_bits.proofs.BitReading.ConsecutiveEols.{all_tagged-none}
+use Rattle.fax_bits.proofs.BitReading.ConsecutiveEols.{all_eols-some, all_eols-none, all_tagged, all_tagged-some, all_tagged-none}
 use Rattle.fax_bits.proofs.BitReading.ConsecutiveEols.{after_eol_shorter, length-one_more, count_shorter, counts_plain}
 use Rattle.fax_bits.proofs.BitReading.ConsecutiveEols.{counts_tagged, eols-some, eols-none, past_tag_shorter}
 
@@ -59,38 +58,21 @@ module _ (x y : Bits) where
   after_eol_front seen [] rest e le = absurd (omega (arith, after_eol_shorter seen x rest e, le))
   after_eol_front seen (false ∷ bits) rest e le =
       left_further false bits rest (after_eol (suc seen) (bits ++ y)) (after_eol_front (suc seen) bits rest e le)
-  after_eol_front seen (true ∷ bits) rest e le = either_way (leb 11 seen) e
-    where
-      either_way : (b : Bool) → cond b (Some (bits ++ x)) None ≡ Some rest
-          → LeftAlike (true ∷ bits) rest (cond b (Some (bits ++ y)) None)
-      either_way true f = (bits, omega arith, let g : bits ++ x ≡ rest = cc in sym g, refl)
-      either_way false f = absurd cc
+  after_eol_front seen (true ∷ bits) rest e le = grind (arith, common_steps)
 
   -- no EOL is here, and a one follows among the equal bits
   pub no_eol_front : (seen : ℕ) (bits : Bits) → holds_a_one bits ≡ true → after_eol seen (bits ++ x) ≡ None
       → after_eol seen (bits ++ y) ≡ None
   no_eol_front seen [] one e = absurd (false≢true one)
   no_eol_front seen (false ∷ bits) one e = no_eol_front (suc seen) bits one e
-  no_eol_front seen (true ∷ bits) one e = either_way (leb 11 seen) e
-    where
-      either_way : (b : Bool) → cond {A = Option Bits} b (Some (bits ++ x)) None ≡ None
-          → cond {A = Option Bits} b (Some (bits ++ y)) None ≡ None
-      either_way true f = absurd cc
-      either_way false f = refl
+  no_eol_front seen (true ∷ bits) one e = grind (arith, common_steps)
 
   -- the next EOL, if it ends among the equal bits
   pub past_front : (seen : ℕ) (bits rest : Bits) → past seen (bits ++ x) ≡ Some rest → length x ≤ length rest
       → LeftAlike bits rest (past seen (bits ++ y))
   past_front seen [] rest e le = absurd (omega (arith, past_shorter seen x rest e, le))
-  past_front seen (false ∷ bits) rest e le =
-      left_further false bits rest (past (suc seen) (bits ++ y)) (past_front (suc seen) bits rest e le)
-  past_front seen (true ∷ bits) rest e le = either_way (leb 11 seen) (past_front 0 bits rest) e
-    where
-      either_way : (b : Bool) → (past 0 (bits ++ x) ≡ Some rest → length x ≤ length rest
-          → LeftAlike bits rest (past 0 (bits ++ y))) → cond b (Some (bits ++ x)) (past 0 (bits ++ x)) ≡ Some rest
-          → LeftAlike (true ∷ bits) rest (cond b (Some (bits ++ y)) (past 0 (bits ++ y)))
-      either_way true on f = (bits, omega arith, let g : bits ++ x ≡ rest = cc in sym g, refl)
-      either_way false on f = left_further true bits rest (past 0 (bits ++ y)) (on f le)
+  past_front seen (false ∷ bits) rest e le = grind (arith, common_steps, left_further, past_front (suc seen) bits rest e le)
+  past_front seen (true ∷ bits) rest e le = grind (arith, common_steps, left_further, past_front 0 bits rest)
 
   -- ---- Consecutive EOLs
 
@@ -99,20 +81,17 @@ module _ (x y : Bits) where
   not_shorter count more found e = omega (arith, ap (λ (f : ℕ × Bits). length f.1) e, length-append more x)
 
   same_bits : (count : ℕ) (bits more : Bits) → ◌≡◌ {A = ℕ × Bits} (0, bits ++ x) (count, more ++ x) → (count ≡ 0) × (bits ≡ more)
-  same_bits count bits more e =
-      (sym (ap (λ (f : ℕ × Bits). f.0) e), append_cancel_right bits more x (ap (λ (f : ℕ × Bits). f.1) e))
+  same_bits count bits more e = grind (arith, common_steps, append_cancel_right)
 
   -- a count that is one more
   one_fewer : (count : ℕ) (rest : Bits) (found : ℕ × Bits) → one_more found ≡ (count, rest) → (fewer : ℕ) × (count ≡ suc fewer)
       × (found ≡ (fewer, rest))
-  one_fewer count rest (n, left) e =
-      (n, sym (ap (λ (f : ℕ × Bits). f.0) e), ap (λ (r : Bits). (n, r)) (ap (λ (f : ℕ × Bits). f.1) e))
+  one_fewer count rest (n, left) e = grind (arith, common_steps)
 
   -- a number of them at most
   pub eols_front : (most : ℕ) (bits more : Bits) (count : ℕ) → eols most (bits ++ x) ≡ (count, more ++ x)
       → holds_a_one more ≡ true → eols most (bits ++ y) ≡ (count, more ++ y)
-  eols_front zero bits more count e one = let same = same_bits count bits more e in
-      rw (same.0, same.1) refl
+  eols_front zero bits more count e one = let same = same_bits count bits more e in rw (same.0, same.1) refl
   eols_front (suc most) bits more count e one =
       by_after_eol (λ here n f. eols_front most here more n f one) (after_eol 0 (bits ++ x)) refl
     where
@@ -120,16 +99,14 @@ module _ (x y : Bits) where
           → (o : Option Bits) → after_eol 0 (bits ++ x) ≡ o → eols (suc most) (bits ++ y) ≡ (count, more ++ y)
       by_after_eol on None f =
           let same = same_bits count bits more (sym (eols-none (suc most) (bits ++ x) f) ∙ e) in
-          eols-none (suc most) (bits ++ y) (no_eol_front 0 bits (ap holds_a_one same.1 ∙ one) f)
-          ∙ rw (same.0, same.1) refl
+          eols-none (suc most) (bits ++ y) (no_eol_front 0 bits (ap holds_a_one same.1 ∙ one) f) ∙ rw (same.0, same.1) refl
       by_after_eol on (Some rest) f =
           let fewer = one_fewer count (more ++ x) (eols most rest) (sym (eols-some most (bits ++ x) rest f) ∙ e) in
-          let le : length x ≤ length rest =
-          omega (arith, not_shorter fewer.0 more (eols most rest) fewer.2, count_shorter counts_plain most rest) in
+          let le : length x ≤
+          length rest = omega (arith, not_shorter fewer.0 more (eols most rest) fewer.2, count_shorter counts_plain most rest) in
           let left = after_eol_front 0 bits rest f le in
           eols-some most (bits ++ y) (left.0 ++ y) left.3
-          ∙ ap one_more (on left.0 fewer.0 (ap (eols most) (sym left.2) ∙ fewer.2))
-          ∙ ap (λ (n : ℕ). (n, more ++ y)) (sym fewer.1)
+          ∙ ap one_more (on left.0 fewer.0 (ap (eols most) (sym left.2) ∙ fewer.2)) ∙ ap (λ (n : ℕ). (n, more ++ y)) (sym fewer.1)
 
   -- all of them
   all_front_for : (n : ℕ) (bits more : Bits) (count : ℕ) → length bits < n → all_eols (bits ++ x) ≡ (count, more ++ x)
@@ -238,8 +215,7 @@ module _ (x y : Bits) where
   zero_stays : (n count : ℕ) (here bits : Bits) → one_behind_tag bits ≡ true → IsPair (n, false ∷ here) count (bits ++ x)
       → IsPair (pass_last_tag (count, bits ++ y)) count (bits ++ y)
   zero_stays n count here [] one e = absurd (false≢true one)
-  zero_stays n count here (true ∷ bits) one e = absurd
-      (let same : false ∷ here ≡ true ∷ (bits ++ x) = ap (λ (f : ℕ × Bits). f.1) e in cc)
+  zero_stays n count here (true ∷ bits) one e = grind (arith, common_steps)
   zero_stays n count here (false ∷ bits) one e = refl
 
   -- nor is one after fewer than six EOLs
@@ -251,11 +227,9 @@ module _ (x y : Bits) where
 
   -- the tag of RTC is passed in both
   last_tag_front : (found other : ℕ × Bits) (more : Bits) (count : ℕ)
-      → ((raw : Bits) (n : ℕ) → one_behind_tag raw ≡ true → IsPair found n (raw ++ x) → IsPair other n (raw ++ y))
-      → IsPair (pass_last_tag found) count (more ++ x) → one_behind_tag more ≡ true
-      → IsPair (pass_last_tag other) count (more ++ y)
-  last_tag_front (n, []) other more count alike e one = absurd
-      (omega (arith, ap (λ (f : ℕ × Bits). length f.1) e, length-append more x, some_left more one))
+      → ((raw : Bits) (n : ℕ) → one_behind_tag raw ≡ true → IsPair found n (raw ++ x) → IsPair other n (raw ++ y)) → IsPair
+      (pass_last_tag found) count (more ++ x) → one_behind_tag more ≡ true → IsPair (pass_last_tag other) count (more ++ y)
+  last_tag_front (n, []) other more count alike e one = grind (arith, common_steps, length-append, some_left)
   last_tag_front (n, false ∷ here) other more count alike e one = ap pass_last_tag (alike more count one e)
       ∙ zero_stays n count here more one e
   last_tag_front (n, true ∷ here) other more count alike e one = either_way (leb 6 n) refl e

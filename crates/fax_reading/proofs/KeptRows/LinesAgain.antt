@@ -1,15 +1,11 @@
 -- Lines of two data that begin with the same bits.
-use Rattle.fax_reading.proofs.Names.{◌≡◌, ℕ, zero, suc, ◌<◌, Bool, true, false, leb, List, [], ◌∷◌, ◌++◌, length, replicate}
+use Rattle.fax_reading.proofs.Names.{common_steps, ◌≡◌, ℕ, zero, suc, ◌<◌, Bool, true, false, leb, List, [], ◌∷◌, ◌++◌, length}
 use Rattle.fax_reading.proofs.Names.{refl, sym, ap, ◌∙◌, append_assoc, arith, inl, inr, le-leb, cond-false, length-append}
-use Rattle.fax_reading.proofs.Names.{false≢true}
-use Rattle.fax_reading.proofs.Names.{append_cancel_right, EncodingMode, Group4, Group3_1D, Group3_2D, Bits, Turn, Row}
+use Rattle.fax_reading.proofs.Names.{false≢true, append_cancel_right, EncodingMode, Group4, Group3_1D, Group3_2D, Bits, Turn, Row}
 use Rattle.fax_reading.proofs.Names.{Line, Pen, Step, start, line_1d, line_2d, line_by, line_found, AreWords, joined}
 use Rattle.fax_bits.proofs.BitReading.ZerosInWords.{holds_a_one, word_one}
 use Rattle.fax_bits.proofs.CodeWords.ReadRuns.{chosen}
 use Rattle.fax_reading.proofs.CodeWords.WordsFound.{words_synchronised}
-use Rattle.fax_reading.proofs.DamagedLines.EolsAlike.{Closes, closes_inside}
-use Rattle.fax_reading.proofs.DamagedLines.LinesBeforeEol.{LineAlike, line_1d_alike, line_2d_alike}
-use Rattle.fax_reading.proofs.DamagedLines.RunsAlike.{closes_tail}
 use Rattle.fax_reading.proofs.DrawingLines.Drawings.{run_then, drawn_by, step_1d, step_1d_is}
 use Rattle.fax_reading.proofs.DrawingLines.ReadLines.{pen_left, drawn1, step_1d_shrinks, full_by, draw_run_goes_on, TookBits}
 use Rattle.fax_reading.proofs.DrawingLines.ReadLines.{line_1d_took_bits, line_2d_took_bits}
@@ -116,17 +112,13 @@ one_in_words (word ∷ words) are some = one_stays word (joined words) (word_one
 
 -- a whole line consumed bits
 took_bits : (line : Line) (n : ℕ) (row : Row) (rest : Bits) → TookBits n line → line ≡ Line.whole row rest → length rest < n
-took_bits (Line.whole row rest) n row2 rest2 took e =
-    let same : rest ≡ rest2 = cc in omega (arith, took, ap length same)
+took_bits (Line.whole row rest) n row2 rest2 took e = grind (arith, common_steps)
 took_bits (Line.broken front fault) n row rest took e = absurd cc
 
 -- the bits of words that were consumed
 words_consumed : (words : List Bits) (bits rest : Bits) → AreWords words → bits ++ rest ≡ joined words ++ rest
     → length rest < length (bits ++ rest) → holds_a_one bits ≡ true
-words_consumed words bits rest are is took =
-    let same : bits ≡ joined words = append_cancel_right bits (joined words) rest is in
-    ap holds_a_one same
-    ∙ one_in_words words are (omega (arith, ap length is, length-append (joined words) rest, took))
+words_consumed words bits rest are is took = grind (arith, common_steps, append_cancel_right, one_in_words, length-append)
 
 pub one_in_whole : (encoding : EncodingMode) (strict : Bool) (columns : ℕ) (reference : Row) (bits rest : Bits) (row : Row)
     → 0 < columns → line_by encoding strict columns reference (bits ++ rest) ≡ Line.whole row rest
@@ -144,31 +136,11 @@ one_in_whole Group4 strict columns reference bits rest row wide e =
     (took_bits (line_2d strict columns reference (bits ++ rest)) (length (bits ++ rest)) row rest
     (line_2d_took_bits strict columns reference (bits ++ rest) wide) e)
 one_in_whole Group3_2D strict columns reference [] [] row wide e = absurd cc
-one_in_whole Group3_2D strict columns reference [] (true ∷ rest) row wide e = absurd (omega (
-  arith,
-  took_bits (line_1d strict columns rest) (length rest) row (true ∷ rest) (line_1d_took_bits strict columns rest wide) e,
-))
-one_in_whole Group3_2D strict columns reference [] (false ∷ rest) row wide e = absurd (omega (
-  arith,
-  took_bits (line_2d strict columns reference rest) (length rest) row (false ∷ rest)
-      (line_2d_took_bits strict columns reference rest wide) e,
-))
+one_in_whole Group3_2D strict columns reference [] (true ∷ rest) row wide e =
+    grind (arith, common_steps, took_bits, line_1d_took_bits)
+one_in_whole Group3_2D strict columns reference [] (false ∷ rest) row wide e =
+    grind (arith, common_steps, took_bits, line_2d_took_bits)
 one_in_whole Group3_2D strict columns reference (true ∷ bits) rest row wide e =
     one_in_whole Group3_1D strict columns reference bits rest row wide e
 one_in_whole Group3_2D strict columns reference (false ∷ bits) rest row wide e =
     one_in_whole Group4 strict columns reference bits rest row wide e
-
--- ---- A line that begins before an EOL among the equal bits
-
-pub line_alike : (encoding : EncodingMode) (columns : ℕ) (reference : Row) (u v bits : Bits) → Closes bits
-    → LineAlike u v (line_by encoding false columns reference (bits ++ u)) (line_by encoding false columns reference (bits ++ v))
-line_alike Group3_1D columns reference u v bits closes =
-    line_1d_alike u v columns _ _ (bits, closes_inside bits closes, refl, refl)
-line_alike Group3_2D columns reference u v [] closes = absurd (let e = closes.1 in omega
-    (arith, ap length e, length-append closes.0 (replicate 11 false)))
-line_alike Group3_2D columns reference u v (true ∷ bits) closes =
-    line_1d_alike u v columns _ _ (bits, closes_tail true bits closes, refl, refl)
-line_alike Group3_2D columns reference u v (false ∷ bits) closes =
-    line_2d_alike u v columns reference _ _ (bits, closes_tail false bits closes, refl, refl)
-line_alike Group4 columns reference u v bits closes =
-    line_2d_alike u v columns reference _ _ (bits, closes_inside bits closes, refl, refl)

@@ -1,40 +1,35 @@
 -- Data that begin with the same bits have the same rows before the first line that may differ.
-use Rattle.fax_reading.proofs.Names.{◌≡◌, ℕ, suc, ◌%◌, ◌<◌, ◌≤◌, Bool, true, false, not, ◌&&◌, ◌||◌, eqb, ltb, List, []}
-use Rattle.fax_reading.proofs.Names.{◌∷◌, ◌++◌, length, take, drop, replicate, Option, Some, None, refl, sym, ap, subst, ◌∙◌}
+use Rattle.fax_reading.proofs.Names.{◌≡◌, ℕ, suc, ◌%◌, ◌<◌, ◌≤◌, Bool, true, false, not, ◌&&◌, ◌||◌, eqb, ltb, List, [], ◌∷◌}
+use Rattle.fax_reading.proofs.Names.{◌++◌, length, take, drop, replicate, Option, Some, None, refl, sym, ap, subst, ◌∙◌}
 use Rattle.fax_reading.proofs.Names.{append_assoc, append_cancel_left, append_cancel_right, arith, ◌⊎◌, inl, inr, cases_Bool}
-use Rattle.fax_reading.proofs.Names.{replicate-append-replicate, cond-true, cond-false, false≢true, length-append}
-use Rattle.fax_reading.proofs.Names.{take-append-drop, ne_eqb}
-use Rattle.fax_reading.proofs.Names.{or_parts, not-false, EncodingMode, Group4, Group3_1D, Group3_2D, DecodeSettings, Bits}
-use Rattle.fax_reading.proofs.Names.{IsPrefix, Turn, repeated, Reaches, Row, repaired, Line, after_eol, next_eol}
-use Rattle.fax_reading.proofs.Names.{all_eols, eols, eols_with_tags, eols_by, eols_here, is_over, misses_eol, limit_met}
-use Rattle.fax_reading.proofs.Names.{at_end, Progress, Ending, Move, row_before, behind_row, row_of, line_by, line_here}
-use Rattle.fax_reading.proofs.Names.{DecodeError, UnexpectedEof, Err, ◌-◌, ◌+◌}
-use Rattle.fax_reading.proofs.Names.{after_line, move_on, at_front, first_line, first_gap, ending_behind, end_of}
-use Rattle.fax_reading.proofs.Names.{whole_reading, plain, Reading, RowsBefore, common_steps}
+use Rattle.fax_reading.proofs.Names.{cond-true, cond-false, false≢true, length-append, take-append-drop, or_parts, not-false}
+use Rattle.fax_reading.proofs.Names.{EncodingMode, Group4, Group3_1D, Group3_2D, DecodeSettings, Bits, IsPrefix, Turn, repeated}
+use Rattle.fax_reading.proofs.Names.{Reaches, Row, repaired, Line, after_eol, next_eol, all_eols, eols_here, misses_eol}
+use Rattle.fax_reading.proofs.Names.{limit_met, at_end, Progress, Ending, Move, row_before, behind_row, line_by, line_here}
+use Rattle.fax_reading.proofs.Names.{DecodeError, UnexpectedEof, Err, after_line, move_on, at_front, first_line, first_gap}
+use Rattle.fax_reading.proofs.Names.{ending_behind, end_of, plain, RowsBefore, common_steps}
 use Rattle.fax_bits.proofs.BitReading.ZerosInWords.{holds_a_one, prefix_of_prefix}
 use Rattle.fax_bits.proofs.CodeWords.ReadRuns.{chosen}
-use Rattle.fax_reading.proofs.DamagedLines.EolsAlike.{Closes}
+use Rattle.fax_reading.proofs.DamagedLines.EolsAlike.{Closes, line_alike}
 use Rattle.fax_reading.proofs.DamagedLines.DamageByK.{take_front}
 use Rattle.fax_reading.proofs.DamagedLines.LinesBeforeEol.{LineAlike}
-use Rattle.fax_reading.proofs.DamagedLines.LineTails.{after_eol_is}
-use Rattle.fax_reading.proofs.DamagedLines.PastEol.{past, past-eol, past_is, then_after, eols_here-none, next_eol_leaves}
-use Rattle.fax_reading.proofs.DamagedLines.RunsAlike.{run_at}
-use Rattle.fax_reading.proofs.DamagedLines.SoughtTurns.{sought, rest_of, found_next, eols_here_same, sought_done, row_past}
-use Rattle.fax_reading.proofs.DamagedLines.SoughtTurns.{move_sought}
+use Rattle.fax_reading.proofs.DamagedLines.LineTails.{eol_closes}
+use Rattle.fax_reading.proofs.DamagedLines.PastEol.{past, past-eol, past_is, eols_here-none, next_eol_leaves}
+use Rattle.fax_reading.proofs.DamagedLines.RunsAlike.{run_at, eols_past}
+use Rattle.fax_reading.proofs.DamagedLines.SoughtTurns.{sought, found_next, eols_here_same, sought_done, row_past, move_sought}
 use Rattle.fax_reading.proofs.EncodedPictures.AfterEofb.{aligned_split}
 use Rattle.fax_reading.proofs.KeptRows.EqualFronts.{one_in_line, one_in_bits, past_front, all_front, eols_by_front}
-use Rattle.fax_reading.proofs.KeptRows.LinesAgain.{line_again, one_in_whole, one_stays, one_there, line_alike}
+use Rattle.fax_reading.proofs.KeptRows.LinesAgain.{line_again, one_in_whole, one_stays, one_there}
 use Rattle.fax_reading.proofs.KeptRows.TurnsLeave.{after_row_leaves, reached_leaves}
 use Rattle.fax_bits.proofs.Repetition.Repeated.{after_turn, repeated_turn, repeated_same, next_is, not_next}
 use Rattle.fax_reading.proofs.Readings.RowsAndGaps.{unless_over, seek_from, after_row, pass_gap-is, after_whole-is}
 use Rattle.fax_reading.proofs.Readings.RowsAndGaps.{after_damage-is, unmissed}
+use Rattle.fax_reading.proofs.Readings.GapsAndRows.{plain_is}
 use Rattle.fax_reading.proofs.Readings.TurnsAddRows.{Keeps, after_row_keeps, first_gap_keeps, turn_extends, repeated_adds}
 use Rattle.fax_reading.proofs.Readings.TurnsAddRows.{move_adds}
 use Rattle.fax_reading.proofs.Readings.TurnsMoveOn.{left_to_read, left_below, move_shrinks, unless_over_next, unless_over_open}
-use Rattle.fax_bits.proofs.BitReading.ConsecutiveEols.{next_eol_found, count_past, count_shorter, counts_plain}
-use Rattle.fax_bits.proofs.BitReading.ConsecutiveEols.{counts_tagged}
 use Rattle.fax_reading.proofs.Readings.TurnsMoveOn.{eols_here_counted}
-use Rattle.fax_bits.proofs.BitReading.ConsecutiveEols.{last_tag_shorter, eols-some, length-one_more}
+use Rattle.fax_bits.proofs.BitReading.ConsecutiveEols.{next_eol_found}
 
 -- ---- The gap
 
@@ -47,19 +42,6 @@ open_bits (b ∷ here) some = refl
 some_bits : (bits : Bits) → holds_a_one bits ≡ true → 0 < length bits
 some_bits [] one = absurd (false≢true one)
 some_bits (b ∷ bits) one = omega arith
-
--- counting EOLs consumes the first
-eols_past : (settings : DecodeSettings) (here rest : Bits) → after_eol 0 here ≡ Some rest
-    → length (eols_here settings here).1 ≤ length rest
-eols_past settings here rest e = by_encoding settings.encoding settings.end_of_block
-  where
-    by_encoding : (encoding : EncodingMode) (block : Bool) → length (eols_by encoding block here).1 ≤ length rest
-    by_encoding Group3_1D block = count_past counts_plain here rest e
-    by_encoding Group3_2D block = omega
-        (arith, last_tag_shorter (eols_with_tags (length here) here), count_past counts_tagged here rest e)
-    by_encoding Group4 true = rw (eols-some 1 here rest e)
-        (omega (arith, length-one_more (eols 1 rest), count_shorter counts_plain 1 rest))
-    by_encoding Group4 false = count_past counts_plain here rest e
 
 -- where the next EOL is, if a lenient reading that seeks EOLs reaches a line and seeks them still
 past_there : (settings : DecodeSettings) → settings.strict ≡ false → (rows : List Row) (here : Bits) (t : Progress)
@@ -80,10 +62,7 @@ past_there settings lenient rows here t e seeks = by_limit (cases_Bool (limit_me
       where
         no_next : (o : Option Bits) → next_eol here ≡ o → o ≡ None
         no_next None g = refl
-        no_next (Some found) g =
-            let stands = next_eol_found here found g in
-            absurd (let both : ◌≡◌ {A = Option Bits} None (Some stands.1.0) =
-            sym f ∙ past_is here ∙ ap then_after g ∙ stands.1.1 in cc)
+        no_next (Some found) g = grind (arith, common_steps, next_eol_found, past_is)
 
         by_eol : (o : Option Bits) → after_eol 0 here ≡ o → ⊥
         by_eol (Some rest) g = let both : ◌≡◌ {A = Option Bits} None (Some rest) = sym f ∙ past-eol 0 here rest g in cc
@@ -120,11 +99,7 @@ module _ (settings : DecodeSettings) (x y : Bits) where
       → unless_over settings (run_at rows has_eols u) (count, more ++ x) ≡ Turn.next t
       → unless_over settings (run_at rows has_eols v) (count, more ++ y) ≡ Turn.next (run_at rows has_eols (more ++ y))
   unless_front rows has_eols u v [] count t some e = absurd (omega (arith, some))
-  unless_front rows has_eols u v (b ∷ more) count t some e =
-      elim (chosen (is_over settings (length rows) (count, b ∷ more ++ x)) _ _ _ e) [
-        | inl over ↦ absurd (not_next _ t over.1)
-        | inr open_end ↦ cond-false (is_over settings (length rows) (count, b ∷ more ++ y)) _ _ open_end.0
-      ]
+  unless_front rows has_eols u v (b ∷ more) count t some e = grind (arith, common_steps, chosen, not_next, cond-false)
 
   -- the EOLs from one on that ends among the equal bits
   eols_from_front : (found other left more : Bits) (count : ℕ) → after_eol 0 found ≡ Some (left ++ x)
@@ -132,9 +107,8 @@ module _ (settings : DecodeSettings) (x y : Bits) where
       → one_in_line settings.encoding more ≡ true → eols_here settings other ≡ (count, more ++ y)
   eols_from_front found other left more count e f counted one =
       let eol : Bits = replicate 11 false ++ true ∷ left in
-      eols_here_same settings other (eol ++ y) (left ++ y) f refl
-      ∙ eols_by_front x y settings.encoding settings.end_of_block eol more count
-      (eols_here_same settings (eol ++ x) found (left ++ x) refl e ∙ counted) one
+      eols_here_same settings other (eol ++ y) (left ++ y) f refl ∙ eols_by_front x y settings.encoding
+      settings.end_of_block eol more count (eols_here_same settings (eol ++ x) found (left ++ x) refl e ∙ counted) one
 
   -- after the same rows, and EOLs that are here or not sought
   counted_front : (rows : List Row) (has_eols : Bool) (bits more : Bits) (t : Progress) → t.rest ≡ more ++ x
@@ -197,8 +171,8 @@ module _ (settings : DecodeSettings) (x y : Bits) where
           let there = past_there settings lenient rows (bits ++ x) t e seeks in
           let left = past_front x y 0 bits there.1.0 there.1.1
           (omega (arith, there.1.2, ap length rest_is, length-append more x)) in
-          let one_x = row_past settings lenient rows (bits ++ x) (left.0 ++ x) there.0
-          (there.1.1 ∙ ap (λ (b : Bits). Some b) left.2) in
+          let one_x = row_past settings lenient rows
+          (bits ++ x) (left.0 ++ x) there.0 (there.1.1 ∙ ap (λ (b : Bits). Some b) left.2) in
           let one_y = row_past settings lenient rows (bits ++ y) (left.0 ++ y) there.0 left.3 in
           let count : ℕ = (eols_here settings one_x.0).0 in
           let same = unless_over_next settings (sought rows (bits ++ x)) t (eols_here settings one_x.0) (sym one_x.3 ∙ e) in
@@ -206,8 +180,7 @@ module _ (settings : DecodeSettings) (x y : Bits) where
           let counted : eols_here settings one_x.0 ≡ (count, more ++ x) = ap (λ (b : Bits). (count, b)) left_is in
           let other = eols_from_front one_x.0 one_y.0 left.0 more count one_x.2 one_y.2 counted one in
           one_y.3 ∙ ap (unless_over settings (sought rows (bits ++ y))) other
-          ∙ unless_front rows true (bits ++ x) (bits ++ y) more count t
-          (some_bits more (one_in_bits settings.encoding more one))
+          ∙ unless_front rows true (bits ++ x) (bits ++ y) more count t (some_bits more (one_in_bits settings.encoding more one))
           (ap (unless_over settings (sought rows (bits ++ x))) (sym counted) ∙ sym one_x.3 ∙ e)
 
   -- ---- The line
@@ -215,22 +188,20 @@ module _ (settings : DecodeSettings) (x y : Bits) where
   -- what follows a row is as much in both, where the data are whole bytes
   module _ (bytes : length x % 8 ≡ length y % 8) (wide : 0 < settings.columns) where
     -- the bits after a row, aligned or not
-    behind_front : (has_eols : Bool) (bits : Bits) → length x ≤ length (behind_row settings has_eols (bits ++ x))
-        → (left : Bits) × (behind_row settings has_eols (bits ++ x) ≡ left ++ x)
-        × (behind_row settings has_eols (bits ++ y) ≡ left ++ y)
+    behind_front : (has_eols : Bool) (bits : Bits) → length x ≤ length (behind_row settings has_eols (bits ++ x)) → (left : Bits)
+        × (behind_row settings has_eols (bits ++ x) ≡ left ++ x) × (behind_row settings has_eols (bits ++ y) ≡ left ++ y)
     behind_front has_eols bits le =
         let al : Bool = settings.rows_are_byte_aligned && not has_eols in
         let behind : Bits = behind_row settings has_eols (bits ++ x) in
         let split = aligned_split al (bits ++ x) in
-        let long : length split.0 ≤ length bits =
-        omega (arith, le, ap length split.1, length-append split.0 behind, length-append bits x) in
+        let long :
+        length split.0 ≤ length bits = omega (arith, le, ap length split.1, length-append split.0 behind, length-append bits x) in
         let left = prefix_of_prefix split.0 behind bits x split.1 long in
-        let is : behind ≡ left.0 ++ x = append_cancel_left split.0 behind (left.0 ++ x)
-        (sym split.1 ∙ ap (λ (b : Bits). b ++ x) left.1 ∙ append_assoc split.0 left.0 x) in
-        let other : bits ++ y ≡ split.0 ++ (left.0 ++ y) =
-        ap (λ (b : Bits). b ++ y) left.1 ∙ append_assoc split.0 left.0 y in
-        let same : length (left.0 ++ y) % 8 ≡ length behind % 8 =
-        omega (arith, bytes, ap length is, length-append left.0 x, length-append left.0 y) in
+        let is : behind ≡ left.0 ++ x = append_cancel_left split.0 behind
+        (left.0 ++ x) (sym split.1 ∙ ap (λ (b : Bits). b ++ x) left.1 ∙ append_assoc split.0 left.0 x) in
+        let other : bits ++ y ≡ split.0 ++ (left.0 ++ y) = ap (λ (b : Bits). b ++ y) left.1 ∙ append_assoc split.0 left.0 y in
+        let same : length (left.0 ++ y) % 8
+        ≡ length behind % 8 = omega (arith, bytes, ap length is, length-append left.0 x, length-append left.0 y) in
         (left.0, is, ap (behind_row settings has_eols) other ∙ split.2 (left.0 ++ y) same)
 
     -- a turn over the equal bits, the row that it adds, and what is left of them after it
@@ -244,21 +215,17 @@ module _ (settings : DecodeSettings) (x y : Bits) where
           ≡ after_row settings (run_at (rows ++ row ∷ []) has_eols (left ++ y))
 
     -- a turn over a whole line
-    whole_turn : (rows : List Row) (has_eols : Bool) (here rest : Bits) (row : Row)
-        → line_here settings (row_before settings.columns rows) here ≡ Line.whole row rest
-        → move_on settings (run_at rows has_eols here)
-        ≡ after_row settings (run_at (rows ++ row ∷ []) has_eols (behind_row settings has_eols rest))
+    whole_turn : (rows : List Row) (has_eols : Bool) (here rest : Bits)
+        (row : Row) → line_here settings (row_before settings.columns rows) here ≡ Line.whole row rest → move_on settings
+        (run_at rows has_eols here) ≡ after_row settings (run_at (rows ++ row ∷ []) has_eols (behind_row settings has_eols rest))
     whole_turn rows has_eols here rest row is =
         ap (after_line settings (run_at rows has_eols here)) is ∙ after_whole-is settings (run_at rows has_eols here) row rest
 
     -- and over a broken one that is repaired
-    repaired_turn : (rows : List Row) (here : Bits) (front : Row) (fault : DecodeError) → settings.strict ≡ false
-        → line_here settings (row_before settings.columns rows) here ≡ Line.broken front fault
-        → move_on settings (sought rows here)
-        ≡ after_row settings (sought (rows ++ repaired settings.columns front ∷ []) here)
-    repaired_turn rows here front fault lenient is =
-        move_sought settings lenient rows here
-        ∙ ap (λ (line : Line). after_row settings (sought (rows ++ row_of settings.columns line ∷ []) (rest_of line here))) is
+    repaired_turn : (rows : List Row) (here : Bits) (front : Row) (fault : DecodeError)
+        → settings.strict ≡ false → line_here settings (row_before settings.columns rows) here ≡ Line.broken front fault
+        → move_on settings (sought rows here) ≡ after_row settings (sought (rows ++ repaired settings.columns front ∷ []) here)
+    repaired_turn rows here front fault lenient is = grind (arith, common_steps, move_sought)
 
     more_in_line : (encoding : EncodingMode) (front rest : Bits) → one_in_line encoding front ≡ true
         → one_in_line encoding (front ++ rest) ≡ true
@@ -271,8 +238,7 @@ module _ (settings : DecodeSettings) (x y : Bits) where
     one_behind : (encoding : EncodingMode) (bits more : Bits) → Closes bits → one_in_line encoding (bits ++ true ∷ more) ≡ true
     one_behind Group3_1D bits more closes = one_there bits more
     one_behind Group4 bits more closes = one_there bits more
-    one_behind Group3_2D [] more closes = absurd
-        (omega (arith, ap length closes.1, length-append closes.0 (replicate 11 false)))
+    one_behind Group3_2D [] more closes = absurd (omega (arith, ap length closes.1, length-append closes.0 (replicate 11 false)))
     one_behind Group3_2D (tag ∷ bits) more closes = one_there bits more
 
     -- the zeros of the next EOL are among the equal bits
@@ -281,22 +247,9 @@ module _ (settings : DecodeSettings) (x y : Bits) where
     closes_front bits left e =
         let next = found_next (bits ++ x) (left ++ x) e in
         let before = next_eol_leaves (bits ++ x) next.0 next.1 in
-        let is = after_eol_is 0 next.0 (left ++ x) next.2 in
-        let more : ℕ = is.0 - 11 in
-        let sum : more + 11 ≡ is.0 = omega (arith, is.2) in
-        let fill : replicate is.0 false ≡ replicate more false ++ replicate 11 false = ap (λ (n : ℕ). replicate n false) (sym sum)
-        ∙ sym (replicate-append-replicate more 11 false) in
-        let front : Bits = before.0 ++ replicate is.0 false in
-        let whole : bits ++ x ≡ (front ++ true ∷ left) ++ x = before.1 ∙ ap (λ (b : Bits). before.0 ++ b) is.1
-        ∙ sym (append_assoc before.0 (replicate is.0 false) (true ∷ left ++ x))
-        ∙ sym (append_assoc front (true ∷ left) x) in (
-          front,
-          (
-            before.0 ++ replicate more false,
-            ap (λ (b : Bits). before.0 ++ b) fill ∙ sym (append_assoc before.0 (replicate more false) (replicate 11 false)),
-          ),
-          append_cancel_right bits (front ++ true ∷ left) x whole,
-        )
+        let f = eol_closes before.0 next.0 (left ++ x) next.2 in
+        let whole : bits ++ x ≡ (f.0 ++ true ∷ left) ++ x = before.1 ∙ f.2 ∙ sym (append_assoc f.0 (true ∷ left) x) in
+        (f.0, f.1, append_cancel_right bits (f.0 ++ true ∷ left) x whole)
 
     other_broken : (u v : Bits) (front : Row) (fault : DecodeError) (line : Line) → LineAlike u v (Line.broken front fault) line
         → (other : DecodeError) × (line ≡ Line.broken front other)
@@ -464,8 +417,7 @@ module _ (settings : DecodeSettings) (x y : Bits) where
 
 -- the first line of the other data, if its bits have a one among the equal ones
 first_front : (settings : DecodeSettings) (x y front bits : Bits) (first : Progress) → first.rest ≡ bits ++ x
-    → one_in_line settings.encoding bits ≡ true
-    → first_gap settings.encoding settings (front ++ x) ≡ Turn.next first
+    → one_in_line settings.encoding bits ≡ true → first_gap settings.encoding settings (front ++ x) ≡ Turn.next first
     → first_gap settings.encoding settings (front ++ y) ≡ Turn.next (run_at first.rows first.has_eols (bits ++ y))
 first_front settings x y front bits first rest_is one begins = by_encoding settings.encoding refl begins
   where
@@ -488,23 +440,19 @@ first_front settings x y front bits first rest_is one begins = by_encoding setti
     by_encoding Group3_1D same e = ap {B = Move} (λ (p : Progress). Turn.next p) (group3 (next_is _ first e))
     by_encoding Group3_2D same e = ap {B = Move} (λ (p : Progress). Turn.next p) (group3 (next_is _ first e))
     by_encoding Group4 same e =
-        let gap : after_row settings (at_front (front ++ x)) ≡ Turn.next first =
-        sym (pass_gap-is settings (at_front (front ++ x))) ∙ e in
-        let unsought : first.has_eols ≡ false =
-        elim (after_row_leaves settings (at_front (front ++ x)) first gap).1 [ inl f ↦ f | inr f ↦ f ] in
+        let gap : after_row settings
+        (at_front (front ++ x)) ≡ Turn.next first = sym (pass_gap-is settings (at_front (front ++ x))) ∙ e in
+        let unsought : first.has_eols ≡ false = elim
+        (after_row_leaves settings (at_front (front ++ x)) first gap).1 [ inl f ↦ f | inr f ↦ f ] in
         let none : first.rows ≡ [] = subst (Keeps []) gap (after_row_keeps settings (at_front (front ++ x))) in
-        pass_gap-is settings (at_front (front ++ y))
-        ∙ gap_front settings x y [] false front bits first unsought rest_is one gap
-        ∙ ap {B = Move} (λ (h : Bool). Turn.next (run_at [] h (bits ++ y))) (sym unsought)
-        ∙ ap {B = Move} (λ (r : List Row). Turn.next (run_at r first.has_eols (bits ++ y))) (sym none)
+        pass_gap-is settings (at_front (front ++ y)) ∙ gap_front settings x y [] false front bits first unsought rest_is one gap
+        ∙ ap {B = Move} (λ (h : Bool). Turn.next (run_at [] h (bits ++ y)))
+        (sym unsought) ∙ ap {B = Move} (λ (r : List Row). Turn.next (run_at r first.has_eols (bits ++ y))) (sym none)
 
 -- rows that are the first of some
 first_rows : (rows all : List Row) (index : ℕ) → IsPrefix rows all → length rows ≡ index
     → (index ≤ length all) × (take index all ≡ rows)
-first_rows rows all index front is = (
-  omega (arith, is, ap length front.1, length-append rows front.0),
-  ap (λ (n : ℕ). take n all) (sym is) ∙ ap (take (length rows)) front.1 ∙ take_front rows front.0,
-)
+first_rows rows all index front is = grind (arith, common_steps, length-append, take_front)
 
 -- the law
 pub rows_before : RowsBefore
@@ -535,22 +483,11 @@ rows_before settings one whole_one two place index whole_two same reads =
     two_is = sym (take-append-drop place two) ∙ ap (λ (b : Bits). b ++ y) same
 
     bytes : length x % 8 ≡ length y % 8
-    bytes = omega (
-      arith,
-      whole_one,
-      whole_two,
-      ap length one_is,
-      ap length two_is,
-      length-append front x,
-      length-append front y,
-    )
+    bytes = grind (arith, common_steps, one_is, two_is, length-append)
 
     -- the rows of the reading of some bits
     front_of : (bits : Bits) → IsPrefix last.rows (end_of settings bits).rows → IsPrefix last.rows (plain settings bits).rows
-    front_of bits is =
-        let reading : plain settings bits ≡ whole_reading bits (end_of settings bits) = cond-false (eqb settings.columns 0) _ _
-        (ne_eqb settings.columns 0 (λ e. absurd (omega (arith, e, reads.wide)))) in
-        subst (λ (r : Reading). IsPrefix last.rows r.rows) (sym reading) is
+    front_of bits is = grind (arith, common_steps, plain_is)
 
     -- the rows up to the line are rows of whatever continues the equal bits
     kept_by : {bits : Bits} (z : Bits) → length x % 8 ≡ length z % 8 → bits ≡ front ++ z

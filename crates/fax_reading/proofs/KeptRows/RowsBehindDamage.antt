@@ -1,64 +1,40 @@
 -- Data that are the same from an EOL on have the same rows behind the next, whatever comes before.
-use Rattle.fax_reading.proofs.Names.{◌≡◌, ℕ, zero, suc, ◌+◌, ◌-◌, ◌/◌, ◌%◌, ◌<◌, ◌≤◌, Bool, true, false, cond, not, ◌&&◌, ◌||◌}
-use Rattle.fax_reading.proofs.Names.{eqb, leb, List, [], ◌∷◌, ◌++◌, length, take, drop, replicate, Option, Some, None, Result}
-use Rattle.fax_reading.proofs.Names.{Ok, Err, refl, sym, ap, subst, ◌∙◌, append_assoc, append_cancel_right, append-nil, arith}
-use Rattle.fax_reading.proofs.Names.{◌⊎◌, inl, inr, cond-true, cond-false, lt-leb, ne_eqb, length-append, length-drop}
-use Rattle.fax_reading.proofs.Names.{take-append-drop, DecodeError, InvalidCode, EncodingMode, Group4, Group3_1D}
-use Rattle.fax_reading.proofs.Names.{Group3_2D, DecodeSettings, Bits, AreWholeBytes, Turn, Reaches, Row, repaired, Line}
-use Rattle.fax_reading.proofs.Names.{after_eol, next_eol, all_eols, one_more, past_tag, pass_last_tag, eols_by, eols_here}
-use Rattle.fax_reading.proofs.Names.{is_end_of_block, is_over, misses_eol, limit_met, at_end, Progress, Ending, Move, row_before}
-use Rattle.fax_reading.proofs.Names.{aligned, row_of, line_by, line_here, ends_with, after_line, move_on, first_line, first_gap}
-use Rattle.fax_reading.proofs.Names.{ending_behind, end_of, whole_reading, bytes_before, plain, Reading, MakesNoRtc, PutsInStep}
-use Rattle.fax_reading.proofs.Names.{ComesTo, AreInStep, RowsBehind, IsEolAt}
-use Rattle.fax_reading.proofs.Names.{and-false}
-use Rattle.fax_reading.specs.PlainReading.{eols_of_end}
-use Rattle.fax_reading.proofs.Names.{replicate-append-replicate, or_parts, false≢true}
-use Rattle.fax_reading.proofs.Readings.GapsAndRows.{late, goes, ending_goes}
-use Rattle.fax_reading.proofs.DamagedLines.LineTails.{drop_front}
-use Rattle.fax_reading.proofs.DamagedLines.EolsAlike.{Closes, RestAlike, PastAlike, closes_inside, inside_after}
-use Rattle.fax_reading.proofs.DamagedLines.EolsAlike.{leaves_after, leaves_length, after_shorter, past_alike, all_eols_alike}
-use Rattle.fax_reading.proofs.DamagedLines.EolsAlike.{eols_found, tagged_found, last_tag_alike, last_tag_few}
+use Rattle.fax_reading.proofs.Names.{common_steps, ◌≡◌, ℕ, zero, suc, ◌<◌, ◌≤◌, Bool, true, false, List, [], ◌∷◌}
+use Rattle.fax_reading.proofs.Names.{◌++◌, length, take, drop, Option, Some, None, Ok, Err, refl, sym, ap, subst, ◌∙◌}
+use Rattle.fax_reading.proofs.Names.{append_assoc, append_cancel_right, append-nil, arith, ◌⊎◌, inl, inr, cond-true, cond-false}
+use Rattle.fax_reading.proofs.Names.{lt-leb, length-append, length-drop, take-append-drop, DecodeError, EncodingMode, Group4}
+use Rattle.fax_reading.proofs.Names.{Group3_1D, Group3_2D, DecodeSettings, Bits, AreWholeBytes, Turn, Reaches, Row, Line}
+use Rattle.fax_reading.proofs.Names.{after_eol, all_eols, one_more, past_tag, pass_last_tag, eols_by, eols_here, is_end_of_block}
+use Rattle.fax_reading.proofs.Names.{is_over, limit_met, at_end, Progress, Ending, Move, row_before, row_of, line_by, line_here}
+use Rattle.fax_reading.proofs.Names.{move_on, first_line, end_of, plain, Reading, MakesNoRtc, PutsInStep, ComesTo}
+use Rattle.fax_reading.proofs.Names.{AreInStep, RowsBehind, IsEolAt, and-false, or_parts, false≢true}
+use Rattle.fax_reading.proofs.Readings.GapsAndRows.{late, goes, ending_goes, end_t4, plain_is}
+use Rattle.fax_reading.proofs.DamagedLines.LineTails.{drop_front, eol_closes, line_past_by}
+use Rattle.fax_reading.proofs.DamagedLines.EolsAlike.{Closes, RestAlike, PastAlike, closes_inside, inside_after, leaves_after}
+use Rattle.fax_reading.proofs.DamagedLines.EolsAlike.{leaves_length, after_shorter, past_alike, all_eols_alike, eols_found}
+use Rattle.fax_reading.proofs.DamagedLines.EolsAlike.{tagged_found, last_tag_alike, last_tag_few, line_alike}
 use Rattle.fax_reading.proofs.DamagedLines.LinesBeforeEol.{Inside, LineAlike}
 use Rattle.fax_reading.proofs.DamagedLines.LinesByEols.{seeks}
-use Rattle.fax_reading.proofs.DamagedLines.LineTails.{after_eol_is, line_past_by}
 use Rattle.fax_reading.proofs.DamagedLines.PastEol.{past, past_is, then_after}
-use Rattle.fax_bits.proofs.BitReading.ConsecutiveEols.{all_tagged, all_eols-some, all_eols-none}
-use Rattle.fax_bits.proofs.BitReading.ConsecutiveEols.{all_tagged-some, all_tagged-none}
-use Rattle.fax_reading.proofs.DamagedLines.RunsAlike.{IsGroup3, IsTail, run_at}
+use Rattle.fax_bits.proofs.BitReading.ConsecutiveEols.{all_tagged, all_eols-some, all_tagged-some, all_tagged-none}
+use Rattle.fax_bits.proofs.BitReading.ConsecutiveEols.{next_eol_found, last_tag_count, one_more-count, count_some, counts_plain}
+use Rattle.fax_bits.proofs.BitReading.ConsecutiveEols.{counts_tagged, after_eol_shorter}
+use Rattle.fax_reading.proofs.DamagedLines.RunsAlike.{IsGroup3, IsTail, SameLine, StayAlike, move_beyond, run_at, alone, not_end}
+use Rattle.fax_reading.proofs.DamagedLines.RunsAlike.{not_group4}
 use Rattle.fax_reading.proofs.DamagedLines.SoughtTurns.{sought, rest_of, not_past_end, eols_here_same, row_past, move_sought}
 use Rattle.fax_reading.proofs.DrawingLines.LinesLeaveBits.{LeavesBits, leaves_trans, LineLeaves, line_by_leaves}
-use Rattle.fax_reading.proofs.EncodedPictures.PictureLines.{row_before_push}
-use Rattle.fax_reading.proofs.KeptRows.LinesAgain.{line_alike}
 use Rattle.fax_bits.proofs.Repetition.Repeated.{Follows, after_turn, repeated_turn, repeated_follows, reaches_on}
-use Rattle.fax_reading.proofs.Readings.RowsAndGaps.{unless_over, seek_from, seek_eol, after_row, row_added, after_whole-is}
-use Rattle.fax_reading.proofs.Readings.RowsAndGaps.{after_damage-is}
-use Rattle.fax_reading.proofs.Readings.TurnsMoveOn.{left_to_read, move_shrinks}
-use Rattle.fax_bits.proofs.BitReading.ConsecutiveEols.{cond_le, next_eol_found}
-use Rattle.fax_reading.proofs.Readings.TurnsMoveOn.{eols_here_counted}
-use Rattle.fax_bits.proofs.BitReading.ConsecutiveEols.{last_tag_count, one_more-count}
-use Rattle.fax_bits.proofs.BitReading.ConsecutiveEols.{count_some, counts_plain, counts_tagged, after_eol_shorter}
-
--- bits before a one aren't the end
-not_end : (bits z : Bits) → at_end (bits ++ true ∷ z) ≡ false
-not_end [] z = refl
-not_end (b ∷ bits) z = refl
+use Rattle.fax_reading.proofs.Readings.RowsAndGaps.{unless_over, after_row}
+use Rattle.fax_reading.proofs.Readings.TurnsMoveOn.{left_to_read, move_shrinks, eols_here_counted}
 
 -- fewer than six EOLs end no data of Group 3
 few_end_none : (settings : DecodeSettings) (count : ℕ) → IsGroup3 settings.encoding → count < 6
     → is_end_of_block settings count ≡ false
-few_end_none settings count group3 few = by_encoding settings.encoding group3
-  where
-    by_encoding : (encoding : EncodingMode) → IsGroup3 encoding
-        → (settings.end_of_block && leb (eols_of_end encoding) count) ≡ false
-    by_encoding Group3_1D is = rw (lt-leb 6 count few) (and-false settings.end_of_block)
-    by_encoding Group3_2D is = rw (lt-leb 6 count few) (and-false settings.end_of_block)
-    by_encoding Group4 (inl is) = absurd cc
-    by_encoding Group4 (inr is) = absurd cc
+few_end_none settings count group3 few = grind (arith, common_steps, lt-leb, and-false)
 
 -- the same bits follow
 with_tail : (bits rest z : Bits) → LeavesBits bits rest → LeavesBits (bits ++ true ∷ z) (rest ++ true ∷ z)
-with_tail bits rest z leaves =
-    (leaves.0, ap (λ (b : Bits). b ++ true ∷ z) leaves.1 ∙ append_assoc leaves.0 rest (true ∷ z))
+with_tail bits rest z leaves = grind (arith, common_steps, append_assoc)
 
 -- ---- One reading comes to the EOL behind the line
 
@@ -99,9 +75,7 @@ module _ (settings : DecodeSettings) (group3 : IsGroup3 settings.encoding) (leni
   -- the reading isn't over where few EOLs were counted and bits are left
   not_over : (rows : List Row) (u : Bits) (found : ℕ × Bits) → found.0 < 6 → at_end found.1 ≡ false
       → unless_over settings (sought rows u) found ≡ Turn.next (sought rows found.1)
-  not_over rows u (count, rest) few open_end =
-      cond-false (is_over settings (length rows) (count, rest)) _ _
-      (rw (few_end_none settings count group3 few, open_limit (length rows), open_end) refl)
+  not_over rows u (count, rest) few open_end = grind (arith, common_steps, cond-false, few_end_none, open_limit)
 
   module _ (whole : Bits) (no_rtc : (found : Bits) → LeavesBits whole found → length x < length found
       → (eols_here settings found).0 < 6) where
@@ -111,8 +85,7 @@ module _ (settings : DecodeSettings) (group3 : IsGroup3 settings.encoding) (leni
     counted found more leaves e = by_encoding settings.encoding settings.end_of_block refl group3
       where
         few : (eols_here settings found).0 < 6
-        few = no_rtc found leaves (omega
-            (arith, after_eol_shorter 0 found (more ++ true ∷ x) e, length-append more (true ∷ x)))
+        few = no_rtc found leaves (omega (arith, after_eol_shorter 0 found (more ++ true ∷ x) e, length-append more (true ∷ x)))
 
         by_encoding : (encoding : EncodingMode) (block : Bool) → settings.encoding ≡ encoding → IsGroup3 encoding
             → RestAlike x x more (eols_by encoding block found).1 (eols_by encoding block found).1
@@ -130,18 +103,6 @@ module _ (settings : DecodeSettings) (group3 : IsGroup3 settings.encoding) (leni
         by_encoding Group4 block same (inl is) = absurd cc
         by_encoding Group4 block same (inr is) = absurd cc
 
-    -- one EOL alone ends where the line begins
-    alone : (found : Bits) → after_eol 0 found ≡ Some x → eols_here settings found ≡ (1, x)
-    alone found e = by_encoding settings.encoding settings.end_of_block group3 tail.tag
-      where
-        by_encoding : (encoding : EncodingMode) (block : Bool) → IsGroup3 encoding → (encoding ≡ Group3_2D → past_tag x ≡ x)
-            → eols_by encoding block found ≡ (1, x)
-        by_encoding Group3_1D block is tag = rw (all_eols-some found x e, all_eols-none x tail.none) refl
-        by_encoding Group3_2D block is tag = rw (all_tagged-some found x e, tag refl, all_tagged-none x tail.none)
-            (last_tag_few 1 x (omega arith))
-        by_encoding Group4 block (inl is) tag = absurd cc
-        by_encoding Group4 block (inr is) tag = absurd cc
-
     abbrev pub Ahead : ℕ → Type 0
     Ahead n = (rows : List Row) (bits : Bits) → length bits < n → Closes bits → LeavesBits whole (bits ++ true ∷ x)
         → ComesBehind (sought rows (bits ++ true ∷ x))
@@ -157,38 +118,36 @@ module _ (settings : DecodeSettings) (group3 : IsGroup3 settings.encoding) (leni
         by_past o p f (inl (before, more, is, g, h)) =
             let found = row_past settings lenient rows (bits ++ true ∷ x) (more ++ true ∷ x) (open_limit (length rows)) (f ∙ g) in
             let there : LeavesBits whole found.0 = leaves_trans whole (bits ++ true ∷ x) found.0 leaves found.1 in
-            let few = no_rtc found.0 there (omega
-            (arith, after_eol_shorter 0 found.0 (more ++ true ∷ x) found.2, length-append more (true ∷ x))) in
+            let few = no_rtc found.0 there
+            (omega (arith, after_eol_shorter 0 found.0 (more ++ true ∷ x) found.2, length-append more (true ∷ x))) in
             let behind : LeavesBits bits more = leaves_after bits before more is in
             elim (counted found.0 more there found.2) [
               | inl (a, left, keeps, at, at2) ↦
-                  let turn = not_over rows (bits ++ true ∷ x) (eols_here settings found.0) few
-                  (ap at_end at ∙ not_end a x) in
-                  let further : LeavesBits whole (a ++ true ∷ x) = leaves_trans whole (bits ++ true ∷ x) (a ++ true ∷ x) leaves
-                  (with_tail bits a x (leaves_trans bits more a behind left)) in
-                  goes_on s (sought rows (a ++ true ∷ x))
-                  (e ∙ found.3 ∙ turn ∙ ap {B = Move} (λ (b : Bits). Turn.next (sought rows b)) at)
+                  let turn = not_over rows (bits ++ true ∷ x) (eols_here settings found.0) few (ap at_end at ∙ not_end a x) in
+                  let further : LeavesBits whole (a ++ true ∷ x) = leaves_trans whole
+                  (bits ++ true ∷ x) (a ++ true ∷ x) leaves (with_tail bits a x (leaves_trans bits more a behind left)) in
+                  goes_on s
+                  (sought rows (a ++ true ∷ x)) (e ∙ found.3 ∙ turn ∙ ap {B = Move} (λ (b : Bits). Turn.next (sought rows b)) at)
                   (on rows a (omega (arith, leaves_length more a left, after_shorter bits before more is, le))
                   (keeps (inside_after bits before more inside is)) further)
               | inr (at, at2) ↦
-                  let turn = not_over rows (bits ++ true ∷ x) (eols_here settings found.0) few
-                  (ap at_end at ∙ not_past_end x after tail.next) in
-                  goes_on s (sought rows x) (e ∙ found.3 ∙ turn ∙ ap {B = Move} (λ (b : Bits). Turn.next (sought rows b)) at)
-                  (from_there rows)
+                  let turn = not_over rows
+                  (bits ++ true ∷ x) (eols_here settings found.0) few (ap at_end at ∙ not_past_end x after tail.next) in
+                  goes_on s (sought rows x)
+                  (e ∙ found.3 ∙ turn ∙ ap {B = Move} (λ (b : Bits). Turn.next (sought rows b)) at) (from_there rows)
             ]
         by_past o p f (inr (inl (g, h))) =
             let found = row_past settings lenient rows (bits ++ true ∷ x) x (open_limit (length rows)) (f ∙ g) in
             goes_on s (sought rows x) (e ∙ found.3
-            ∙ ap (unless_over settings (sought rows (bits ++ true ∷ x))) (alone found.0 found.2)
+            ∙ ap (unless_over settings (sought rows (bits ++ true ∷ x))) (alone settings after x found.0 group3 tail found.2)
             ∙ not_over rows (bits ++ true ∷ x) (1, x) (omega arith) (not_past_end x after tail.next)) (from_there rows)
         by_past o p f (inr (inr (g, h))) = behind_row_of s rows (bits ++ true ∷ x) e (f ∙ g ∙ tail.next)
 
     pub from_ahead : (n : ℕ) → Ahead n
     from_ahead zero rows bits lt closes leaves = absurd (omega arith)
-    from_ahead (suc n) rows bits lt closes leaves =
-        by_line (λ rows bits small closes leaves. from_ahead n rows bits small closes leaves) (read (bits ++ true ∷ x)) refl
-        (subst (λ (l : Line). LineAlike (true ∷ x) (true ∷ x) l l) (sym read_is)
-        (line_alike settings.encoding settings.columns above (true ∷ x) (true ∷ x) bits closes))
+    from_ahead (suc n) rows bits lt closes leaves = by_line (λ rows bits small closes leaves. from_ahead
+        n rows bits small closes leaves) (read (bits ++ true ∷ x)) refl (subst (λ (l : Line). LineAlike (true ∷ x) (true ∷ x) l l)
+        (sym read_is) (line_alike settings.encoding settings.columns above (true ∷ x) (true ∷ x) bits closes))
         (line_by_leaves settings.encoding settings.strict settings.columns above (bits ++ true ∷ x))
       where
         above : Row
@@ -198,8 +157,7 @@ module _ (settings : DecodeSettings) (group3 : IsGroup3 settings.encoding) (leni
         read here = line_here settings above here
 
         read_is : read (bits ++ true ∷ x) ≡ line_by settings.encoding false settings.columns above (bits ++ true ∷ x)
-        read_is =
-            ap (λ (s : Bool). line_by settings.encoding s settings.columns above (bits ++ true ∷ x)) lenient
+        read_is = grind (arith, common_steps)
 
         moved : move_on settings (sought rows (bits ++ true ∷ x)) ≡ after_row settings
             (sought (rows ++ row_of settings.columns (read (bits ++ true ∷ x)) ∷ []) (rest_of (read (bits ++ true ∷ x))
@@ -209,14 +167,13 @@ module _ (settings : DecodeSettings) (group3 : IsGroup3 settings.encoding) (leni
         by_line : Ahead n → (line : Line) → read (bits ++ true ∷ x) ≡ line → LineAlike (true ∷ x) (true ∷ x) line line
             → LineLeaves (bits ++ true ∷ x) line → ComesBehind (sought rows (bits ++ true ∷ x))
         by_line on (Line.whole row rest) is (same, (a, inside, at, at2)) left =
-            let split : bits ++ true ∷ x ≡ (left.0 ++ a) ++ true ∷ x
-            = left.1 ∙ ap (λ (b : Bits). left.0 ++ b) at ∙ sym (append_assoc left.0 a (true ∷ x)) in
+            let split : bits ++ true ∷ x ≡
+            (left.0 ++ a) ++ true ∷ x = left.1 ∙ ap (λ (b : Bits). left.0 ++ b) at ∙ sym (append_assoc left.0 a (true ∷ x)) in
             let suffix : LeavesBits bits a = (left.0, append_cancel_right bits (left.0 ++ a) (true ∷ x) split) in
-            row_ahead n on (sought rows (bits ++ true ∷ x)) (rows ++ row ∷ []) a
-            (omega (arith, leaves_length bits a suffix, lt)) inside
-            (leaves_trans whole (bits ++ true ∷ x) (a ++ true ∷ x) leaves (with_tail bits a x suffix))
-            (moved ∙ ap (λ (l : Line). after_row settings (sought (rows ++ row_of settings.columns l ∷ [])
-            (rest_of l (bits ++ true ∷ x)))) is ∙ ap (λ (b : Bits). after_row settings (sought (rows ++ row ∷ []) b)) at)
+            row_ahead n on (sought rows (bits ++ true ∷ x)) (rows ++ row ∷ []) a (omega (arith, leaves_length bits a suffix, lt))
+            inside (leaves_trans whole (bits ++ true ∷ x) (a ++ true ∷ x) leaves (with_tail bits a x suffix)) (moved ∙
+            ap (λ (l : Line). after_row settings (sought (rows ++ row_of settings.columns l ∷ []) (rest_of l (bits ++ true ∷ x))))
+            is ∙ ap (λ (b : Bits). after_row settings (sought (rows ++ row ∷ []) b)) at)
         by_line on (Line.broken front fault) is alike left =
             row_ahead n on (sought rows (bits ++ true ∷ x)) (rows ++ row_of settings.columns (Line.broken front fault) ∷ [])
             bits (omega arith) (closes_inside bits closes) leaves
@@ -226,134 +183,37 @@ module _ (settings : DecodeSettings) (group3 : IsGroup3 settings.encoding) (leni
 -- ---- Two readings from the same bits on
 
 module _ (settings : DecodeSettings) (unlimited : settings.rows ≡ 0) (a b : List Row) (most : ℕ) (rest : Progress → Ending) where
-  no_limit : (n : ℕ) → limit_met settings n ≡ false
-  no_limit n = rw unlimited refl
-
-  -- the line here is the same after both
-  abbrev SameLine : List Row → Bits → Type 0
-  SameLine more here = line_here settings (row_before settings.columns (a ++ more)) here
-      ≡ line_here settings (row_before settings.columns (b ++ more)) here
+  -- the same rows behind those before
+  abbrev BothThen : List Row → List Row → Type 0
+  BothThen xs ys = (more : List Row) × (xs ≡ a ++ more) × (ys ≡ b ++ more)
 
   -- states with the same rows behind those before, and the same bits
   abbrev pub InStep : Progress → Progress → Type 0
-  InStep s t = (more : List Row) × (has_eols : Bool) × (here : Bits) × (s ≡ run_at (a ++ more) has_eols here)
-      × (t ≡ run_at (b ++ more) has_eols here) × (length here ≤ most) × SameLine more here
+  InStep s t = (xs ys : List Row) × (has_eols : Bool) × (here : Bits) × BothThen xs ys × (length here ≤ most)
+      × SameLine settings xs ys here × (s ≡ run_at xs has_eols here) × (t ≡ run_at ys has_eols here)
 
   -- how they end
   abbrev pub EndInStep : Ending → Ending → Type 0
-  EndInStep r q = (more : List Row) × (r.rows ≡ a ++ more) × (q.rows ≡ b ++ more)
-      × (((fault : DecodeError) × (r.outcome ≡ Err fault) × (q.outcome ≡ Err fault))
+  EndInStep r q = BothThen r.rows q.rows × (((fault : DecodeError) × (r.outcome ≡ Err fault) × (q.outcome ≡ Err fault))
       ⊎ ((left : Bits) × (r.outcome ≡ Ok left) × (q.outcome ≡ Ok left) × (length left ≤ most)))
 
-  abbrev Both : Move → Move → Type 0
-  Both m n = Follows InStep EndInStep rest m n
-
-  over_same : (n m : ℕ) (found : ℕ × Bits) → is_over settings n found ≡ is_over settings m found
-  over_same n m (count, here) =
-      ap (λ (met : Bool). (is_end_of_block settings count || met) || at_end here) (no_limit n ∙ sym (no_limit m))
-
-  misses_same : (n m : ℕ) (has_eols : Bool) (here : Bits)
-      → misses_eol settings n has_eols here ≡ misses_eol settings m has_eols here
-  misses_same n m has_eols here =
-      ap (λ (met : Bool). ((eqb (eols_here settings here).0 0 && has_eols) && not met) && not (at_end here))
-      (no_limit n ∙ sym (no_limit m))
-
-  unless_both : (more : List Row) (has_eols : Bool) (u v : Bits) (found : ℕ × Bits) → length found.1 ≤ most
-      → SameLine more found.1
-      → Both (unless_over settings (run_at (a ++ more) has_eols u) found)
-      (unless_over settings (run_at (b ++ more) has_eols v) found)
-  unless_both more has_eols u v (count, here) short same =
-      subst (λ (t : Bool). Both (unless_over settings (run_at (a ++ more) has_eols u) (count, here))
-      (cond t (ends_with (run_at (b ++ more) has_eols v) (Ok here)) (Turn.next (run_at (b ++ more) has_eols here))))
-      (over_same (length (a ++ more)) (length (b ++ more)) (count, here))
-      (either_way (is_over settings (length (a ++ more)) (count, here)))
-    where
-      either_way : (t : Bool)
-          → Both (cond t (ends_with (run_at (a ++ more) has_eols u) (Ok here)) (Turn.next (run_at (a ++ more) has_eols here)))
-          (cond t (ends_with (run_at (b ++ more) has_eols v) (Ok here)) (Turn.next (run_at (b ++ more) has_eols here)))
-      either_way true = (more, refl, refl, inr (here, refl, refl, short))
-      either_way false = (more, has_eols, here, refl, refl, short, same)
-
-  row_both : (more : List Row) (has_eols : Bool) (here : Bits) → length here ≤ most → ((there : Bits) → SameLine more there)
-      → Both (after_row settings (run_at (a ++ more) has_eols here)) (after_row settings (run_at (b ++ more) has_eols here))
-  row_both more has_eols here short same =
-      subst (λ (t : Bool). Both (after_row settings (run_at (a ++ more) has_eols here)) (cond t
-      (seek_eol settings (run_at (b ++ more) has_eols here)) (unless_over settings (run_at (b ++ more) has_eols here)
-      (eols_here settings here)))) (misses_same (length (a ++ more)) (length (b ++ more)) has_eols here)
-      (either_way (misses_eol settings (length (a ++ more)) has_eols here))
-    where
-      from_next : (o : Option Bits) → next_eol here ≡ o
-          → Both (seek_from settings (run_at (a ++ more) has_eols here) o)
-          (seek_from settings (run_at (b ++ more) has_eols here) o)
-      from_next None e = (more, false, here, refl, refl, short, same here)
-      from_next (Some found) e = unless_both more has_eols here here (eols_here settings found)
-          (omega (arith, (next_eol_found here found e).0, (eols_here_counted settings found).0, short))
-          (same (eols_here settings found).1)
-
-      strictly : (t : Bool) → Both (cond t (ends_with (run_at (a ++ more) has_eols here) (Err InvalidCode))
-          (seek_from settings (run_at (a ++ more) has_eols here) (next_eol here))) (cond t
-          (ends_with (run_at (b ++ more) has_eols here) (Err InvalidCode))
-          (seek_from settings (run_at (b ++ more) has_eols here) (next_eol here)))
-      strictly true = (more, refl, refl, inl (InvalidCode, refl, refl))
-      strictly false = from_next (next_eol here) refl
-
-      either_way : (t : Bool) → Both (cond t (seek_eol settings (run_at (a ++ more) has_eols here)) (unless_over settings
-          (run_at (a ++ more) has_eols here) (eols_here settings here))) (cond t
-          (seek_eol settings (run_at (b ++ more) has_eols here))
-          (unless_over settings (run_at (b ++ more) has_eols here) (eols_here settings here)))
-      either_way true = strictly settings.strict
-      either_way false = unless_both more has_eols here here (eols_here settings here)
-          (omega (arith, (eols_here_counted settings here).0, short)) (same (eols_here settings here).1)
-
-  -- after the same row the next line is the same
-  same_behind : (more : List Row) (row : Row) (here : Bits) → SameLine (more ++ row ∷ []) here
-  same_behind more row here =
-      ap (λ (r : Row). line_here settings r here) (last_of a ∙ sym (last_of b))
-    where
-      last_of : (rows : List Row) → row_before settings.columns (rows ++ (more ++ row ∷ [])) ≡ row
-      last_of rows = ap (row_before settings.columns) (sym (append_assoc rows more (row ∷ [])))
-          ∙ row_before_push settings.columns (rows ++ more) row
-
-  -- a row is added to both
-  added_both : (more : List Row) (has_eols : Bool) (u v : Bits) (row : Row) (here : Bits) → length here ≤ most
-      → Both (row_added settings (run_at (a ++ more) has_eols u) row here)
-      (row_added settings (run_at (b ++ more) has_eols v) row here)
-  added_both more has_eols u v row here short =
-      let al : Bool = settings.rows_are_byte_aligned && not has_eols in
-      let shorter : length (cond al (aligned here) here) ≤ length here
-      = cond_le al (aligned here) here (length here) (omega (arith, length-drop (length here % 8) here)) (omega arith) in
-      rw (append_assoc a more (row ∷ []), append_assoc b more (row ∷ []))
-      (row_both (more ++ row ∷ []) has_eols (cond al (aligned here) here) (omega (arith, shorter, short)) (same_behind more row))
-
-  line_both : (more : List Row) (has_eols : Bool) (here : Bits) (line : Line) → length here ≤ most → LineLeaves here line
-      → Both (after_line settings (run_at (a ++ more) has_eols here) line)
-      (after_line settings (run_at (b ++ more) has_eols here) line)
-  line_both more has_eols here (Line.whole row left) short leaves =
-      rw (
-        after_whole-is settings (run_at (a ++ more) has_eols here) row left,
-        after_whole-is settings (run_at (b ++ more) has_eols here) row left,
-      ) (added_both more has_eols here here row left (omega (arith, short, ap length leaves.1, length-append leaves.0 left)))
-  line_both more has_eols here (Line.broken front fault) short leaves =
-      rw (
-        after_damage-is settings (run_at (a ++ more) has_eols here) front fault,
-        after_damage-is settings (run_at (b ++ more) has_eols here) front fault,
-      ) (either_way (settings.strict || not has_eols))
-    where
-      either_way : (t : Bool) → Both (cond t (ends_with (run_at (a ++ more) has_eols here) (Err fault))
-          (row_added settings (run_at (a ++ more) has_eols here) (repaired settings.columns front) here))
-          (cond t (ends_with (run_at (b ++ more) has_eols here) (Err fault))
-          (row_added settings (run_at (b ++ more) has_eols here) (repaired settings.columns front) here))
-      either_way true = (more, refl, refl, inl (fault, refl, refl))
-      either_way false = added_both more has_eols here here (repaired settings.columns front) here short
+  stay : StayAlike settings most BothThen InStep EndInStep
+  stay = record {
+    limits = λ xs ys both. rw unlimited refl;
+    longer = λ xs ys row (more, e, f). (
+      more ++ row ∷ [],
+      ap (λ (r : List Row). r ++ row ∷ []) e ∙ append_assoc a more (row ∷ []),
+      ap (λ (r : List Row). r ++ row ∷ []) f ∙ append_assoc b more (row ∷ []),
+    );
+    goes_on = λ xs ys h here both short same. (xs, ys, h, here, both, short, same, refl, refl);
+    ends = λ xs ys h here both short. (both, inr (here, refl, refl, short));
+    fails = λ xs ys h fault both. (both, inl (fault, refl, refl));
+  }
 
   -- a turn of both
-  pub moves_in_step : (s t : Progress) → InStep s t → Both (move_on settings s) (move_on settings t)
-  moves_in_step s t (more, has_eols, here, e, f, short, same) =
-      let line : Line = line_here settings (row_before settings.columns (a ++ more)) here in
-      rw (e, f) (subst (λ (other : Line). Both (after_line settings (run_at (a ++ more) has_eols here) line)
-      (after_line settings (run_at (b ++ more) has_eols here) other)) same
-      (line_both more has_eols here line short
-      (line_by_leaves settings.encoding settings.strict settings.columns (row_before settings.columns (a ++ more)) here)))
+  pub moves_in_step : (s t : Progress) → InStep s t → Follows InStep EndInStep rest (move_on settings s) (move_on settings t)
+  moves_in_step s t (xs, ys, h, here, both, short, same, e, f) =
+      rw (e, f) (move_beyond settings most BothThen InStep EndInStep stay rest xs ys h here both short same)
 
 -- ---- The whole
 
@@ -423,106 +283,53 @@ module _ (settings : DecodeSettings) (here line behind : Bits) (step : PutsInSte
         → MakesNoRtc settings bits line
         → ComesBehind settings group3 lenient unlimited line step.after step.next step_tail step.after_is step_stays
         (first_line settings bits)
-    comes_behind bits place at sought_by no_rtc =
-        elim (all_eols_alike line line step_tail.none step_tail.none front).1 [
-          | inl (rest, left, keeps, e, f) ↦
-              subst (ComesBehind settings group3 lenient unlimited line step.after step.next step_tail step.after_is step_stays)
-              (sym (first_is (rest ++ true ∷ line) (ap (λ (b : Bits). (all_eols b).1) bits_is ∙ e)))
-              (from_ahead settings group3 lenient unlimited line step.after step.next step_tail step.after_is step_stays bits
-              (λ found leaves lt. no_rtc leaves.0 found leaves.1 lt) (suc (length rest)) [] rest (omega arith) (keeps closes)
-              (leaves_trans bits (front ++ true ∷ line) (rest ++ true ∷ line) ([], bits_is) (with_tail front rest line left)))
-          | inr (e, f) ↦
-              subst (ComesBehind settings group3 lenient unlimited line step.after step.next step_tail step.after_is step_stays)
-              (sym (first_is line (ap (λ (b : Bits). (all_eols b).1) bits_is ∙ e)))
-              (from_there settings group3 lenient unlimited line step.after step.next step_tail step.after_is step_stays [])
-        ]
+    comes_behind bits place at sought_by no_rtc = elim (all_eols_alike line line step_tail.none step_tail.none front.0).1 [
+      | inl (rest, left, keeps, e, f) ↦ subst (ComesBehind settings group3 lenient unlimited line step.after step.next step_tail
+          step.after_is step_stays) (sym (first_is (rest ++ true ∷ line) (ap (λ (b : Bits). (all_eols b).1) bits_is ∙ e)))
+          (from_ahead settings group3 lenient unlimited line step.after step.next step_tail step.after_is step_stays bits
+          (λ found leaves lt. no_rtc leaves.0 found leaves.1 lt) (suc (length rest)) [] rest (omega arith) (keeps front.1)
+          (leaves_trans bits (front.0 ++ true ∷ line) (rest ++ true ∷ line) ([], bits_is) (with_tail front.0 rest line left)))
+      | inr (e, f) ↦ subst (ComesBehind settings group3 lenient unlimited line step.after
+          step.next step_tail step.after_is step_stays) (sym (first_is line (ap (λ (b : Bits). (all_eols b).1) bits_is ∙ e)))
+          (from_there settings group3 lenient unlimited line step.after step.next step_tail step.after_is step_stays [])
+    ]
       where
-        is : (k : ℕ) × (here ≡ replicate k false ++ true ∷ line) × (11 ≤ 0 + k)
-        is = after_eol_is 0 here line step.eol
+        front : (front : Bits) × Closes front × (take place bits ++ here ≡ front ++ true ∷ line)
+        front = eol_closes (take place bits) here line step.eol
 
-        front : Bits
-        front = take place bits ++ replicate is.0 false
-
-        bits_is : bits ≡ front ++ true ∷ line
-        bits_is = sym (take-append-drop place bits) ∙ ap (λ (b : Bits). take place bits ++ b) (at ∙ is.1)
-            ∙ sym (append_assoc (take place bits) (replicate is.0 false) (true ∷ line))
-
-        closes : Closes front
-        closes =
-            let more : ℕ = is.0 - 11 in
-            let sum : more + 11 ≡ is.0 = omega (arith, is.2) in (
-              take place bits ++ replicate more false,
-              ap (λ (n : ℕ). take place bits ++ replicate n false) (sym sum)
-                  ∙ ap (λ (b : Bits). take place bits ++ b) (sym (replicate-append-replicate more 11 false))
-                  ∙ sym (append_assoc (take place bits) (replicate more false) (replicate 11 false)),
-            )
+        bits_is : bits ≡ front.0 ++ true ∷ line
+        bits_is = sym (take-append-drop place bits) ∙ ap (λ (b : Bits). take place bits ++ b) at ∙ front.2
 
         first_is : (rest : Bits) → (all_eols bits).1 ≡ rest → first_line settings bits ≡ sought [] rest
-        first_is rest e = ap (λ (h : Bool). record { rows = []; has_eols = h; rest = (all_eols bits).1 })
-            (seeks bits settings.end_of_line sought_by) ∙ ap (sought []) e
+        first_is rest e = grind (arith, common_steps, seeks)
 
 module _ (settings : DecodeSettings) (wide : 0 < settings.columns) where
   -- the end from a state that is reached
   goes_reached : (s t : Progress) → Reaches (move_on settings) s t → goes settings wide s ≡ goes settings wide t
   goes_reached s t (Reaches.stays same) = refl
-  goes_reached s t (Reaches.moves from after last e reaches) =
-      repeated_turn (move_on settings) (late settings wide) left_to_read (move_shrinks settings wide) from
-      ∙ ap (after_turn (goes settings wide)) e ∙ goes_reached after last reaches
+  goes_reached s t (Reaches.moves from after last e reaches) = repeated_turn (move_on settings) (late settings wide) left_to_read
+      (move_shrinks settings wide) from ∙ ap (after_turn (goes settings wide)) e ∙ goes_reached after last reaches
 
   end_goes : (bits : Bits) → IsGroup3 settings.encoding → end_of settings bits ≡ goes settings wide (first_line settings bits)
-  end_goes bits (inl e) = ap (λ (e : EncodingMode). ending_behind settings (first_gap e settings bits)) e
-      ∙ ending_goes settings wide (first_line settings bits)
-  end_goes bits (inr e) = ap (λ (e : EncodingMode). ending_behind settings (first_gap e settings bits)) e
-      ∙ ending_goes settings wide (first_line settings bits)
-
-  plain_reads : (bits : Bits) → plain settings bits ≡ whole_reading bits (end_of settings bits)
-  plain_reads bits = cond-false (eqb settings.columns 0) _ _ (ne_eqb settings.columns 0 (λ e. absurd (omega (arith, e, wide))))
+  end_goes bits group3 =
+      end_t4 settings bits (not_group4 settings.encoding group3) ∙ ending_goes settings wide (first_line settings bits)
 
   -- what two readings that end in step yield
-  in_step : (one two behind : Bits) (a b : List Row) → AreWholeBytes one → AreWholeBytes two → length behind ≤ length one
-      → length behind ≤ length two → ComesTo settings one behind (length a) → ComesTo settings two behind (length b)
-      → (unlimited : settings.rows ≡ 0)
-      → EndInStep settings unlimited a b (length behind) (goes settings wide) (end_of settings one) (end_of settings two)
-      → AreInStep settings one two behind (plain settings one).rows (plain settings two).rows (plain settings one).outcome
-      (plain settings two).outcome
-  in_step one two behind a b whole_one whole_two le le2 comes comes_too unlimited (more, rows, others, ends) = record {
-    index = length a;
-    index2 = length b;
-    comes = comes;
-    comes_too = comes_too;
-    same_rows =
-        ap (drop (length a)) (ap (λ (r : Reading). r.rows) (plain_reads one) ∙ rows) ∙ drop_front a more
-        ∙ sym (ap (drop (length b)) (ap (λ (r : Reading). r.rows) (plain_reads two) ∙ others) ∙ drop_front b more);
-    ends = elim ends [
-      | inl (fault, e, f) ↦ inl (fault, outcome_is one (Err fault) e, outcome_is two (Err fault) f)
-      | inr (left, e, f, short) ↦
-          let place : ℕ = length one - length left in
-          let place2 : ℕ = length two - length left in
-          let at : place + length left ≡ length one = omega (arith, short, le) in
-          let at2 : place2 + length left ≡ length two = omega (arith, short, le2) in
-          inr (
-            (place + 7) / 8,
-            (place2 + 7) / 8,
-            outcome_is one (Ok left) e,
-            outcome_is two (Ok left) f,
-            omega (arith, at, at2, whole_one, whole_two),
-          )
-    ];
-  }
-    where
-      outcome_is : (bits : Bits) (r : Result Bits DecodeError) → (end_of settings bits).outcome ≡ r
-          → (plain settings bits).outcome ≡ bytes_before bits r
-      outcome_is bits r e = ap (λ (a : Reading). a.outcome) (plain_reads bits) ∙ ap (bytes_before bits) e
+  in_step : (one two behind : Bits) (a b : List Row) → AreWholeBytes one
+      → AreWholeBytes two → length behind ≤ length one → length behind ≤ length two → ComesTo settings one behind
+      (length a) → ComesTo settings two behind (length b) → (unlimited : settings.rows ≡ 0) → EndInStep settings unlimited a b
+      (length behind) (goes settings wide) (end_of settings one) (end_of settings two) → AreInStep settings one two behind
+      (plain settings one).rows (plain settings two).rows (plain settings one).outcome (plain settings two).outcome
+  in_step one two behind a b whole_one whole_two le le2 comes comes_too unlimited ((more, rows, others), ends) =
+      grind (arith, common_steps, plain_is, drop_front)
 
   -- how a reading goes on behind the EOL after the line
   ends_from : (bits : Bits) (mid : Progress) (rows : List Row) (u : Bits) (found : ℕ × Bits) → IsGroup3 settings.encoding
-      → Reaches (move_on settings) (first_line settings bits) mid
-      → move_on settings mid ≡ unless_over settings (sought rows u) found
-      → end_of settings bits ≡ after_turn (goes settings wide) (unless_over settings (sought rows u) found)
+      → Reaches (move_on settings) (first_line settings bits) mid → move_on settings mid ≡ unless_over settings
+      (sought rows u) found → end_of settings bits ≡ after_turn (goes settings wide) (unless_over settings (sought rows u) found)
   ends_from bits mid rows u found group3 reaches e =
-      end_goes bits group3 ∙ goes_reached (first_line settings bits) mid reaches
-      ∙ repeated_turn (move_on settings) (late settings wide) left_to_read (move_shrinks settings wide) mid
-      ∙ ap (after_turn (goes settings wide)) e
+      end_goes bits group3 ∙ goes_reached (first_line settings bits) mid reaches ∙ repeated_turn (move_on settings)
+      (late settings wide) left_to_read (move_shrinks settings wide) mid ∙ ap (after_turn (goes settings wide)) e
 
 -- the law
 pub rows_behind : RowsBehind
@@ -556,35 +363,32 @@ rows_behind settings one whole_one two line behind to to2 whole_two alike = by_o
     short_two = omega (arith, short, ap length alike.same, length-drop to2 two)
 
     -- the turn behind the EOL
-    turn_is : (s : Progress) (rows : List Row) (u : Bits)
-        → move_on settings s ≡ unless_over settings (sought rows u) (eols_here settings step.next)
-        → move_on settings s ≡ unless_over settings (sought rows u) found
+    turn_is : (s : Progress) (rows : List Row) (u : Bits) → move_on settings s ≡ unless_over settings
+        (sought rows u) (eols_here settings step.next) → move_on settings s ≡ unless_over settings (sought rows u) found
     turn_is s rows u e = e ∙ ap (unless_over settings (sought rows u)) step.behind_is
 
     over_as : (b : Bool) → is_over settings 0 found ≡ b → (n : ℕ) → is_over settings n found ≡ b
-    over_as b e n = over_same settings alike.unlimited [] [] 0 (goes settings alike.wide) n 0 found ∙ e
+    over_as b e n = grind (arith, common_steps)
 
     -- both are over there
     over_end : (bits : Bits) (rows : List Row) (u : Bits) → is_over settings 0 found ≡ true
         → end_of settings bits ≡ after_turn (goes settings alike.wide) (unless_over settings (sought rows u) found)
         → end_of settings bits ≡ record { rows = rows; has_eols = true; outcome = Ok behind }
-    over_end bits rows u over e = e ∙ ap (after_turn (goes settings alike.wide))
-        (cond-true (is_over settings (length rows) found) _ _ (over_as true over (length rows)))
+    over_end bits rows u over e = grind (arith, common_steps, cond-true, over_as)
 
     -- or a line follows in both
     line_next : (rows : List Row) (u : Bits) → is_over settings 0 found ≡ false
         → unless_over settings (sought rows u) found ≡ Turn.next (sought rows behind)
-    line_next rows u open_end =
-        cond-false (is_over settings (length rows) found) _ _ (over_as false open_end (length rows))
+    line_next rows u open_end = grind (arith, common_steps, cond-false, over_as)
 
     pair : (a b : List Row) → is_over settings 0 found ≡ false
         → InStep settings alike.unlimited a b (length behind) (goes settings alike.wide) (sought a behind) (sought b behind)
     pair a b open_end = (
-      [],
+      a,
+      b,
       true,
       behind,
-      ap (λ (r : List Row). sought r behind) (sym (append-nil a)),
-      ap (λ (r : List Row). sought r behind) (sym (append-nil b)),
+      ([], sym (append-nil a), sym (append-nil b)),
       omega arith,
       elim step.unreferred [
         | inl ends ↦ absurd
@@ -593,6 +397,8 @@ rows_behind settings one whole_one two line behind to to2 whole_two alike = by_o
             false≢true (sym none.0 ∙ ends))
         | inr line ↦ line _ _
       ],
+      refl,
+      refl,
     )
 
     comes_over : (bits : Bits) (rows : List Row)
@@ -600,12 +406,11 @@ rows_behind settings one whole_one two line behind to to2 whole_two alike = by_o
         → ComesTo settings bits behind (length rows)
     comes_over bits rows e = inr (
       ap (λ (q : Ending). q.outcome) e,
-      ap (λ (r : Reading). length r.rows) (plain_reads settings alike.wide bits) ∙ ap (λ (q : Ending). length q.rows) e,
+      ap (λ (r : Reading). length r.rows) (plain_is settings alike.wide bits) ∙ ap (λ (q : Ending). length q.rows) e,
     )
 
-    by_over : (over : Bool) → is_over settings 0 found ≡ over
-        → AreInStep settings one two behind (plain settings one).rows (plain settings two).rows (plain settings one).outcome
-        (plain settings two).outcome
+    by_over : (over : Bool) → is_over settings 0 found ≡ over → AreInStep settings one two behind
+        (plain settings one).rows (plain settings two).rows (plain settings one).outcome (plain settings two).outcome
     by_over over e =
         let (mid, a, u, reaches, turn) = these in
         let (mid2, b, v, reaches2, turn2) = those in
@@ -629,9 +434,7 @@ rows_behind settings one whole_one two line behind to to2 whole_two alike = by_o
             let end2 = over_end two b v over ends2 in
             in_step settings alike.wide one two behind a b whole_one whole_two short_one short_two (comes_over one a end)
             (comes_over two b end2) alike.unlimited (
-              [],
-              ap (λ (q : Ending). q.rows) end ∙ sym (append-nil a),
-              ap (λ (q : Ending). q.rows) end2 ∙ sym (append-nil b),
+              ([], ap (λ (q : Ending). q.rows) end ∙ sym (append-nil a), ap (λ (q : Ending). q.rows) end2 ∙ sym (append-nil b)),
               inr (behind, ap (λ (q : Ending). q.outcome) end, ap (λ (q : Ending). q.outcome) end2, omega arith),
             )
         either_way false open_end a b u v ends ends2 reaches reaches2 =

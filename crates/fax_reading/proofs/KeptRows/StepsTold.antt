@@ -1,26 +1,25 @@
 -- An EOL and the line behind it, as they are tested.
-use Rattle.fax_reading.proofs.Names.{◌≡◌, ℕ, suc, ◌+◌, ◌-◌, ◌*◌, ◌<◌, ◌≤◌, ◌⊎◌, ◌↔◌, Bool, true, false, leb, [], ◌∷◌, ◌++◌}
-use Rattle.fax_reading.proofs.Names.{length, replicate, Option, Some, None, Result, Ok, Err, refl, sym, ap, subst, ◌∙◌, arith}
-use Rattle.fax_reading.proofs.Names.{inl, inr, IsTrue, min, cond-true, cond-false, lt-leb, le-leb, leb-true, none-some}
-use Rattle.fax_reading.proofs.Names.{length-append, length-replicate, Color, DecodeError, EncodingMode, Group4}
-use Rattle.fax_reading.proofs.Names.{Group3_1D, Group3_2D, DecodeSettings, Bits, after_eol, next_eol, all_eols, one_more}
-use Rattle.fax_reading.proofs.Names.{past_tag, pass_last_tag, eols_by, eols_here, is_end_of_block, read_run, opposite, is_black}
-use Rattle.fax_reading.proofs.Names.{run_found, Turn, Row, Line, Pen, line_1d, line_by, line_here, EndsBefore, ModesEndBefore}
-use Rattle.fax_reading.proofs.Names.{ComesBefore1D, EndsByWords, TellsStep, IsInStepFrom, AreWholeBytes, MakesNoRtc, RowsFollow}
-use Rattle.fax_reading.proofs.Names.{drop, length-drop, looked, looked_ahead, tag_tests, most_for_lines}
+use Rattle.fax_reading.proofs.Names.{common_steps, ◌≡◌, ℕ, ◌+◌, ◌-◌, ◌*◌, ◌<◌, ◌≤◌, ◌⊎◌, ◌↔◌, Bool, true, false, leb, [], ◌∷◌}
+use Rattle.fax_reading.proofs.Names.{length, Option, Some, None, Result, Ok, Err, refl, sym, ap, subst, ◌∙◌}
+use Rattle.fax_reading.proofs.Names.{arith, inl, inr, IsTrue, min, cond-true, cond-false, lt-leb, le-leb, leb-true, none-some}
+use Rattle.fax_reading.proofs.Names.{length-append, length-replicate, Color, DecodeError, EncodingMode, Group4, Group3_1D}
+use Rattle.fax_reading.proofs.Names.{Group3_2D, DecodeSettings, Bits, after_eol, next_eol, all_eols, one_more, past_tag}
+use Rattle.fax_reading.proofs.Names.{pass_last_tag, eols_by, eols_here, is_end_of_block, read_run, opposite, run_found}
+use Rattle.fax_reading.proofs.Names.{Turn, Row, Line, Pen, line_1d, line_by, line_here, EndsBefore, ModesEndBefore, ComesBefore1D}
+use Rattle.fax_reading.proofs.Names.{EndsByWords, TellsStep, IsInStepFrom, AreWholeBytes, MakesNoRtc, RowsFollow, drop}
+use Rattle.fax_reading.proofs.Names.{length-drop, looked, looked_ahead, tag_tests, most_for_lines}
 use Rattle.fax_reading.proofs.KeptRows.RowsBehindDamage.{rows_behind}
 use Rattle.fax_bits.proofs.BitReading.ZeroRuns.{looked_eol}
 use Rattle.fax_reading.proofs.Work.EolsPassed.{few_tag_tests, looked_ahead_most}
-use Rattle.fax_bits.proofs.BitReading.ConsecutiveEols.{after_eol_shorter, next_eol_found}
-use Rattle.fax_reading.proofs.CodeWords.WordsFound.{RunEnds, run_stands}
+use Rattle.fax_bits.proofs.BitReading.ConsecutiveEols.{after_eol_shorter, next_eol_found, all_eols-some, all_eols-none}
+use Rattle.fax_bits.proofs.BitReading.ConsecutiveEols.{all_tagged, all_tagged-some, all_tagged-none, last_tag_count}
+use Rattle.fax_reading.proofs.CodeWords.WordsFound.{run_stands}
 use Rattle.fax_reading.proofs.DamagedLines.AnyReference.{modes_read}
 use Rattle.fax_reading.proofs.DamagedLines.EolsAlike.{last_tag_few}
 use Rattle.fax_reading.proofs.DamagedLines.RunsAlike.{IsGroup3}
 use Rattle.fax_reading.proofs.DrawingLines.Drawings.{run_then, drawn_by, step_1d, step_1d_is}
 use Rattle.fax_reading.proofs.DrawingLines.ReadLines.{drawn1}
 use Rattle.fax_reading.proofs.EncodedPictures.PicturesT4.{eols_here_two}
-use Rattle.fax_bits.proofs.BitReading.ConsecutiveEols.{all_eols-some, all_eols-none, all_tagged, all_tagged-some}
-use Rattle.fax_bits.proofs.BitReading.ConsecutiveEols.{all_tagged-none, last_tag_count}
 use Rattle.fax_bits.proofs.Repetition.Repeated.{after_turn}
 use Rattle.fax_reading.proofs.Work.WordsPay.{stands_count}
 
@@ -42,34 +41,21 @@ run_is_next : (columns : ℕ) (front : Row) (color : Color) (here : Bits) → le
     → line_from columns (pen_of_runs front color here)
     ≡ after_turn (line_from columns) (run_then false columns (pen_of_runs front color here) Turn.next)
 run_is_next columns front color here few =
-    drawn1 false columns (pen_of_runs front color here)
-    ∙ ap (after_turn (line_from columns)) (step_1d_is false columns (pen_of_runs front color here)
-    ∙ cond-false (leb columns (length front)) _ _ (lt-leb columns (length front) few))
+    drawn1 false columns (pen_of_runs front color here) ∙ ap (after_turn (line_from columns)) (step_1d_is false columns
+    (pen_of_runs front color here) ∙ cond-false (leb columns (length front)) _ _ (lt-leb columns (length front) few))
 
 -- a run more
 pub run_passed : (columns : ℕ) (begun : Bits) (passed : ℕ) (color : Color) (here rest : Bits) (n : ℕ) → passed < columns
     → RunsPassed columns begun passed color here → read_run color here ≡ Ok (n, rest)
     → RunsPassed columns begun (passed + min n (columns - passed)) (opposite color) rest
 run_passed columns begun passed color here rest n few (front, long, is) read =
-    let more : Row = front ++ replicate (min n (columns - length front)) (is_black color) in
-    let step : run_then false columns (pen_of_runs front color here) Turn.next
-    ≡ Turn.next (pen_of_runs more (opposite color) rest) = rw read refl in (
-      more,
-      length-append front (replicate (min n (columns - length front)) (is_black color))
-          ∙ ap (λ (m : ℕ). length front + m) (length-replicate (min n (columns - length front)) (is_black color))
-          ∙ ap (λ (m : ℕ). m + min n (columns - m)) long,
-      is ∙ run_is_next columns front color here (omega (arith, few, long)) ∙ ap (after_turn (line_from columns)) step,
-    )
+    grind (arith, common_steps, length-append, length-replicate, run_is_next)
 
 -- all its columns
 pub runs_whole : (columns : ℕ) (begun : Bits) (passed : ℕ) (color : Color) (here : Bits) → columns ≤ passed
     → RunsPassed columns begun passed color here → (row : Row) × (line_1d false columns begun ≡ Line.whole row here)
-runs_whole columns begun passed color here full (front, long, is) = (
-  front,
-  is ∙ drawn1 false columns (pen_of_runs front color here)
-      ∙ ap (after_turn (line_from columns)) (step_1d_is false columns (pen_of_runs front color here)
-      ∙ cond-true (leb columns (length front)) _ _ (le-leb columns (length front) (omega (arith, full, long)))),
-)
+runs_whole columns begun passed color here full (front, long, is) =
+    grind (arith, common_steps, drawn1, step_1d_is, cond-true, le-leb)
 
 not_whole : (front row : Row) (fault : DecodeError) (rest : Bits) → Line.broken front fault ≡ Line.whole row rest → ⊥
 not_whole front row fault rest e = cc
@@ -79,18 +65,12 @@ pub runs_broken : (columns : ℕ) (begun : Bits) (passed : ℕ) (color : Color) 
     → passed < columns → RunsPassed columns begun passed color here → read_run color here ≡ Err fault
     → (row : Row) (rest : Bits) → line_1d false columns begun ≡ Line.whole row rest → ⊥
 runs_broken columns begun passed color here fault few (front, long, is) read row rest e =
-    let step : run_then false columns (pen_of_runs front color here) Turn.next ≡ Turn.done (Line.broken front fault)
-    = rw read refl in
-    not_whole front row fault rest (sym (is ∙ run_is_next columns front color here (omega (arith, few, long))
-    ∙ ap (after_turn (line_from columns)) step) ∙ e)
+    grind (arith, common_steps, not_whole, run_is_next)
 
 -- the words of a run are no more than the bits that it takes
 run_counted : (color : Color) (here : Bits) (r : Result (ℕ × Bits) DecodeError) → read_run color here ≡ r → (n : ℕ) (rest : Bits)
     → r ≡ Ok (n, rest) → length (run_found color (0, here)) + length rest ≤ length here
-run_counted color here r e n rest f =
-    let words = run_stands color 0 here in
-    let end : rest ≡ words.0 = subst (λ (x : Result (ℕ × Bits) DecodeError). RunEnds x words.0) (e ∙ f) words.2 in
-    omega (arith, stands_count here (run_found color (0, here)) words.0 words.1, ap length end)
+run_counted color here r e n rest f = grind (arith, common_steps, run_stands color 0 here, stands_count)
 
 pub run_work : (color : Color) (here rest : Bits) (n : ℕ) → read_run color here ≡ Ok (n, rest)
     → length (run_found color (0, here)) + length rest ≤ length here
@@ -117,10 +97,7 @@ whole_before columns after here rest row before whole is = (
 -- two offsets, twelve bits apart
 pub places_before : (bits : Bits) (place end : ℕ) → place ≤ length bits → end ≤ length bits
     → IsTrue (leb (place + 12) end) ↔ (length (drop end bits) + 12 ≤ length (drop place bits))
-places_before bits place end within there = (
-  λ t. omega (arith, leb-true (place + 12) end t, length-drop end bits, length-drop place bits, within, there),
-  λ le. le-leb (place + 12) end (omega (arith, le, length-drop end bits, length-drop place bits, within, there)),
-)
+places_before bits place end within there = grind (arith, common_steps, leb-true, length-drop, le-leb)
 
 -- a broken line
 pub broken_before : (columns : ℕ) (after here : Bits)
@@ -154,21 +131,15 @@ words_end Group4 columns after line (inr is) ends modes = absurd cc
 -- the modes of a two-dimensional line
 pub modes_end : (encoding : EncodingMode) (columns : ℕ) (after line : Bits) → EndsByWords encoding columns after line
     → encoding ≡ Group3_2D → (modes : Bits) → line ≡ false ∷ modes → ModesEndBefore after modes
-modes_end encoding columns after line ends two modes tag =
-    subst (λ (b : Bits). EndsByWords Group3_2D columns after b) tag
-    (subst (λ (m : EncodingMode). EndsByWords m columns after line) two ends)
+modes_end encoding columns after line ends two modes tag = grind (arith, common_steps)
 
 -- ---- An EOL alone
 
 none_counted : (n : ℕ) (here rest : Bits) (found : ℕ × Bits) → one_more found ≡ (0, rest) → ⊥
-none_counted n here rest (count, left) e =
-    let zero_is : suc count ≡ 0 = ap (λ (f : ℕ × Bits). f.0) e in omega (arith, zero_is)
+none_counted n here rest (count, left) e = grind (arith, common_steps)
 
 one_is_none : (rest : Bits) (found : ℕ × Bits) → one_more found ≡ (1, rest) → found ≡ (0, rest)
-one_is_none rest (count, left) e =
-    let same : count ≡ 0 = (let more : suc count ≡ 1 = ap (λ (f : ℕ × Bits). f.0) e in omega (arith, more)) in
-    let bits : left ≡ rest = ap (λ (f : ℕ × Bits). f.1) e in
-    rw (same, bits) refl
+one_is_none rest (count, left) e = grind (arith, common_steps)
 
 not_one : (here rest : Bits) → ◌≡◌ {A = ℕ × Bits} (0, here) (1, rest) → ⊥
 not_one here rest e = let both : 0 ≡ 1 = ap (λ (f : ℕ × Bits). f.0) e in omega (arith, both)
@@ -178,31 +149,16 @@ abbrev pub IsAlone : Bits → Bits → Type 0
 IsAlone here line = (after_eol 0 here ≡ Some line) × (after_eol 0 line ≡ None)
 
 none_behind : (rest line : Bits) → all_eols rest ≡ (0, line) → (rest ≡ line) × (after_eol 0 rest ≡ None)
-none_behind rest line e = by_after_eol (after_eol 0 rest) refl
-  where
-    by_after_eol : (o : Option Bits) → after_eol 0 rest ≡ o → (rest ≡ line) × (after_eol 0 rest ≡ None)
-    by_after_eol None f = (ap (λ (p : ℕ × Bits). p.1) (sym (all_eols-none rest f) ∙ e), f)
-    by_after_eol (Some more) f = absurd (none_counted 0 rest line (all_eols more) (sym (all_eols-some rest more f) ∙ e))
+none_behind rest line e = grind (arith, common_steps, all_eols-none, none_counted, all_eols-some)
 
 none_tagged : (rest line : Bits) → all_tagged rest ≡ (0, line) → (rest ≡ line) × (after_eol 0 rest ≡ None)
-none_tagged rest line e = by_after_eol (after_eol 0 rest) refl
-  where
-    by_after_eol : (o : Option Bits) → after_eol 0 rest ≡ o → (rest ≡ line) × (after_eol 0 rest ≡ None)
-    by_after_eol None f = (ap (λ (p : ℕ × Bits). p.1) (sym (all_tagged-none rest f) ∙ e), f)
-    by_after_eol (Some more) f =
-        absurd (none_counted 0 rest line (all_tagged (past_tag more)) (sym (all_tagged-some rest more f) ∙ e))
+none_tagged rest line e = grind (arith, common_steps, all_tagged-none, none_counted, all_tagged-some)
 
 -- a tag of one that is passed is before an EOL
 no_tag_passed : (rest : Bits) → after_eol 0 (past_tag rest) ≡ None → past_tag rest ≡ rest
 no_tag_passed [] none = refl
 no_tag_passed (false ∷ rest) none = refl
-no_tag_passed (true ∷ rest) none = by_after_eol (after_eol 0 rest) refl
-  where
-    by_after_eol : (o : Option Bits) → after_eol 0 rest ≡ o → past_tag (true ∷ rest) ≡ true ∷ rest
-    by_after_eol None f = rw (f, past_tag) refl
-    by_after_eol (Some more) f = absurd
-        (let passed : past_tag (true ∷ rest) ≡ rest = rw (f, past_tag) refl in
-        none-some more (sym none ∙ ap (after_eol 0) passed ∙ f))
+no_tag_passed (true ∷ rest) none = grind (arith, common_steps, none-some)
 
 one_plain : (here line : Bits) → all_eols here ≡ (1, line) → IsAlone here line
 one_plain here line e = by_after_eol (after_eol 0 here) refl
@@ -225,9 +181,7 @@ one_raw here line e = by_after_eol (after_eol 0 here) refl
         (f ∙ ap (λ (b : Bits). Some b) same, subst (λ (b : Bits). after_eol 0 b ≡ None) behind.0 behind.1)
 
 raw_is : (line : Bits) (found : ℕ × Bits) → pass_last_tag found ≡ (1, line) → found ≡ (1, line)
-raw_is line (count, rest) e =
-    let one : count ≡ 1 = sym (last_tag_count (count, rest)) ∙ ap (λ (f : ℕ × Bits). f.0) e in
-    sym (last_tag_few count rest (omega (arith, one))) ∙ e
+raw_is line (count, rest) e = grind (arith, common_steps, last_tag_count, last_tag_few)
 
 pub one_alone : (settings : DecodeSettings) (here line : Bits) → IsGroup3 settings.encoding
     → eols_here settings here ≡ (1, line) → IsAlone here line
@@ -306,9 +260,7 @@ same_bits o one two e f = let both : ◌≡◌ {A = Option Bits} (Some one) (Som
 -- the EOL behind the line is the next one
 pub step_next : (settings : DecodeSettings) (here line next other behind : Bits) → eols_here settings here ≡ (1, line)
     → next_eol line ≡ Some next → (told : TellsStep settings here other behind) → told.step.next ≡ next
-step_next settings here line next other behind alone next_is told =
-    let line_is : other ≡ line = ap (λ (f : ℕ × Bits). f.1) (sym told.step.alone ∙ alone) in
-    same_bits (next_eol other) told.step.next next told.step.next_is (ap next_eol line_is ∙ next_is)
+step_next settings here line next other behind alone next_is told = grind (arith, common_steps)
 
 -- a line that doesn't end by its words tells no step
 pub no_step_beyond : (settings : DecodeSettings) (here line next after : Bits) → IsGroup3 settings.encoding
@@ -316,13 +268,7 @@ pub no_step_beyond : (settings : DecodeSettings) (here line next after : Bits) �
     → (EndsByWords settings.encoding settings.columns after line → ⊥) → (other behind : Bits)
     → TellsStep settings here other behind → ⊥
 no_step_beyond settings here line next after group3 lenient alone next_is after_is beyond other behind told =
-    let line_is : other ≡ line = ap (λ (f : ℕ × Bits). f.1) (sym told.step.alone ∙ alone) in
-    let found : told.step.next ≡ next = step_next settings here line next other behind alone next_is told in
-    let end : told.step.after ≡ after =
-    same_bits (after_eol 0 told.step.next) told.step.after after told.step.after_is (ap (after_eol 0) found ∙ after_is) in
-    beyond (subst (λ (b : Bits). EndsByWords settings.encoding settings.columns b line) end
-    (subst (λ (b : Bits). EndsByWords settings.encoding settings.columns told.step.after b) line_is
-    (step_ends settings here other behind group3 lenient told)))
+    grind (arith, step_ends settings here other behind group3 lenient told)
 
 -- ---- What the tests count
 
@@ -338,17 +284,13 @@ pub line_test_work : (settings : DecodeSettings) (here line next after : Bits) (
     → after_eol 0 next ≡ Some after → at_line + length line ≤ begun + 2 * length here + 3
     → sought + length next ≡ at_line + length line + looked next → read ≡ sought + looked next
     → now ≤ read + length line + 1 → now + 2 * length next + 3 ≤ begun + most_for_lines (length here)
-line_test_work settings here line next after begun at_line sought read now group3 alone next_is after_is first skipped passed
-    tested =
-    omega (
+line_test_work
+    settings here line next after begun at_line sought read now group3 alone next_is after_is first skipped passed tested =
+    grind (
       arith,
-      first,
-      skipped,
-      passed,
-      tested,
       looked_eol 0 next after after_is,
       after_eol_shorter 0 here line (one_alone settings here line group3 alone).0,
-      (next_eol_found line next next_is).0,
+      next_eol_found line next next_is,
     )
 
 -- ---- What a call that tests the settings first returns
@@ -356,11 +298,7 @@ line_test_work settings here line next after begun at_line sought read now group
 -- what follows is the same
 step_once : (settings : DecodeSettings) (here line behind other rest : Bits) → TellsStep settings here line behind
     → TellsStep settings here other rest → behind ≡ rest
-step_once settings here line behind other rest one two =
-    let line_is : line ≡ other = ap (λ (f : ℕ × Bits). f.1) (sym one.step.alone ∙ two.step.alone) in
-    let found : one.step.next ≡ two.step.next =
-    same_bits (next_eol line) one.step.next two.step.next one.step.next_is (ap next_eol line_is ∙ two.step.next_is) in
-    ap (λ (f : ℕ × Bits). f.1) (sym one.step.behind_is ∙ ap (eols_here settings) found ∙ two.step.behind_is)
+step_once settings here line behind other rest one two = grind (arith, common_steps)
 
 -- two positions with the same bits
 same_place : (bits : Bits) (place other : ℕ) → place ≤ length bits → other ≤ length bits → drop place bits ≡ drop other bits
@@ -372,24 +310,11 @@ pub step_found : (settings : DecodeSettings) (bits line : Bits) (to found : ℕ)
     → settings.strict ≡ false → settings.rows ≡ 0 → 0 < settings.columns → to ≤ length bits → found ≤ length bits
     → TellsStep settings (drop to bits) line (drop found bits) → (place : ℕ)
     → (Some found ≡ Some place) ↔ IsInStepFrom settings bits to place
-step_found settings bits line to found group3 lenient unlimited wide within there told place = (
-  λ e. subst (IsInStepFrom settings bits to) (let same : found ≡ place = cc in same) (record {
-    encoding = group3;
-    lenient = lenient;
-    unlimited = unlimited;
-    wide = wide;
-    within = within;
-    place_within = there;
-    line = line;
-    told = told;
-  }),
-  λ given. ap (λ (n : ℕ). Some n) (same_place bits found place there given.place_within
-      (step_once settings (drop to bits) line (drop found bits) given.line (drop place bits) told given.told)),
-)
+step_found settings bits line to found group3 lenient unlimited wide within there told place =
+    grind (arith, common_steps, same_place, step_once)
 
-pub no_step_found : (settings : DecodeSettings) (bits : Bits) (to : ℕ)
-    → ((place : ℕ) → IsInStepFrom settings bits to place → ⊥) → (place : ℕ)
-    → (None ≡ Some place) ↔ IsInStepFrom settings bits to place
+pub no_step_found : (settings : DecodeSettings) (bits : Bits) (to : ℕ) → ((place : ℕ) → IsInStepFrom settings bits to place → ⊥)
+    → (place : ℕ) → (None ≡ Some place) ↔ IsInStepFrom settings bits to place
 no_step_found settings bits to none place = (λ e. absurd cc, λ given. absurd (none place given))
 
 -- the rows behind it

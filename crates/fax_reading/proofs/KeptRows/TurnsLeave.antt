@@ -1,17 +1,16 @@
 -- A turn leaves a suffix of the bits that it begins with, and seeks EOLs as before or has given them up.
-use Rattle.fax_reading.proofs.Names.{◌≡◌, ℕ, zero, suc, ◌%◌, Bool, true, false, cond, not, ◌&&◌, ◌||◌, leb, [], ◌∷◌, ◌++◌, length}
-use Rattle.fax_reading.proofs.Names.{replicate, take, Option, Some, None, refl, sym, subst, ◌∙◌, append_assoc}
-use Rattle.fax_reading.proofs.Names.{◌⊎◌, inl, inr, take-append-drop, DecodeSettings, EncodingMode, Group4, Group3_1D}
-use Rattle.fax_reading.proofs.Names.{Group3_2D, Bits, Turn, Reaches, Row, Line, repaired, after_eol, next_eol, past_tag}
-use Rattle.fax_reading.proofs.Names.{pass_last_tag, eols_with_tags, eols_by, eols_here, one_more, Progress, row_before}
+use Rattle.fax_reading.proofs.Names.{arith, common_steps, ◌≡◌, ℕ, zero, suc, ◌%◌, Bool, true, false, cond, not, ◌&&◌, ◌||◌, leb}
+use Rattle.fax_reading.proofs.Names.{[], ◌∷◌, ◌++◌, length, replicate, take, Option, Some, None, refl, sym, subst, ◌∙◌}
+use Rattle.fax_reading.proofs.Names.{append_assoc, ◌⊎◌, inl, inr, take-append-drop, DecodeSettings, EncodingMode, Group4}
+use Rattle.fax_reading.proofs.Names.{Group3_1D, Group3_2D, Bits, Turn, Reaches, Row, Line, repaired, after_eol, next_eol}
+use Rattle.fax_reading.proofs.Names.{past_tag, pass_last_tag, eols_with_tags, eols_by, eols_here, one_more, Progress, row_before}
 use Rattle.fax_reading.proofs.Names.{aligned, with_row, behind_row, line_here, misses_eol, after_line, move_on}
 use Rattle.fax_bits.proofs.CodeWords.ReadRuns.{chosen}
 use Rattle.fax_reading.proofs.DamagedLines.LineTails.{after_eol_is}
 use Rattle.fax_reading.proofs.DamagedLines.PastEol.{next_eol_leaves}
 use Rattle.fax_reading.proofs.DrawingLines.LinesLeaveBits.{LeavesBits, leaves_trans, LineLeaves, line_by_leaves}
-use Rattle.fax_bits.proofs.Repetition.Repeated.{next_is, not_next}
-use Rattle.fax_reading.proofs.Readings.RowsAndGaps.{seek_from, unless_over, after_row, row_added, after_whole-is}
-use Rattle.fax_reading.proofs.Readings.RowsAndGaps.{after_damage-is}
+use Rattle.fax_bits.proofs.Repetition.Repeated.{not_next}
+use Rattle.fax_reading.proofs.Readings.RowsAndGaps.{seek_from, unless_over, after_row, row_added, after_whole-is, after_damage-is}
 use Rattle.fax_reading.proofs.Readings.TurnsMoveOn.{unless_over_next}
 use Rattle.fax_bits.proofs.BitReading.ConsecutiveEols.{CountsEols, counts_plain, counts_tagged}
 
@@ -41,8 +40,7 @@ module _ {pass : Bits → Bits} {count : ℕ → Bits → ℕ × Bits} (counts :
     where
       by_after_eol : ((rest : Bits) → LeavesBits rest (count most rest).1) → (o : Option Bits) → after_eol 0 here ≡ o
           → LeavesBits here (count (suc most) here).1
-      by_after_eol on None e =
-          subst (λ (found : ℕ × Bits). LeavesBits here found.1) (sym (counts.none (suc most) here e)) ([], refl)
+      by_after_eol on None e = grind (arith, common_steps)
       by_after_eol on (Some rest) e =
           subst (λ (found : ℕ × Bits). LeavesBits here found.1) (sym (counts.some most here rest e))
           (one_more_leaves here (count most (pass rest)) (leaves_trans here rest (count most (pass rest)).1
@@ -82,8 +80,7 @@ counted_leaves settings run t here leaves e =
 
 seek_leaves : (settings : DecodeSettings) (run t : Progress) (o : Option Bits) → next_eol run.rest ≡ o
     → seek_from settings run o ≡ Turn.next t → TurnLeavesBits run.has_eols run.rest t
-seek_leaves settings run t None e f =
-    subst (TurnLeavesBits run.has_eols run.rest) (next_is (record run { has_eols = false }) t f) (([], refl), inr refl)
+seek_leaves settings run t None e f = grind (arith, common_steps)
 seek_leaves settings run t (Some found) e f = counted_leaves settings run t found (next_eol_leaves run.rest found e) f
 
 pub after_row_leaves : (settings : DecodeSettings) (run t : Progress) → after_row settings run ≡ Turn.next t

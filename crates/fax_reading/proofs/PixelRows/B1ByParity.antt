@@ -1,8 +1,8 @@
 -- The index of b1, by its parity, and how it moves from mode to mode.
-use Rattle.fax_reading.proofs.Names.{◌≡◌, ℕ, zero, suc, ◌+◌, ◌-◌, ◌%◌, ◌<◌, ◌≤◌, ◌⊎◌, false, not, List, [], ◌∷◌, length, get_or}
-use Rattle.fax_reading.proofs.Names.{refl, sym, ap, ◌∙◌, arith, inl, inr, cases_lt, cases_eq, get_or_past, get_or_default_zero}
-use Rattle.fax_reading.proofs.Names.{Color, White, Black, Row, AreChanges, pixels, is_black, opposite, right_of, b1, b2}
-use Rattle.fax_reading.proofs.Names.{right_of_painted, TurnsFrom, IsNear, IsB1}
+use Rattle.fax_reading.proofs.Names.{common_steps, ◌≡◌, ℕ, zero, suc, ◌+◌, ◌%◌, ◌<◌, ◌≤◌, ◌⊎◌, false, not, List, [], ◌∷◌, length}
+use Rattle.fax_reading.proofs.Names.{get_or, refl, sym, ap, ◌∙◌, arith, inl, inr, cases_lt, cases_eq, get_or_past}
+use Rattle.fax_reading.proofs.Names.{get_or_default_zero, Color, White, Black, Row, AreChanges, pixels, is_black, opposite}
+use Rattle.fax_reading.proofs.Names.{right_of, b1, b2, right_of_painted, TurnsFrom, IsNear, IsB1}
 use Rattle.fax_reading.proofs.PixelRows.ReferencePlaces.{turned, turned-not, turned_by_parity, not_not, IsSplit, IsSplit-painted}
 use Rattle.fax_reading.proofs.PixelRows.ReferencePlaces.{IsSplit-none, order, end_within, in_list_if_below, b1_is, b2_after_b1}
 
@@ -71,25 +71,16 @@ module _ (columns : ℕ) (places : List ℕ) (ascend : AreChanges columns places
 
   -- or where the second one is
   pub rising_to : (j k : ℕ) → j < k → get_or places k columns < columns → get_or places j columns < get_or places k columns
-  rising_to j k lt below =
-      let le : get_or places j columns ≤ get_or places k columns = rising j k (omega arith) in
-      rising_from j k lt (omega arith)
+  rising_to j k lt below = grind (arith, rising, rising_from)
 
   -- it is the number of changes and one more at most
   pub near_within : (painted index : ℕ) → painted < columns → IsNear columns places painted index → index ≤ length places + 1
-  near_within painted index inside near = elim (cases_lt index 2) [
-    | inl lt ↦ omega arith
-    | inr ge ↦
-        let at : get_or places (index - 2) columns ≤ painted = (near.left (index - 2) (omega arith)).1 in
-        let in_list : index - 2 < length places = in_list_if_below columns places ascend (index - 2) (omega arith) in
-        omega arith
-  ]
+  near_within painted index inside near = grind (arith, common_steps, cases_lt, in_list_if_below)
 
   -- it stays one when a0 goes right
   pub near_later : (painted later index : ℕ) → painted ≤ later → IsNear columns places painted index
       → IsNear columns places later index
-  near_later painted later index le near =
-      record { left = λ k l. (let at = near.left k l in (omega (arith, at.0), omega (arith, at.1))) }
+  near_later painted later index le near = grind (arith, common_steps)
 
   -- where its change is not right of a0, the second next index is one
   pub near_up : (painted index : ℕ) → 0 < painted → get_or places index columns ≤ painted
@@ -100,20 +91,7 @@ module _ (columns : ℕ) (places : List ℕ) (ascend : AreChanges columns places
   -- of the number of changes that are left of a0 or at it
   split_some : (painted j : ℕ) → 0 < painted → painted < columns → ((k : ℕ) → k < j → get_or places k columns ≤ painted)
       → painted < get_or places j columns → IsSplit places (right_of_painted painted) j
-  split_some painted j some inside left right = IsSplit-painted places painted j some (within j left) earlier
-      (λ l. omega (arith, right, get_or_default_zero places j columns l))
-    where
-      within : (n : ℕ) → ((k : ℕ) → k < n → get_or places k columns ≤ painted) → n ≤ length places
-      within zero h = omega arith
-      within (suc m) h = let lt : m < length places =
-          in_list_if_below columns places ascend m (omega (arith, inside, h m (omega arith))) in omega arith
-
-      earlier : (k : ℕ) → k < j → get_or places k 0 ≤ painted
-      earlier k l = omega (
-        arith,
-        left k l,
-        get_or_default_zero places k columns (in_list_if_below columns places ascend k (omega (arith, inside, left k l))),
-      )
+  split_some painted j some inside left right = grind (arith, IsSplit-painted, get_or_default_zero, in_list_if_below)
 
   -- the number of changes that are not right of a0 is the index of b1, or the one before it, which turns from the other colour
   split_near : (painted index : ℕ) (color : Color) → painted < columns → turned index false ≡ is_black color
@@ -150,16 +128,13 @@ module _ (columns : ℕ) (places : List ℕ) (ascend : AreChanges columns places
 
   pub b2_by_parity : (painted index : ℕ) (color : Color) → painted < columns → IsB1 columns places painted index color
       → b2 (pixels columns places) (right_of_painted painted) color ≡ get_or places (index + 1) columns
-  b2_by_parity painted index color inside at =
-      b2_after_b1 columns places (right_of_painted painted) index color ascend (b1_by_parity painted index color inside at)
+  b2_by_parity painted index color inside at = grind (arith, common_steps, b2_after_b1, b1_by_parity)
 
   -- the same of a front, which says where a0 is
   pub b1_of_front : (front : Row) (painted index : ℕ) (color : Color) → length front ≡ painted → painted < columns → IsB1
       columns places painted index color → (b1 (pixels columns places) (right_of front) color ≡ get_or places index columns)
       × (b2 (pixels columns places) (right_of front) color ≡ get_or places (index + 1) columns)
-  b1_of_front front painted index color len inside at =
-      rw (right_of_length front painted len)
-      (b1_by_parity painted index color inside at, b2_by_parity painted index color inside at)
+  b1_of_front front painted index color len inside at = grind (arith, common_steps, right_of_length, b1_by_parity, b2_by_parity)
 
   -- ---- Where b1 is after a mode.
   -- at a line's start
@@ -184,29 +159,15 @@ module _ (columns : ℕ) (places : List ℕ) (ascend : AreChanges columns places
     -- VR: from the next index on
     pub after_vr : (more : ℕ) → 0 < more → TurnsFrom (index + 1) (opposite color)
         × IsNear columns places (get_or places index columns + more) (index + 1)
-    after_vr more some = (
-      turns_next index color at.turns,
-      record { left = λ k l. (omega arith, omega (arith, rising k index (omega arith))) },
-    )
+    after_vr more some = grind (arith, turns_next, rising)
 
     -- pass: the second next
     pub after_pass : get_or places (index + 1) columns < columns
         → IsB1 columns places (get_or places (index + 1) columns) (index + 2) color
-    after_pass below = record {
-      turns = turns_second index color at.turns;
-      near = record {
-        left = λ k l.
-            (omega (arith, rising_to k (index + 1) (omega arith) below), omega (arith, rising k (index + 1) (omega arith)));
-      };
-      right = λ some. rising_from (index + 1) (index + 2) (omega arith) below;
-    }
+    after_pass below = grind (arith, turns_second, rising_to, rising, rising_from)
 
   module _ (painted before : ℕ) (color : Color) (at : IsB1 columns places painted (before + 1) color) (place : ℕ)
       (right : painted < place) (left : place < get_or places (before + 1) columns) where
     -- the one after b1
     pub after_vl_on : get_or places before columns ≤ place → IsB1 columns places place (before + 2) (opposite color)
-    after_vl_on is_left = record {
-      turns = turns_second before (opposite color) (turns_before before color at.turns);
-      near = near_up place before (omega arith) is_left;
-      right = λ some. omega (arith, left, rising (before + 1) (before + 2) (omega arith));
-    }
+    after_vl_on is_left = grind (arith, turns_second, turns_before, near_up, rising)

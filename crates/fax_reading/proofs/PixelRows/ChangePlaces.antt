@@ -18,12 +18,7 @@ first_step test from bound t rest e lt least = grind (arith, common_steps)
 
 first : (test : ℕ → Bool) (from n bound : ℕ) → from + n ≡ bound
     → IsLeast from bound test (unwrap_or (find test (range_with_len from n)) bound)
-first test from zero bound e = record {
-  above = omega arith;
-  within = omega arith;
-  before = λ q le l. absurd (omega arith);
-  there = λ l. absurd (omega arith);
-}
+first test from zero bound e = grind (arith, common_steps)
 first test from (suc n) bound e = grind (arith, common_steps, first_step, first test (from + 1) n bound (omega arith))
 
 -- the search finds the least position
@@ -96,10 +91,8 @@ before_same row from p c e none (suc q) le lt = elim (cases_eq from (suc q)) [
 -- and so do the pixels, from the one left of the start on
 pub pixels_same : (row : Row) (from p : ℕ) (c : Bool) → pixel_before row from ≡ c
     → ((q : ℕ) → from ≤ q → q < p → is_change row q ≡ false) → (q : ℕ) → from - 1 ≤ q → q < p → pixel row q ≡ c
-pixels_same row from p c e none q le lt = elim (cases_lt q from) [
-  | inl l ↦ let s : from ≡ suc q = omega arith in rw s at e
-  | inr ge ↦ before_same_next ge
-]
+pixels_same row from p c e none q le lt =
+    elim (cases_lt q from) [ inl l ↦ let s : from ≡ suc q = omega arith in rw s at e | inr ge ↦ before_same_next ge ]
   where
     before_same_next : from ≤ q → pixel row q ≡ c
     before_same_next ge =

@@ -1,6 +1,6 @@
 -- Lawful lists of changes and rows of pixels correspond one to one, and what painting does to both.
 use Rattle.fax_reading.proofs.Names.{◌≡◌, ℕ, zero, suc, ◌+◌, ◌-◌, ◌%◌, ◌<◌, ◌≤◌, eqb, Bool, true, false, cond, not, List, [], ◌∷◌}
-use Rattle.fax_reading.proofs.Names.{◌++◌, length, get_or, replicate, refl, sym, ap, ◌∙◌, arith, append_assoc, length-append}
+use Rattle.fax_reading.proofs.Names.{◌++◌, length, get_or, replicate, refl, sym, arith, append_assoc, length-append}
 use Rattle.fax_reading.proofs.Names.{add-one, beq, range_with_len, filter, length-replicate, replicate-append-replicate, Row}
 use Rattle.fax_reading.proofs.Names.{pixel, pixel_before, is_change, changes, AscendFrom, AreChanges, pixels_from, pixels}
 use Rattle.fax_reading.proofs.Names.{last_pixel, continued, common_steps}
@@ -17,8 +17,7 @@ AscendFrom-wider low first width wider (place ∷ places) le below ascend =
 
 -- positions that ascend right of a position ascend from it on
 pub AscendFrom-here : (place width : ℕ) (places : List ℕ) → AscendFrom (suc place) width places → AscendFrom place width places
-AscendFrom-here place width places ascend =
-    AscendFrom-wider place (suc place) width width places (omega arith) (omega arith) ascend
+AscendFrom-here place width places ascend = grind (arith, common_steps, AscendFrom-wider)
 
 -- changes below a width are changes below a larger one
 pub AreChanges-wider : (width wider : ℕ) (places : List ℕ) → width ≤ wider → AreChanges width places → AreChanges wider places
@@ -112,31 +111,25 @@ last_pixel-odd width places ascend = grind (arith, common_steps, last_pixel-pixe
 -- ---- Painting.
 
 -- a wider row continues in its last colour
-pub pixels_from-wider : (place : ℕ) (color : Bool) (width more : ℕ) (places : List ℕ)
-    → place ≤ width → AscendFrom place width places
-    → pixels_from place color (width + more) places ≡ pixels_from place color width places ++ replicate more
-    (turned_at color places)
+pub pixels_from-wider : (place : ℕ)
+    (color : Bool) (width more : ℕ) (places : List ℕ) → place ≤ width → AscendFrom place width places → pixels_from place color
+    (width + more) places ≡ pixels_from place color width places ++ replicate more (turned_at color places)
 pixels_from-wider place color width more [] le ascend = grind (arith, common_steps, replicate-append-replicate)
 pixels_from-wider place color width more (change ∷ places) le ascend =
     grind (
       arith,
-      common_steps,
-      AscendFrom-here,
       append_assoc,
       pixels_from-wider change (not color) width more places (omega arith) (AscendFrom-here change width places ascend.2),
     )
 
 -- the same if the last change may equal the width
-pub pixels_from-on : (place : ℕ) (color : Bool) (width more : ℕ) (places : List ℕ)
-    → place ≤ width → AscendFrom place (suc width) places
-    → pixels_from place color (width + more) places ≡ pixels_from place color width places ++ replicate more
-    (turned_at color places)
+pub pixels_from-on : (place : ℕ) (color : Bool)
+    (width more : ℕ) (places : List ℕ) → place ≤ width → AscendFrom place (suc width) places → pixels_from place color
+    (width + more) places ≡ pixels_from place color width places ++ replicate more (turned_at color places)
 pixels_from-on place color width more [] le ascend = grind (arith, common_steps, replicate-append-replicate)
 pixels_from-on place color width more (change ∷ places) le ascend =
     grind (
       arith,
-      common_steps,
-      AscendFrom-here,
       append_assoc,
       pixels_from-on change (not color) width more places (omega arith) (AscendFrom-here change (suc width) places ascend.2),
     )
@@ -144,8 +137,7 @@ pixels_from-on place color width more (change ∷ places) le ascend =
 -- so painting pixels of the last colour adds no change
 pub pixels-same : (width more : ℕ) (places : List ℕ) → AreChanges width places
     → pixels (width + more) places ≡ pixels width places ++ replicate more (last_pixel false (pixels width places))
-pixels-same width more places ascend =
-    rw (last_pixel-pixels width places ascend) (pixels_from-wider 0 false width more places (omega arith) ascend)
+pixels-same width more places ascend = grind (arith, common_steps, last_pixel-pixels, pixels_from-wider)
 
 -- one change more at the end of a row continues in the other colour
 pub pixels_from-push : (place : ℕ) (color : Bool) (width more : ℕ) (places : List ℕ) → pixels_from place color (width + more)
@@ -210,35 +202,28 @@ pub changes_from-pixels_from : (place : ℕ) (color : Bool) (width : ℕ) (place
     → changes_from place color (pixels_from place color width places) ≡ places
 changes_from-pixels_from place color width [] ascend = changes_from-same place (width - place) color
 changes_from-pixels_from place color width (change ∷ places) ascend =
-    let from : place ≤ change = ascend.0 in
-    let within : change < width = ascend.1 in
-    let at : place + length (replicate (change - place) color) ≡ change =
-    omega (arith, length-replicate (change - place) color) in
-    let opens = pixels_from-first change (not color) width places within ascend.2 in
-    let rest = changes_from-pixels_from (suc change) (not color) width places ascend.2 in
-    changes_from-append place color (replicate (change - place) color) (pixels_from change (not color) width places)
-    ∙ rw (changes_from-same place (change - place) color, at, last_pixel-same (change - place) color, opens)
-    (by_changes_from color _ _ _ rest)
-  where
-    by_changes_from : (c : Bool) (row : Row) (here : ℕ) (rest : List ℕ) → changes_from (suc here) (not c) row ≡ rest
-        → changes_from here c (not c ∷ row) ≡ here ∷ rest
-    by_changes_from c row here rest e = grind (arith, common_steps)
+    grind (
+      arith,
+      length-replicate,
+      pixels_from-first,
+      changes_from-append,
+      changes_from-same,
+      last_pixel-same,
+      changes_from-pixels_from (suc change) (not color) width places ascend.2,
+    )
 
 -- the changes of a row of lawful changes are these
 pub changes-pixels : (width : ℕ) (places : List ℕ) → AreChanges width places → changes (pixels width places) ≡ places
-changes-pixels width places ascend =
-    changes-recursive (pixels width places) ∙ changes_from-pixels_from 0 false width places ascend
+changes-pixels width places ascend = grind (arith, common_steps, changes-recursive, changes_from-pixels_from)
 
 -- the changes of a row ascend, and stay inside it
 pub AscendFrom-changes_from : (place : ℕ) (before : Bool) (row : Row) (width : ℕ) → place + length row ≡ width
     → AscendFrom place width (changes_from place before row)
 AscendFrom-changes_from place before [] width e = tt
 AscendFrom-changes_from place true (true ∷ row) width e =
-    AscendFrom-here place width (changes_from (suc place) true row)
-    (AscendFrom-changes_from (suc place) true row width (omega arith))
+    grind (arith, common_steps, AscendFrom-here, AscendFrom-changes_from (suc place) true row width (omega arith))
 AscendFrom-changes_from place false (false ∷ row) width e =
-    AscendFrom-here place width (changes_from (suc place) false row)
-    (AscendFrom-changes_from (suc place) false row width (omega arith))
+    grind (arith, common_steps, AscendFrom-here, AscendFrom-changes_from (suc place) false row width (omega arith))
 AscendFrom-changes_from place true (false ∷ row) width e =
     (omega arith, omega arith, AscendFrom-changes_from (suc place) false row width (omega arith))
 AscendFrom-changes_from place false (true ∷ row) width e =
@@ -283,5 +268,4 @@ continued-pixels columns width places within ascend =
 pub changes-continued : (columns width : ℕ) (places : List ℕ) → width ≤ columns → AreChanges width places
     → changes (continued columns (pixels width places)) ≡ places
 changes-continued columns width places within ascend =
-    ap changes (continued-pixels columns width places within ascend)
-    ∙ changes-pixels columns places (AreChanges-wider width columns places within ascend)
+    grind (arith, common_steps, continued-pixels, changes-pixels, AreChanges-wider)

@@ -1,6 +1,6 @@
 -- The changes of a row with its end six times behind them.
-use Rattle.fax_reading.proofs.Names.{◌≡◌, ℕ, zero, suc, ◌<◌, ◌++◌, List, [], ◌∷◌, length, replicate, get_or, refl, ap, ◌∙◌, arith}
-use Rattle.fax_reading.proofs.Names.{AreChanges, AreEnded, changes_in, inl, inr, cases_lt, get_or_past, length-append}
+use Rattle.fax_reading.proofs.Names.{common_steps, ◌≡◌, ℕ, zero, suc, ◌<◌, ◌++◌, List, [], ◌∷◌, length, replicate, get_or, refl}
+use Rattle.fax_reading.proofs.Names.{ap, ◌∙◌, arith, AreChanges, AreEnded, changes_in, cases_lt, get_or_past, length-append}
 use Rattle.std.proofs.lemmas.List.{take_at}
 
 end_at : (end count k : ℕ) → get_or (replicate count end) k end ≡ end
@@ -20,9 +20,7 @@ pub ends_taken : (xs ended : List ℕ) (end : ℕ) → ended ≡ xs ++ replicate
 ends_taken xs ended end put = ap changes_in put ∙ without_ends xs end
 
 pub with_ends : (columns : ℕ) (xs : List ℕ) → AreChanges columns xs → AreEnded columns (xs ++ replicate 6 columns)
-with_ends columns xs lawful =
-    let same = without_ends xs columns in
-    record { lawful = rw same lawful; ended = rw same refl }
+with_ends columns xs lawful = grind (arith, common_steps, without_ends)
 
 module _ (columns : ℕ) (places : List ℕ) (ended : AreEnded columns places) where
   -- behind the changes each place is the row's end
@@ -30,7 +28,4 @@ module _ (columns : ℕ) (places : List ℕ) (ended : AreEnded columns places) w
   ended_at k = ap (λ xs. get_or xs k columns) ended.ended ∙ ends_at (changes_in places) columns k
 
   pub among_changes : (k : ℕ) → get_or (changes_in places) k columns < columns → k < length (changes_in places)
-  among_changes k below = elim (cases_lt k (length (changes_in places))) [
-    | inl lt ↦ lt
-    | inr past ↦ absurd (omega (arith, get_or_past (changes_in places) k columns past))
-  ]
+  among_changes k below = grind (arith, common_steps, cases_lt, get_or_past)

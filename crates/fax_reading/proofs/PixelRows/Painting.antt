@@ -40,8 +40,7 @@ other_color pixel color e same = grind (arith, common_steps)
 pub paint-fits : (strict : Bool) (columns width : ℕ) (places : List ℕ) (color : Color) (n : ℕ) → AreChanges width places
     → (strict ≡ false) ⊎ (n ≤ columns - width) → paint strict columns (pixels width places) color n
     ≡ Ok (pixels width places ++ replicate (min n (columns - width)) (is_black color))
-paint-fits strict columns width places color n ascend fits =
-    grind (arith, common_steps, common_steps, false≢true, le-ltb, length-pixels)
+paint-fits strict columns width places color n ascend fits = grind (arith, common_steps, false≢true, le-ltb, length-pixels)
 
 -- a strict row without room is a wrong code
 pub paint-strict : (strict : Bool) (columns width : ℕ) (places : List ℕ) (color : Color) (n : ℕ) → AreChanges width places

@@ -1,13 +1,12 @@
 -- b1 and b2 among the changes that a reference row is made of.
-use Rattle.fax_reading.proofs.Names.{opposite}
+use Rattle.fax_reading.proofs.Names.{opposite, ◌≡◌, ℕ, zero, suc, ◌+◌, ◌-◌, ◌%◌, ◌<◌, ◌≤◌, ◌⊎◌, ◌↔◌, Bool, true, false, not, ◌&&◌}
+use Rattle.fax_reading.proofs.Names.{ltb, leb, List, [], ◌∷◌, length, get_or, replicate, refl, sym, ap, subst, ◌∙◌, arith, inl}
+use Rattle.fax_reading.proofs.Names.{inr, beq, and-false, filter, lt-ltb, le-leb, le-ltb, lt-leb, false≢true, cases_lt, cases_eq}
+use Rattle.fax_reading.proofs.Names.{cond-true, cond-false, length-replicate, get_or-replicate, get_or_append_left}
+use Rattle.fax_reading.proofs.Names.{get_or-append_right, get_or_past, get_or_default_zero, Color, White, Row, AscendFrom}
+use Rattle.fax_reading.proofs.Names.{AreChanges, pixels_from, pixels, pixel, pixel_before, is_change, is_black, right_of}
+use Rattle.fax_reading.proofs.Names.{least_below, b1, b2, right_of_painted, passed_changes, common_steps}
 use Rattle.fax_reading.proofs.PixelRows.RowChanges.{same_beq}
-use Rattle.fax_reading.proofs.Names.{◌≡◌, ℕ, zero, suc, ◌+◌, ◌-◌, ◌%◌, ◌<◌, ◌≤◌, ◌⊎◌, ◌↔◌, Bool, true, false, not, ◌&&◌, ltb, leb}
-use Rattle.fax_reading.proofs.Names.{List, [], ◌∷◌, length, get_or, replicate, refl, sym, ap, subst, ◌∙◌, arith, inl, inr, beq}
-use Rattle.fax_reading.proofs.Names.{and-false, filter, lt-ltb, le-leb, le-ltb, lt-leb, false≢true, cases_lt, cases_eq, cond-true}
-use Rattle.fax_reading.proofs.Names.{cond-false, length-replicate, get_or-replicate, get_or_append_left, get_or-append_right}
-use Rattle.fax_reading.proofs.Names.{get_or_past, get_or_default_zero, Color, White, Row, AscendFrom, AreChanges, pixels_from}
-use Rattle.fax_reading.proofs.Names.{pixels, pixel, pixel_before, is_change, is_black, right_of, least_below, b1, b2}
-use Rattle.fax_reading.proofs.Names.{right_of_painted, passed_changes, common_steps}
 use Rattle.fax_reading.proofs.PixelRows.ChangePlaces.{IsLeast, is_least, b2_above}
 use Rattle.fax_reading.proofs.PixelRows.ChangesAndPixels.{length-pixels}
 use Rattle.std.specs.Bool.{IsTrue}
@@ -59,16 +58,14 @@ ascend_bounds : (first width : ℕ) (places : List ℕ) → AscendFrom first wid
 ascend_bounds first width [] ascend j lt = absurd (omega arith)
 ascend_bounds first width (place ∷ places) ascend zero lt = (ascend.0, ascend.1)
 ascend_bounds first width (place ∷ places) ascend (suc j) lt =
-    let rest = ascend_bounds (suc place) width places ascend.2 j (omega arith) in
-    (omega (arith, ascend.0, rest.0), rest.1)
+    grind (arith, common_steps, ascend_bounds (suc place) width places ascend.2 j (omega arith))
 
 -- and of two of them the later one is greater
 ascend_order : (first width : ℕ) (places : List ℕ) → AscendFrom first width places
     → (j k : ℕ) → j < k → k < length places → get_or places j 0 < get_or places k 0
 ascend_order first width [] ascend j k lt l = absurd (omega arith)
 ascend_order first width (place ∷ places) ascend j zero lt l = absurd (omega arith)
-ascend_order first width (place ∷ places) ascend zero (suc k) lt l =
-    omega (arith, (ascend_bounds (suc place) width places ascend.2 k (omega arith)).0)
+ascend_order first width (place ∷ places) ascend zero (suc k) lt l = grind (arith, common_steps, ascend_bounds)
 ascend_order first width (place ∷ places) ascend (suc j) (suc k) lt l =
     ascend_order (suc place) width places ascend.2 j k (omega arith) (omega arith)
 
@@ -77,8 +74,7 @@ ascend_order first width (place ∷ places) ascend (suc j) (suc k) lt l =
 pixels_from-pixel : (place first : ℕ) (color : Bool) (width : ℕ) (places : List ℕ) (p j : ℕ)
     → AscendFrom first width places → place ≤ first → place ≤ p → p < width → IsSplit places (suc p) j
     → get_or (pixels_from place color width places) (p - place) false ≡ turned j color
-pixels_from-pixel place first color width [] p zero ascend le lep lt split =
-    get_or-replicate (width - place) (p - place) color false (omega arith)
+pixels_from-pixel place first color width [] p zero ascend le lep lt split = grind (arith, common_steps, get_or-replicate)
 pixels_from-pixel place first color width [] p (suc j) ascend le lep lt split = absurd (omega (arith, split.within))
 pixels_from-pixel place first color width (change ∷ places) p zero ascend le lep lt split =
     grind (arith, common_steps, get_or-replicate, get_or_append_left, length-replicate)
@@ -87,11 +83,8 @@ pixels_from-pixel place first color width (change ∷ places) p (suc j) ascend l
     let left : place ≤ change = omega (arith, ascend.0) in
     let run : length (replicate (change - place) color) ≡ change - place = length-replicate (change - place) color in
     let within : suc j ≤ suc (length places) = split.within in
-    let rest : IsSplit places (suc p) j = record {
-      within = omega arith;
-      before = λ k l. split.before (suc k) (omega arith);
-      here = λ l. split.here (omega arith);
-    } in
+    let rest : IsSplit places (suc p) j =
+    record { within = omega arith; before = λ k l. split.before (suc k) (omega arith); here = λ l. split.here (omega arith) } in
     let e : p - place - (change - place) ≡ p - change = omega arith in
     get_or-append_right (replicate (change - place) color) (pixels_from change (not color) width places) (change - place)
     (p - place) false run (omega arith) ∙ ap (λ (n : ℕ). get_or (pixels_from change (not color) width places) n false) e
@@ -253,17 +246,7 @@ module _ (columns : ℕ) (places : List ℕ) (ascend : AreChanges columns places
       color_at j lt = before_is (get_or places j 0) j (omega (arith, below j lt)) (split_at j lt)
 
       there : index < length places → is_b1 from color (get_or places index 0) ≡ true
-      there lt = grind (
-        arith,
-        common_steps,
-        reach,
-        split.here,
-        order first index,
-        color_at index lt,
-        le-leb,
-        change_there index lt,
-        same_beq,
-      )
+      there lt = grind (arith, order first index, color_at index lt, le-leb, change_there index lt)
 
       -- a change that is left of it, and not left of a0, turns the other way
       earlier : (j : ℕ) → j < index → j < length places → is_b1 from color (get_or places j 0) ≡ false

@@ -1,13 +1,10 @@
 -- The damage that a run passes is counted: the rows that it repairs, those in which it cuts a run, and the EOLs that it misses.
-use Rattle.fax_reading.proofs.Names.{◌≡◌, ◌+◌, ◌-◌, ◌<◌, ◌≤◌, ℕ, Bool, true, false, cond, eqb, leb, not, ◌&&◌, ◌||◌, List}
-use Rattle.fax_reading.proofs.Names.{[], ◌∷◌, ◌++◌, length, Ok, Err, refl, sym, ap, ◌∙◌, arith}
-use Rattle.fax_reading.proofs.Names.{cond-true, cond-false, eq-eqb, ne_eqb, lt-leb, le-leb, length-append, DecodeError}
-use Rattle.fax_reading.proofs.Names.{InvalidCode, DecodeSettings, Bits, Held, Repairs, fresh, no_repairs}
-use Rattle.fax_reading.proofs.Names.{with_missed, Damaged, repaired_in, missed_behind, is_broken, cuts_run, cut_in, cut_since}
-use Rattle.fax_reading.proofs.Names.{cuts_with}
-use Rattle.fax_reading.proofs.Names.{repairs_with, repairs_behind, Line, Progress}
-use Rattle.fax_reading.proofs.Names.{row_of_line, behind_row, with_row, misses_eol}
-use Rattle.fax_reading.proofs.Names.{context_at, Row, missed_since, start_in, None, Some}
+use Rattle.fax_reading.proofs.Names.{common_steps, ◌≡◌, ◌+◌, ◌-◌, ◌<◌, ◌≤◌, ℕ, Bool, true, false, cond, not, ◌&&◌, ◌||◌}
+use Rattle.fax_reading.proofs.Names.{List, [], ◌∷◌, ◌++◌, length, Ok, Err, refl, sym, ap, ◌∙◌, arith, cond-true, cond-false}
+use Rattle.fax_reading.proofs.Names.{eq-eqb, ne_eqb, lt-leb, le-leb, length-append, DecodeError, InvalidCode, DecodeSettings}
+use Rattle.fax_reading.proofs.Names.{Bits, Held, Repairs, fresh, with_missed, Damaged, repaired_in, missed_behind, is_broken}
+use Rattle.fax_reading.proofs.Names.{cuts_run, cut_in, cut_since, cuts_with, repairs_with, repairs_behind, Line, Progress}
+use Rattle.fax_reading.proofs.Names.{row_of_line, behind_row, with_row, misses_eol, context_at, Row, missed_since, start_in}
 use Rattle.fax_reading.proofs.Readings.RowsAndGaps.{unmissed}
 
 -- ---- Rows in which a run is cut
@@ -15,35 +12,23 @@ use Rattle.fax_reading.proofs.Readings.RowsAndGaps.{unmissed}
 -- counting one changes nothing else
 pub cuts_keep : (cut : Bool) (taken : ℕ) (before : Repairs)
     → cuts_with cut taken before ≡ record before { cut = (cuts_with cut taken before).cut }
-cuts_keep true taken before = either_way (leb before.cut taken)
-  where
-    either_way : (b : Bool) → cond b (record before { cut = before.cut + 1 }) before
-        ≡ record before { cut = (cond b (record before { cut = before.cut + 1 }) before).cut }
-    either_way true = refl
-    either_way false = refl
+cuts_keep true taken before = grind (arith, common_steps)
 cuts_keep false taken before = refl
 
 -- an accepted row is counted, if a run of it was cut
 pub cut_counts : (line strict : Line) (taken : ℕ) (before : Repairs) (x : Damaged) → before.cut ≤ taken →
-    (repairs_with line strict
-    taken before).cut ≡ before.cut + length (cond {A = List Damaged} (cuts_run line strict) (x ∷ []) [])
+    (repairs_with line strict taken before).cut ≡ before.cut + length (cond {A = List Damaged} (cuts_run line strict) (x ∷ []) [])
 cut_counts (Line.broken front fault) strict taken before x few = omega arith
 cut_counts (Line.whole row rest) (Line.whole other behind) taken before x few = omega arith
-cut_counts (Line.whole row rest) (Line.broken front fault) taken before x few =
-    ap (λ (r : Repairs). r.cut) (cond-true (leb before.cut taken) _ before (le-leb before.cut taken few))
+cut_counts (Line.whole row rest) (Line.broken front fault) taken before x few = grind (arith, common_steps, cond-true, le-leb)
 
 -- it is one row at most
 pub cut_once : (line strict : Line) (x : Damaged) → length (cond {A = List Damaged} (cuts_run line strict) (x ∷ []) []) ≤ 1
-cut_once line strict x = either_way (cuts_run line strict)
-  where
-    either_way : (b : Bool) → length (cond {A = List Damaged} b (x ∷ []) []) ≤ 1
-    either_way true = omega arith
-    either_way false = omega arith
+cut_once line strict x = grind (arith, common_steps)
 
 -- and it is told
-pub cut_is_told : (cut : Bool) (x : Damaged) (now : Repairs) (before : ℕ)
-    → now.cut ≡ before + length (cond {A = List Damaged} cut (x ∷ []) [])
-    → cut_since now before ≡ cut_in (cond {A = List Damaged} cut (x ∷ []) [])
+pub cut_is_told : (cut : Bool) (x : Damaged) (now : Repairs) (before : ℕ) → now.cut ≡ before + length
+    (cond {A = List Damaged} cut (x ∷ []) []) → cut_since now before ≡ cut_in (cond {A = List Damaged} cut (x ∷ []) [])
 cut_is_told true x now before more = ap not (ne_eqb now.cut before (λ same. absurd (omega (arith, same, more))))
 cut_is_told false x now before more = ap not (eq-eqb now.cut before (omega (arith, more)))
 
@@ -62,64 +47,31 @@ pub repaired_counts : (settings : DecodeSettings) (has_eols : Bool) (index offse
 repaired_counts settings has_eols index offset start (Line.whole pixels behind) strict row rest taken before is =
     omega (arith, ap (λ (r : Repairs). r.rows) (cuts_keep (is_broken strict) taken before))
 repaired_counts settings has_eols index offset start (Line.broken front fault) strict row rest taken before is =
-    by_strict (settings.strict || not has_eols) refl
-  where
-    by_strict : (b : Bool) → (settings.strict || not has_eols) ≡ b
-        → before.rows + 1 ≡ before.rows + length (repaired_in settings has_eols index offset (Line.broken front fault))
-    by_strict true e = let never = sym (cond-true (settings.strict || not has_eols) _ _ e) ∙ is in cc
-    by_strict false e = omega (
-      arith,
-      ap length (cond-false {A = List Damaged} (settings.strict || not has_eols) []
-          (record { row = index; start = offset; fault = fault } ∷ []) e),
-    )
+    grind (arith, common_steps, cond-true, cond-false)
 
 -- and where there is no row, nothing is repaired
 pub repaired_none : (settings : DecodeSettings) (has_eols : Bool) (index offset : ℕ) (start : Bits) (line : Line)
     (e : DecodeError) → row_of_line settings has_eols start line ≡ Err e → repaired_in settings has_eols index offset line ≡ []
 repaired_none settings has_eols index offset start (Line.whole pixels behind) e is = refl
 repaired_none settings has_eols index offset start (Line.broken front fault) e is =
-    by_strict (settings.strict || not has_eols) refl
-  where
-    by_strict : (b : Bool) → (settings.strict || not has_eols) ≡ b
-        → repaired_in settings has_eols index offset (Line.broken front fault) ≡ []
-    by_strict true none = cond-true {A = List Damaged} (settings.strict || not has_eols) []
-        (record { row = index; start = offset; fault = fault } ∷ []) none
-    by_strict false some = let never = sym (cond-false (settings.strict || not has_eols) _ _ some) ∙ is in cc
+    grind (arith, common_steps, cond-true, cond-false)
 
 -- ---- EOLs that are missed
 
 -- the gap after a row repairs none, and cuts none
 pub repaired_behind : (held : Held) (here : Bits) → ((repairs_behind held here).rows ≡ held.repairs.rows)
     × ((repairs_behind held here).last ≡ held.repairs.last) × ((repairs_behind held here).cut ≡ held.repairs.cut)
-repaired_behind held here =
-    either_way (misses_eol held.settings held.taken held.has_eols here && not held.settings.strict)
-    (eqb held.repairs.last held.taken || leb held.taken held.repairs.missed)
-  where
-    either_way : (b c : Bool) → ((cond b (cond c held.repairs (record held.repairs { missed = held.repairs.missed + 1 }))
-        held.repairs).rows ≡ held.repairs.rows) × ((cond b
-        (cond c held.repairs (record held.repairs { missed = held.repairs.missed + 1 })) held.repairs).last ≡ held.repairs.last)
-        × ((cond b (cond c held.repairs (record held.repairs { missed = held.repairs.missed + 1 })) held.repairs).cut
-        ≡ held.repairs.cut)
-    either_way true true = (refl, refl, refl)
-    either_way true false = (refl, refl, refl)
-    either_way false c = (refl, refl, refl)
+repaired_behind held here = grind arith
 
 -- where no EOLs are sought, none is missed
 unsought_behind : (held : Held) (here : Bits) → held.has_eols ≡ false → repairs_behind held here ≡ held.repairs
-unsought_behind held here unsought =
-    ap (λ (b : Bool). cond (misses_eol held.settings held.taken b here && not held.settings.strict)
-    (with_missed held.taken held.repairs) held.repairs) unsought ∙ ap (λ (b : Bool). cond (b && not held.settings.strict)
-    (with_missed held.taken held.repairs) held.repairs) (unmissed held.settings held.taken here)
+unsought_behind held here unsought = grind (arith, common_steps, unmissed)
 
 -- so the first gap of Group 4 changes nothing but whether EOLs are sought
 pub first_gap_left : (held last : Held) (here : Bits) → held ≡ fresh held.settings
     → last ≡ record held { has_eols = last.has_eols; repairs = last.repairs } → last.repairs ≡ repairs_behind held here
     → last ≡ record (fresh held.settings) { has_eols = last.has_eols }
-first_gap_left held last here begins frame missed =
-    let none : last.repairs ≡ no_repairs
-    = missed ∙ unsought_behind held here (ap (λ (h : Held). h.has_eols) begins) ∙ ap (λ (h : Held). h.repairs) begins in
-    frame ∙ ap (λ (r : Repairs). record held { has_eols = last.has_eols; repairs = r }) none
-    ∙ ap (λ (h : Held). record h { has_eols = last.has_eols; repairs = no_repairs }) begins
+first_gap_left held last here begins frame missed = grind (arith, common_steps, unsought_behind)
 
 neither : (x y : Bool) → x ≡ false → y ≡ false → (x || y) ≡ false
 neither true y e f = absurd cc
@@ -132,15 +84,10 @@ either false y e = absurd cc
 -- an EOL is counted after a row that wasn't repaired, and after one that was it isn't
 missed_by_one_more : (before : Repairs) (taken : ℕ) → before.last < taken → before.missed < taken
     → (with_missed taken before).missed ≡ before.missed + 1
-missed_by_one_more before taken last few =
-    ap (λ (r : Repairs). r.missed) (cond-false (eqb before.last taken || leb taken before.missed) before
-    (record before { missed = before.missed + 1 }) (neither (eqb before.last taken) (leb taken before.missed)
-    (ne_eqb before.last taken (λ same. absurd (omega (arith, same, last)))) (lt-leb taken before.missed few)))
+missed_by_one_more before taken last few = grind (arith, common_steps, cond-false, neither, ne_eqb, lt-leb)
 
 missed_same : (before : Repairs) (taken : ℕ) → before.last ≡ taken → with_missed taken before ≡ before
-missed_same before taken last =
-    cond-true (eqb before.last taken || leb taken before.missed) before (record before { missed = before.missed + 1 })
-    (either (eqb before.last taken) (leb taken before.missed) (eq-eqb before.last taken last))
+missed_same before taken last = grind (arith, common_steps, cond-true, either, eq-eqb)
 
 -- the EOL behind one more row is counted, if it was missed and the row wasn't repaired
 pub missed_counts : (settings : DecodeSettings) (bits : Bits) (so_far : Progress) (line strict : Line) (row : Row) (rest : Bits)
@@ -166,11 +113,7 @@ missed_counts settings bits so_far (Line.whole pixels behind) strict row rest be
     by_b : (now : Repairs) → now.last ≡ before.last → now.missed ≡ before.missed → (b c : Bool) → b ≡ c → (taken : ℕ)
         → taken ≡ length so_far.rows + 1 → (x : Damaged)
         → (cond b (with_missed taken now) now).missed ≡ before.missed + length (cond {A = List Damaged} c (x ∷ []) [])
-    by_b now at kept true true same taken more x = omega (
-      arith,
-      kept,
-      missed_by_one_more now taken (omega (arith, last, more, at)) (omega (arith, few, more, kept)),
-    )
+    by_b now at kept true true same taken more x = grind (arith, common_steps, missed_by_one_more)
     by_b now at kept true false same taken more x = absurd cc
     by_b now at kept false true same taken more x = absurd cc
     by_b now at kept false false same taken more x = omega (arith, kept)
@@ -181,17 +124,15 @@ missed_counts settings bits so_far (Line.broken front fault) strict row rest bef
   where
     by_length : (now : Repairs) → now.last ≡ length so_far.rows + 1 → now.missed ≡ before.missed → (b : Bool) (taken : ℕ)
         → length so_far.rows + 1 ≡ taken → (cond b (with_missed taken now) now).missed ≡ before.missed + 0
-    by_length now last kept true taken more =
-        omega (arith, kept, ap (λ (r : Repairs). r.missed) (missed_same now taken (last ∙ more)))
+    by_length now last kept true taken more = grind (arith, common_steps, missed_same)
     by_length now last kept false taken more = omega (arith, kept)
 
 -- it is one EOL at most
 missed_once : (settings : DecodeSettings) (bits : Bits) (so_far : Progress) (line : Line)
     → length (missed_behind settings bits so_far line) ≤ 1
 missed_once settings bits so_far (Line.broken front fault) = omega arith
-missed_once settings bits so_far (Line.whole row rest) =
-    either_way (misses_eol settings (length so_far.rows + 1) so_far.has_eols
-    (behind_row settings so_far.has_eols rest) && not settings.strict) _
+missed_once settings bits so_far (Line.whole row rest) = either_way (misses_eol settings
+    (length so_far.rows + 1) so_far.has_eols (behind_row settings so_far.has_eols rest) && not settings.strict) _
   where
     either_way : (b : Bool) (x : Damaged) → length (cond {A = List Damaged} b (x ∷ []) []) ≤ 1
     either_way true x = omega arith
@@ -203,27 +144,9 @@ pub missed_starts : (settings : DecodeSettings) (bits : Bits) (so_far : Progress
     → after.missed ≡ before + length (missed_behind settings bits so_far line)
     → missed_since after before (length bits - length rest) ≡ start_in (missed_behind settings bits so_far line)
 missed_starts settings bits so_far (Line.broken front fault) row rest is after before more =
-    cond-true (eqb after.missed before) None (Some (length bits - length rest))
-    (eq-eqb after.missed before (omega (arith, more)))
+    grind (arith, common_steps, cond-true, eq-eqb)
 missed_starts settings bits so_far (Line.whole pixels behind) row rest is after before more =
-    let same : ◌≡◌ {A = Row × Bits} (pixels, behind_row settings so_far.has_eols behind) (row, rest) = cc in
-    let here : rest ≡ behind_row settings so_far.has_eols behind = sym (ap (λ (x : Row × Bits). x.1) same) in
-    either_way (misses_eol settings (length so_far.rows + 1) so_far.has_eols
-    (behind_row settings so_far.has_eols behind) && not settings.strict) (record {
-      row = length so_far.rows;
-      start = length bits - length (behind_row settings so_far.has_eols behind);
-      fault = InvalidCode;
-    }) (ap (λ (b : Bits). length bits - length b) here) more
-  where
-    either_way : (b : Bool) (x : Damaged) → length bits - length rest ≡ x.start
-        → after.missed ≡ before + length (cond {A = List Damaged} b (x ∷ []) [])
-        → missed_since after before (length bits - length rest) ≡ start_in (cond {A = List Damaged} b (x ∷ []) [])
-    either_way true x there more =
-        cond-false (eqb after.missed before) None (Some (length bits - length rest))
-        (ne_eqb after.missed before (λ same. absurd (omega (arith, same, more)))) ∙ ap Some there
-    either_way false x there more =
-        cond-true (eqb after.missed before) None (Some (length bits - length rest))
-        (eq-eqb after.missed before (omega (arith, more)))
+    grind (arith, common_steps, cond-false, ne_eqb, cond-true, eq-eqb)
 
 -- where there is no row, no EOL is missed
 pub missed_none : (settings : DecodeSettings) (bits : Bits) (so_far : Progress) (line : Line) (e : DecodeError)
@@ -234,8 +157,7 @@ missed_none settings bits so_far (Line.broken front fault) e is = refl
 -- the last repaired row is one of them
 last_with : (line strict : Line) (taken : ℕ) (before : Repairs) → before.last ≤ taken
     → (repairs_with line strict taken before).last ≤ taken + 1
-last_with (Line.whole row rest) strict taken before within =
-    omega (arith, within, ap (λ (r : Repairs). r.last) (cuts_keep (is_broken strict) taken before))
+last_with (Line.whole row rest) strict taken before within = grind (arith, common_steps, cuts_keep)
 last_with (Line.broken front fault) strict taken before within = omega arith
 
 module _ (settings : DecodeSettings) (bits : Bits) (so_far : Progress) (line strict : Line) (row : Row) (rest : Bits)

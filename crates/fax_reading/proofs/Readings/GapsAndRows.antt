@@ -1,9 +1,9 @@
 -- The first gap, and what gaps and rows lead to.
-use Rattle.fax_reading.proofs.Names.{◌≡◌, ◌≢◌, ◌<◌, suc, false, [], length, arith, Result, Err, refl, ap, subst, ◌∙◌, ℕ}
-use Rattle.fax_reading.proofs.Names.{DecodeError, UnexpectedEof, DecodeSettings, Group4, Bits, IsPrefix, add_row_alone}
-use Rattle.fax_reading.proofs.Names.{row_behind, gap_and_row, Progress, Ending, Move, eols_here, row_of_line, pass_gap, add_row}
-use Rattle.fax_reading.proofs.Names.{move_on, line_of_turn, at_front, first_line, first_gap, ending_from, ending_behind, end_of}
-use Rattle.fax_reading.proofs.Names.{misses_eol, cond-false, Bool, Turn, repeated, Reaches, Row, common_steps}
+use Rattle.fax_reading.proofs.Names.{◌≡◌, ◌≢◌, ◌<◌, suc, false, [], length, arith, Result, Err, refl, ap, ◌∙◌, ℕ, DecodeError}
+use Rattle.fax_reading.proofs.Names.{UnexpectedEof, DecodeSettings, Group4, Bits, IsPrefix, add_row_alone, row_behind}
+use Rattle.fax_reading.proofs.Names.{gap_and_row, Progress, Ending, Move, eols_here, row_of_line, pass_gap, add_row, move_on}
+use Rattle.fax_reading.proofs.Names.{line_of_turn, at_front, first_line, first_gap, ending_from, ending_behind, end_of}
+use Rattle.fax_reading.proofs.Names.{cond-false, Turn, repeated, Reaches, Row, common_steps, ne_eqb, plain, whole_reading}
 use Rattle.fax_bits.proofs.Repetition.Repeated.{Follows, after_turn, repeated_follows, repeated_turn, not_next}
 use Rattle.fax_reading.proofs.Readings.RowsAndGaps.{pass_gap-is, unless_over, unmissed}
 use Rattle.fax_reading.proofs.Readings.TurnsAddRows.{move_adds, repeated_adds}
@@ -20,12 +20,19 @@ first_gap_t4 settings bits other = grind (arith, common_steps)
 abbrev pub ending_t4 : DecodeSettings → Bits → Ending
 ending_t4 settings bits = ending_from (move_on settings) (first_line settings bits)
 
+pub end_t4 : (settings : DecodeSettings) (bits : Bits) → settings.encoding ≢ Group4
+    → end_of settings bits ≡ ending_t4 settings bits
+end_t4 settings bits other = ap (ending_behind settings) (first_gap_t4 settings bits other)
+
+-- with columns a reading is what its end says
+pub plain_is : (settings : DecodeSettings) → 0 < settings.columns → (bits : Bits)
+    → plain settings bits ≡ whole_reading bits (end_of settings bits)
+plain_is settings wide bits = grind (arith, common_steps, cond-false, ne_eqb)
+
 -- a gap where no EOLs are sought
 pub gap_unsought : (settings : DecodeSettings) (run : Progress) → run.has_eols ≡ false
     → pass_gap settings run ≡ unless_over settings run (eols_here settings run.rest)
-gap_unsought settings run unsought =
-    pass_gap-is settings run ∙ cond-false (misses_eol settings (length run.rows) run.has_eols run.rest) _ _
-    (ap (λ (h : Bool). misses_eol settings (length run.rows) h run.rest) unsought ∙ unmissed settings (length run.rows) run.rest)
+gap_unsought settings run unsought = grind (arith, common_steps, pass_gap-is, cond-false, unmissed)
 
 -- ---- Gaps and rows lead on as turns do
 
@@ -48,8 +55,7 @@ module _ (settings : DecodeSettings) (wide : 0 < settings.columns) where
       turn_same rest turn = grind (arith, common_steps)
 
       same : (s t : Progress) → s ≡ t → Follows (λ s t. s ≡ t) (λ r q. r ≡ q) goes (move_on settings s) (move_on settings t)
-      same s t e = subst (λ (r : Progress). Follows (λ s t. s ≡ t) (λ r q. r ≡ q) goes (move_on settings s) (move_on settings r))
-          e (turn_same goes (move_on settings s))
+      same s t e = grind (arith, common_steps, turn_same)
 
   ending_behind_goes : (gap : Move) → ending_behind settings gap ≡ after_turn goes gap
   ending_behind_goes gap = grind (arith, common_steps, ending_goes)
@@ -71,9 +77,8 @@ module _ (settings : DecodeSettings) (wide : 0 < settings.columns) where
     where
       by_gap : (gap : Move) → row_behind settings gap ≡ Turn.next after
           → after_turn goes gap ≡ after_turn goes (pass_gap settings after)
-      by_gap (Turn.next line) e =
-          repeated_turn (move_on settings) late left_to_read (move_shrinks settings wide) line
-          ∙ ap (after_turn goes) (row_then_gap line after e)
+      by_gap (Turn.next line) e = repeated_turn (move_on settings) late left_to_read
+          (move_shrinks settings wide) line ∙ ap (after_turn goes) (row_then_gap line after e)
       by_gap (Turn.done end) e = absurd (not_next end after e)
 
   -- if gaps and rows lead to a last gap, the reading from the first gap on ends with that

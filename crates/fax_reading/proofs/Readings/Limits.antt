@@ -1,15 +1,14 @@
 -- A row limit cuts what comes without one.
-use Rattle.fax_reading.proofs.Readings.TurnsAddRows.{turn_extends}
+use Rattle.fax_reading.proofs.Readings.TurnsAddRows.{turn_extends, Keeps, after_row_keeps}
 use Rattle.fax_reading.proofs.Names.{◌≡◌, ℕ, ◌-◌, ◌<◌, ◌≤◌, Bool, true, false, cond, not, ◌&&◌, ◌||◌, eqb, List, [], ◌∷◌, ◌++◌}
 use Rattle.fax_reading.proofs.Names.{length, take, replicate, Option, Result, Err, refl, sym, arith, inl, inr, IsOk}
-use Rattle.fax_reading.proofs.Names.{length-append, take_all, cases_eq, and_right, or_left, or_right, eq-eqb, ne_eqb}
-use Rattle.fax_reading.proofs.Names.{cond-true, cases_lt, DecodeError, DecodeSettings, EncodingMode, Bits, IsPrefix, Row}
-use Rattle.fax_reading.proofs.Names.{Line, next_eol, Progress, Ending, Move, aligned, ends_with, limit_met, bytes_before}
-use Rattle.fax_reading.proofs.Names.{eols_here, after_line, move_on, first_gap, ending_from, end_of, RowLimit, common_steps}
+use Rattle.fax_reading.proofs.Names.{length-append, take_all, cases_eq, and_right, or_left, or_right, eq-eqb, ne_eqb, cond-true}
+use Rattle.fax_reading.proofs.Names.{cases_lt, DecodeError, DecodeSettings, EncodingMode, Bits, IsPrefix, Row, Line, next_eol}
+use Rattle.fax_reading.proofs.Names.{Progress, Ending, Move, aligned, ends_with, limit_met, bytes_before, eols_here, after_line}
+use Rattle.fax_reading.proofs.Names.{move_on, first_gap, ending_from, end_of, RowLimit, common_steps}
 use Rattle.fax_reading.proofs.Readings.GapsAndRows.{readings_follow}
-use Rattle.fax_bits.proofs.Repetition.Repeated.{Follows, after_turn}
+use Rattle.fax_bits.proofs.Repetition.Repeated.{Follows}
 use Rattle.fax_reading.proofs.Readings.RowsAndGaps.{unless_over, seek_from, after_row, after_whole-is, after_damage-is}
-use Rattle.fax_reading.proofs.Readings.TurnsAddRows.{Keeps, after_row_keeps}
 
 module _ (settings : DecodeSettings) (limit : ℕ) (some : 0 < limit) (wide : 0 < settings.columns) where
   -- the settings with the limit, and without one
@@ -49,8 +48,7 @@ module _ (settings : DecodeSettings) (limit : ℕ) (some : 0 < limit) (wide : 0 
     cut_turn : (run : Progress) (found : ℕ × Bits) (m : Move) → length run.rows ≡ limit → Keeps run.rows m
         → Follows Same Cut rest (unless_over limited run found) m
     cut_turn run (count, here) m full k =
-        let extended = turn_extends rest extends in
-        grind (arith, common_steps, after_turn, cond-true, cut_rows, is_met, or_left, or_right, extended, unless_over)
+        grind (arith, common_steps, turn_extends, cond-true, cut_rows, is_met, or_left, or_right)
 
     seek_from_open : (run : Progress) (o : Option Bits) → limit_met limited (length run.rows) ≡ false
         → seek_from limited run o ≡ seek_from unlimited run o

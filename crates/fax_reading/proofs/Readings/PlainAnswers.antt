@@ -1,18 +1,12 @@
 -- What decoding leaves of whole data, given what a driver leaves of its bits.
-use Rattle.fax_reading.proofs.Names.{◌≡◌, ◌≢◌, ℕ, ◌+◌, ◌-◌, ◌*◌, ◌/◌, ◌≤◌, IfOk, Bool, true, false, eqb, List, length, drop}
-use Rattle.fax_reading.proofs.Names.{Option, Some, Result, Ok, Err, refl, sym, ap, subst, ◌∙◌, arith, cond-false, eqb-true}
-use Rattle.fax_reading.proofs.Names.{length-drop, DecodeError, OutOfMemory, Refused, DecodeSettings, Bits, Held}
-use Rattle.fax_reading.proofs.Names.{SinkState, TakesRows, StopsShort, FailsHere, Ending}
-use Rattle.fax_reading.proofs.Names.{Reading, plain, end_of, lines_of, bytes_before, whole_reading}
-use Rattle.fax_reading.proofs.Names.{failed_at}
+use Rattle.fax_reading.proofs.Names.{common_steps, ◌≡◌, ◌≢◌, ℕ, ◌+◌, ◌-◌, ◌*◌, ◌/◌, ◌≤◌, IfOk, false, eqb, List, length, drop}
+use Rattle.fax_reading.proofs.Names.{Option, Some, Result, Ok, Err, arith, cond-false, eqb-true, length-drop}
+use Rattle.fax_reading.proofs.Names.{DecodeError, DecodeSettings, Bits, Held, SinkState, TakesRows}
+use Rattle.fax_reading.proofs.Names.{StopsShort, FailsHere, Ending, plain, end_of, lines_of, bytes_before, failed_at}
 
 -- a number of columns that isn't 0
 pub some_columns : (n : ℕ) → n ≢ 0 → eqb n 0 ≡ false
-some_columns n some = by_eqb (eqb n 0) refl
-  where
-    by_eqb : (b : Bool) → eqb n 0 ≡ b → b ≡ false
-    by_eqb true e = absurd (some (eqb-true n 0 e))
-    by_eqb false e = refl
+some_columns n some = grind (arith, common_steps, eqb-true)
 
 -- what is known of the accepted rows and of the result, in the terms of the contract of `decode`
 abbrev pub LeavesRows : {M : Type 0} → DecodeSettings → Bits → (M → List ℕ → M) → SinkState M → SinkState M → Held
@@ -24,9 +18,7 @@ LeavesRows settings bits step before after held answer =
 -- the bits before a position, in whole bytes
 pub bytes_before-place : (bits : Bits) (place : ℕ) → place ≤ length bits
     → bytes_before bits (Ok (drop place bits)) ≡ Ok ((place + 7) / 8)
-bytes_before-place bits place within =
-    let taken : length bits - length (drop place bits) ≡ place = omega (arith, length-drop place bits, within) in
-    ap {B = Result ℕ DecodeError} (λ (n : ℕ). Ok ((n + 7) / 8)) taken
+bytes_before-place bits place within = grind (arith, common_steps, length-drop)
 
 -- a byte count within a number of bits is within the number of bytes
 pub whole_bytes_within : (answer : Result ℕ DecodeError) (bits bytes : ℕ) → bits ≡ 8 * bytes → IfOk answer (λ n. 8 * n ≤ bits)
@@ -40,70 +32,24 @@ module _ {M : Type 0} (settings : DecodeSettings) (bits : Bits) (step : M → Li
   end = end_of settings bits
 
   known : (answer : Result ℕ DecodeError)
-      → TakesRows end.rows (bytes_before bits end.outcome) end.has_eols step before after held answer
-      × StopsShort end.rows (lines_of settings bits) before after held answer
-      → LeavesRows settings bits step before after held answer
-  known answer leaves = subst (λ (r : Reading). TakesRows r.rows r.outcome r.has_eols step before after held answer
-      × StopsShort r.rows (lines_of settings bits) before after held answer)
-      (sym (cond-false (eqb settings.columns 0) _ (whole_reading bits end) (some_columns settings.columns some))) leaves
+      → TakesRows end.rows (bytes_before bits end.outcome) end.has_eols step before after held answer × StopsShort end.rows
+      (lines_of settings bits) before after held answer → LeavesRows settings bits step before after held answer
+  known answer leaves = grind (arith, common_steps, cond-false, some_columns)
 
   -- where the driver ended well at a position
   pub decodes_well : (place count : ℕ) (rest : Bits) → rest ≡ drop place bits → place ≤ length bits → (place + 7) / 8 ≡ count
-      → TakesRows end.rows end.outcome end.has_eols step before after held (Ok rest)
-      → StopsShort {A = Bits} end.rows (lines_of settings bits) before after held (Ok rest)
-      → LeavesRows settings bits step before after held (Ok count)
-  decodes_well place count rest at within counted takes short = known (Ok count) (
-    record {
-      taken = takes.taken;
-      meaning = takes.meaning;
-      all = takes.all;
-      ok = ap (bytes_before bits) takes.ok ∙ ap {B = Result ℕ DecodeError} (λ (x : Bits). bytes_before bits (Ok x)) at
-          ∙ bytes_before-place bits place within ∙ ap {B = Result ℕ DecodeError} (λ (n : ℕ). Ok n) counted;
-      fault = tt;
-      has_eols = takes.has_eols;
-    },
-    record {
-      memory = λ e. cc;
-      refused = λ e. cc;
-      refused_row = λ e. cc;
-      flag = λ e. cc;
-      no_flag = λ e. short.no_flag (λ f. cc);
-    },
-  )
+      → TakesRows end.rows end.outcome end.has_eols step before after held (Ok rest) → StopsShort {A = Bits} end.rows
+      (lines_of settings bits) before after held (Ok rest) → LeavesRows settings bits step before after held (Ok count)
+  decodes_well place count rest at within counted takes short = grind (arith, common_steps, known, bytes_before-place)
 
   -- where it ended with an error
   pub decodes_badly : (error : DecodeError) → TakesRows end.rows end.outcome end.has_eols step before after held (Err error)
       → StopsShort {A = Bits} end.rows (lines_of settings bits) before after held (Err error)
       → LeavesRows settings bits step before after held (Err error)
-  decodes_badly error takes short = known (Err error) (
-    record {
-      taken = takes.taken;
-      meaning = takes.meaning;
-      all = takes.all;
-      ok = tt;
-      fault = λ f. ap (bytes_before bits) (takes.fault f);
-      has_eols = takes.has_eols;
-    },
-    record {
-      memory = λ e. short.memory (same error OutOfMemory e);
-      refused = λ e. short.refused (same error Refused e);
-      refused_row = λ e. short.refused_row (same error Refused e);
-      flag = λ e. short.flag (same error Refused e);
-      no_flag = λ e. short.no_flag (λ f. e (back error Refused f));
-    },
-  )
-    where
-      same : (e f : DecodeError) → ◌≡◌ {A = Result ℕ DecodeError} (Err e) (Err f)
-          → ◌≡◌ {A = Result Bits DecodeError} (Err e) (Err f)
-      same e f is = let it : e ≡ f = cc in ap {B = Result Bits DecodeError} (λ (x : DecodeError). Err x) it
-
-      back : (e f : DecodeError) → ◌≡◌ {A = Result Bits DecodeError} (Err e) (Err f)
-          → ◌≡◌ {A = Result ℕ DecodeError} (Err e) (Err f)
-      back e f is = let it : e ≡ f = cc in ap {B = Result ℕ DecodeError} (λ (x : DecodeError). Err x) it
+  decodes_badly error takes short = grind (arith, common_steps, known)
 
 -- where it failed
 pub fault_left : (settings : DecodeSettings) (bits read rest : Bits) → read ≡ bits → (taken : ℕ)
     → FailsHere settings bits taken rest → (place : Option ℕ) → place ≡ Some (length read - length rest)
     → place ≡ Some (failed_at settings bits taken)
-fault_left settings bits read rest are taken fails place is =
-    is ∙ ap (λ (b : Bits). Some (length b - length rest)) are ∙ ap (λ (n : ℕ). Some n) fails
+fault_left settings bits read rest are taken fails place is = grind (arith, common_steps)

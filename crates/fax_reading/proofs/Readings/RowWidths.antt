@@ -1,9 +1,8 @@
 -- Each row of the plain reading has the width of its columns.
-use Rattle.fax_reading.proofs.Names.{◌≡◌, ◌≤◌, ◌-◌, ℕ, suc, Bool, true, false, cond, not, ◌||◌, eqb, List, [], ◌∷◌, ◌++◌, length}
-use Rattle.fax_reading.proofs.Names.{replicate, Err, sym, subst, arith, length-append, length-replicate, All-append, All-cons}
-use Rattle.fax_reading.proofs.Names.{All-nil, UnexpectedEof, DecodeSettings, front_of, Bits, Turn, Row, HaveWidth, repaired, Line}
-use Rattle.fax_reading.proofs.Names.{Progress, Move, plain, end_of, whole_reading, nothing_read, first_gap, ending_from}
-use Rattle.fax_reading.proofs.Names.{ending_behind, row_before, ends_with, with_row, behind_row, line_here, after_line, move_on}
+use Rattle.fax_reading.proofs.Names.{common_steps, ◌≡◌, ◌≤◌, ℕ, suc, Bool, true, false, cond, List, [], ◌∷◌, ◌++◌, length, Err}
+use Rattle.fax_reading.proofs.Names.{sym, subst, arith, length-append, length-replicate, All-append, All-cons, All-nil}
+use Rattle.fax_reading.proofs.Names.{UnexpectedEof, DecodeSettings, front_of, Bits, Turn, Row, HaveWidth, repaired, Line}
+use Rattle.fax_reading.proofs.Names.{Progress, Move, plain, ending_from, ending_behind, with_row, behind_row, after_line, move_on}
 use Rattle.fax_reading.proofs.DrawingLines.LineWidths.{line_by_within}
 use Rattle.fax_bits.proofs.Repetition.Repeated.{repeated_keeps}
 use Rattle.fax_reading.proofs.DrawingLines.FullRows.{IsFull, line_by_full}
@@ -30,8 +29,7 @@ have_width_with_row columns rows row have width = All-append (λ r. length r ≡
     (All-cons (λ r. length r ≡ columns) row [] width (All-nil (λ r. length r ≡ columns)))
 
 repaired_width : (columns : ℕ) (front : Row) → length front ≤ columns → length (repaired columns front) ≡ columns
-repaired_width columns front within =
-    omega (arith, length-append front (replicate (columns - length front) false), length-replicate (columns - length front) false)
+repaired_width columns front within = grind (arith, common_steps, length-append, length-replicate)
 
 module _ (settings : DecodeSettings) where
   -- a row is added
@@ -43,21 +41,13 @@ module _ (settings : DecodeSettings) where
 
   after_line_width : (so_far : Progress) (line : Line) → HaveWidth settings.columns so_far.rows → length (front_of line)
       ≤ settings.columns → IsFull settings.columns line → LeavesWidth settings.columns (after_line settings so_far line)
-  after_line_width so_far (Line.whole row rest) have within full =
-      subst (LeavesWidth settings.columns) (sym (after_whole-is settings so_far row rest))
-      (row_added_width so_far row rest have (omega arith))
+  after_line_width so_far (Line.whole row rest) have within full = grind (arith, common_steps, after_whole-is, row_added_width)
   after_line_width so_far (Line.broken front fault) have within full =
-      subst (LeavesWidth settings.columns) (sym (after_damage-is settings so_far front fault))
-      (one_of settings.columns (settings.strict || not so_far.has_eols)
-      (ends_with so_far (Err fault)) (row_added settings so_far (repaired settings.columns front) so_far.rest) have
-      (row_added_width so_far (repaired settings.columns front) so_far.rest have (repaired_width settings.columns front within)))
+      grind (arith, common_steps, after_damage-is, one_of, row_added, row_added_width, repaired_width)
 
   move_width : (so_far : Progress) → HaveWidth settings.columns so_far.rows
       → LeavesWidth settings.columns (move_on settings so_far)
-  move_width so_far have =
-      after_line_width so_far (line_here settings (row_before settings.columns so_far.rows) so_far.rest) have
-      (line_by_within settings.encoding settings.strict settings.columns (row_before settings.columns so_far.rows) so_far.rest)
-      (line_by_full settings.encoding settings.strict settings.columns (row_before settings.columns so_far.rows) so_far.rest)
+  move_width so_far have = grind (arith, common_steps, after_line_width, line_by_within, line_by_full)
 
   -- the rows that turns yield
   ending_width : (so_far : Progress) → HaveWidth settings.columns so_far.rows
@@ -77,10 +67,4 @@ module _ (settings : DecodeSettings) where
 
   -- each row has the width
   pub plain_width : (input : Bits) → HaveWidth settings.columns (plain settings input).rows
-  plain_width input = either_way (eqb settings.columns 0)
-    where
-      either_way : (b : Bool)
-          → HaveWidth settings.columns (cond b nothing_read (whole_reading input (end_of settings input))).rows
-      either_way true = none
-      either_way false =
-          behind_width (first_gap settings.encoding settings input) (first_gap_keeps settings settings.encoding input)
+  plain_width input = grind (arith, common_steps, behind_width, first_gap_keeps)

@@ -1,15 +1,14 @@
 -- The turns of the plain reading with the rows so far: what is between rows, over a state and not over numbers.
-use Rattle.fax_reading.proofs.Names.{◌≡◌, ℕ, Bool, true, false, cond, not, ◌||◌, eqb, length, Option, Some, None, Ok, ◌&&◌, Err}
-use Rattle.fax_reading.proofs.Names.{refl, sym, ap, ◌∙◌, and_parts, cases_Bool, inl, inr, false≢true, aligned, InvalidCode}
+use Rattle.fax_reading.proofs.Names.{arith, common_steps, ◌≡◌, ℕ, Bool, true, false, cond, not, ◌||◌, length, Option, Some, None}
+use Rattle.fax_reading.proofs.Names.{Ok, ◌&&◌, Err, refl, ◌∙◌, and_parts, cases_Bool, false≢true, aligned, InvalidCode}
 use Rattle.fax_reading.proofs.Names.{DecodeSettings, DecodeError, Bits, Row, repaired, Line, next_eol, Turn, is_over, misses_eol}
 use Rattle.fax_reading.proofs.Names.{Progress, Gap, with_row, behind_row, add_row, after_line, Move, eols_here, behind_eols}
 use Rattle.fax_reading.proofs.Names.{from_next_eol, missing_eol, ends_with, at_gap, pass_gap}
 
 -- EOLs were counted after the rows so far
 abbrev pub unless_over : DecodeSettings → Progress → ℕ × Bits → Move
-unless_over settings so_far (count, rest) =
-    cond (is_over settings (length so_far.rows) (count, rest)) (ends_with so_far (Ok rest))
-    (Turn.next (record so_far { rest = rest }))
+unless_over settings so_far (count, rest) = cond
+    (is_over settings (length so_far.rows) (count, rest)) (ends_with so_far (Ok rest)) (Turn.next (record so_far { rest = rest }))
 
 -- the next EOL was looked for
 abbrev pub seek_from : DecodeSettings → Progress → Option Bits → Move
@@ -23,9 +22,8 @@ seek_eol settings so_far =
 
 -- what comes after a row
 abbrev pub after_row : DecodeSettings → Progress → Move
-after_row settings so_far =
-    cond (misses_eol settings (length so_far.rows) so_far.has_eols so_far.rest) (seek_eol settings so_far)
-    (unless_over settings so_far (eols_here settings so_far.rest))
+after_row settings so_far = cond (misses_eol settings (length so_far.rows) so_far.has_eols so_far.rest)
+    (seek_eol settings so_far) (unless_over settings so_far (eols_here settings so_far.rest))
 
 -- a row is added, before these bits
 abbrev pub row_added : DecodeSettings → Progress → Row → Bits → Move
@@ -46,10 +44,7 @@ cond-same false x y z w one two = two refl
 -- after EOLs
 behind_eols-is : (settings : DecodeSettings) (so_far : Progress) (has_eols : Bool) (found : ℕ × Bits) → so_far.has_eols ≡ has_eols
     → at_gap so_far (behind_eols settings (length so_far.rows) has_eols found) ≡ unless_over settings so_far found
-behind_eols-is settings so_far has_eols (count, rest) is =
-    let over : Bool = is_over settings (length so_far.rows) (count, rest) in
-    at_gap-cond so_far over (Gap.over (Ok rest)) (Gap.line_at has_eols rest) ∙ cond-same over _ _ _ _ (λ e. refl)
-    (λ e. ap {B = Move} (λ (h : Bool). Turn.next (record so_far { has_eols = h; rest = rest })) (sym is))
+behind_eols-is settings so_far has_eols (count, rest) is = grind (arith, common_steps, at_gap-cond, cond-same)
 
 -- from the next EOL on
 from_eol : (settings : DecodeSettings) (so_far : Progress) (next : Option Bits) → so_far.has_eols ≡ true
@@ -60,14 +55,10 @@ from_eol settings so_far None is = refl
 -- an EOL is missed only where EOLs are sought
 pub missed_sought : (settings : DecodeSettings) (taken : ℕ) (h : Bool) (here : Bits) → misses_eol settings taken h here ≡ true
     → h ≡ true
-missed_sought settings taken h here e =
-    (and_parts (eqb (eols_here settings here).0 0) h (and_parts _ _ (and_parts _ _ e).0).0).1
+missed_sought settings taken h here e = grind (arith, common_steps, and_parts)
 
 pub unmissed : (settings : DecodeSettings) (taken : ℕ) (here : Bits) → misses_eol settings taken false here ≡ false
-unmissed settings taken here = elim (cases_Bool (misses_eol settings taken false here)) [
-  | inl missed ↦ absurd (false≢true (missed_sought settings taken false here missed))
-  | inr none ↦ none
-]
+unmissed settings taken here = grind (arith, common_steps, cases_Bool, false≢true, missed_sought)
 
 -- what follows the rows
 pub pass_gap-is : (settings : DecodeSettings) (so_far : Progress) → pass_gap settings so_far ≡ after_row settings so_far

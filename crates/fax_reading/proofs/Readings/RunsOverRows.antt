@@ -1,14 +1,13 @@
 -- A run over the rows of the plain reading: what is known of a state that it reaches, and the turns from there on.
-use Rattle.fax_reading.proofs.Names.{◌≡◌, ℕ, zero, suc, ◌+◌, ◌<◌, ◌≤◌, List, [], ◌∷◌, ◌++◌, length, drop}
-use Rattle.fax_reading.proofs.Names.{get_or, Some, Result, Ok, Err, refl, sym, ap, ◌∙◌, subst, append-nil, arith, slice_get}
-use Rattle.fax_reading.proofs.Names.{length-append, DecodeError, UnexpectedEof}
-use Rattle.fax_reading.proofs.Names.{DecodeSettings, Bits, IsPrefix, Repairs, with_row_taken, context_at}
-use Rattle.fax_reading.proofs.Names.{Progress, Ending, Gap, Move, with_row, ending_from, turns_from, Turn}
-use Rattle.fax_reading.proofs.Names.{row_of_line, line_of_turn, add_row, at_gap, gap_behind_row, move_on, pass_gap, repeated}
-use Rattle.fax_reading.proofs.Names.{gathered, Row, Reaches}
+use Rattle.fax_reading.proofs.Names.{common_steps, ◌≡◌, ℕ, zero, suc, ◌+◌, ◌<◌, ◌≤◌, List, [], ◌∷◌, ◌++◌, length, drop, get_or}
+use Rattle.fax_reading.proofs.Names.{Some, Result, Ok, Err, refl, sym, ap, ◌∙◌, subst, append-nil, arith, slice_get}
+use Rattle.fax_reading.proofs.Names.{length-append, DecodeError, UnexpectedEof, DecodeSettings, Bits, IsPrefix, Repairs}
+use Rattle.fax_reading.proofs.Names.{with_row_taken, context_at, Progress, Ending, Gap, Move, with_row, ending_from, turns_from}
+use Rattle.fax_reading.proofs.Names.{Turn, row_of_line, line_of_turn, add_row, at_gap, gap_behind_row, move_on, pass_gap}
+use Rattle.fax_reading.proofs.Names.{repeated, gathered, Row, Reaches}
 use Rattle.fax_reading.proofs.EncodedPictures.PictureLines.{row_before_push}
 use Rattle.fax_bits.proofs.Repetition.Gathered.{gathered_after, gathered_turn, gathered_same}
-use Rattle.fax_bits.proofs.Repetition.Repeated.{after_turn, repeated_turn, repeated_same, next_is, not_next}
+use Rattle.fax_bits.proofs.Repetition.Repeated.{after_turn, repeated_turn, repeated_same, not_next}
 use Rattle.fax_reading.proofs.Readings.RowsAndGaps.{after_row, pass_gap-is}
 use Rattle.fax_reading.proofs.Readings.TurnsAddRows.{Adds, Keeps, after_row_keeps, keeps_adds, move_adds, repeated_adds}
 use Rattle.fax_reading.proofs.Readings.TurnsAddRows.{prefix_trans}
@@ -38,11 +37,7 @@ get_or-behind (y ∷ xs) x more other = get_or-behind xs x more other
 pub context_at-more : (settings : DecodeSettings) (so_far : Progress) (row : Row) (rest : Bits) (before now : Repairs)
     → record (with_row_taken (context_at settings so_far before) row) { repairs = now }
     ≡ context_at settings (with_row so_far row rest) now
-context_at-more settings so_far row rest before now =
-    let more : length so_far.rows + 1 ≡ length (so_far.rows ++ row ∷ []) = omega (arith, length-append so_far.rows (row ∷ [])) in
-    ap (λ (r : Row). record (context_at settings so_far now) { reference = r; taken = length so_far.rows + 1 })
-    (sym (row_before_push settings.columns so_far.rows row))
-    ∙ ap (λ (n : ℕ). record (context_at settings (with_row so_far row rest) now) { taken = n }) more
+context_at-more settings so_far row rest before now = grind (arith, common_steps, length-append, row_before_push)
 
 -- ---- One turn
 
@@ -60,8 +55,7 @@ module _ (settings : DecodeSettings) (so_far : Progress) where
 
   pub row_adds : (taken : Row) (rest : Bits) → row_of_turn ≡ Ok (taken, rest)
       → Adds (so_far.rows ++ taken ∷ []) (move_on settings so_far)
-  row_adds taken rest is =
-      subst (Adds (so_far.rows ++ taken ∷ [])) (sym (ap (add_row settings so_far) is)) (behind_adds taken rest)
+  row_adds taken rest is = grind (arith, common_steps, behind_adds)
 
   -- the reading continues, or ends, as what follows its row says
   pub turn_is : (taken : Row) (rest : Bits) (gap : Gap) → row_of_turn ≡ Ok (taken, rest) → gap_behind_row settings (length
@@ -80,8 +74,7 @@ module _ (settings : DecodeSettings) (so_far : Progress) where
           at : (gap : Gap) → at_gap (with_row so_far row rest) gap ≡ Turn.next after
               → length after.rows ≡ suc (length so_far.rows)
           at (Gap.over outcome) e = absurd (not_next _ after e)
-          at (Gap.line_at has_eols here) e =
-              omega (arith, ap (λ (p : Progress). length p.rows) (next_is _ after e), length-append so_far.rows (row ∷ []))
+          at (Gap.line_at has_eols here) e = grind (arith, common_steps, length-append)
 
 -- ---- The turns from a state on
 
@@ -126,8 +119,7 @@ module _ (settings : DecodeSettings) (wide : 0 < settings.columns) {start : Prog
     -- the rows that its turn adds are among the first of the whole
     pub comes_more : (rows : List Row) → Adds rows (move_on settings so_far)
         → IsPrefix rows (ending_from (move_on settings) start).rows
-    comes_more rows adds =
-        subst (λ (e : Ending). IsPrefix rows e.rows) (sym comes_turn) (by_turn (move_on settings so_far) adds)
+    comes_more rows adds = subst (λ (e : Ending). IsPrefix rows e.rows) (sym comes_turn) (by_turn (move_on settings so_far) adds)
       where
         by_turn : (turn : Move) → Adds rows turn → IsPrefix rows (after_turn (ending settings start) turn).rows
         by_turn (Turn.next after) p = prefix_trans rows after.rows (ending settings start after).rows

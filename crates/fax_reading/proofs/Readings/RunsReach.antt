@@ -1,9 +1,9 @@
 -- What is known of a state that a reading reaches: it is the one of its index in the list of its turns, so what it gives is
 -- that of its index in every list over them.
-use Rattle.fax_reading.proofs.Names.{◌≡◌, ◌+◌, ◌<◌, ℕ, List, [], ◌∷◌, length, drop, map, take, get_or, Some, ap, ◌∙◌, sym, subst}
-use Rattle.fax_reading.proofs.Names.{arith, slice_get, cond-false, ne_eqb, sum_by, eqb, DecodeSettings, Bits, Progress, Ending}
-use Rattle.fax_reading.proofs.Names.{first_gap, move_on, turns_of, turns_from, turns_behind, Turn, Reaches, get_or-drop}
-use Rattle.fax_reading.proofs.Names.{drop-map, slice_get_within, get_or_from_slice_get, sum_by_more, sum_by-take-drop, Move}
+use Rattle.fax_reading.proofs.Names.{common_steps, ◌≡◌, ◌+◌, ◌<◌, ℕ, List, [], ◌∷◌, length, drop, map, take, get_or, Some, ap}
+use Rattle.fax_reading.proofs.Names.{◌∙◌, sym, subst, arith, slice_get, cond-false, ne_eqb, sum_by, DecodeSettings, Bits}
+use Rattle.fax_reading.proofs.Names.{Progress, Ending, first_gap, move_on, turns_of, turns_from, Turn, Reaches, get_or-drop}
+use Rattle.fax_reading.proofs.Names.{drop-map, slice_get_within, get_or_from_slice_get, sum_by_more, sum_by-take-drop}
 use Rattle.fax_bits.proofs.Repetition.Gathered.{gathered_after}
 use Rattle.fax_reading.proofs.Readings.RunsOverRows.{slice_get-drop_cons, Comes, comes_there, turns_left, turns_on}
 use Rattle.fax_reading.proofs.Readings.TurnsAddRows.{Keeps, first_gap_keeps}
@@ -15,9 +15,7 @@ module _ (settings : DecodeSettings) (wide : 0 < settings.columns) (bits : Bits)
   none_first = subst (Keeps []) begins (first_gap_keeps settings settings.encoding bits)
 
   turns_are : turns_of settings bits ≡ turns_from (move_on settings) first
-  turns_are =
-      cond-false (eqb settings.columns 0) _ _ (ne_eqb settings.columns 0 (λ none. absurd (omega (arith, wide, none))))
-      ∙ ap (turns_behind settings) begins
+  turns_are = grind (arith, common_steps, cond-false, ne_eqb)
 
   module _ {so_far : Progress} (reaches : Reaches (move_on settings) first so_far) where
     pub comes : Comes settings first so_far
@@ -44,8 +42,7 @@ module _ (settings : DecodeSettings) (wide : 0 < settings.columns) (bits : Bits)
       -- where its turn is the last, it is the last
       module _ {end : Ending} (ends : move_on settings so_far ≡ Turn.done end) where
         given_last : drop (length so_far.rows) given ≡ gives so_far ∷ []
-        given_last = given_on
-            ∙ ap (λ (turn : Move). gives so_far ∷ map gives (gathered_after (turns_left settings) turn)) ends
+        given_last = grind (arith, common_steps, given_on)
 
         pub none_given : (other : A) → get_or given (length so_far.rows + 1) other ≡ other
         none_given other = sym (get_or-drop (length so_far.rows) given 1 other)
@@ -61,17 +58,11 @@ module _ (settings : DecodeSettings) (wide : 0 < settings.columns) (bits : Bits)
 
       pub given_more : {now : ℕ} → now ≡ length so_far.rows + 1
           → sum_by length (take now (given gives)) ≡ sum_by length (take rows (given gives)) + length (gives so_far)
-      given_more next =
-          ap (λ (n : ℕ). sum_by length (take n (given gives))) (next ∙ ap (λ (n : ℕ). n + 1) (sym taken))
+      given_more next = ap (λ (n : ℕ). sum_by length (take n (given gives))) (next ∙ ap (λ (n : ℕ). n + 1) (sym taken))
           ∙ sum_by_more length (given gives) rows [] (slice_get_within (given gives) rows (gives so_far) there)
           ∙ ap (λ (x : List A). sum_by length (take rows (given gives)) + length x) given_at
 
       -- that is all of it, where its turn is the last
       pub given_whole : {end : Ending} → move_on settings so_far ≡ Turn.done end
           → sum_by length (given gives) ≡ sum_by length (take rows (given gives)) + length (gives so_far)
-      given_whole ends = omega (
-        arith,
-        sum_by-take-drop length (given gives) rows,
-        ap (λ (n : ℕ). sum_by length (drop n (given gives))) taken,
-        ap (sum_by length) (given_last gives ends),
-      )
+      given_whole ends = grind (arith, common_steps, sum_by-take-drop length (given gives) rows, given_last gives ends)

@@ -4,7 +4,7 @@ use Rattle.fax_reading.proofs.Names.{◌≡◌, ℕ, suc, ◌<◌, true, false, 
 use Rattle.fax_reading.proofs.Names.{refl, sym, ap, subst, arith, inl, inr, IsOk, cases_lt, cases_eq, eq-eqb, ne_eqb, false≢true}
 use Rattle.fax_reading.proofs.Names.{Color, Mode, Pass, Horizontal, Vertical, DecodeError, UnexpectedEof, DecodeSettings}
 use Rattle.fax_reading.proofs.Names.{EncodingMode, Bits, IsPrefix, Turn, Row, paint, Line, Pen, start, line_1d, line_2d, Step}
-use Rattle.fax_reading.proofs.Names.{Progress, Ending, Move, row_before, aligned, misses_eol, eols_here, next_eol, Bool}
+use Rattle.fax_reading.proofs.Names.{Progress, Ending, Move, row_before, aligned, misses_eol, eols_here, Bool}
 use Rattle.fax_reading.proofs.Names.{whole_reading, bytes_before, line_by, after_line, move_on, first_gap, ending_from, end_of}
 use Rattle.fax_reading.proofs.Names.{StrictThenLenient, common_steps, plain}
 use Rattle.fax_reading.proofs.DrawingLines.Drawings.{try, run_then, mode_step, step_unless_full, step_1d, step_2d, step_1d_is}
@@ -58,10 +58,9 @@ module _ (rest : Pen → Line) where
   draw_mode_follows : (columns : ℕ) (reference : Row) (pen : Pen) (mode : Mode)
       → StepFollows (mode_step true columns reference pen mode) (mode_step false columns reference pen mode)
   draw_mode_follows columns reference pen Pass = grind (arith, common_steps)
-  draw_mode_follows columns reference pen Horizontal =
-      follows_as _ _ (sym (horizontal_is true columns reference pen)) (sym (horizontal_is false columns reference pen))
-      (draw_run_follows columns pen (λ pen. run_then true columns pen Turn.next) (λ pen. run_then false columns pen Turn.next)
-      (λ p. draw_run_follows columns p Turn.next Turn.next (λ q. refl)))
+  draw_mode_follows columns reference pen Horizontal = follows_as _ _ (sym (horizontal_is true columns reference pen))
+      (sym (horizontal_is false columns reference pen)) (draw_run_follows columns pen (λ pen. run_then true columns pen Turn.next)
+      (λ pen. run_then false columns pen Turn.next) (λ p. draw_run_follows columns p Turn.next Turn.next (λ q. refl)))
   draw_mode_follows columns reference pen (Vertical k) = grind (arith, common_steps)
 
   step_2d_follows : (columns : ℕ) (reference : Row) (s t : Pen) → SamePen s t
@@ -77,11 +76,10 @@ line_1d_agrees columns here =
 
 line_2d_agrees : (columns : ℕ) (reference : Row) (here : Bits)
     → Agrees (line_2d true columns reference here) (line_2d false columns reference here)
-line_2d_agrees columns reference here =
-    repeated_follows (step_2d true columns reference) (Line.broken [] UnexpectedEof) pen_left
+line_2d_agrees columns reference here = repeated_follows (step_2d true columns reference) (Line.broken [] UnexpectedEof) pen_left
     (step_2d_shrinks true columns reference) (step_2d false columns reference) (Line.broken [] UnexpectedEof) pen_left
-    (step_2d_shrinks false columns reference) SamePen Agrees (step_2d_follows _ columns reference) (suc (length here))
-    (suc (length here)) (start here) (start here) (omega arith) (omega arith) refl
+    (step_2d_shrinks false columns reference) SamePen Agrees (step_2d_follows _ columns reference)
+    (suc (length here)) (suc (length here)) (start here) (start here) (omega arith) (omega arith) refl
 
 pub line_by_agrees : (encoding : EncodingMode) (columns : ℕ) (reference : Row) (here : Bits)
     → Agrees (line_by encoding true columns reference here) (line_by encoding false columns reference here)
@@ -115,16 +113,12 @@ module _ (settings : DecodeSettings) (wide : 0 < settings.columns) where
     same_turn m = grind (arith, common_steps)
 
     after_row_follows : (run : Progress) → Follows SameRun Precedes rest (after_row strictly run) (after_row leniently run)
-    after_row_follows run =
-        by_missed (misses_eol settings (length run.rows) run.has_eols run.rest) (eols_here settings run.rest)
+    after_row_follows run = by_missed (misses_eol settings (length run.rows) run.has_eols run.rest) (eols_here settings run.rest)
       where
         by_missed : (b : Bool) (found : ℕ × Bits) → Follows SameRun Precedes rest
             (cond b (seek_eol strictly run) (unless_over strictly run found))
             (cond b (seek_eol leniently run) (unless_over leniently run found))
-        by_missed true found = (
-          turn_extends rest extends run.rows _ (seek_from_keeps leniently run (next_eol run.rest)),
-          λ ok. absurd (false≢true ok),
-        )
+        by_missed true found = grind (arith, common_steps, turn_extends, seek_from_keeps, false≢true)
         by_missed false (count, here) = same_turn (unless_over settings run (count, here))
 
     after_line_follows : (run : Progress) (line other : Line) → Agrees line other → Adds run.rows (after_line leniently run other)

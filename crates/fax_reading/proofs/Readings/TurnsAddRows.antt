@@ -1,11 +1,11 @@
 -- A run only adds rows.
-use Rattle.fax_bits.proofs.Repetition.Repeated.{after_turn}
-use Rattle.fax_reading.proofs.Names.{◌≡◌, ℕ, ◌-◌, ◌<◌, Bool, true, false, cond, not, ◌&&◌, ◌||◌, List, [], ◌∷◌, ◌++◌, length}
-use Rattle.fax_reading.proofs.Names.{replicate, Option, Some, None, Ok, Err, refl, sym, ap, subst, ◌∙◌, append_assoc, append-nil}
-use Rattle.fax_reading.proofs.Names.{InvalidCode, DecodeSettings, Bits, IsPrefix, Turn, repeated, Row, Line, next_eol, is_over}
-use Rattle.fax_reading.proofs.Names.{misses_eol, Progress, Ending, Move, row_before, aligned, ends_with, eols_here, line_here}
-use Rattle.fax_reading.proofs.Names.{after_line, move_on, at_front, first_gap, EncodingMode, Group4, Group3_1D, Group3_2D}
-use Rattle.fax_bits.proofs.Repetition.Repeated.{Shrinks, repeated_induct}
+use Rattle.fax_reading.proofs.Names.{arith, common_steps, ◌≡◌, ℕ, ◌-◌, ◌<◌, Bool, true, false, cond, not, ◌&&◌, ◌||◌, List, []}
+use Rattle.fax_reading.proofs.Names.{◌∷◌, ◌++◌, length, replicate, Option, Some, None, Err, refl, sym, ap, subst, ◌∙◌}
+use Rattle.fax_reading.proofs.Names.{append_assoc, append-nil, InvalidCode, DecodeSettings, Bits, IsPrefix, Turn, repeated, Row}
+use Rattle.fax_reading.proofs.Names.{Line, next_eol, misses_eol, Progress, Ending, Move, row_before, aligned, ends_with}
+use Rattle.fax_reading.proofs.Names.{eols_here, line_here, after_line, move_on, first_gap, EncodingMode, Group4, Group3_1D}
+use Rattle.fax_reading.proofs.Names.{Group3_2D}
+use Rattle.fax_bits.proofs.Repetition.Repeated.{after_turn, Shrinks, repeated_induct}
 use Rattle.fax_reading.proofs.Readings.RowsAndGaps.{unless_over, seek_from, seek_eol, after_row, row_added, pass_gap-is}
 use Rattle.fax_reading.proofs.Readings.RowsAndGaps.{after_whole-is, after_damage-is}
 
@@ -22,9 +22,7 @@ either_has P false x y p q = q
 -- the rows so far don't change
 pub unless_over_keeps : (settings : DecodeSettings) (run : Progress) (found : ℕ × Bits)
     → Keeps run.rows (unless_over settings run found)
-unless_over_keeps settings run (count, rest) =
-    either_has (Keeps run.rows) (is_over settings (length run.rows) (count, rest)) (ends_with run (Ok rest))
-    (Turn.next (record run { rest = rest })) refl refl
+unless_over_keeps settings run (count, rest) = grind (arith, common_steps, either_has)
 
 -- and where an EOL is looked for
 pub seek_from_keeps : (settings : DecodeSettings) (run : Progress) (o : Option Bits) → Keeps run.rows (seek_from settings run o)
@@ -33,17 +31,15 @@ seek_from_keeps settings run (Some found) = unless_over_keeps settings run (eols
 
 -- and after a row
 pub after_row_keeps : (settings : DecodeSettings) (run : Progress) → Keeps run.rows (after_row settings run)
-after_row_keeps settings run =
-    either_has (Keeps run.rows) (misses_eol settings (length run.rows) run.has_eols run.rest) (seek_eol settings run)
-    (unless_over settings run (eols_here settings run.rest))
+after_row_keeps settings run = either_has (Keeps run.rows) (misses_eol settings (length run.rows) run.has_eols run.rest)
+    (seek_eol settings run) (unless_over settings run (eols_here settings run.rest))
     (either_has (Keeps run.rows) settings.strict (ends_with run (Err InvalidCode)) (seek_from settings run (next_eol run.rest))
     refl (seek_from_keeps settings run (next_eol run.rest))) (unless_over_keeps settings run (eols_here settings run.rest))
 
 -- the first gap leaves no rows
 pub first_gap_keeps : (settings : DecodeSettings) (encoding : EncodingMode) (bits : Bits)
     → Keeps [] (first_gap encoding settings bits)
-first_gap_keeps settings Group4 bits =
-    subst (Keeps []) (sym (pass_gap-is settings (at_front bits))) (after_row_keeps settings (at_front bits))
+first_gap_keeps settings Group4 bits = grind (arith, common_steps, pass_gap-is, after_row_keeps)
 first_gap_keeps settings Group3_1D bits = refl
 first_gap_keeps settings Group3_2D bits = refl
 

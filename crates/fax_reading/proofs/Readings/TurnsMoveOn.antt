@@ -1,21 +1,18 @@
 -- Each line of a run moves the offset on.
-use Rattle.fax_reading.proofs.Names.{common_steps, ◌≡◌, ℕ, suc, ◌-◌, ◌%◌, ◌<◌, ◌≤◌, Bool, true, false, cond, not, ◌&&◌}
-use Rattle.fax_reading.proofs.Names.{◌||◌, eqb, [], ◌∷◌, ◌++◌, length, replicate, Option, Some, None, Result, Ok, Err, refl}
-use Rattle.fax_reading.proofs.Names.{sym, ap, subst, ◌∙◌, arith, ◌⊎◌, inl, inr, length-drop, not-false, or_parts, false≢true}
-use Rattle.fax_reading.proofs.Names.{le-leb, lt-leb, eqb-false, DecodeError, DecodeSettings, Bits, Turn, Row, EncodingMode}
-use Rattle.fax_reading.proofs.Names.{Group4, Group3_1D, Group3_2D, InvalidCode, Line, line_1d, line_2d, after_eol, eols}
-use Rattle.fax_reading.proofs.Names.{next_eol, eols_with_tags, is_end_of_block}
-use Rattle.fax_reading.proofs.Names.{is_over, misses_eol, Progress, Move, row_before, aligned, ends_with, limit_met, at_end}
-use Rattle.fax_reading.proofs.Names.{line_by, eols_by, eols_here, line_here, after_line, move_on}
+use Rattle.fax_reading.proofs.Names.{common_steps, ◌≡◌, ℕ, suc, ◌-◌, ◌%◌, ◌<◌, ◌≤◌, Bool, true, false, cond, not, ◌&&◌, ◌||◌, eqb}
+use Rattle.fax_reading.proofs.Names.{[], ◌∷◌, ◌++◌, length, replicate, Option, Some, None, Result, refl, sym, subst, ◌∙◌, arith}
+use Rattle.fax_reading.proofs.Names.{◌⊎◌, inl, inr, length-drop, not-false, or_parts, false≢true, le-leb, lt-leb, eqb-false}
+use Rattle.fax_reading.proofs.Names.{DecodeError, DecodeSettings, Bits, Turn, Row, EncodingMode, Group4, Group3_1D, Group3_2D}
+use Rattle.fax_reading.proofs.Names.{Line, after_eol, next_eol, is_end_of_block, is_over, misses_eol, Progress, Move, aligned}
+use Rattle.fax_reading.proofs.Names.{ends_with, limit_met, at_end, line_by, eols_by, eols_here, after_line, move_on}
 use Rattle.fax_bits.proofs.CodeWords.ReadRuns.{chosen}
-use Rattle.fax_bits.proofs.Repetition.Repeated.{Shrinks}
+use Rattle.fax_bits.proofs.Repetition.Repeated.{Shrinks, not_next}
 use Rattle.fax_reading.proofs.DrawingLines.ReadLines.{TookBits, line_1d_took_bits, line_2d_took_bits}
 use Rattle.fax_reading.proofs.Readings.RowsAndGaps.{missed_sought, unless_over, seek_from, seek_eol, after_row, after_whole-is}
 use Rattle.fax_reading.proofs.Readings.RowsAndGaps.{after_damage-is}
-use Rattle.fax_bits.proofs.Repetition.Repeated.{next_is, not_next}
 use Rattle.fax_bits.proofs.BitReading.ConsecutiveEols.{Counted, all_counted, cond_le, count_moves, count_shorter, count_some}
-use Rattle.fax_bits.proofs.BitReading.ConsecutiveEols.{counts_plain, counts_tagged, eols-some, last_tag_count}
-use Rattle.fax_bits.proofs.BitReading.ConsecutiveEols.{next_eol_found, one_more-count, tagged_eols_counted}
+use Rattle.fax_bits.proofs.BitReading.ConsecutiveEols.{counts_plain, counts_tagged, eols-some, last_tag_count, next_eol_found}
+use Rattle.fax_bits.proofs.BitReading.ConsecutiveEols.{one_more-count, tagged_eols_counted}
 
 unless_next : (b : Bool) (run : Progress) (outcome : Result Bits DecodeError) (on : Move) (t : Progress)
     → cond b (ends_with run outcome) on ≡ Turn.next t → on ≡ Turn.next t
@@ -35,15 +32,8 @@ eols_here_counted settings here = by_encoding settings.encoding settings.end_of_
 -- if there is an EOL, one is counted
 pub eols_here_some : (settings : DecodeSettings) (here rest : Bits) → after_eol 0 here ≡ Some rest
     → 0 < (eols_here settings here).0
-eols_here_some settings here rest e = by_encoding settings.encoding settings.end_of_block
-  where
-    by_encoding : (encoding : EncodingMode) (block : Bool) → 0 < (eols_by encoding block here).0
-    by_encoding Group3_1D block = count_some counts_plain here rest e
-    by_encoding Group3_2D block =
-        omega (arith, last_tag_count (eols_with_tags (length here) here), count_some counts_tagged here rest e)
-    by_encoding Group4 true =
-        omega (arith, ap (λ (found : ℕ × Bits). found.0) (eols-some 1 here rest e), one_more-count (eols 1 rest))
-    by_encoding Group4 false = count_some counts_plain here rest e
+eols_here_some settings here rest e =
+    grind (arith, common_steps, count_some, counts_plain, last_tag_count, counts_tagged, eols-some, one_more-count)
 
 -- what is left of a run: its bits, and one more while EOLs are sought
 abbrev pub left_to_read : Progress → ℕ
@@ -52,24 +42,17 @@ left_to_read run = cond run.has_eols (suc (length run.rest)) (length run.rest)
 -- if the reading continues, it does so after the EOLs
 pub unless_over_next : (settings : DecodeSettings) (run t : Progress) (found : ℕ × Bits)
     → unless_over settings run found ≡ Turn.next t → ◌≡◌ {A = Progress} (record run { rest = found.1 }) t
-unless_over_next settings run t (count, rest) e =
-    next_is _ t (unless_next (is_over settings (length run.rows) (count, rest)) run (Ok rest)
-    (Turn.next (record run { rest = rest })) t e)
+unless_over_next settings run t (count, rest) e = grind (arith, common_steps, unless_next)
 
 -- if a reading isn't over, its limit isn't met, and bits are left
 pub none_met : (settings : DecodeSettings) (taken : ℕ) (found : ℕ × Bits) → is_over settings taken found ≡ false
     → (limit_met settings taken ≡ false) × (at_end found.1 ≡ false)
-none_met settings taken (count, rest) e =
-    grind (arith, common_steps, or_parts)
+none_met settings taken (count, rest) e = grind (arith, common_steps, or_parts)
 
 -- a run continues neither at its limit nor at the end
 pub unless_over_open : (settings : DecodeSettings) (run t : Progress) (found : ℕ × Bits)
     → unless_over settings run found ≡ Turn.next t → (limit_met settings (length run.rows) ≡ false) × (at_end found.1 ≡ false)
-unless_over_open settings run t (count, rest) e =
-    elim (chosen (is_over settings (length run.rows) (count, rest)) _ _ _ e) [
-      | inl a ↦ absurd (not_next _ t a.1)
-      | inr a ↦ none_met settings (length run.rows) (count, rest) a.0
-    ]
+unless_over_open settings run t (count, rest) e = grind (arith, common_steps, chosen, not_next, none_met)
 
 not_at_end : (rest : Bits) → at_end rest ≡ true → length rest ≡ 0
 not_at_end [] e = refl
@@ -77,30 +60,18 @@ not_at_end (b ∷ rest) e = absurd (false≢true e)
 
 seek_left : (settings : DecodeSettings) (run t : Progress) (o : Option Bits) → run.has_eols ≡ true → next_eol run.rest ≡ o
     → seek_from settings run o ≡ Turn.next t → left_to_read t ≤ length run.rest
-seek_left settings run t None h e k =
-    let given_up : Progress = record run { has_eols = false } in
-    let same : given_up ≡ t = let turn : ◌≡◌ {A = Move} (Turn.next given_up) (Turn.next t) = k in cc in
-    subst (λ (r : Progress). left_to_read r ≤ length run.rest) same (omega arith)
-seek_left settings run t (Some found) h e k =
-    let f = next_eol_found run.rest found e in
-    let g = eols_here_counted settings found in
-    subst (λ (r : Progress). left_to_read r ≤ length run.rest) (unless_over_next settings run t (eols_here settings found) k)
-    (rw h (omega (arith, f.0, g.1 (eols_here_some settings found f.1.0 f.1.1))))
+seek_left settings run t None h e k = grind (arith, common_steps)
+seek_left settings run t (Some found) h e k = grind (arith, next_eol_found, eols_here_counted, unless_over_next, eols_here_some)
 
 seek_eol_next : (settings : DecodeSettings) (run t : Progress) → seek_eol settings run ≡ Turn.next t
     → seek_from settings run (next_eol run.rest) ≡ Turn.next t
-seek_eol_next settings run t e =
-    unless_next settings.strict run (Err InvalidCode) (seek_from settings run (next_eol run.rest)) t e
+seek_eol_next settings run t e = grind (arith, common_steps, unless_next)
 
 pub at_end_length : (rest : Bits) → at_end rest ≡ false → 0 < length rest
 at_end_length rest e = grind (arith, common_steps)
 
 left_least : (run : Progress) → length run.rest ≤ left_to_read run
-left_least run = either_way run.has_eols
-  where
-    either_way : (b : Bool) → length run.rest ≤ cond b (suc (length run.rest)) (length run.rest)
-    either_way true = omega arith
-    either_way false = omega arith
+left_least run = grind (arith, common_steps)
 
 took_more : (line : Line) (n : ℕ) → TookBits n line → TookBits (suc n) line
 took_more (Line.whole row rest) n took = omega arith
@@ -110,8 +81,7 @@ took_more (Line.broken front fault) n took = tt
 went_on : (settings : DecodeSettings) (run : Progress) (found : ℕ × Bits) → Counted run.rest found
     → limit_met settings (length run.rows) ≡ false → at_end found.1 ≡ false → (((eqb found.0 0 && run.has_eols)
     && not (limit_met settings (length run.rows))) && not (at_end run.rest)) ≡ false → (0 < found.0) ⊎ (run.has_eols ≡ false)
-went_on settings run found counted open_limit open_end e =
-    grind (arith, common_steps, at_end_length, eqb-false, not_at_end)
+went_on settings run found counted open_limit open_end e = grind (arith, common_steps, at_end_length, eqb-false, not_at_end)
 
 -- the EOLs after a row leave less than there was before its line: it consumed bits, or EOLs are sought
 pub after_row_next : (settings : DecodeSettings) (run t : Progress) (n : ℕ) → after_row settings run ≡ Turn.next t
@@ -140,10 +110,8 @@ pub line_by_took : (encoding : EncodingMode) (strict : Bool) (columns : ℕ) (re
     → TookBits (length here) (line_by encoding strict columns reference here)
 line_by_took Group3_1D strict columns reference here wide = line_1d_took_bits strict columns here wide
 line_by_took Group3_2D strict columns reference [] wide = tt
-line_by_took Group3_2D strict columns reference (true ∷ rest) wide =
-    took_more (line_1d strict columns rest) (length rest) (line_1d_took_bits strict columns rest wide)
-line_by_took Group3_2D strict columns reference (false ∷ rest) wide =
-    took_more (line_2d strict columns reference rest) (length rest) (line_2d_took_bits strict columns reference rest wide)
+line_by_took Group3_2D strict columns reference (true ∷ rest) wide = grind (arith, common_steps, took_more, line_1d_took_bits)
+line_by_took Group3_2D strict columns reference (false ∷ rest) wide = grind (arith, common_steps, took_more, line_2d_took_bits)
 line_by_took Group4 strict columns reference here wide = line_2d_took_bits strict columns reference here wide
 
 after_line_next : (settings : DecodeSettings) (run t : Progress) (line : Line) → TookBits (length run.rest) line
@@ -173,18 +141,11 @@ after_line_next settings run t (Line.broken front fault) took e =
 
 -- a turn of Group 3 leaves fewer bits, or ceases to seek EOLs
 pub move_shrinks : (settings : DecodeSettings) → 0 < settings.columns → Shrinks (move_on settings) left_to_read
-move_shrinks settings wide run t e =
-    let reference : Row = row_before settings.columns run.rows in
-    after_line_next settings run t (line_here settings reference run.rest)
-    (line_by_took settings.encoding settings.strict settings.columns reference run.rest wide) e
+move_shrinks settings wide run t e = grind (arith, common_steps, after_line_next, line_by_took)
 
 -- a run is allowed more turns than that
 pub left_below : (run : Progress) → left_to_read run < suc (suc (length run.rest))
-left_below run = either_way run.has_eols
-  where
-    either_way : (b : Bool) → cond b (suc (length run.rest)) (length run.rest) < suc (suc (length run.rest))
-    either_way true = omega arith
-    either_way false = omega arith
+left_below run = grind (arith, common_steps)
 
 -- one EOL ends no data, nor do any without `end_of_block`; with it six end them, and two in T.6
 pub eols_end : (settings : DecodeSettings) (count : ℕ) → (count < 2 → is_end_of_block settings count ≡ false)

@@ -1,17 +1,16 @@
 -- A strict reading ends without a fault exactly if a lenient one does, and passes no damage.
-use Rattle.fax_reading.proofs.Names.{◌≡◌, ◌+◌, ◌-◌, ◌⊎◌, inl, inr, ℕ, zero, suc, Bool, true, false, cond, ◌&&◌, eqb, List}
-use Rattle.fax_reading.proofs.Names.{[], ◌∷◌, ◌++◌, length, take, Err, refl, sym, ap, subst, arith, IsOk, sum_by, flat_map}
-use Rattle.fax_reading.proofs.Names.{cond-true, cond-false, false≢true, length-append}
-use Rattle.fax_reading.proofs.Names.{sum_by-take-le, flat_map-cons, DecodeError, UnexpectedEof, InvalidCode}
-use Rattle.fax_reading.proofs.Names.{DecodeSettings, EncodingMode, Group4, Group3_1D, Group3_2D, Bits, AreWholeBytes, AreSettings}
-use Rattle.fax_reading.proofs.Names.{Damaged, repaired_in, repaired_by_turn, missed_behind, missed_by_turn, damaged_by_turn}
-use Rattle.fax_reading.proofs.Names.{cut_by_turn, cuts_by_line, cuts_run, is_broken, not, ◌∙◌, add_row, bytes_before, Ok, Result}
-use Rattle.fax_reading.proofs.Names.{whole_reading, sum_by-append}
-use Rattle.fax_reading.proofs.Names.{damage_of, repairs_by_line, misses_by_line, StrictIsUndamaged, PicturesAreUndamaged, Line}
-use Rattle.fax_reading.proofs.Names.{IsClosedPicture, IsLimitedPicture, Progress, Ending, Gap, Move, Reading, row_before}
-use Rattle.fax_reading.proofs.Names.{after_line, line_of_turn, misses_eol, behind_row, gap_behind_row, with_row, at_gap, pass_gap}
-use Rattle.fax_reading.proofs.Names.{at_front, move_on, first_gap, ending_behind, end_of, turns_behind, turns_of, map}
-use Rattle.fax_reading.proofs.Names.{nothing_read, plain, Turn, repeated, gathered, Row}
+use Rattle.fax_reading.proofs.Names.{common_steps, ◌≡◌, ◌+◌, ◌-◌, ◌⊎◌, inl, inr, ℕ, zero, suc, Bool, true, false, cond, ◌&&◌, eqb}
+use Rattle.fax_reading.proofs.Names.{List, [], ◌∷◌, ◌++◌, length, take, Err, refl, sym, ap, subst, arith, IsOk, sum_by, flat_map}
+use Rattle.fax_reading.proofs.Names.{cond-true, cond-false, false≢true, length-append, sum_by-take-le, flat_map-cons, DecodeError}
+use Rattle.fax_reading.proofs.Names.{UnexpectedEof, InvalidCode, DecodeSettings, EncodingMode, Group4, Group3_1D, Group3_2D, Bits}
+use Rattle.fax_reading.proofs.Names.{AreWholeBytes, AreSettings, Damaged, repaired_in, repaired_by_turn, missed_behind}
+use Rattle.fax_reading.proofs.Names.{missed_by_turn, damaged_by_turn, cut_by_turn, cuts_by_line, cuts_run, is_broken, not, ◌∙◌}
+use Rattle.fax_reading.proofs.Names.{add_row, bytes_before, Ok, Result, whole_reading, sum_by-append, damage_of, repairs_by_line}
+use Rattle.fax_reading.proofs.Names.{misses_by_line, StrictIsUndamaged, PicturesAreUndamaged, Line, IsClosedPicture}
+use Rattle.fax_reading.proofs.Names.{IsLimitedPicture, Progress, Ending, Gap, Move, Reading, row_before, after_line, line_of_turn}
+use Rattle.fax_reading.proofs.Names.{misses_eol, behind_row, gap_behind_row, with_row, at_gap, pass_gap, at_front, move_on}
+use Rattle.fax_reading.proofs.Names.{first_gap, ending_behind, end_of, turns_behind, turns_of, map, nothing_read, plain, Turn}
+use Rattle.fax_reading.proofs.Names.{repeated, gathered, Row}
 use Rattle.fax_bits.proofs.Repetition.Gathered.{gathered_after}
 use Rattle.fax_bits.proofs.Repetition.Repeated.{after_turn}
 use Rattle.fax_reading.proofs.EncodedPictures.PicturesOfEachKind.{closed_pictures, limited_pictures}
@@ -45,8 +44,7 @@ back_empty (x ∷ xs) ys is = absurd cc
 module _ (p : Progress → List Damaged) where
   joined_empty : (turns : List Progress) → AreEmpty (map p turns) → flat_map p turns ≡ []
   joined_empty [] are = refl
-  joined_empty (s ∷ turns) are =
-      flat_map-cons p s turns ∙ ap (λ (x : List Damaged). x ++ flat_map p turns) are.0 ∙ joined_empty turns are.1
+  joined_empty (s ∷ turns) are = grind (arith, common_steps, flat_map-cons, joined_empty turns are.1)
 
   empty_joined : (turns : List Progress) → flat_map p turns ≡ [] → AreEmpty (map p turns)
   empty_joined [] is = tt
@@ -68,8 +66,7 @@ module _ (p : Progress → List Damaged) where
   all_empty : (q r : Progress → List Damaged) (turns : List Progress) → AreEmpty (map p turns) → AreEmpty (map q turns)
       → AreEmpty (map r turns) → AreEmpty (map (λ s. p s ++ (q s ++ r s)) turns)
   all_empty q r [] one two three = tt
-  all_empty q r (s ∷ turns) one two three =
-      (rw (one.0, two.0, three.0) refl, all_empty q r turns one.1 two.1 three.1)
+  all_empty q r (s ∷ turns) one two three = grind (arith, common_steps, all_empty q r turns one.1 two.1 three.1)
 
 outcome_ok : (bits : Bits) (r : Result Bits DecodeError) → IsOk r → IsOk (bytes_before bits r)
 outcome_ok bits (Ok rest) ok = refl
@@ -88,17 +85,7 @@ module _ (settings : DecodeSettings) (bits : Bits) where
   gap_sound : (taken : ℕ) (has_eols : Bool) (rest : Bits) → (gap_behind_row strictly taken has_eols rest
       ≡ Gap.over (Err InvalidCode)) ⊎ ((misses_eol leniently taken has_eols rest ≡ false)
       × (gap_behind_row strictly taken has_eols rest ≡ gap_behind_row leniently taken has_eols rest))
-  gap_sound taken has_eols rest = by_misses_eol (misses_eol settings taken has_eols rest) refl
-    where
-      by_misses_eol : (b : Bool) → misses_eol settings taken has_eols rest ≡ b → (gap_behind_row strictly taken has_eols rest
-          ≡ Gap.over (Err InvalidCode)) ⊎ ((misses_eol leniently taken has_eols rest ≡ false)
-          × (gap_behind_row strictly taken has_eols rest ≡ gap_behind_row leniently taken has_eols rest))
-      by_misses_eol true e = inl (cond-true (misses_eol settings taken has_eols rest) _ _ e)
-      by_misses_eol false e = inr (
-        e,
-        cond-false (misses_eol settings taken has_eols rest) _ _ e
-            ∙ sym (cond-false (misses_eol settings taken has_eols rest) _ _ e),
-      )
+  gap_sound taken has_eols rest = grind (arith, cond-true, cond-false)
 
   -- a turn that ends with a fault
   abbrev Fails : Move → Type 0
@@ -106,8 +93,7 @@ module _ (settings : DecodeSettings) (bits : Bits) where
 
   -- what is cut of a line, if a run of it is
   abbrev cut_of : Progress → Bool → List Damaged
-  cut_of s cut = cond cut
-      (record { row = length s.rows; start = length bits - length s.rest; fault = InvalidCode } ∷ []) []
+  cut_of s cut = cond cut (record { row = length s.rows; start = length bits - length s.rest; fault = InvalidCode } ∷ []) []
 
   -- a strict turn fails, or it is the lenient one, and passes nothing
   turn_sound : (s : Progress) → Fails (move_on strictly s)
@@ -145,19 +131,17 @@ module _ (settings : DecodeSettings) (bits : Bits) where
   abbrev passed : List Progress → List (List Damaged)
   passed turns = map (damaged_by_turn leniently bits) turns
 
-  turns_sound : (late : Ending) → (IsOk late.outcome → ⊥) → (n m : ℕ) (s : Progress)
-      → IsOk (repeated (move_on strictly) late n s).outcome
-      → AreEmpty (passed (gathered (move_on leniently) (λ turn. turn ∷ []) m s))
+  turns_sound : (late : Ending) → (IsOk late.outcome → ⊥) → (n m : ℕ) (s : Progress) → IsOk
+      (repeated (move_on strictly) late n s).outcome → AreEmpty (passed (gathered (move_on leniently) (λ turn. turn ∷ []) m s))
   turns_sound late never zero m s ok = absurd (never ok)
   turns_sound late never (suc n) zero s ok = tt
   turns_sound late never (suc n) (suc m) s ok = elim (turn_sound s) [
     | inl (fault, end, ends, fails) ↦
-        let at : IsOk end.outcome =
-        subst (λ (turn : Move). IsOk (after_turn (repeated (move_on strictly) late n) turn).outcome) ends ok in
+        let at : IsOk end.outcome = subst
+        (λ (turn : Move). IsOk (after_turn (repeated (move_on strictly) late n) turn).outcome) ends ok in
         absurd (false≢true (subst IsOk fails at))
-    | inr (none, same) ↦
-        by_turn (λ t ok. turns_sound late never n m t ok) (move_on leniently s) (subst
-        (λ (turn : Move). IsOk (after_turn (repeated (move_on strictly) late n) turn).outcome) same ok) none
+    | inr (none, same) ↦ by_turn (λ t ok. turns_sound late never n m t ok) (move_on leniently s)
+        (subst (λ (turn : Move). IsOk (after_turn (repeated (move_on strictly) late n) turn).outcome) same ok) none
   ]
     where
       by_turn : ((t : Progress) → IsOk (repeated (move_on strictly) late n t).outcome → AreEmpty (passed (gathered (move_on
@@ -168,9 +152,8 @@ module _ (settings : DecodeSettings) (bits : Bits) where
       by_turn on (Turn.done end) ok none = (none, tt)
 
   behind : (gap : Move) → IsOk (ending_behind strictly gap).outcome → AreEmpty (passed (turns_behind leniently gap))
-  behind (Turn.next s) ok =
-      turns_sound (record { rows = s.rows; has_eols = s.has_eols; outcome = Err UnexpectedEof }) (λ ok. false≢true ok)
-      (suc (suc (length s.rest))) (suc (suc (length s.rest))) s ok
+  behind (Turn.next s) ok = turns_sound (record { rows = s.rows; has_eols = s.has_eols; outcome = Err UnexpectedEof })
+      (λ ok. false≢true ok) (suc (suc (length s.rest))) (suc (suc (length s.rest))) s ok
   behind (Turn.done end) ok = tt
 
   -- the first gap is the same, or has a fault
@@ -198,9 +181,7 @@ module _ (settings : DecodeSettings) (bits : Bits) where
   -- a lenient gap that misses no EOL is the strict one
   gap_same : (taken : ℕ) (has_eols : Bool) (rest : Bits) → misses_eol leniently taken has_eols rest ≡ false
       → gap_behind_row strictly taken has_eols rest ≡ gap_behind_row leniently taken has_eols rest
-  gap_same taken has_eols rest none =
-      cond-false (misses_eol settings taken has_eols rest) _ _ none
-      ∙ sym (cond-false (misses_eol settings taken has_eols rest) _ _ none)
+  gap_same taken has_eols rest none = grind (arith, common_steps, cond-false)
 
   -- a lenient turn without damage fails, or it is the strict one
   turn_same : (s : Progress) → damaged_by_turn leniently bits s ≡ []
@@ -218,23 +199,14 @@ module _ (settings : DecodeSettings) (bits : Bits) where
       by_lines (Line.broken front fault) strict e f agrees repaired cut missed = by_sought s.has_eols refl
           (ap (λ (l : Line). repaired_in leniently s.has_eols (length s.rows) (length bits - length s.rest) l) (sym e) ∙ repaired)
         where
-          by_sought : (b : Bool) → s.has_eols ≡ b → repaired_in leniently s.has_eols (length s.rows)
-              (length bits - length s.rest) (Line.broken front fault) ≡ []
-              → Fails (move_on leniently s) ⊎ (move_on strictly s ≡ move_on leniently s)
-          by_sought true sought none =
-              let one : not s.has_eols ≡ false = ap not sought in
-              let wrong = sym (cond-false {A = List Damaged} (not s.has_eols) [] (record
-              { row = length s.rows; start = length bits - length s.rest; fault = fault } ∷ []) one) ∙ none in
-              absurd cc
+          by_sought : (b : Bool) → s.has_eols ≡ b → repaired_in leniently s.has_eols (length s.rows) (length bits - length s.rest)
+              (Line.broken front fault) ≡ [] → Fails (move_on leniently s) ⊎ (move_on strictly s ≡ move_on leniently s)
+          by_sought true sought none = grind (arith, common_steps, cond-false)
           by_sought false sought none =
               let one : not s.has_eols ≡ true = ap not sought in
               inl (fault, _, ap (after_line leniently s) e ∙ ap (add_row leniently s) (cond-true (not s.has_eols) _ _ one), refl)
       by_lines (Line.whole row rest) (Line.broken front fault) e f agrees repaired cut missed =
-          let both : cuts_run (line_of_turn leniently s) (line_of_turn strictly s) ≡ true =
-          ap (λ (l : Line). cuts_run l (line_of_turn strictly s)) e ∙ ap is_broken f in
-          let wrong = sym (cond-true {A = List Damaged} (cuts_run (line_of_turn leniently s) (line_of_turn strictly s))
-          (record { row = length s.rows; start = length bits - length s.rest; fault = InvalidCode } ∷ []) [] both) ∙ cut in
-          absurd cc
+          grind (arith, common_steps, cond-true)
       by_lines (Line.whole row rest) (Line.whole other behind) e f agrees repaired cut missed =
           let same : line_of_turn leniently s ≡ Line.whole other behind =
           subst (λ (l : Line). Agrees l (line_of_turn leniently s)) f agrees in
@@ -252,10 +224,9 @@ module _ (settings : DecodeSettings) (bits : Bits) where
           unmissed_by true x is = absurd cc
           unmissed_by false x is = refl
 
-  turns_same : (late : Ending) → (IsOk late.outcome → ⊥) → (n : ℕ) (s : Progress)
-      → IsOk (repeated (move_on leniently) late n s).outcome
-      → AreEmpty (passed (gathered (move_on leniently) (λ turn. turn ∷ []) n s))
-      → IsOk (repeated (move_on strictly) late n s).outcome
+  turns_same : (late : Ending)
+      → (IsOk late.outcome → ⊥) → (n : ℕ) (s : Progress) → IsOk (repeated (move_on leniently) late n s).outcome → AreEmpty
+      (passed (gathered (move_on leniently) (λ turn. turn ∷ []) n s)) → IsOk (repeated (move_on strictly) late n s).outcome
   turns_same late never zero s ok none = absurd (never ok)
   turns_same late never (suc n) s ok none = elim (turn_same s none.0) [
     | inl (fault, end, ends, fails) ↦
@@ -276,9 +247,8 @@ module _ (settings : DecodeSettings) (bits : Bits) where
 
   same_behind : (gap : Move) → IsOk (ending_behind leniently gap).outcome → AreEmpty (passed (turns_behind leniently gap))
       → IsOk (ending_behind strictly gap).outcome
-  same_behind (Turn.next s) ok none =
-      turns_same (record { rows = s.rows; has_eols = s.has_eols; outcome = Err UnexpectedEof }) (λ ok. false≢true ok)
-      (suc (suc (length s.rest))) s ok none
+  same_behind (Turn.next s) ok none = turns_same (record { rows = s.rows; has_eols = s.has_eols; outcome = Err UnexpectedEof })
+      (λ ok. false≢true ok) (suc (suc (length s.rest))) s ok none
   same_behind (Turn.done end) ok none = ok
 
   same_first : (encoding : EncodingMode) → IsOk (ending_behind leniently (first_gap encoding leniently bits)).outcome
@@ -286,20 +256,11 @@ module _ (settings : DecodeSettings) (bits : Bits) where
       → IsOk (ending_behind strictly (first_gap encoding strictly bits)).outcome
   same_first Group3_1D ok none = same_behind (first_gap Group3_1D leniently bits) ok none
   same_first Group3_2D ok none = same_behind (first_gap Group3_2D leniently bits) ok none
-  same_first Group4 ok none = subst (λ (gap : Gap). IsOk (ending_behind strictly (at_gap (at_front bits) gap)).outcome)
-      (sym (gap_same 0 false bits (unmissed leniently 0 bits)))
-      (same_behind (at_gap (at_front bits) (gap_behind_row leniently 0 false bits)) ok none)
+  same_first Group4 ok none = grind (arith, common_steps, gap_same, unmissed, same_behind)
 
   strict_ok : IsOk (plain leniently bits).outcome → AreEmpty (passed (turns_of leniently bits))
       → IsOk (plain strictly bits).outcome
-  strict_ok = by_width (eqb settings.columns 0)
-    where
-      by_width : (none : Bool) → IsOk (cond none nothing_read (whole_reading bits (end_of leniently bits))).outcome
-          → AreEmpty (passed (cond none [] (turns_behind leniently (first_gap settings.encoding leniently bits))))
-          → IsOk (cond none nothing_read (whole_reading bits (end_of strictly bits))).outcome
-      by_width true ok none = ok
-      by_width false ok none = outcome_ok bits (end_of strictly bits).outcome
-          (same_first settings.encoding (ok_outcome bits (end_of leniently bits).outcome ok) none)
+  strict_ok = grind (arith, common_steps, outcome_ok, same_first, ok_outcome)
 
   -- ---- Strict readings pass no damage
 
@@ -313,8 +274,7 @@ module _ (settings : DecodeSettings) (bits : Bits) where
       by_line : (line : Line) → repaired_in strictly s.has_eols (length s.rows) (length bits - length s.rest) line
           ++ (cut_of s (cuts_run line line) ++ missed_behind strictly bits s line) ≡ []
       by_line (Line.broken front fault) = refl
-      by_line (Line.whole row rest) =
-          missed (misses_eol strictly (length s.rows + 1) s.has_eols (behind_row strictly s.has_eols rest)) _
+      by_line (Line.whole row rest) = grind (arith, common_steps)
 
 -- ---- The laws
 
@@ -328,13 +288,11 @@ undamaged_turns settings bits ok = by_strict settings.strict refl
 
     by_strict : (strict : Bool) → settings.strict ≡ strict
         → AreEmpty (map (damaged_by_turn settings bits) (turns_of settings bits))
-    by_strict true is =
-        subst (λ (given : DecodeSettings). AreEmpty (map (damaged_by_turn given bits) (turns_of given bits))) (same true is)
-        (none_empty (damaged_by_turn (strictly settings bits) bits) (strict_turn settings bits)
-        (turns_of (strictly settings bits) bits))
-    by_strict false is =
-        subst (λ (given : DecodeSettings). AreEmpty (map (damaged_by_turn given bits) (turns_of given bits))) (same false is)
-        (lenient_empty settings bits ok)
+    by_strict true is = subst
+        (λ (given : DecodeSettings). AreEmpty (map (damaged_by_turn given bits) (turns_of given bits))) (same true is) (none_empty
+        (damaged_by_turn (strictly settings bits) bits) (strict_turn settings bits) (turns_of (strictly settings bits) bits))
+    by_strict false is = subst (λ (given : DecodeSettings). AreEmpty (map (damaged_by_turn given bits) (turns_of given bits)))
+        (same false is) (lenient_empty settings bits ok)
 
 -- where the strict reading ends without a fault, a reading does
 pub ok_of_strict : (settings : DecodeSettings) (bits : Bits) → IsOk (plain (record settings { strict = true }) bits).outcome
@@ -365,15 +323,13 @@ strict_if_undamaged settings bits ok repaired cut missed = by_strict settings.st
     by_strict : (strict : Bool) → settings.strict ≡ strict → IsOk (plain (record settings { strict = true }) bits).outcome
     by_strict true is = subst (λ (given : DecodeSettings). IsOk (plain given bits).outcome) (same true is) ok
     by_strict false is =
-        strict_ok settings bits (subst (λ (given : DecodeSettings). IsOk (plain given bits).outcome) (same false is) ok)
-        (subst (λ (given : DecodeSettings). AreEmpty (map (damaged_by_turn given bits) (turns_of given bits))) (same false is)
-        damaged)
+        strict_ok settings bits (subst (λ (given : DecodeSettings). IsOk (plain given bits).outcome) (same false is) ok) (subst
+        (λ (given : DecodeSettings). AreEmpty (map (damaged_by_turn given bits) (turns_of given bits))) (same false is) damaged)
 
 -- no damage
 pub no_damage : (settings : DecodeSettings) (bits : Bits) → IsOk (plain (record settings { strict = true }) bits).outcome
     → damage_of settings bits ≡ []
-no_damage settings bits ok =
-    joined_empty (damaged_by_turn settings bits) (turns_of settings bits) (undamaged_turns settings bits ok)
+no_damage settings bits ok = grind (arith, common_steps, joined_empty, undamaged_turns)
 
 -- and no row that is repaired
 pub no_row_repaired : (settings : DecodeSettings) (bits : Bits) (taken : ℕ) → IsOk
@@ -404,15 +360,7 @@ no_misses settings bits taken ok =
 
 -- the law
 pub strict_is_undamaged : StrictIsUndamaged
-strict_is_undamaged settings bits = (
-  λ ok. (
-    subst (λ (r : Reading). IsOk r.outcome) ((strict_first settings bits).1 ok) ok,
-    no_damage
-        (record settings { strict = false }) bits ok,
-  ),
-  λ (ok, none). strict_ok settings bits ok (empty_joined (damaged_by_turn (record settings { strict = false }) bits)
-      (turns_of (record settings { strict = false }) bits) none),
-)
+strict_is_undamaged settings bits = grind (arith, strict_first, no_damage, strict_ok, empty_joined)
 
 -- the settings of a strict reading are lawful too
 strict_are : (settings : DecodeSettings) → AreSettings settings → AreSettings (record settings { strict = true })
@@ -422,39 +370,16 @@ strict_are settings are = record { columns = are.columns; rows = are.rows }
 closed_strictly : (settings : DecodeSettings) (rows : List Row) (count : ℕ) (bits : Bits)
     → IsClosedPicture settings rows count bits → IsClosedPicture (record settings { strict = true }) rows count bits
 closed_strictly settings rows count bits (IsClosedPicture.by_eofb stream p counted) =
-    IsClosedPicture.by_eofb stream
-    (record { encoding = p.encoding; end_of_block = p.end_of_block; limit = p.limit; picture = p.picture; begins = p.begins })
-    counted
+    IsClosedPicture.by_eofb stream (assumption) counted
 closed_strictly settings rows count bits (IsClosedPicture.by_rtc stream behind p counted) =
-    IsClosedPicture.by_rtc stream behind (record {
-      encoding = p.encoding;
-      end_of_block = p.end_of_block;
-      limit = p.limit;
-      some = p.some;
-      picture = p.picture;
-      lines = p.lines;
-      closing = p.closing;
-      begins = p.begins;
-    }) counted
+    IsClosedPicture.by_rtc stream behind (assumption) counted
 
 limited_strictly : (settings : DecodeSettings) (rows : List Row) (bits : Bits) → IsLimitedPicture settings rows bits
     → IsLimitedPicture (record settings { strict = true }) rows bits
-limited_strictly settings rows bits (IsLimitedPicture.of_t6 stream p) =
-    IsLimitedPicture.of_t6 stream
-    (record { encoding = p.encoding; limit = p.limit; some = p.some; picture = p.picture; lines = p.lines; begins = p.begins })
-limited_strictly settings rows bits (IsLimitedPicture.of_t4 stream p) =
-    IsLimitedPicture.of_t4 stream (record {
-      encoding = p.encoding;
-      end_of_line = p.end_of_line;
-      limit = p.limit;
-      some = p.some;
-      picture = p.picture;
-      lines = p.lines;
-      begins = p.begins;
-    })
+limited_strictly settings rows bits (IsLimitedPicture.of_t6 stream p) = IsLimitedPicture.of_t6 stream assumption
+limited_strictly settings rows bits (IsLimitedPicture.of_t4 stream p) = IsLimitedPicture.of_t4 stream assumption
 limited_strictly settings rows bits (IsLimitedPicture.of_t4_with_eols stream p) =
-    IsLimitedPicture.of_t4_with_eols stream
-    (record { encoding = p.encoding; limit = p.limit; some = p.some; picture = p.picture; lines = p.lines; begins = p.begins })
+    IsLimitedPicture.of_t4_with_eols stream assumption
 
 pub closed_strict : (settings : DecodeSettings) (rows : List Row) (count : ℕ) (bits : Bits) → AreSettings settings → AreWholeBytes
     bits → IsClosedPicture settings rows count bits → IsOk (plain (record settings { strict = true }) bits).outcome
@@ -464,9 +389,8 @@ closed_strict settings rows count bits are whole picture =
 
 pub limited_strict : (settings : DecodeSettings) (rows : List Row) (bits : Bits) → AreSettings settings → AreWholeBytes bits
     → IsLimitedPicture settings rows bits → IsOk (plain (record settings { strict = true }) bits).outcome
-limited_strict settings rows bits are whole picture =
-    (limited_pictures (record settings { strict = true }) rows bits (strict_are settings are) whole
-    (limited_strictly settings rows bits picture)).1
+limited_strict settings rows bits are whole picture = (limited_pictures
+    (record settings { strict = true }) rows bits (strict_are settings are) whole (limited_strictly settings rows bits picture)).1
 
 -- the law
 pub pictures_are_undamaged : PicturesAreUndamaged

@@ -1,20 +1,19 @@
 -- A row has no more changes than its line found words, and a repaired one no more than one besides.
+use Rattle.fax_reading.proofs.Names.{common_steps, ◌≡◌, ℕ, zero, suc, ◌+◌, ◌-◌, ◌<◌, ◌≤◌, Bool, true, false, cond, leb, List, []}
+use Rattle.fax_reading.proofs.Names.{◌∷◌, ◌++◌, length, replicate, Result, Ok, Err, refl, ap, ◌∙◌, arith, append-nil, pos}
+use Rattle.fax_reading.proofs.Names.{◌+ℤ◌, length-append, Color, Mode, Pass, Horizontal, Vertical, DecodeError, UnexpectedEof}
+use Rattle.fax_reading.proofs.Names.{EncodingMode, Group4, Group3_1D, Group3_2D, Step, front_of, Bits, mode_codes, read_code}
+use Rattle.fax_reading.proofs.Names.{Line, Pen, Drawing, start, turn_behind, words_behind, unless_fault, mode_here, place_from}
+use Rattle.fax_reading.proofs.Names.{draw_run, draw_mode, draw_1d, draw_2d, line_1d, line_2d, found_1d, found_2d, line_found}
+use Rattle.fax_reading.proofs.Names.{◌>>=◌, line_by, Turn, repeated, gathered, Row, changes, opposite, b1, b2, right_of, paint}
+use Rattle.fax_reading.proofs.Names.{repaired, white_row, run_from, word_found, run_found}
 use Rattle.fax_bits.proofs.Repetition.Gathered.{gathered_after}
-use Rattle.fax_reading.proofs.Names.{◌≡◌, ℕ, zero, suc, ◌+◌, ◌-◌, ◌<◌, ◌≤◌, min, Bool, true, false, cond, leb, ltb, ◌&&◌, List}
-use Rattle.fax_reading.proofs.Names.{[], ◌∷◌, ◌++◌, length, replicate, Result, Ok, Err, refl, sym, ap, ◌∙◌, subst, arith}
-use Rattle.fax_reading.proofs.Names.{append-nil, inl, inr, pos, ◌+ℤ◌, beq, length-append, Color, Mode, Pass, Horizontal, Vertical}
-use Rattle.fax_reading.proofs.Names.{DecodeError, UnexpectedEof, InvalidCode, EncodingMode, Group4, Group3_1D, Group3_2D, Step}
-use Rattle.fax_reading.proofs.Names.{front_of, Bits, mode_codes, read_code, Line, Pen, Drawing, start, turn_behind, words_behind}
-use Rattle.fax_reading.proofs.Names.{unless_fault, mode_here, place_from, draw_run, draw_mode, draw_1d, draw_2d, line_1d, line_2d}
-use Rattle.fax_reading.proofs.Names.{found_1d, found_2d, line_found, ◌>>=◌, line_by, Turn, repeated, gathered, Row, changes}
-use Rattle.fax_reading.proofs.Names.{is_black, opposite, b1, b2, right_of, paint, last_pixel, repaired, white_row, run_from}
-use Rattle.fax_reading.proofs.Names.{word_found, run_found}
 use Rattle.fax_reading.proofs.{DrawingLines.CountedLines.words_run, DrawingLines.Drawings.try}
 use Rattle.fax_bits.proofs.CodeWords.RunWords.{one_word}
 use Rattle.fax_reading.proofs.PixelRows.ChangesAndPixels.{changes-recursive}
 use Rattle.fax_bits.proofs.Repetition.Repeated.{after_turn}
 use Rattle.fax_bits.proofs.CodeWords.ReadRuns.{chosen, run_shorter}
-use Rattle.fax_reading.proofs.CodeWords.WordsFound.{WordsStand, run_stands}
+use Rattle.fax_reading.proofs.CodeWords.WordsFound.{run_stands}
 use Rattle.fax_reading.proofs.PixelRows.RowChanges.{changes_from, changes_from-append, changes_from-same}
 
 -- how many changes a row has
@@ -29,26 +28,11 @@ one_at_most false place none is = omega (arith, ap length is)
 count_painted : (front : Row) (n : ℕ) (color : Bool) → count (front ++ replicate n color) ≤ suc (count front)
 count_painted front zero color = rw (append-nil front) (omega arith)
 count_painted front (suc n) color =
-    omega (
-      arith,
-      ap length (changes_from-append 0 false front (color ∷ replicate n color)),
-      length-append (changes_from 0 false front)
-          (changes_from (0 + length front) (last_pixel false front) (color ∷ replicate n color)),
-      one_at_most (beq (last_pixel false front) color) (0 + length front)
-          (changes_from (suc (0 + length front)) color (replicate n color)) (changes_from-same (suc (0 + length front)) n color),
-    )
+    grind (arith, common_steps, changes_from-append, length-append, one_at_most, changes_from-same)
 
 count_paint : (strict : Bool) (columns : ℕ) (front : Row) (color : Color) (n : ℕ) (new : Row)
     → paint strict columns front color n ≡ Ok new → count new ≤ suc (count front)
-count_paint strict columns front color n new e = elim (chosen (strict && ltb (columns - length front) n) _ _ _ e) [
-  | inl a ↦ absurd (let f : ◌≡◌ {A = Result Row DecodeError} (Err InvalidCode) (Ok new) = a.1 in cc)
-  | inr a ↦
-      let f : ◌≡◌ {A = Result Row DecodeError} (Ok (front ++ replicate (min n (columns - length front)) (is_black color)))
-      (Ok new) = a.1 in
-      let same : front ++ replicate (min n (columns - length front)) (is_black color) ≡ new = cc in
-      subst (λ (x : Row). count x ≤ suc (count front)) same
-      (count_painted front (min n (columns - length front)) (is_black color))
-]
+count_paint strict columns front color n new e = grind (arith, common_steps, chosen, count_painted)
 
 -- ---- A step adds no more changes than it finds words.
 
@@ -66,22 +50,14 @@ step_more n m (Turn.done line) le few = omega (arith, le, few)
 -- a run that is found has a word
 run_has_word : (color : Color) (here : Bits) (n : ℕ) (rest : Bits) → run_from color (0, here) ≡ Ok (n, rest)
     → 0 < length (run_found color (0, here))
-run_has_word color here n rest e = by_found (run_found color (0, here)) (run_stands color 0 here).1
-  where
-    ends : (run_stands color 0 here).0 ≡ rest
-    ends = let last = (run_stands color 0 here).2 in let same = rw e at last in sym same
-
-    by_found : (found : List Bits) → WordsStand here found (run_stands color 0 here).0 → 0 < length found
-    by_found [] p = absurd (omega (arith, run_shorter color 0 here n rest e, ap length p.place, ap length ends))
-    by_found (word ∷ found) p = omega arith
+run_has_word color here n rest e = grind (arith, common_steps, run_stands color 0 here, run_shorter color 0 here n rest e)
 
 -- a run
 run_count : (strict : Bool) (columns : ℕ) (pen : Pen)
     → StepCount (count pen.front + length (draw_run strict columns pen).words) (draw_run strict columns pen).turn
-run_count strict columns pen =
-    step_more (count pen.front + length found) (count pen.front + length (draw_run strict columns pen).words)
-    (draw_run strict columns pen).turn (omega (arith, ap length (words_run strict columns pen)))
-    (by_run_from (run_from pen.color (0, pen.rest)) refl)
+run_count strict columns pen = step_more (count pen.front + length found)
+    (count pen.front + length (draw_run strict columns pen).words) (draw_run strict columns pen).turn
+    (omega (arith, ap length (words_run strict columns pen))) (by_run_from (run_from pen.color (0, pen.rest)) refl)
   where
     found : List Bits
     found = run_found pen.color (0, pen.rest)
@@ -150,10 +126,7 @@ read_mode_count strict columns reference pen = by_read_code (read_code mode_code
     by_read_code : (r : Result (Mode × Bits) DecodeError) → read_code mode_codes pen.rest ≡ r → StepCount (count pen.front
         + length (word_found mode_codes pen.rest ++ words_behind (unless_fault pen.front r) (λ mode. (on mode).words)))
         (turn_behind (unless_fault pen.front r) (λ mode. (on mode).turn))
-    by_read_code (Ok mode) e =
-        step_more (count pen.front + suc (length (on mode).words)) _ (on mode).turn
-        (omega (arith, one_word mode_codes pen.rest mode e, length-append (word_found mode_codes pen.rest) (on mode).words))
-        (mode_count strict columns reference (record pen { rest = mode.1 }) mode.0)
+    by_read_code (Ok mode) e = grind (arith, common_steps, step_more, one_word, length-append, mode_count)
     by_read_code (Err fault) e = omega arith
 
 -- a step, unless the row is full
@@ -219,22 +192,11 @@ line_count Group4 strict columns reference here = line_2d_count strict columns r
 -- the row of a line, or the front of a broken one, has no more changes than the line finds words
 pub changes_found : (encoding : EncodingMode) (strict : Bool) (columns : ℕ) (reference : Row) (here : Bits) → length (changes
     (front_of (line_by encoding strict columns reference here))) ≤ length (line_found encoding strict columns reference here)
-changes_found encoding strict columns reference here =
-    omega (
-      arith,
-      line_count encoding strict columns reference here,
-      ap length (changes-recursive (front_of (line_by encoding strict columns reference here))),
-    )
+changes_found encoding strict columns reference here = grind (arith, common_steps, line_count, changes-recursive)
 
 -- and a repaired row at most one more than its front
 pub changes_repaired : (columns : ℕ) (front : Row) → length (changes (repaired columns front)) ≤ suc (length (changes front))
-changes_repaired columns front =
-    omega (
-      arith,
-      count_painted front (columns - length front) false,
-      ap length (changes-recursive (repaired columns front)),
-      ap length (changes-recursive front),
-    )
+changes_repaired columns front = grind (arith, common_steps, count_painted, changes-recursive)
 
 -- a white row has none
 pub changes_white : (columns : ℕ) → length (changes (white_row columns)) ≡ 0

@@ -1,20 +1,19 @@
 -- The EOLs that are consumed before a line, and the bits that are examined ahead of it.
-use Rattle.fax_reading.proofs.Names.{◌<◌, ◌≡◌, ℕ, ◌+◌, ◌-◌, ◌*◌, ◌≤◌, Bool, true, false, [], ◌∷◌, ◌++◌, length, replicate, drop}
-use Rattle.fax_reading.proofs.Names.{Option, Some, None, Result, Ok, Err, refl, sym, ap, ◌∙◌, subst, arith, ◌⊎◌, inl, inr}
-use Rattle.fax_reading.proofs.Names.{false≢true, length-append, length-replicate, replicate-append-replicate, DecodeError}
-use Rattle.fax_reading.proofs.Names.{InvalidCode, EncodingMode, Group4, Group3_1D, Group3_2D, DecodeSettings, Bits, after_eol}
-use Rattle.fax_reading.proofs.Names.{next_eol, eols_with_tags, eols, is_over, misses_eol, Gap, at_end, limit_met, eols_by}
-use Rattle.fax_reading.proofs.Names.{eols_here, behind_eols, from_next_eol, gap_behind_row, gap_said, looked, looked_ahead}
-use Rattle.fax_reading.proofs.Names.{tag_tests, IfOk, OnErr}
+use Rattle.fax_reading.proofs.Names.{common_steps, ◌<◌, ◌≡◌, ℕ, ◌+◌, ◌*◌, ◌≤◌, Bool, true, false, [], ◌∷◌, ◌++◌, length}
+use Rattle.fax_reading.proofs.Names.{replicate, drop, Option, Some, None, Result, Ok, Err, refl, sym, ap, ◌∙◌, subst, arith, ◌⊎◌}
+use Rattle.fax_reading.proofs.Names.{inl, inr, false≢true, length-append, length-replicate, DecodeError, InvalidCode}
+use Rattle.fax_reading.proofs.Names.{EncodingMode, Group4, Group3_1D, Group3_2D, DecodeSettings, Bits, after_eol, next_eol}
+use Rattle.fax_reading.proofs.Names.{eols_with_tags, eols, is_over, misses_eol, Gap, at_end, limit_met, eols_by, eols_here}
+use Rattle.fax_reading.proofs.Names.{behind_eols, from_next_eol, gap_behind_row, gap_said, looked, looked_ahead, tag_tests, IfOk}
+use Rattle.fax_reading.proofs.Names.{OnErr}
 use Rattle.fax_reading.proofs.DamagedLines.PastEol.{eols_here-none}
 use Rattle.fax_bits.proofs.BitReading.ZeroRuns.{looked_eol}
 use Rattle.fax_bits.proofs.CodeWords.ReadRuns.{chosen}
-use Rattle.fax_reading.proofs.DamagedLines.LineTails.{after_eol_is}
+use Rattle.fax_reading.proofs.DamagedLines.LineTails.{zeros_of_eol}
 use Rattle.fax_reading.proofs.{Readings.RowsAndGaps.missed_sought, Readings.TurnsMoveOn.none_met}
-use Rattle.fax_bits.proofs.BitReading.ConsecutiveEols.{length-one_more, count_shorter, count_past, counts_plain}
-use Rattle.fax_bits.proofs.BitReading.ConsecutiveEols.{counts_tagged, eols-some, last_tag_shorter}
+use Rattle.fax_bits.proofs.BitReading.ConsecutiveEols.{length-one_more, count_shorter, count_past, counts_plain, counts_tagged}
+use Rattle.fax_bits.proofs.BitReading.ConsecutiveEols.{eols-some, last_tag_shorter, next_eol_found}
 use Rattle.fax_reading.proofs.Readings.TurnsMoveOn.{eols_here_counted, eols_here_some}
-use Rattle.fax_bits.proofs.BitReading.ConsecutiveEols.{next_eol_found}
 
 -- ---- An EOL here or further on
 
@@ -25,13 +24,7 @@ pub record EolWithin (here after : Bits) : Type 0 where
 
 -- an EOL here
 pub eol_within : (here after : Bits) → after_eol 0 here ≡ Some after → EolWithin here after
-eol_within here after e =
-    let is = after_eol_is 0 here after e in
-    let more : ℕ = is.0 - 11 in
-    let sum : is.0 ≡ more + 11 = omega (arith, is.2) in
-    let fill : replicate is.0 false ≡ replicate more false ++ replicate 11 false =
-    ap (λ (n : ℕ). replicate n false) sum ∙ sym (replicate-append-replicate more 11 false) in
-    record { fill = replicate more false; place = is.1 ∙ ap (λ (bits : Bits). bits ++ true ∷ after) fill }
+eol_within here after e = grind (arith, common_steps, zeros_of_eol)
 
 within_further : (bit : Bool) (here after : Bits) → EolWithin here after → EolWithin (bit ∷ here) after
 within_further bit here after eol = record { fill = bit ∷ eol.fill; place = ap (λ (x : Bits). bit ∷ x) eol.place }
@@ -45,25 +38,12 @@ next_eol_within (bit ∷ here) found e = by_after_eol (λ f. next_eol_within her
     by_after_eol : (next_eol here ≡ Some found → (after : Bits) × (after_eol 0 found ≡ Some after) × EolWithin here after)
         → (o : Option Bits) → after_eol 0 (bit ∷ here) ≡ o → (after : Bits) × (after_eol 0 found ≡ Some after)
         × EolWithin (bit ∷ here) after
-    by_after_eol on None is =
-        let f : next_eol here ≡ Some found = rw (is, next_eol) at e in
-        let more = on f in
-        (more.0, more.1, within_further bit here more.0 more.2)
-    by_after_eol on (Some after) is =
-        let f : ◌≡◌ {A = Option Bits} (Some (bit ∷ here)) (Some found) = rw (is, next_eol) at e in
-        let same : bit ∷ here ≡ found = cc in
-        (after, subst (λ (x : Bits). after_eol 0 x ≡ Some after) same is, eol_within (bit ∷ here) after is)
+    by_after_eol on None is = grind (arith, common_steps, within_further)
+    by_after_eol on (Some after) is = grind (arith, common_steps, eol_within (bit ∷ here) after is)
 
 -- the bits up to the end of an EOL
 pub length-within : (here after : Bits) (eol : EolWithin here after) → length here ≡ length eol.fill + 12 + length after
-length-within here after eol =
-    omega (
-      arith,
-      ap length eol.place,
-      length-append (eol.fill ++ replicate 11 false) (true ∷ after),
-      length-append eol.fill (replicate 11 false),
-      length-replicate 11 false,
-    )
+length-within here after eol = grind (arith, common_steps, length-append, length-replicate)
 
 -- ---- EOLs that are counted
 
@@ -91,12 +71,7 @@ eols_here_past settings here after e = by_encoding settings.encoding settings.en
 
 -- if none is counted, the offset doesn't change
 pub eols_here_stay : (settings : DecodeSettings) (here rest : Bits) → eols_here settings here ≡ (0, rest) → rest ≡ here
-eols_here_stay settings here rest is = by_after_eol (after_eol 0 here) refl
-  where
-    by_after_eol : (o : Option Bits) → after_eol 0 here ≡ o → rest ≡ here
-    by_after_eol None e = sym (ap (λ (found : ℕ × Bits). found.1) (sym (eols_here-none settings here e) ∙ is))
-    by_after_eol (Some after) e =
-        absurd (omega (arith, eols_here_some settings here after e, ap (λ (found : ℕ × Bits). found.0) is))
+eols_here_stay settings here rest is = grind (arith, common_steps, eols_here-none, eols_here_some)
 
 -- ---- A line after a row
 
@@ -145,27 +120,24 @@ record GivenUp (h k : Bool) (here rest : Bits) : Type 0 where
 -- the ways in which a line follows a row
 line_behind : (settings : DecodeSettings) (taken : ℕ) (h k : Bool) (here rest : Bits) → gap_behind_row settings taken h here
     ≡ Gap.line_at k rest → AfterEols settings taken h k here rest ⊎ (AfterNextEol settings h k here rest ⊎ GivenUp h k here rest)
-line_behind settings taken h k here rest e =
-    elim (chosen (misses_eol settings taken h here) _ _ _ e) [
-      | inl a ↦
-          let sought = missed_sought settings taken h here a.0 in
-          elim (chosen settings.strict _ _ _ a.1) [
-            | inl b ↦ absurd (over_no_line (Err InvalidCode) k rest b.1)
-            | inr b ↦ inr (by_next_eol sought (next_eol here) refl b.1)
-          ]
-      | inr a ↦
-          let is = behind_line settings taken h k (eols_here settings here) rest a.1 in
-          inl (record { unsought = a.0; flag = is.0; place = is.1; open_limit = is.2; open_end = is.3 })
-    ]
+line_behind settings taken h k here rest e = elim (chosen (misses_eol settings taken h here) _ _ _ e) [
+  | inl a ↦
+      let sought = missed_sought settings taken h here a.0 in
+      elim (chosen settings.strict _ _ _ a.1) [
+        | inl b ↦ absurd (over_no_line (Err InvalidCode) k rest b.1)
+        | inr b ↦ inr (by_next_eol sought (next_eol here) refl b.1)
+      ]
+  | inr a ↦
+      let is = behind_line settings taken h k (eols_here settings here) rest a.1 in
+      inl (record { unsought = a.0; flag = is.0; place = is.1; open_limit = is.2; open_end = is.3 })
+]
   where
     by_next_eol : h ≡ true → (o : Option Bits) → next_eol here ≡ o → from_next_eol settings taken here o ≡ Gap.line_at k rest
         → AfterNextEol settings h k here rest ⊎ GivenUp h k here rest
     by_next_eol sought (Some found) next f =
         let is = behind_line settings taken true k (eols_here settings found) rest f in
         inl (record { sought = sought; kept = sym is.0; found = found; next = next; place = is.1 })
-    by_next_eol sought None next f =
-        let same = lines_same false k here rest f in
-        inr (record { sought = sought; given_up = sym same.0; place = same.1 })
+    by_next_eol sought None next f = grind (arith, common_steps, lines_same)
 
 -- if EOLs are still sought, one was here or further on, and the line begins after it
 pub line_past_eol : (settings : DecodeSettings) (taken : ℕ) (here rest : Bits) → gap_behind_row settings taken true here
@@ -185,20 +157,13 @@ line_past_eol settings taken here rest e = elim (line_behind settings taken true
       eol_within here after f,
       subst (λ (x : Bits). length x ≤ length after) is.place (eols_here_past settings here after f),
     )
-    by_after_eol is None f =
-        let none = eols_here-none settings here f in
-        let open_end : at_end here ≡ false = let g = is.open_end in rw none at g in
-        let seeks : misses_eol settings taken true here ≡ true = rw (none, is.open_limit, open_end) refl in
-        absurd (false≢true (sym is.unsought ∙ seeks))
+    by_after_eol is None f = grind (arith, common_steps, eols_here-none, false≢true)
 
 -- if EOLs are no longer sought, the line is here
 pub line_given_up : (settings : DecodeSettings) (taken : ℕ) (here rest : Bits)
     → gap_behind_row settings taken true here ≡ Gap.line_at false rest → rest ≡ here
-line_given_up settings taken here rest e = elim (line_behind settings taken true false here rest e) [
-  | inl is ↦ absurd (false≢true (sym is.flag))
-  | inr (inl is) ↦ absurd (false≢true is.kept)
-  | inr (inr is) ↦ sym is.place
-]
+line_given_up settings taken here rest e =
+    grind (arith, common_steps, line_behind settings taken true false here rest e, false≢true)
 
 -- a line that follows a row begins there or further on
 pub line_behind_shorter : (settings : DecodeSettings) (taken : ℕ) (h k : Bool) (here rest : Bits)
@@ -228,23 +193,15 @@ pub unsought_after : (settings : DecodeSettings) (taken : ℕ) (before has_eols 
     → gap_behind_row settings taken before here ≡ gap_said answer has_eols rest
     → IfOk answer (λ over. over ≡ true → has_eols ≡ before) → OnErr answer (has_eols ≡ before) → has_eols ≡ false
 unsought_after settings taken before has_eols here rest (Ok true) unsought said given_up same = given_up refl ∙ unsought
-unsought_after settings taken before has_eols here rest (Ok false) unsought said given_up same =
-    (line_without_eols settings taken has_eols here rest (ap (λ (b : Bool). gap_behind_row settings taken b here) (sym unsought)
-    ∙ said)).0
+unsought_after settings taken before has_eols here rest (Ok false) unsought said given_up same = (line_without_eols
+    settings taken has_eols here rest (ap (λ (b : Bool). gap_behind_row settings taken b here) (sym unsought) ∙ said)).0
 unsought_after settings taken before has_eols here rest (Err e) unsought said given_up same = same ∙ unsought
 
 -- if there is a line, bits are left
 pub line_has_bits : (settings : DecodeSettings) (taken : ℕ) (k : Bool) (here rest : Bits)
     → gap_behind_row settings taken false here ≡ Gap.line_at k rest → 0 < length rest
-line_has_bits settings taken k here rest e = elim (line_behind settings taken false k here rest e) [
-  | inl is ↦ by_next (eols_here settings here).1 rest is.open_end is.place
-  | inr (inl is) ↦ absurd (false≢true is.sought)
-  | inr (inr is) ↦ absurd (false≢true is.sought)
-]
-  where
-    by_next : (next rest : Bits) → at_end next ≡ false → next ≡ rest → 0 < length rest
-    by_next [] rest open_end same = absurd (false≢true (sym open_end))
-    by_next (bit ∷ next) rest open_end same = omega (arith, ap length (sym same))
+line_has_bits settings taken k here rest e =
+    grind (arith, common_steps, line_behind settings taken false k here rest e, false≢true)
 
 -- ---- What is examined ahead
 
@@ -285,8 +242,7 @@ looked_to_eol here after eol = rw eol.place (by_fill eol.fill)
         ≤ length (fill ++ replicate 11 false ++ true ∷ after)) × (looked (drop 1 (fill ++ replicate 11 false ++ true ∷ after))
         + length after ≤ length (fill ++ replicate 11 false ++ true ∷ after))
     by_fill [] = (looked_to_one (replicate 11 false) after, omega (arith, looked_to_one (replicate 10 false) after))
-    by_fill (bit ∷ fill) =
-        (looked_to_one (bit ∷ fill ++ replicate 11 false) after, omega (arith, looked_to_one (fill ++ replicate 11 false) after))
+    by_fill (bit ∷ fill) = grind (arith, common_steps, looked_to_one)
 
 -- If the next EOL is found and counted, no bit after it is examined: not where none was before, and not where it was
 -- found.

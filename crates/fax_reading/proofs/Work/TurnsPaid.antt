@@ -1,8 +1,8 @@
 -- What a turn counts is paid by the bits that it consumes, or by ceasing to seek EOLs, which happens once.
-use Rattle.fax_reading.proofs.Names.{◌≡◌, ◌≢◌, ℕ, ◌+◌, ◌*◌, ◌<◌, ◌≤◌, Bool, true, false, not, ◌&&◌, ◌||◌, cond, [], ◌∷◌, length}
-use Rattle.fax_reading.proofs.Names.{Result, Ok, Err, refl, sym, ap, ◌∙◌, subst, arith, false≢true, DecodeError, DecodeSettings}
-use Rattle.fax_reading.proofs.Names.{EncodingMode, Group4, Group3_1D, Group3_2D, Bits, Line, line_found, Gap, behind_row}
-use Rattle.fax_reading.proofs.Names.{gap_behind_row, line_by, line_here, row_of_line, Row, repaired, looked_ahead, IsPaidUpTo}
+use Rattle.fax_reading.proofs.Names.{common_steps, ◌≡◌, ◌≢◌, ℕ, ◌+◌, ◌*◌, ◌<◌, ◌≤◌, Bool, true, false, not, ◌&&◌, cond, [], ◌∷◌}
+use Rattle.fax_reading.proofs.Names.{length, Result, Ok, Err, refl, sym, ap, ◌∙◌, subst, arith, false≢true, DecodeError}
+use Rattle.fax_reading.proofs.Names.{DecodeSettings, EncodingMode, Group4, Group3_1D, Group3_2D, Bits, Line, line_found, Gap}
+use Rattle.fax_reading.proofs.Names.{behind_row, gap_behind_row, line_by, line_here, row_of_line, Row, looked_ahead, IsPaidUpTo}
 use Rattle.fax_reading.proofs.Names.{found_here}
 use Rattle.fax_reading.proofs.Readings.RowsAndGaps.{behind_with_eols}
 use Rattle.fax_reading.proofs.Work.EolsPassed.{length-within, line_past_eol, line_given_up, line_behind_shorter}
@@ -37,8 +37,7 @@ whole_pays Group4 strict columns reference here row rest wide e =
 -- bits further on are paid as well
 further_pays : (encoding : EncodingMode) (here rest further : Bits) (found : ℕ) → PaysLine encoding here rest found
     → length further ≤ length rest → PaysLine encoding here further found
-further_pays encoding here rest further found pays le =
-    record { some = omega (arith, pays.some, le); words = omega (arith, pays.words, le); zeros = omega (arith, pays.zeros, le) }
+further_pays encoding here rest further found pays le = grind (arith, common_steps)
 
 -- the bits after a row
 abbrev rest_of_row : Result (Row × Bits) DecodeError → Bits
@@ -51,18 +50,8 @@ behind_shorter settings h rest = either_shorter (settings.rows_are_byte_aligned 
 -- a broken line is repaired only in lenient data with EOLs, and the reader is then at its start
 pub broken_row : (settings : DecodeSettings) (h : Bool) (here rest : Bits) (front row : Row) (fault : DecodeError)
     → row_of_line settings h here (Line.broken front fault) ≡ Ok (row, rest) → (h ≡ true) × (rest ≡ here)
-broken_row settings true here rest front row fault is = by_strict settings.strict is
-  where
-    by_strict : (strict : Bool) → cond {A = Result (Row × Bits) DecodeError} (strict || not true) (Err fault)
-        (Ok (repaired settings.columns front, behind_row settings true here)) ≡ Ok (row, rest) → (true ≡ true) × (rest ≡ here)
-    by_strict true e = absurd (let other : ◌≡◌ {A = Result (Row × Bits) DecodeError} (Err fault) (Ok (row, rest)) = e in cc)
-    by_strict false e = (refl, sym (ap rest_of_row e) ∙ behind_with_eols settings.rows_are_byte_aligned here)
-broken_row settings false here rest front row fault is = by_strict settings.strict is
-  where
-    by_strict : (strict : Bool) → cond {A = Result (Row × Bits) DecodeError} (strict || not false) (Err fault)
-        (Ok (repaired settings.columns front, behind_row settings false here)) ≡ Ok (row, rest) → (false ≡ true) × (rest ≡ here)
-    by_strict true e = absurd (let other : ◌≡◌ {A = Result (Row × Bits) DecodeError} (Err fault) (Ok (row, rest)) = e in cc)
-    by_strict false e = absurd (let other : ◌≡◌ {A = Result (Row × Bits) DecodeError} (Err fault) (Ok (row, rest)) = e in cc)
+broken_row settings true here rest front row fault is = grind (arith, common_steps, behind_with_eols)
+broken_row settings false here rest front row fault is = grind (arith, common_steps)
 
 -- a row ends no sooner than its line begins
 pub row_shorter : (settings : DecodeSettings) (h : Bool) (reference : Row) (here rest : Bits) (row : Row) → 0 < settings.columns
@@ -75,8 +64,7 @@ row_shorter settings h reference here rest row wide is = by_line_here (line_here
         let pays = whole_pays settings.encoding settings.strict settings.columns reference here whole behind wide e in
         let same : behind_row settings h behind ≡ rest = ap rest_of_row given in
         omega (arith, pays.some, ap length same, behind_shorter settings h behind)
-    by_line_here (Line.broken front fault) e given =
-        omega (arith, ap length (broken_row settings h here rest front row fault given).1)
+    by_line_here (Line.broken front fault) e given = grind (arith, common_steps, broken_row)
 
 -- a row after which the reading continues, seeking EOLs as before, is paid by the bits up to there
 turn_pays : (settings : DecodeSettings) (h : Bool) (taken : ℕ) (reference : Row) (here rest next : Bits) (row : Row) → 0 <
@@ -132,25 +120,12 @@ module _ (settings : DecodeSettings) (wide : 0 < settings.columns) (begun bits g
 
     -- an EOL that strict data miss ends it
     pub missing_ends : (last : ℕ) → last ≤ now + length rest → last ≤ begun + (16 * bits + 6 + giving_up)
-    missing_ends last counted =
-        omega (arith, paid, line, within, found_fits, row_fits, counted, looked_ahead_most settings.encoding here, either_given h)
+    missing_ends last counted = grind (arith, common_steps, found_fits, row_fits, looked_ahead_most, either_given)
 
     -- so does what ends it well
     pub gap_ends : (last : ℕ) (left_over : Bits) → last + 4 * length left_over ≤ now + 4 * length rest + 3
         + looked_ahead settings.encoding left_over → last ≤ begun + (16 * bits + 6 + giving_up)
-    gap_ends last left_over counted =
-        omega (
-          arith,
-          paid,
-          line,
-          within,
-          found_fits,
-          row_fits,
-          counted,
-          looked_ahead_most settings.encoding here,
-          looked_ahead_most settings.encoding left_over,
-          either_given h,
-        )
+    gap_ends last left_over counted = grind (arith, common_steps, found_fits, row_fits, looked_ahead_most, either_given)
 
     -- else the account continues
     pub turn_goes_on : (taken : ℕ) (k : Bool) (next : Bits) (last stored : ℕ)

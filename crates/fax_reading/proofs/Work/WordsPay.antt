@@ -1,6 +1,6 @@
 -- What the words that a line finds say of the bits that it consumed: they pay for what it counts.
-use Rattle.fax_reading.proofs.Names.{◌≡◌, ℕ, suc, ◌+◌, ◌%◌, cond, ◌<◌, ◌≤◌, Bool, true, false, List, [], ◌∷◌, ◌++◌, length}
-use Rattle.fax_reading.proofs.Names.{replicate, sym, ap, ◌∙◌, subst, arith, append_assoc, inl, inr, false≢true, cases_lt}
+use Rattle.fax_reading.proofs.Names.{common_steps, ◌≡◌, ℕ, suc, ◌+◌, ◌%◌, cond, ◌<◌, ◌≤◌, Bool, true, false, List, [], ◌∷◌, ◌++◌}
+use Rattle.fax_reading.proofs.Names.{length, replicate, sym, ap, ◌∙◌, subst, arith, append_assoc, inl, inr, false≢true, cases_lt}
 use Rattle.fax_reading.proofs.Names.{length-append, length-drop, EncodingMode, Group4, Group3_1D, Group3_2D, Bits, AreWords}
 use Rattle.fax_reading.proofs.Names.{joined, Line, found_1d, found_2d, line_1d, line_2d, line_found, aligned, Row, looked}
 use Rattle.fax_bits.proofs.BitReading.ZerosInWords.{holds_a_one, word_one, no_eleven_in, prefix_of_prefix}
@@ -21,8 +21,7 @@ words_bits (word ∷ words) are =
 -- there are no more words than bits
 pub stands_count : (here : Bits) (found : List Bits) (rest : Bits) → WordsStand here found rest
     → length found + length rest ≤ length here
-stands_count here found rest stands =
-    omega (arith, words_bits found stands.words, ap length stands.place, length-append (joined found) rest)
+stands_count here found rest stands = grind (arith, common_steps, words_bits, length-append)
 
 looked_word : (word more : Bits) → holds_a_one word ≡ true → looked (word ++ more) ≤ length word
 looked_word [] more e = absurd (false≢true e)
@@ -76,11 +75,7 @@ paid_by : (here rest : Bits) (found : List Bits) → WordsStand here found rest 
     → LineIsPaid here rest found
 paid_by here rest [] stands lt = absurd (omega (arith, lt, ap length stands.place))
 paid_by here rest (word ∷ found) stands lt =
-    record {
-      some = omega arith;
-      words = stands_count here (word ∷ found) rest stands;
-      zeros = stands_looked here word found rest stands;
-    }
+    grind (arith, common_steps, stands_count here (word ∷ found) rest stands, stands_looked here word found rest stands)
 
 whole_paid : (here : Bits) (line : Line) (found : List Bits) (end : Bits) (row : Row) (rest : Bits) → WordsStand here found end
     → LineEnds line end → TookBits (length here) line → line ≡ Line.whole row rest → LineIsPaid here rest found

@@ -1,5 +1,4 @@
-use Rattle.fax_reading.proofs.Readings.Undamaged.{strict_is_undamaged as strict_law}
-use Rattle.fax_reading.proofs.Readings.Undamaged.{pictures_are_undamaged as pictures_law}
+use Rattle.fax_reading.proofs.Readings.Undamaged.{strict_is_undamaged as strict_law, pictures_are_undamaged as pictures_law}
 use Rattle.fax_reading.proofs.laws.no_damage.Goals as goal
 
 pub returns-clause-strict : goal.returns-clause-strict
