@@ -1,6 +1,6 @@
 -- What the entry of a table of pairs says of the run codes here.
 use Rattle.hayro_ccitt.proofs.Names.{common_steps}
-use Rattle.hayro_ccitt.proofs.Names.{◌≡◌, ◌≢◌, ℕ, ◌+◌, ◌-◌, ◌*◌, ◌/◌, ◌%◌, ◌≤◌, Bool, true, false, ◌&&◌, ltb, ◌++◌, length, drop}
+use Rattle.hayro_ccitt.proofs.Names.{◌≡◌, ◌≢◌, ℕ, ◌+◌, ◌-◌, ◌*◌, ◌/◌, ◌%◌, ◌≤◌, Bool, true, false, ◌&&◌, ◌++◌, length, drop}
 use Rattle.hayro_ccitt.proofs.Names.{Option, Some, None, Ok, refl, sym, ap, ◌∙◌, arith, and_parts, ltb-true, Color}
 use Rattle.hayro_ccitt.proofs.Names.{Bits, BitsAt, here, opposite, word_at, read_code, codes_of, padded, is_short, pair_entry}
 use Rattle.hayro_ccitt.proofs.Names.{append_assoc, length-append, drop-drop, moved, IsWordHere, IsShort}

@@ -1,9 +1,8 @@
 -- Rows from data that comes in pieces: the bits that a feed holds once more bytes are fed.
 use Rattle.hayro_ccitt.proofs.Names.{common_steps}
-use Rattle.hayro_ccitt.proofs.Names.{◌≡◌, ◌∙◌, ◌++◌, ◌+◌, ◌*◌, ◌≤◌, ℕ, [], ap, sym, arith, length, drop, drop-drop, Bits}
-use Rattle.hayro_ccitt.proofs.Names.{◌-◌, length-append, length-drop, subst}
-use Rattle.std.specs.Prelude.{◌/◌}
-use Rattle.std.proofs.lemmas.List.{append-nil, drop-append-le}
+use Rattle.hayro_ccitt.proofs.Names.{◌≡◌, ◌++◌, ◌+◌, ◌*◌, ◌≤◌, ℕ, [], arith, length, drop, drop-drop, Bits}
+use Rattle.hayro_ccitt.proofs.Names.{length-append, length-drop}
+use Rattle.std.proofs.lemmas.List.{append-nil}
 use Rattle.hayro_ccitt.specs.RowFeeds.{DropsRead, Feeding, HoldsMore}
 
 -- what is behind an offset of the bits that are left, once bytes before it are dropped and bits are appended

@@ -1,15 +1,13 @@
 -- A black pixel that a line paints is painted whatever bits follow.
 use Rattle.hayro_ccitt.proofs.Names.{common_steps}
-use Rattle.hayro_ccitt.proofs.Names.{◌≡◌, ◌∙◌, ℕ, Bool, true, false, cond, leb, [], ◌++◌, length, Result, Ok, Err, refl}
+use Rattle.hayro_ccitt.proofs.Names.{◌≡◌, ◌∙◌, ℕ, Bool, true, false, cond, [], ◌++◌, Result, Ok, Err, refl}
 use Rattle.hayro_ccitt.proofs.Names.{sym, ap}
 use Rattle.hayro_ccitt.proofs.Names.{subst, arith, append-nil, Bits, DecodeError, DecodeSettings, Row, Line, line_here, front_of}
-use Rattle.hayro_ccitt.proofs.Names.{EncodingMode, Group3_1D, Group3_2D, Group4}
 use Rattle.std.proofs.lemmas.List.Elements.{Contains-append_left}
 use Rattle.fax_bits.specs.Repetition.{Turn}
-use Rattle.fax_bits.proofs.Repetition.Repeated.{after_turn}
 use Rattle.fax_bits.specs.Runs.{run_from}
-use Rattle.fax_reading.specs.Lines.{Pen, start, drawn, draw_run, go_on, turn_behind, unless_fault}
-use Rattle.fax_reading.specs.LinesGoOn.{LacksWord, LinePart, OpenRun, begin_line, begin_step, draw_step, line_after_turn}
+use Rattle.fax_reading.specs.Lines.{Pen, drawn, draw_run, go_on, turn_behind, unless_fault}
+use Rattle.fax_reading.specs.LinesGoOn.{LacksWord, LinePart, OpenRun, draw_step, line_after_turn}
 use Rattle.fax_reading.specs.LinesGoOn.{line_from_part, part_before}
 use Rattle.fax_reading.specs.Rows.{opposite, paint}
 use Rattle.fax_reading.proofs.Continuations.LinesGoOn.{line_from_is, short_line_goes_on}

@@ -7,8 +7,8 @@ use Rattle.hayro_ccitt.proofs.Names.{front_of, here, lines_of, ◌&&◌}
 use Rattle.hayro_ccitt.proofs.Names.{IsStanding, IsStandingAtLine, ReachesNextLine, ReadsNext, is_at_line, seen, line_here}
 use Rattle.hayro_ccitt.proofs.Names.{DecodeSettings, Stand, AtLine, BehindRow, AtEnd, AtFault, MissIsTold, missed_before, ended}
 use Rattle.hayro_ccitt.proofs.Names.{is_some, ◌++◌, ◌⊎◌, inl, inr}
-use Rattle.hayro_ccitt.proofs.Names.{ReaderStands, DamageIsCounted, WorkIsPaid, IsPaid, HasEnded, HasFailed, sum_by, take}
-use Rattle.hayro_ccitt.proofs.Names.{words_of, IfErr, IfOk, OnErr, failed_at, IfErr-weaker, RowsRead, false≢true, ◌<◌}
+use Rattle.hayro_ccitt.proofs.Names.{HasEnded, HasFailed}
+use Rattle.hayro_ccitt.proofs.Names.{IfErr, IfOk, OnErr, failed_at, IfErr-weaker, RowsRead, false≢true, ◌<◌}
 use Rattle.hayro_ccitt.proofs.Names.{List, zero, suc, ◌∷◌, append_assoc, bits_in, length-append, length-drop, HighestFirst}
 use Rattle.hayro_ccitt.proofs.Names.{LowestFirst}
 use Rattle.std.proofs.Math.Seq.{drop-append-add}

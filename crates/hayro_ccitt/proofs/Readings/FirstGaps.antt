@@ -10,7 +10,6 @@ use Rattle.hayro_ccitt.proofs.Names.{DamageIsCounted, Stand, IsPaid, ReaderStand
 use Rattle.hayro_ccitt.proofs.Names.{Group3_1D}
 use Rattle.hayro_ccitt.proofs.Names.{Group3_2D, BitsAt}
 use Rattle.std.proofs.lemmas.List.{drop-append-le}
-use Rattle.std.specs.Prelude.{nat_lt, ◌||◌}
 use Rattle.fax_bits.specs.Ones.{holds_one}
 use Rattle.fax_reading.proofs.GapsContinued.ContinuedEols.{all_eols-more}
 use Rattle.hayro_ccitt.proofs.{Readings.DamageCounted.first_gap_left, Work.ChangesStored.changes_white}

@@ -1,12 +1,10 @@
 -- A gap is looked at no more than twelve bits beyond its end.
 use Rattle.hayro_ccitt.proofs.Names.{common_steps}
 use Rattle.hayro_ccitt.proofs.Names.{◌≡◌, ◌∙◌, ◌+◌, ◌≤◌, ◌∷◌, ◌&&◌, ◌||◌, [], ℕ, zero, suc, Bool, true, false, not, cond, leb}
-use Rattle.hayro_ccitt.proofs.Names.{eqb}
 use Rattle.hayro_ccitt.proofs.Names.{Option, None, Some, Result, Ok, Err, refl, sym, ap, arith, length, and_parts, false≢true}
 use Rattle.hayro_ccitt.proofs.Names.{ne_eqb, eols_here}
-use Rattle.std.proofs.lemmas.Bool.{leb-false}
 use Rattle.hayro_ccitt.proofs.Names.{Bits, DecodeSettings, EncodingMode, Group4, Group3_1D, Group3_2D}
-use Rattle.hayro_ccitt.proofs.Names.{after_eol, all_eols, next_eol, at_end, eols_by, limit_met, Gap, gap_behind_row, InvalidCode}
+use Rattle.hayro_ccitt.proofs.Names.{after_eol, next_eol, at_end, eols_by, limit_met, Gap, gap_behind_row, InvalidCode}
 use Rattle.hayro_ccitt.proofs.Names.{DecodeError, OnErr, gap_said}
 use Rattle.hayro_ccitt.specs.EndOfLine.{eols, eols_with_tags, one_more, past_tag}
 use Rattle.hayro_ccitt.specs.GapsContinued.{holds_one, eols_are_settled, next_eols_are_settled, gap_is_settled}

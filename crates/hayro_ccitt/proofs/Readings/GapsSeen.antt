@@ -2,12 +2,11 @@
 use Rattle.hayro_ccitt.proofs.Names.{common_steps}
 use Rattle.hayro_ccitt.proofs.Names.{◌≡◌, ◌∙◌, ◌+◌, ◌≤◌, ◌++◌, ◌∷◌, ◌&&◌, ◌||◌, [], ℕ, zero, suc, Bool, true, false, not}
 use Rattle.hayro_ccitt.proofs.Names.{cond, leb, eqb, replicate, Option, None, Some, refl, sym, ap, arith, length, length-append}
-use Rattle.std.proofs.Math.Seq.{drop-append-add}
-use Rattle.std.proofs.lemmas.Bool.{leb-false, lt-leb}
+use Rattle.std.proofs.lemmas.Bool.{lt-leb}
 use Rattle.hayro_ccitt.proofs.Names.{append-nil, append_assoc, drop, length-replicate, ne_eqb, Bits}
 use Rattle.hayro_ccitt.proofs.Names.{EncodingMode, Group4, Group3_1D, Group3_2D, DecodeSettings}
 use Rattle.hayro_ccitt.proofs.Names.{after_eol, all_eols, next_eol, at_end, eols_by, limit_met}
-use Rattle.hayro_ccitt.specs.EndOfLine.{eols, eols_with_tags, one_more, past_tag, pass_last_tag}
+use Rattle.hayro_ccitt.specs.EndOfLine.{eols, eols_with_tags, one_more, past_tag}
 use Rattle.hayro_ccitt.specs.GapsContinued.{behind_line_tag, holds_one, eols_are_settled}
 use Rattle.hayro_ccitt.specs.GapsContinued.{next_eols_are_settled, gap_is_settled, first_gap_is_settled}
 use Rattle.hayro_ccitt.specs.GapsSeen.{IsSeen, LooksTo, bits_needed, ends_at_two, first_rules, has_tags, is_settled, nothing_seen}

@@ -1,7 +1,7 @@
 -- What is kept of a gap that was looked at, from step to step.
 use Rattle.hayro_ccitt.proofs.Names.{arith, common_steps}
-use Rattle.hayro_ccitt.proofs.Names.{◌≡◌, ◌∙◌, ◌≤◌, ◌++◌, ℕ, Bool, true, Option, None, Some, Result, Ok, Err, sym, ap}
-use Rattle.hayro_ccitt.proofs.Names.{subst, refl, drop, length, Bits, BitsAt, Held, Context, DecodeError, false≢true}
+use Rattle.hayro_ccitt.proofs.Names.{◌≡◌, ◌≤◌, ◌++◌, ℕ, Bool, true, Option, None, Some, Result, Ok, Err, sym}
+use Rattle.hayro_ccitt.proofs.Names.{subst, drop, length, Bits, BitsAt, Held, Context, DecodeError, false≢true}
 use Rattle.hayro_ccitt.proofs.Names.{here, is_at_line}
 use Rattle.std.proofs.lemmas.List.{drop-append-le}
 use Rattle.hayro_ccitt.specs.GapsSeen.{IsSeen, nothing_seen, rules_for}

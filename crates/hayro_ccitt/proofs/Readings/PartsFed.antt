@@ -7,16 +7,13 @@ use Rattle.hayro_ccitt.proofs.Names.{DecodeError, Group3_2D, White}
 use Rattle.std.proofs.lemmas.Bool.{cases_eq}
 use Rattle.hayro_ccitt.proofs.Names.{redrawn, here, Stand, false≢true, length-drop}
 use Rattle.hayro_ccitt.proofs.Names.{drop-drop, ◌++◌, append_assoc, length-append}
-use Rattle.std.proofs.lemmas.List.{drop-append-le}
-use Rattle.hayro_ccitt.specs.LinesGoOn.{line_from_part}
 use Rattle.hayro_ccitt.proofs.Names.{changes, line_here, row_of_line}
 use Rattle.hayro_ccitt.specs.declared.line_parts.KeptPart.{KeptPart}
 use Rattle.hayro_ccitt.specs.Continuations.{is_short}
-use Rattle.hayro_ccitt.specs.LineParts.{ContinuesLine, IsPartOf, part_at}
-use Rattle.hayro_ccitt.specs.RowsTried.{IsLeft}
+use Rattle.hayro_ccitt.specs.LineParts.{ContinuesLine, IsPartOf}
 use Rattle.hayro_ccitt.proofs.Readings.FeedsOn.{none_paid}
 use Rattle.hayro_ccitt.specs.RowFeeds.{KeepsPart, Feeding, IsFeedOf, LineGoesOn, PartIsKept, ReadsInFeed, Scans, ScansLine}
-use Rattle.hayro_ccitt.specs.RowFeeds.{StandsIn, paid_for_line}
+use Rattle.hayro_ccitt.specs.RowFeeds.{StandsIn}
 use Rattle.hayro_ccitt.specs.RowFeeds.{StaysShort, fed_over, line_of_feed, most_for_line, most_to_find, paid_by}
 use Rattle.hayro_ccitt.specs.Answers.{HasBlack}
 use Rattle.hayro_ccitt.proofs.Names.{RowsRead, ReadsNext, front_of}

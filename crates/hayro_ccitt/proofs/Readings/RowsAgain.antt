@@ -1,10 +1,10 @@
 -- A row whose line follows a gap at which nothing is missed, and white rows that are read again and again.
 use Rattle.hayro_ccitt.proofs.Names.{common_steps}
-use Rattle.hayro_ccitt.proofs.Names.{◌≡◌, ◌+◌, ◌-◌, ◌*◌, ◌≤◌, ◌&&◌, ◌||◌, ◌++◌, ◌∷◌, ℕ, Bool, true, false, eqb, leb, not}
+use Rattle.hayro_ccitt.proofs.Names.{◌≡◌, ◌+◌, ◌-◌, ◌*◌, ◌≤◌, ◌&&◌, ◌++◌, ◌∷◌, ℕ, Bool, true, false, eqb, leb, not}
 use Rattle.hayro_ccitt.proofs.Names.{[], length, drop, cond, min, suc, None, Some, Result, Ok, refl, sym}
 use Rattle.hayro_ccitt.proofs.Names.{ap, ◌∙◌, subst, arith, cond-true, cond-false, eq-eqb, length-drop}
 use Rattle.hayro_ccitt.proofs.Names.{DecodeError, DecodeSettings, EncodingMode, Group4, Bits, BitsAt, here, Context, Held}
-use Rattle.hayro_ccitt.proofs.Names.{Repairs, with_missed, TakesOneRow, repairs_with, repairs_behind, with_row_taken, Line}
+use Rattle.hayro_ccitt.proofs.Names.{Repairs, TakesOneRow, repairs_with, repairs_behind, with_row_taken, Line}
 use Rattle.hayro_ccitt.proofs.Names.{line_here, line_by, row_of_line}
 use Rattle.hayro_ccitt.proofs.Names.{Gap, gap_behind_row, behind_eols, misses_eol, eols_by, eols_here, is_over, limit_met}
 use Rattle.hayro_ccitt.specs.PlainReading.{eols_of_end}
@@ -16,8 +16,7 @@ use Rattle.hayro_ccitt.proofs.Names.{Misses, MissIsTold, WorkIsPaid, PaidAtLine,
 use Rattle.hayro_ccitt.proofs.Names.{cut_since, damage_since, failed_at, tag_tests, looked_ahead}
 use Rattle.hayro_ccitt.specs.declared.row_reader.RowState.{RowState}
 use Rattle.hayro_ccitt.proofs.Names.{Group3_1D, Group3_2D, at_end, ne_eqb, ◌<◌, ◌≢◌}
-use Rattle.hayro_ccitt.proofs.Names.{after_eol, append_assoc, drop-drop, eol, inl, inr, length-append, tagged_eols}
-use Rattle.hayro_ccitt.specs.EndOfLine.{one_more, pass_last_tag}
+use Rattle.hayro_ccitt.proofs.Names.{after_eol, append_assoc, drop-drop, length-append, tagged_eols}
 use Rattle.hayro_ccitt.specs.RowFeeds.{TakesWhite}
 use Rattle.hayro_ccitt.specs.WhiteLines.{AreWhiteLine, IsWhiteLine, MayFollow, PassesLine, eol_before}
 use Rattle.fax_bits.specs.declared.tables.CodeWord.{CodeWord}

@@ -1,8 +1,8 @@
 -- The changes of a row are paid by the bits of its line.
 use Rattle.hayro_ccitt.proofs.Names.{common_steps}
-use Rattle.hayro_ccitt.proofs.Names.{◌≡◌, ◌∙◌, ◌+◌, ◌≤◌, ◌<◌, ◌++◌, ◌∷◌, ◌⊎◌, ◌||◌, not, [], Bool, true, false, Result, Ok}
+use Rattle.hayro_ccitt.proofs.Names.{◌≡◌, ◌∙◌, ◌+◌, ◌≤◌, ◌<◌, ◌++◌, ◌∷◌, ◌⊎◌, [], Bool, true, false, Result, Ok}
 use Rattle.hayro_ccitt.proofs.Names.{Err, refl, sym, ap, arith, length, replicate, inl, inr, cases_lt, length-append}
-use Rattle.hayro_ccitt.proofs.Names.{append_assoc, cond, Bits, DecodeError, DecodeSettings, Row, changes, found_here}
+use Rattle.hayro_ccitt.proofs.Names.{append_assoc, Bits, DecodeError, DecodeSettings, Row, changes, found_here}
 use Rattle.hayro_ccitt.proofs.Names.{front_of, line_here, row_of_line}
 use Rattle.hayro_ccitt.specs.Lines.{Line}
 use Rattle.hayro_ccitt.specs.PlainReading.{behind_row}

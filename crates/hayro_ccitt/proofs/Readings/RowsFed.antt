@@ -4,10 +4,10 @@ use Rattle.hayro_ccitt.proofs.Names.{◌≡◌, ◌≢◌, ◌∙◌, ◌+◌, �
 use Rattle.hayro_ccitt.proofs.Names.{refl, sym, ap}
 use Rattle.hayro_ccitt.proofs.Names.{subst, arith, length, drop, length-drop, length-append, drop-drop, inl, inr, Bits, BitsAt}
 use Rattle.hayro_ccitt.proofs.Names.{Held, Context, DecodeError}
-use Rattle.hayro_ccitt.proofs.Names.{IsStanding, ReachesNextLine, WorkIsPaid, IsPaid, PaidAtLine, Stand, AtLine, BehindRow}
+use Rattle.hayro_ccitt.proofs.Names.{IsStanding, ReachesNextLine, IsPaid, PaidAtLine, Stand, AtLine, BehindRow}
 use Rattle.hayro_ccitt.proofs.Names.{AtEnd, AtFault}
-use Rattle.hayro_ccitt.proofs.Names.{DecodeSettings, is_at_line, ended, seen, here, ReaderStands, DamageIsCounted, MissIsTold}
-use Rattle.hayro_ccitt.proofs.Names.{line_after, false≢true, HasEnded, HasFailed, missed_before, failed_at, IfErr-weaker}
+use Rattle.hayro_ccitt.proofs.Names.{DecodeSettings, is_at_line, ended, seen, here}
+use Rattle.hayro_ccitt.proofs.Names.{line_after, false≢true}
 use Rattle.hayro_ccitt.proofs.Names.{on_err_weaker, not, ◌&&◌, stand_after, row_came, IsStandingAtLine, ReadsNext, IfErr}
 use Rattle.hayro_ccitt.proofs.Names.{IsFault}
 use Rattle.std.proofs.lemmas.List.{drop-append-le}

@@ -1,7 +1,7 @@
 -- Rows of data in pieces that are passed to a sink.
 use Rattle.hayro_ccitt.proofs.Names.{common_steps}
 use Rattle.hayro_ccitt.proofs.Names.{◌≡◌, ◌∙◌, ◌++◌, ◌∷◌, [], refl, sym, ap, subst, ℕ, List, Ok, Err, changes, meaning_after}
-use Rattle.hayro_ccitt.proofs.Names.{◌+◌, ◌<◌, ◌≢◌, inl, inr, Bool, true, false, Result, DecodeError, DecodeSettings, arith}
+use Rattle.hayro_ccitt.proofs.Names.{◌+◌, ◌<◌, ◌≢◌, inl, inr, Bool, true, false, Result, DecodeError, arith}
 use Rattle.std.specs.Prelude.{◌^◌}
 use Rattle.hayro_ccitt.specs.RowFeeds.{CountsRow, Feeding, FeedsRow, FeedsRows, KeepsBits, PassesRows, ReadsInFeed, fed_row}
 use Rattle.hayro_ccitt.specs.RowFeeds.{PushesRows, last_left, rows_left}

@@ -7,11 +7,10 @@ use Rattle.hayro_ccitt.proofs.Names.{OnAnswer, meaning_after, Bits, BitsAt, here
 use Rattle.hayro_ccitt.proofs.Names.{DecodesRows, leaving, plain, lines_of, end_of}
 use Rattle.hayro_ccitt.proofs.Names.{cuts_by_line}
 use Rattle.hayro_ccitt.proofs.Names.{repairs_by_line, misses_by_line, words_of}
-use Rattle.hayro_ccitt.proofs.Names.{most_counted, Row, changes, is_some, ReadsNext, suc, ◌∷◌, ◌++◌, map, fold}
+use Rattle.hayro_ccitt.proofs.Names.{most_counted, Row, changes, is_some, ReadsNext}
 use Rattle.hayro_ccitt.proofs.Names.{map-append, fold-append}
-use Rattle.std.proofs.Common.{take-suc}
 use Rattle.hayro_ccitt.proofs.Names.{IsStanding, IsWhole, Misses, MissesBehindRow, MissIsTold, Stand, AtLine, BehindRow}
-use Rattle.hayro_ccitt.proofs.Names.{AtEnd, AtFault, ended, missed_before, seen, Reading}
+use Rattle.hayro_ccitt.proofs.Names.{AtEnd, AtFault, ended, missed_before, seen}
 use Rattle.hayro_ccitt.specs.declared.row_reader.RowState.{RowState}
 use Rattle.hayro_ccitt.proofs.DrawingLines.CountedLines.{on_answer_weaker}
 use Rattle.hayro_ccitt.proofs.Readings.RowByRow.{plain_whole, ended_stands, failed_stands, misses_ended}

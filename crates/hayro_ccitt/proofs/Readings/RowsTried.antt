@@ -1,14 +1,13 @@
 -- A row that no data that follows can change, and a line that is left.
 use Rattle.hayro_ccitt.proofs.Names.{common_steps}
 use Rattle.hayro_ccitt.proofs.Names.{◌≡◌, ◌+◌, ◌*◌, ◌≤◌, ℕ, Bool, true, false, [], ◌++◌, length, Result, Ok, Err, OnOk, refl}
-use Rattle.hayro_ccitt.proofs.Names.{sym, ap, ◌∙◌}
+use Rattle.hayro_ccitt.proofs.Names.{sym, ap}
 use Rattle.hayro_ccitt.proofs.Names.{subst, DecodeError, IsFault, OnAnswer, DrawsLine, Row, Bits, Line, Held, Context, Repairs}
 use Rattle.hayro_ccitt.proofs.Names.{AreWholeBytes}
-use Rattle.hayro_ccitt.proofs.Names.{TakesOneRow, repairs_with, with_row_taken, line_here, row_of_line, front_of, changes}
+use Rattle.hayro_ccitt.proofs.Names.{TakesOneRow, repairs_with, line_here, row_of_line, front_of, changes}
 use Rattle.hayro_ccitt.proofs.Names.{append-nil, List, IfErr, inl, inr, ◌⊎◌, BitsAt, here, row_came, ◌≢◌, arith, redrawn, White}
 use Rattle.fax_reading.proofs.Continuations.ShortLines.{line_stays}
 use Rattle.hayro_ccitt.proofs.DrawingLines.FullRows.{IsFull}
-use Rattle.hayro_ccitt.specs.Answers.{HasBlack}
 use Rattle.hayro_ccitt.specs.Continuations.{StaysAsRead, is_short, line_before, row_continued}
 use Rattle.hayro_ccitt.specs.RowsTried.{ReadsRow, CanCome, TriesRow, falls_short, lacks_memory, needs_more}
 use Rattle.fax_bits.specs.declared.error.DecodeError.TheVariants.{UnexpectedEof, InvalidCode, Overflow, OutOfMemory, Refused}

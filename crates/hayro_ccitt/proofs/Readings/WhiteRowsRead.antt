@@ -1,6 +1,6 @@
 -- White rows that are read one after another are the next ones of the plain reading.
 use Rattle.hayro_ccitt.proofs.Names.{common_steps}
-use Rattle.hayro_ccitt.proofs.Names.{◌≡◌, ◌+◌, ◌≤◌, ◌∙◌, ℕ, zero, suc, List, [], Ok, ap, arith, refl, subst, sym, take, true}
+use Rattle.hayro_ccitt.proofs.Names.{◌≡◌, ◌+◌, ◌≤◌, ◌∙◌, ℕ, zero, suc, List, [], Ok, ap, arith, refl, sym, take, true}
 use Rattle.hayro_ccitt.proofs.Names.{length, get_or}
 use Rattle.hayro_ccitt.proofs.Names.{Bits, BitsAt, BehindRow, Context, DecodeSettings, IsStanding, ReadsNext, changes}
 use Rattle.hayro_ccitt.proofs.Names.{meaning_after, plain}

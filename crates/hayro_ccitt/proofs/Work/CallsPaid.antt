@@ -1,11 +1,11 @@
 -- Rows one at a time: what all calls of a reader of rows count is paid.
 use Rattle.hayro_ccitt.proofs.Names.{common_steps}
-use Rattle.hayro_ccitt.proofs.Names.{IfOk, OnOk, OnErr, sum_by, ◌≡◌, ◌≢◌, ◌+◌, ◌*◌, ◌<◌, ◌≤◌, ℕ, Bool, true, false, length, take}
+use Rattle.hayro_ccitt.proofs.Names.{IfOk, OnOk, OnErr, ◌≡◌, ◌≢◌, ◌+◌, ◌*◌, ◌<◌, ◌≤◌, ℕ, Bool, true, false, length}
 use Rattle.hayro_ccitt.proofs.Names.{drop, None, Result, Ok, Err, refl, sym, ap, ◌∙◌, arith, false≢true, length-drop, DecodeError}
 use Rattle.hayro_ccitt.proofs.Names.{Stand, AtLine, BehindRow, AtEnd, AtFault, DecodeSettings, EncodingMode, Group4, Group3_1D}
 use Rattle.hayro_ccitt.proofs.Names.{Group3_2D, Bits, Held, fresh, gap_said, Gap, gap_behind_row, changes, IsPaid, PaidAtLine}
 use Rattle.hayro_ccitt.proofs.Names.{PaidBehindRow, ReaderStands, WorkIsPaid, ended, is_at_line, stand_after, looked}
-use Rattle.hayro_ccitt.proofs.Names.{looked_ahead, tag_tests, CountsWork, found_here, most_counted, words_of}
+use Rattle.hayro_ccitt.proofs.Names.{looked_ahead, tag_tests, CountsWork, found_here, most_counted}
 use Rattle.hayro_ccitt.proofs.Work.ChangesStored.{changes_white}
 use Rattle.hayro_ccitt.proofs.Work.EolsPassed.{few_tag_tests, line_has_bits, line_without_eols, looked_ahead_most, looked_most}
 use Rattle.hayro_ccitt.proofs.Work.TurnsPaid.{line_ends, missing_ends, gap_ends, turn_goes_on}
