@@ -1,5 +1,6 @@
 -- What the entry of a table of pairs says of the run codes here.
-use Rattle.hayro_ccitt.proofs.Names.{◌≡◌, ◌≢◌, ℕ, ◌+◌, ◌-◌, ◌*◌, ◌/◌, ◌%◌, ◌≤◌, Bool, true, false, ◌&&◌, ltb, ◌++◌, length, drop}
+use Rattle.hayro_ccitt.proofs.Names.{common_steps}
+use Rattle.hayro_ccitt.proofs.Names.{◌≡◌, ◌≢◌, ℕ, ◌+◌, ◌-◌, ◌*◌, ◌/◌, ◌%◌, ◌≤◌, Bool, true, false, ◌&&◌, ◌++◌, length, drop}
 use Rattle.hayro_ccitt.proofs.Names.{Option, Some, None, Ok, refl, sym, ap, ◌∙◌, arith, and_parts, ltb-true, Color}
 use Rattle.hayro_ccitt.proofs.Names.{Bits, BitsAt, here, opposite, word_at, read_code, codes_of, padded, is_short, pair_entry}
 use Rattle.hayro_ccitt.proofs.Names.{append_assoc, length-append, drop-drop, moved, IsWordHere, IsShort}
@@ -20,9 +21,7 @@ record AreBothSeen (color : Color) (seen : Bits) (entry : ℕ) : Type 0 where
   is : entry ≡ (length seen - length second.1) * 4096 + second.0 * 64 + first.0
 
 short_by : (run : ℕ) → is_short run ≡ true → IsShort run
-short_by run e =
-    let both = and_parts (ltb 0 run) (ltb run 64) e in
-    record { some = ltb-true 0 run both.0; below = ltb-true run 64 both.1 }
+short_by run e = grind (arith, common_steps, and_parts, ltb-true)
 
 -- an entry that isn't 0 says so
 words_of_entry : (color : Color) (seen : Bits) (entry : ℕ) → entry ≡ pair_entry color seen → entry ≢ 0
@@ -32,17 +31,7 @@ words_of_entry color seen entry e other = by_first (word_at (codes_of color) see
     by_test : (first second : ℕ × Bits) → word_at (codes_of color) seen ≡ Some first
         → word_at (codes_of (opposite color)) first.1 ≡ Some second → (t : Bool) → is_short first.0 && is_short second.0 ≡ t
         → AreBothSeen color seen entry
-    by_test first second a b true t =
-        let both = and_parts (is_short first.0) (is_short second.0) t in
-        record {
-          first = first;
-          second = second;
-          found = a;
-          found2 = b;
-          short = short_by first.0 both.0;
-          short2 = short_by second.0 both.1;
-          is = rw (a, pair_entry, b, t) at e;
-        }
+    by_test first second a b true t = grind (arith, common_steps, and_parts, short_by)
     by_test first second a b false t = let none : entry ≡ 0 = rw (a, pair_entry, b, t) at e in absurd (other none)
 
     by_second : (first : ℕ × Bits) → word_at (codes_of color) seen ≡ Some first → (o : Option (ℕ × Bits))
@@ -111,8 +100,7 @@ words_there color at entry words enough =
 -- the entry of twelve bits that are here says which two words are here
 pub pair_there : (color : Color) (at : BitsAt) (entry : ℕ) → entry ≡ pair_entry color (padded 12 (here at)) → entry ≢ 0
     → 12 ≤ length (here at) → AreBothHere color at (entry % 64) (entry / 64 % 64) (entry / 4096)
-pair_there color at entry e other enough =
-    words_there color at entry (words_of_entry color (padded 12 (here at)) entry e other) enough
+pair_there color at entry e other enough = grind (arith, common_steps, words_there, words_of_entry)
 
 -- two runs after no bits are here
 pub two_here_too : (color : Color) (at : BitsAt) (runs : TwoRuns) → AreTwoRunsHere color (moved 0 at) runs

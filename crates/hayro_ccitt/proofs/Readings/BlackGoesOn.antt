@@ -1,14 +1,13 @@
 -- A black pixel that a line paints is painted whatever bits follow.
-use Rattle.hayro_ccitt.proofs.Names.{◌≡◌, ◌∙◌, ℕ, Bool, true, false, cond, leb, [], ◌++◌, length, Result, Ok, Err, refl}
+use Rattle.hayro_ccitt.proofs.Names.{common_steps}
+use Rattle.hayro_ccitt.proofs.Names.{◌≡◌, ◌∙◌, ℕ, Bool, true, false, cond, [], ◌++◌, Result, Ok, Err, refl}
 use Rattle.hayro_ccitt.proofs.Names.{sym, ap}
 use Rattle.hayro_ccitt.proofs.Names.{subst, arith, append-nil, Bits, DecodeError, DecodeSettings, Row, Line, line_here, front_of}
-use Rattle.hayro_ccitt.proofs.Names.{EncodingMode, Group3_1D, Group3_2D, Group4}
 use Rattle.std.proofs.lemmas.List.Elements.{Contains-append_left}
 use Rattle.fax_bits.specs.Repetition.{Turn}
-use Rattle.fax_bits.proofs.Repetition.Repeated.{after_turn}
 use Rattle.fax_bits.specs.Runs.{run_from}
-use Rattle.fax_reading.specs.Lines.{Pen, start, drawn, draw_run, go_on, turn_behind, unless_fault}
-use Rattle.fax_reading.specs.LinesGoOn.{LacksWord, LinePart, OpenRun, begin_line, begin_step, draw_step, line_after_turn}
+use Rattle.fax_reading.specs.Lines.{Pen, drawn, draw_run, go_on, turn_behind, unless_fault}
+use Rattle.fax_reading.specs.LinesGoOn.{LacksWord, LinePart, OpenRun, draw_step, line_after_turn}
 use Rattle.fax_reading.specs.LinesGoOn.{line_from_part, part_before}
 use Rattle.fax_reading.specs.Rows.{opposite, paint}
 use Rattle.fax_reading.proofs.Continuations.LinesGoOn.{line_from_is, short_line_goes_on}
@@ -38,15 +37,7 @@ module _ (strict : Bool) (columns : ℕ) where
       turn_behind (unless_fault pen.front (paint strict columns pen.front pen.color found.0)) (λ row.
       Turn.next (record { front = row; color = opposite pen.color; rest = found.1 }))))
   run_black pen (Err fault) black = black
-  run_black pen (Ok found) black = by_paint (paint strict columns pen.front pen.color found.0) refl
-    where
-      by_paint : (r : Result Row DecodeError) → paint strict columns pen.front pen.color found.0 ≡ r
-          → TurnHasBlack (turn_behind (unless_fault pen.front r) (λ row.
-          Turn.next (record { front = row; color = opposite pen.color; rest = found.1 })))
-      by_paint (Err fault) e = black
-      by_paint (Ok row) e =
-          let p = paint_ok strict columns pen.front pen.color found.0 row e in
-          subst HasBlack p.1 (black_stays pen.front _ black)
+  run_black pen (Ok found) black = grind (arith, common_steps, paint_ok, black_stays)
 
   -- and the run that follows it in its horizontal mode, if one does
   another_black : (another : Bool) (pen : Pen) → HasBlack pen.front
@@ -92,39 +83,20 @@ module _ (settings : DecodeSettings) (reference : Row) where
 
   step_front : (is_2d : Bool) (pen : Pen) → LacksWord (LinePart.at_step is_2d pen)
       → front_of (line_from_part settings reference (LinePart.at_step is_2d pen)) ≡ pen.front
-  step_front is_2d pen lacks =
-      ap front_of (line_from_is settings reference (LinePart.at_step is_2d pen))
-      ∙ either_way is_2d lacks (leb settings.columns (length pen.front))
-    where
-      either_way : (is_2d : Bool) → LacksWord (LinePart.at_step is_2d pen) → (full : Bool)
-          → front_of (after_turn (line_from_part settings reference) (turn_behind
-          (cond full (Turn.done (Line.whole pen.front pen.rest)) (Turn.next pen))
-          (λ p. (begin_step is_2d settings.strict settings.columns reference p).turn))) ≡ pen.front
-      either_way is_2d lacks true = refl
-      either_way true lacks false = rw lacks refl
-      either_way false lacks false =
-          in_run_front (record { is_2d = false; another = false; total = 0 }) pen lacks
+  step_front is_2d pen lacks = grind (arith, common_steps, line_from_is, in_run_front)
 
   none_front : front_of (line_here settings reference []) ≡ []
-  none_front = ap front_of (line_from_is settings reference (LinePart.begins [])) ∙ by_encoding settings.encoding
-    where
-      by_encoding : (encoding : EncodingMode)
-          → front_of (after_turn (line_from_part settings reference) (begin_line encoding []).turn) ≡ []
-      by_encoding Group3_1D = step_front false (start []) refl
-      by_encoding Group3_2D = refl
-      by_encoding Group4 = step_front true (start []) refl
+  none_front = grind (arith, common_steps, line_from_is, step_front)
 
   lacking_front : (part : LinePart) → LacksWord part → front_of (line_from_part settings reference part) ≡ painted_in part
-  lacking_front (LinePart.begins here) lacks =
-      ap (λ (b : Bits). front_of (line_here settings reference b)) lacks ∙ none_front
+  lacking_front (LinePart.begins here) lacks = grind (arith, common_steps, none_front)
   lacking_front (LinePart.at_step is_2d pen) lacks = step_front is_2d pen lacks
   lacking_front (LinePart.in_run run pen) lacks = in_run_front run pen lacks
 
 -- a part before no bits is that part
 before_none : (part : LinePart) → part_before [] part ≡ part
 before_none (LinePart.begins here) = ap LinePart.begins (append-nil here)
-before_none (LinePart.at_step is_2d pen) =
-    ap (λ (b : Bits). LinePart.at_step is_2d (record pen { rest = b })) (append-nil pen.rest)
+before_none (LinePart.at_step is_2d pen) = grind (arith, common_steps, append-nil)
 before_none (LinePart.in_run run pen) = ap (λ (b : Bits). LinePart.in_run run (record pen { rest = b })) (append-nil pen.rest)
 
 pub black_goes_on : (settings : DecodeSettings) (reference : Row) (here more : Bits)

@@ -1,4 +1,5 @@
 -- A turn of a feed: the gap before the next line is passed, and its row is read.
+use Rattle.hayro_ccitt.proofs.Names.{common_steps}
 use Rattle.hayro_ccitt.proofs.Names.{◌≡◌, ◌≢◌, ◌∙◌, ◌+◌, ◌<◌, ◌≤◌, ◌⊎◌, [], ap, sym, refl, arith, length, false≢true}
 use Rattle.hayro_ccitt.proofs.Names.{Bool, true, false, Option, None, Some, Result, Ok, Err, ℕ}
 use Rattle.hayro_ccitt.proofs.Names.{Bits, BitsAt, Context, Held, White}
@@ -32,9 +33,7 @@ seen_by {f} {reader} by = seen_begun f.ctx.held by.begun (seen_there (ap here (s
 pub same_bits_at : {reader : BitsAt} {bits : Bits} {from place : ℕ} (after : BitsAt)
     → reader ≡ record { bits = bits; place = from }
     → after.bits ≡ reader.bits → place ≡ after.place → after ≡ record { bits = bits; place = place }
-same_bits_at {reader} {bits} {from} {place} after is same there =
-    ap (λ (b : Bits). record { bits = b; place = after.place }) (same ∙ ap (λ (r : BitsAt). r.bits) is)
-    ∙ ap (λ (n : ℕ). record { bits = bits; place = n }) (sym there)
+same_bits_at {reader} {bits} {from} {place} after is same there = grind (arith, common_steps)
 
 -- ---- Where it goes on
 

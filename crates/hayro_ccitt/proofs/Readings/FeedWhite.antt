@@ -1,4 +1,5 @@
 -- A turn of a feed at a white line: it is a row whatever data follows.
+use Rattle.hayro_ccitt.proofs.Names.{common_steps}
 use Rattle.hayro_ccitt.proofs.Names.{◌≡◌, ◌∙◌, ◌+◌, ◌≤◌, ◌++◌, [], ap, sym, subst, refl}
 use Rattle.hayro_ccitt.proofs.Names.{arith, length, drop, false≢true, inl}
 use Rattle.hayro_ccitt.proofs.Names.{Bool, true, false, None, Ok, ℕ, Bits, BitsAt}
@@ -46,8 +47,7 @@ module _ {f : Inside} {before after : BitsAt} {rows : RowState} {ctx : Context} 
 
   word_passed : (most : ℕ)
       × IsWhiteLine f.ctx.held.settings.encoding f.ctx.held.settings.columns f.ctx.held.has_eols most kept_passes.word
-  word_passed = line_passed f.ctx.held.settings f.ctx.held.has_eols f.ctx.held.reference lines
-      (record { bits = kept_bits; place = f.place }) after follow kept_passes
+  word_passed = grind (arith, common_steps, line_passed, kept_passes)
 
   line_of_word : (line : Bits) × AreWhiteLine f.ctx.held.settings.encoding f.ctx.held.settings.columns line
       × (bits_of_word kept_passes.word ≡ eol_before f.ctx.held.has_eols ++ line)

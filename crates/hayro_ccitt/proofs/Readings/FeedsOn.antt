@@ -1,4 +1,5 @@
 -- Rows from data that comes in pieces: what the steps of a call leave of a feed.
+use Rattle.hayro_ccitt.proofs.Names.{common_steps}
 use Rattle.hayro_ccitt.proofs.Names.{◌≡◌, ◌≢◌, ◌∙◌, ◌+◌, ◌-◌, ◌*◌, ◌≤◌, [], ℕ, Bool, true, false, Result, Ok, Err, None, Some}
 use Rattle.hayro_ccitt.proofs.Names.{Option, refl, sym, ap}
 use Rattle.hayro_ccitt.proofs.Names.{subst, arith, length, drop, cond, Bits, BitsAt, Held, Context, DecodeError, White, redrawn}
@@ -6,8 +7,8 @@ use Rattle.hayro_ccitt.proofs.Names.{front_of, here, lines_of, ◌&&◌}
 use Rattle.hayro_ccitt.proofs.Names.{IsStanding, IsStandingAtLine, ReachesNextLine, ReadsNext, is_at_line, seen, line_here}
 use Rattle.hayro_ccitt.proofs.Names.{DecodeSettings, Stand, AtLine, BehindRow, AtEnd, AtFault, MissIsTold, missed_before, ended}
 use Rattle.hayro_ccitt.proofs.Names.{is_some, ◌++◌, ◌⊎◌, inl, inr}
-use Rattle.hayro_ccitt.proofs.Names.{ReaderStands, DamageIsCounted, WorkIsPaid, IsPaid, HasEnded, HasFailed, sum_by, take}
-use Rattle.hayro_ccitt.proofs.Names.{words_of, IfErr, IfOk, OnErr, failed_at, IfErr-weaker, RowsRead, false≢true, ◌<◌}
+use Rattle.hayro_ccitt.proofs.Names.{HasEnded, HasFailed}
+use Rattle.hayro_ccitt.proofs.Names.{IfErr, IfOk, OnErr, failed_at, IfErr-weaker, RowsRead, false≢true, ◌<◌}
 use Rattle.hayro_ccitt.proofs.Names.{List, zero, suc, ◌∷◌, append_assoc, bits_in, length-append, length-drop, HighestFirst}
 use Rattle.hayro_ccitt.proofs.Names.{LowestFirst}
 use Rattle.std.proofs.Math.Seq.{drop-append-add}
@@ -54,11 +55,7 @@ at_none false n e = refl
 
 -- a line that wasn't left isn't said to be
 unleft : (answer : Result Bool DecodeError) → (IsLeft answer → ⊥) → is_left answer ≡ false
-unleft answer other = by_bool (is_left answer) refl
-  where
-    by_bool : (b : Bool) → is_left answer ≡ b → b ≡ false
-    by_bool true e = absurd (other (left_is answer e))
-    by_bool false e = refl
+unleft answer other = grind (arith, common_steps, left_is)
 
 module _ (old new : Feeding) (before after : BitsAt) (before_is : before ≡ record { bits = old.kept; place = old.place })
     (keeps : KeepsBits old new) (ends : new.place ≡ after.place) (begun : old.begun ≡ true) (still : new.begun ≡ true) where
@@ -79,18 +76,7 @@ module _ (old new : Feeding) (before after : BitsAt) (before_is : before ≡ rec
     pub stays_fed : (more : ℕ)
         → IsStanding (tried + more) new.rows new.ctx (record { bits = whole; place = old.dropped + after.place })
         → IsFeedOf whole (tried + more) new
-    stays_fed more stands = record {
-      fit = feed.fit;
-      lie = subst (λ (n : ℕ). LieIn whole n new.finished new.kept) (sym keeps.dropped)
-          (subst (λ (b : Bool). LieIn whole old.dropped b new.kept) (sym keeps.finished)
-          (subst (λ (b : Bits). LieIn whole old.dropped old.finished b) (sym keeps.kept) feed.lie));
-      stands = subst (λ (b : Bool). StandsIn b (tried + more) new.rows new.ctx
-          (record { bits = whole; place = new.dropped + new.place })) (sym still)
-          (subst (λ (n : ℕ). IsStanding (tried + more) new.rows new.ctx (record { bits = whole; place = n })) place_is stands);
-    }
-      where
-        place_is : old.dropped + after.place ≡ new.dropped + new.place
-        place_is = omega (arith, keeps.dropped, ends)
+    stays_fed more stands = grind (arith, common_steps)
 
   place_is : old.dropped + after.place ≡ new.dropped + new.place
   place_is = omega (arith, keeps.dropped, ends)
@@ -190,9 +176,7 @@ module _ (old new : Feeding) (before after : BitsAt) (before_is : before ≡ rec
     same_line : (P : DecodeSettings → Bits → Bits → Type 0) → IsLeft answer
         → P mid.held.settings mid.held.reference (here before) → P new.ctx.held.settings new.ctx.held.reference
         (drop old.place old.kept)
-    same_line P left known =
-        subst (λ (h : Held). P h.settings h.reference (drop old.place old.kept)) (sym (tries.tried.left left))
-        (subst (λ (b : BitsAt). P mid.held.settings mid.held.reference (here b)) before_is known)
+    same_line P left known = grind (arith, common_steps)
 
     -- no bits follow
     no_more : CanCome old.finished []
@@ -200,18 +184,14 @@ module _ (old new : Feeding) (before after : BitsAt) (before_is : before ≡ rec
 
     module _ {whole : Bits} {tried : ℕ} (feed : IsFeedOf whole tried old) where
       same : mid.held ≡ old.ctx.held
-      same =
-          begun_is (at_line_stands old.rows.stand old.ctx.held.settings whole old.ctx.held at line (stood feed).0)
-          (ap (λ (x : Context). x.held) frame)
+      same = grind (arith, common_steps, begun_is, at_line_stands, stood)
 
       mid_is : mid ≡ record old.ctx { passed = 0; cut = false }
       mid_is = frame ∙ ap (λ (h : Held). record old.ctx { held = h; passed = 0; cut = false })
           (sym (ap (λ (x : Context). x.held) frame) ∙ same)
 
       begins_there : IsStandingAtLine tried old.rows mid (record { bits = whole; place = at })
-      begins_there = subst (λ (x : Context). IsStandingAtLine tried old.rows x (record { bits = whole; place = at }))
-          (sym mid_is)
-          (line, stood feed)
+      begins_there = grind (arith, common_steps, mid_is, stood)
 
       line_fed : (IsLeft answer → ⊥) → ReadsNext (fed_over whole old) (fed_over whole new) answer
       line_fed read =
@@ -302,9 +282,7 @@ module _ (old new : Feeding) (before after : BitsAt) (before_is : before ≡ rec
         where
           taken_is : (taken : Row) → new.ctx.held.reference ≡ taken
               → ◌≡◌ {A = Row × Bits} (taken, here after ++ []) (new.ctx.held.reference, here after)
-          taken_is taken held =
-              ap (λ (r : Row). (r, here after ++ [])) (sym held)
-              ∙ ap (λ (b : Bits). (new.ctx.held.reference, b)) (append-nil (here after))
+          taken_is taken held = grind (arith, common_steps, append-nil)
 
     line_stored : answer ≡ Ok true → length (changes new.ctx.held.reference)
         + (old.ctx.ticks + cond (is_left answer) (new.ctx.ticks - old.ctx.ticks) 0) ≤ new.ctx.ticks + 1
@@ -452,8 +430,7 @@ module _ (old new : Feeding) (mid : Context) (before after : BitsAt) (stand : St
   none_dropped = omega (arith, front.start)
 
   whole_is : whole ≡ before.bits ++ lie.more
-  whole_is = sym (ap (λ (n : ℕ). drop n whole) none_dropped) ∙ lie.bits
-      ∙ ap (λ (b : Bits). b ++ lie.more) (sym (ap (λ (b : BitsAt). b.bits) before_is))
+  whole_is = grind (arith, common_steps, none_dropped)
 
   changes_nothing : (old.finished ≡ true) ⊎
       (first_gap_is_settled mid.held.settings.encoding mid.held.settings before.bits ≡ true)
@@ -467,23 +444,7 @@ module _ (old new : Feeding) (mid : Context) (before after : BitsAt) (stand : St
   front_standing : IsStanding (tried + more)
       (record { started_at = 0; damage = None; cut = false; missed = None; stand = stand })
       new.ctx (record { bits = before.bits ++ lie.more; place = after.place })
-  front_standing = (
-    subst (λ (s : DecodeSettings). ReaderStands stand s (before.bits ++ lie.more) new.ctx.held after.place) (sym settings_are)
-        (first.stands lie.more (changes_nothing settled)),
-    subst (λ (s : DecodeSettings). DamageIsCounted stand s (before.bits ++ lie.more) new.ctx.held) (sym settings_are)
-        (first.damage lie.more),
-    subst (λ (n : ℕ). WorkIsPaid n stand new.ctx.held.settings (before.bits ++ lie.more) new.ctx.held after.place new.ctx.ticks)
-        front_ticks (record {
-          words = omega (
-            arith,
-            counts,
-            ap (λ (n : ℕ). sum_by length (take n (words_of new.ctx.held.settings (before.bits ++ lie.more)))) none_taken,
-          );
-          paid = subst (λ (s : DecodeSettings). IsPaid mid.ticks stand s (before.bits ++ lie.more) new.ctx.held after.place
-              new.ctx.ticks) (sym settings_are) (first.paid lie.more (changes_nothing settled));
-        }),
-    no_eol_missed stand new.ctx.held.settings (before.bits ++ lie.more) new.ctx.held.taken none_taken,
-  )
+  front_standing = grind (arith, common_steps, changes_nothing, front_ticks, no_eol_missed)
 
   rows_now : new.rows ≡ record { started_at = 0; damage = None; cut = false; missed = None; stand = stand }
   rows_now = rows_are ∙ ap (λ (r : RowState). record r { stand = stand }) front.state
@@ -492,24 +453,10 @@ module _ (old new : Feeding) (mid : Context) (before after : BitsAt) (stand : St
   place_now = omega (arith, none_dropped, keeps.dropped, ends)
 
   front_stood : IsStanding (tried + more) new.rows new.ctx (record { bits = whole; place = new.dropped + new.place })
-  front_stood = subst (λ (r : RowState). IsStanding (tried + more) r new.ctx
-      (record { bits = whole; place = new.dropped + new.place })) (sym rows_now)
-      (subst (λ (n : ℕ). IsStanding (tried + more)
-      (record { started_at = 0; damage = None; cut = false; missed = None; stand = stand })
-      new.ctx (record { bits = whole; place = n })) place_now
-      (subst (λ (b : Bits). IsStanding (tried + more) (record
-      { started_at = 0; damage = None; cut = false; missed = None; stand = stand }) new.ctx
-      (record { bits = b; place = after.place })) (sym whole_is) front_standing))
+  front_stood = grind (arith, common_steps, rows_now, place_now, whole_is, front_standing)
 
   pub front_fed : IsFeedOf whole (tried + more) new
-  front_fed = record {
-    fit = feed.fit;
-    lie = subst (λ (n : ℕ). LieIn whole n new.finished new.kept) (sym keeps.dropped)
-        (subst (λ (b : Bool). LieIn whole old.dropped b new.kept) (sym keeps.finished)
-        (subst (λ (b : Bits). LieIn whole old.dropped old.finished b) (sym keeps.kept) feed.lie));
-    stands = subst (λ (b : Bool). StandsIn b (tried + more) new.rows new.ctx
-        (record { bits = whole; place = new.dropped + new.place })) (sym still) front_stood;
-  }
+  front_fed = grind (arith, common_steps, front_stood)
 
   none_before : old.ctx.held.taken ≡ 0
   none_before = ap (λ (h : Held). h.taken) front.fresh
@@ -526,18 +473,12 @@ module _ (old new : Feeding) (mid : Context) (before after : BitsAt) (stand : St
           × HasEnded old.ctx.held.settings whole new.ctx.held.taken (new.dropped + new.place)
       ended_there AtLine is e = absurd cc
       ended_there BehindRow is e = absurd cc
-      ended_there AtEnd is e = (
-        refl,
-        subst (λ (s : DecodeSettings). HasEnded s whole new.ctx.held.taken (new.dropped + new.place)) same_settings
-            (subst (λ (s : Stand). ReaderStands s new.ctx.held.settings whole new.ctx.held (new.dropped + new.place))
-            (ap (λ (r : RowState). r.stand) rows_now ∙ is) front_stood.0).0,
-      )
+      ended_there AtEnd is e = grind (arith, common_steps, same_settings, rows_now, front_stood)
       ended_there (AtFault error) is e = absurd cc
 
       line_there : (s : Stand) → stand ≡ s → line_first s ≡ Ok true → is_at_line s ≡ true
       line_there AtLine is e = refl
-      line_there BehindRow is e = subst (λ (s : Stand). is_at_line s ≡ true) is (at_line (ap (λ (s : Stand). is_some
-          (ended s)) is))
+      line_there BehindRow is e = grind (arith, common_steps)
       line_there AtEnd is e = absurd cc
       line_there (AtFault error) is e = absurd cc
 
@@ -600,40 +541,8 @@ at_front begun tried rows ctx at none stands = subst (λ (b : Bool). StandsIn b 
 pub none_behind : {old new : RowsRead} (answer : Result Bool DecodeError) → answer ≢ Ok true → ReachesNextLine old new answer
     → ReadsNext old new answer
 none_behind (Ok true) other reached = absurd (other refl)
-none_behind (Ok false) other reached = record {
-  settings = reached.settings;
-  bits = reached.bits;
-  counts = reached.counts;
-  more = λ e. cc;
-  row = λ e. cc;
-  line_start = λ e. cc;
-  place = λ e. cc;
-  damage = λ e. cc;
-  cut = λ e. cc;
-  end = λ e. ((reached.end refl).0, reached.taken, (reached.end refl).1);
-  error = tt;
-  fault_start = λ unended. tt;
-  missed = reached.missed;
-  last = λ e. reached.last;
-  last_start = λ e. reached.last_start;
-}
-none_behind (Err error) other reached = record {
-  settings = reached.settings;
-  bits = reached.bits;
-  counts = reached.counts;
-  more = λ e. cc;
-  row = λ e. cc;
-  line_start = λ e. cc;
-  place = λ e. cc;
-  damage = λ e. cc;
-  cut = λ e. cc;
-  end = λ e. cc;
-  error = (reached.error.0, reached.taken, reached.error.1);
-  fault_start = λ unended. reached.fault_start;
-  missed = reached.missed;
-  last = λ e. reached.last;
-  last_start = λ e. cc;
-}
+none_behind (Ok false) other reached = grind (arith, common_steps)
+none_behind (Err error) other reached = grind (arith, common_steps)
 
 both_true : (a b : Bool) → a ≡ true → b ≡ true → (a && b) ≡ true
 both_true true b is also = also
@@ -809,8 +718,7 @@ next_is {old} {new} keeps place = ap (λ (n : ℕ). drop n old.kept) (sym place)
 
 -- at a line no gap is looked at
 pub none_looked : (finished line : Bool) (looked : ℕ) (gap : Bits) → LooksAhead finished line looked gap 0
-none_looked finished line looked gap =
-    record { line = λ e. refl; finished = λ e. refl; within = λ some. absurd (omega (arith, some)) }
+none_looked finished line looked gap = grind (arith, common_steps)
 
 -- once begun
 looks_begun : (begun : Bool) {finished line : Bool} {looked counted : ℕ} {gap : Bits} → begun ≡ true
@@ -823,38 +731,8 @@ line_paid : {old new : Feeding} (answer : Result Bool DecodeError) → (reads : 
     → (answer ≡ Ok false → old.part ≡ None → new.part ≡ None → (new.ctx.ticks ≡ old.ctx.ticks)
     ⊎ ((old.tried_at ≢ new.dropped + new.place) × (new.tried_at ≡ new.dropped + new.place)))
     → is_at_line old.rows.stand ≡ true → LineWork old new (fed_row answer) reads.extra
-line_paid {old} {new} (Ok true) reads unread line = record {
-  goes_on = λ e some. cc;
-  begins = λ e none. cc;
-  read = λ other. reads.work.read (λ left. cc);
-  at_once = λ other none. reads.work.at_once (λ left. cc) none;
-  some = λ e some. cc;
-  unread = λ e none still. cc;
-  failed = λ e. cc;
-  failed_at_once = λ e none. cc;
-}
-line_paid {old} {new} (Ok false) reads unread line = record {
-  goes_on = λ e some. reads.work.goes_on refl some;
-  begins = λ e none. omega (
-    arith,
-    reads.work.begins refl none,
-    ap length (next_is reads.keeps (reads.left refl).1),
-    ap (λ (h : Held). length (changes h.reference)) (reads.left refl).2,
-  );
-  read = λ other. absurd (other refl);
-  at_once = λ other none. absurd (other refl);
-  some = λ e some. reads.work.some refl some;
-  unread = λ e none still. elim (unread refl none still) [
-    | inl same ↦ inl (omega (arith, reads.counted, same))
-    | inr first ↦ inr (record {
-      untried = first.0;
-      tried = first.1;
-      at_line = ap (λ (r : RowState). is_at_line r.stand) (reads.left refl).0 ∙ line;
-    })
-  ];
-  failed = λ e. cc;
-  failed_at_once = λ e none. cc;
-}
+line_paid {old} {new} (Ok true) reads unread line = grind (arith, common_steps)
+line_paid {old} {new} (Ok false) reads unread line = grind (arith, common_steps)
 line_paid {old} {new} (Err error) reads unread line = record {
   goes_on = λ e some. cc;
   begins = λ e none. cc;
@@ -933,10 +811,7 @@ line_draws {whole} {tried} {old} {new} answer reads begun line feed e =
     }
   where
     wide : 0 < old.ctx.held.settings.columns
-    wide =
-        let stands = subst (λ (b : Bool). StandsIn b tried old.rows old.ctx
-        (record { bits = whole; place = old.dropped + old.place })) begun feed.stands in
-        (at_line_stands old.rows.stand old.ctx.held.settings whole old.ctx.held (old.dropped + old.place) line stands.0).wide
+    wide = grind (arith, common_steps, at_line_stands)
 
     same : length new.kept ≡ length old.kept
     same = ap length reads.keeps.kept
@@ -980,8 +855,7 @@ line_goes_on {whole} {tried} {old} {new} answer reads begun line feed = record {
     line_unkept : (answer : Result Bool DecodeError) → ReadsInFeed old new answer
         → (fed_row answer ≡ Ok Fed.NeedsMore → is_at_line new.rows.stand ≡ false) → new.part ≡ None
     line_unkept (Ok true) reads away = reads.done (λ e. cc)
-    line_unkept (Ok false) reads away =
-        absurd (false≢true (sym (away refl) ∙ ap (λ (r : RowState). is_at_line r.stand) (reads.left refl).0 ∙ line))
+    line_unkept (Ok false) reads away = grind (arith, common_steps, false≢true)
     line_unkept (Err error) reads away = reads.done (λ e. cc)
 
     row_read : (answer : Result Bool DecodeError) → fed_row answer ≡ Ok Fed.Row → answer ≡ Ok true
@@ -1062,41 +936,15 @@ line_feeds {whole} {tried} {old} {new} (Err error) reads unread begun line feed 
 
 -- without a line nothing is counted for it
 pub no_line_paid : {old new : Feeding} {answer : Result Fed DecodeError} → old.part ≡ None → LineWork old new answer 0
-no_line_paid {old} {new} {answer} unkept = record {
-  some = λ e some. absurd (some unkept);
-  unread = λ e none still. inl refl;
-  failed = λ e. omega (arith, none_paid old.part old.line_read unkept);
-  failed_at_once = λ e none. omega arith;
-  goes_on = λ e some. absurd (some unkept);
-  begins = λ e none. omega arith;
-  read = λ other. omega (arith, none_paid old.part old.line_read unkept);
-  at_once = λ other none. refl;
-}
+no_line_paid {old} {new} {answer} unkept = grind (arith, common_steps, none_paid)
 
 -- where the reading ends in a gap
 gap_ended : {old new : Feeding} {answer : Result Fed DecodeError} {extra : ℕ} → old.ctx.ticks + extra ≤ new.ctx.ticks
     → new.ctx.space ≡ old.ctx.space → old.part ≡ None → (ended new.rows.stand ≡ None → ⊥) → (HasNone answer → ⊥)
     → answer ≢ Ok Fed.Row → new.part ≡ None → new.begun ≡ true → new.place ≤ length new.kept
     → CallGoesOn old new answer extra extra
-gap_ended {new = new} {answer = answer} counts space unkept over some other none begun within = record {
-  behind = λ e. absurd (other e);
-  tried = λ left at. absurd (some left);
-  sought = λ e kept. absurd (other e);
-  waits = λ e away. absurd (some (subst HasNone (sym e) refl));
-  within = within;
-  paid = omega (arith, none_paid new.part new.line_read none);
-  counts = counts;
-  stored = λ e. absurd (other e);
-  draws = λ e. absurd (other e);
-  onward = λ unended. absurd (over unended);
-  near = λ begun unfinished unended. absurd (over unended);
-  stays = λ left at. absurd (some left);
-  row_is = λ e kept. absurd (other e);
-  past_eol = λ unfinished begun no_line sought unended waits. absurd (over unended);
-  unkept = λ away. none;
-  unbegun = λ e. absurd (false≢true (sym e ∙ begun));
-  space = omega (arith, space);
-}
+gap_ended {new = new} {answer = answer} counts space unkept over some other none begun within =
+    grind (arith, common_steps, none_paid, false≢true)
 
 -- no line is reached: more data is needed, or it is the end
 pub gap_feeds : {whole : Bits} {tried : ℕ} {old new : Feeding} (answer : Result (Option Bool) DecodeError)
@@ -1429,8 +1277,7 @@ feeds_more {whole} {tried} {old} {new} next is unfinished feed come = subst (IsF
 
 -- dropping bytes that were read leaves the count of those fed
 pub drops_none_fed : {old new : Feeding} → DropsRead old new → fed_bits new ≡ fed_bits old
-drops_none_fed {old} {new} drops =
-    omega (arith, drops.dropped, drops.read, drops.within, ap length drops.kept, length-drop (8 * drops.bytes) old.kept)
+drops_none_fed {old} {new} drops = grind (arith, common_steps, length-drop)
 
 -- they come next also once bytes are dropped
 pub come_next : {whole : Bits} {old new : Feeding} {next : Bits} → DropsRead old new → ComeNext whole old next

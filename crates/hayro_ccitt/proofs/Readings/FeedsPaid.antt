@@ -1,4 +1,5 @@
 -- What all calls of a feed count is paid.
+use Rattle.hayro_ccitt.proofs.Names.{common_steps}
 use Rattle.hayro_ccitt.proofs.Names.{◌≡◌, ◌≢◌, ◌∙◌, ◌+◌, ◌-◌, ◌*◌, ◌≤◌, ◌<◌, ◌++◌, ◌∷◌, ◌⊎◌, ◌&&◌, [], ℕ, Bool, true, false}
 use Rattle.hayro_ccitt.proofs.Names.{Result, Ok, Err, None, Some, Option, refl, sym, ap, subst, arith, length, drop, replicate}
 use Rattle.hayro_ccitt.proofs.Names.{inl, inr, cases_lt, false≢true, length-append, length-drop, append_assoc, append-nil}
@@ -36,13 +37,7 @@ pub short_before_eol : (settings : DecodeSettings) (reference : Row) (seen more 
     → is_short (line_here settings reference seen) ≡ true → seen ++ more ≡ fill ++ replicate 11 false ++ true ∷ behind
     → length seen ≤ length fill + 12
 short_before_eol settings reference seen more fill behind short e =
-    elim (cases_lt (length seen) (length fill + 12)) [
-      | inl lt ↦ omega (arith, lt)
-      | inr ge ↦
-          let (others, there) = eol_among seen more fill behind e (omega (arith, ge)) in
-          absurd (false≢true (sym (eol_ends_line settings reference fill others)
-          ∙ ap (λ (b : Bits). is_short (line_here settings reference b)) (sym there) ∙ short))
-    ]
+    grind (arith, common_steps, cases_lt, eol_among, false≢true, eol_ends_line)
 
 -- its row ends no sooner, unless it is repaired
 pub short_row : (settings : DecodeSettings) (has_eols : Bool) (reference : Row) (seen more rest : Bits) (row : Row)
@@ -122,21 +117,7 @@ module _ {next : Bits} {old new : Feeding} (holds : HoldsMore next old new) wher
   }
 
   behind_more : (known : ℕ) → IsBehind known old → IsBehind known new
-  behind_more known was = λ unended unfinished.
-      elim (was (sym (ap (λ (r : RowState). ended r.stand) holds.reading.1) ∙ unended) (sym holds.reading.2 ∙ unfinished)) [
-        | inl le ↦ inl (omega (arith, le, holds.place))
-        | inr seeks ↦ inr (record {
-          begun = holds.begun ∙ seeks.begun;
-          behind = ap (λ (r : RowState). is_at_line r.stand) holds.reading.1 ∙ seeks.behind;
-          sought = ap (λ (x : Context). x.held.has_eols) holds.reading.0 ∙ seeks.sought;
-          none = λ more fill behind e. omega (
-            arith,
-            holds.place,
-            seeks.none (next ++ more) fill behind (sym (append_assoc (drop old.place old.kept) next more)
-                ∙ ap (λ (b : Bits). b ++ more) (sym drop_is) ∙ e),
-          );
-        })
-      ]
+  behind_more known was = grind (arith, common_steps, append_assoc, drop_is)
 
   passed_more : (known : ℕ) (part : Option KeptPart) → IsPassed part known old → IsPassed part known new
   passed_more known (Some part) was = short_more known was
@@ -227,15 +208,7 @@ module _ {next : Bits} {old new : Feeding} (holds : HoldsMore next old new) wher
 
 -- the data is finished
 finished_short : (known : ℕ) (feed : Feeding) → WasShort known feed → WasShort known (record feed { finished = true })
-finished_short known feed was = record {
-  begun = was.begun;
-  at_line = was.at_line;
-  seen = was.seen;
-  more = was.more;
-  are = was.are;
-  short = was.short;
-  known_is = was.known_is;
-}
+finished_short known feed was = grind (arith, common_steps)
 
 finished_passed : (known : ℕ) (feed : Feeding) (part : Option KeptPart) → IsPassed part known feed
     → IsPassed part known (record feed { finished = true })
@@ -399,17 +372,10 @@ module _ {whole : Bits} {calls lost tried : ℕ} {old new : Feeding} {answer : R
   here_within = omega (arith, length-drop old.place old.kept, lines.within)
 
   gap_begun : old.begun ≡ true → paid.gaps + next.gap ≤ gaps.first + fed_bits old + 12 * calls
-  gap_begun begun = elim (cases_lt 0 next.gap) [
-    | inl some ↦
-        omega (arith, gaps.here unended (gap_unfinished some), next.looks.within some, here_within)
-    | inr none ↦ omega (arith, none, gaps.most)
-  ]
+  gap_begun begun = grind (arith, common_steps, cases_lt, gap_unfinished, here_within)
 
   gap_unbegun : old.begun ≡ false → paid.gaps + next.gap ≤ fed_bits old + 12 * calls
-  gap_unbegun unbegun = elim (cases_lt 0 next.gap) [
-    | inl some ↦ omega (arith, (gaps.unbegun unbegun).0, next.looks.within some, here_within)
-    | inr none ↦ omega (arith, none, gaps.most, (gaps.unbegun unbegun).1)
-  ]
+  gap_unbegun unbegun = grind (arith, common_steps, cases_lt, here_within)
 
   pub gaps_step : (b n : Bool) → old.begun ≡ b → new.begun ≡ n → GapsPaid (calls + 1) (paid.gaps + next.gap) new
   gaps_step true n begun is = record {
@@ -479,21 +445,7 @@ module _ {whole : Bits} {calls lost tried : ℕ} {old new : Feeding} {answer : R
   -- the gap waits for more data
   gap_waits_on : (known : ℕ) → IsBehind known old → answer ≡ Ok Fed.NeedsMore → is_at_line new.rows.stand ≡ false
       → ended new.rows.stand ≡ None → old.finished ≡ false → (known ≤ offset new) ⊎ SeeksEol known new
-  gap_waits_on known was e away still unfinished =
-      let waits = goes.waits e away in
-      elim (was unended unfinished) [
-        | inl le ↦ inl (omega (arith, le, goes.onward still))
-        | inr seeks ↦ inr (record {
-          begun = new_begun seeks.begun;
-          behind = away;
-          sought = waits.1 ∙ seeks.sought;
-          none = λ more fill behind is. omega (
-            arith,
-            goes.onward still,
-            seeks.none more fill behind (ap (λ (b : Bits). b ++ more) (sym (same_bits waits.0)) ∙ is),
-          );
-        })
-      ]
+  gap_waits_on known was e away still unfinished = grind (arith, common_steps, new_begun)
 
   -- where lines that were short are behind, no row is read and the reading hasn't ended
   stays_behind : (known : ℕ) → IsBehind known old → HasNone answer → IsBehind known new
@@ -572,15 +524,7 @@ module _ {whole : Bits} {calls lost tried : ℕ} {old new : Feeding} {answer : R
     read_here : paid.lines + next.line_extra + paid_for_line old ≤ paid.lines + most_for_line old + 4
         → paid.lines + next.line_extra
         ≤ 6 * lines.known + 2 * fed_bits old + 2 * paid.drawn + 8 * calls + lost + 4
-    read_here read = omega (
-      arith,
-      read,
-      lines.here some,
-      lines.seen_is some,
-      lines.read_before some,
-      lines.known_most,
-      here_within,
-    )
+    read_here read = grind (arith, common_steps, here_within)
 
   -- ---- The changes of the rows
 
@@ -846,10 +790,7 @@ module _ {whole : Bits} {calls lost tried : ℕ} {old new : Feeding} {answer : R
   }
     where
       tried_there : WasTried firsts.known old → new.tried_at ≡ offset new
-      tried_there was = elim (goes.tried left (stays_at_line was.short)) [
-        | inl same ↦ omega (arith, same, was.tried, goes.stays left (stays_at_line was.short), keeps.dropped)
-        | inr now ↦ now
-      ]
+      tried_there was = grind (arith, common_steps, stays_at_line)
 
   -- a line is tried first, and is short
   first_firsts : (e : answer ≡ Ok Fed.NeedsMore) → old.part ≡ None → new.part ≡ None → TriesFirst old new
@@ -882,9 +823,7 @@ module _ {whole : Bits} {calls lost tried : ℕ} {old new : Feeding} {answer : R
   ends_there : {read : Result Bool DecodeError} → (read ≡ Ok false) ⊎ ((error : DecodeError) × (read ≡ Err error))
       → ReadsNext (fed_over whole old) (fed_over whole new) read → ended new.rows.stand ≡ None → ⊥
   ends_there (inl is) reads still = let never = sym (reads.end is).0 ∙ still in cc
-  ends_there {read} (inr (error, is)) reads still =
-      let failed = subst (ReadsNext (fed_over whole old) (fed_over whole new)) is reads in
-      let never = sym failed.error.0 ∙ still in cc
+  ends_there {read} (inr (error, is)) reads still = grind (arith, common_steps)
 
   paid_now : (drawn lines_now firsts_now : ℕ) → lines_now + firsts_now ≡ paid.lines + paid.firsts + next.line_extra
       → RowsPaid drawn new → LinesNow drawn lines_now → FirstsNow drawn firsts_now
@@ -991,17 +930,7 @@ module _ {whole : Bits} {calls lost tried : ℕ} {old new : Feeding} {answer : R
 
     -- counted for it
     failed_most : counted ≤ 6 * known_now + 2 * lines.read + 2 * paid.drawn + 8 * calls + lost + cost_of_failure new
-    failed_most = elim (none_or_some old.part) [
-      | inl none ↦ omega (
-        arith,
-        lines.most,
-        next.line_work.failed_at_once e none,
-        none_paid old.part old.line_read none,
-        failed_within,
-        lines.known_most,
-      )
-      | inr some ↦ omega (arith, failed_some some)
-    ]
+    failed_most = grind (arith, common_steps, none_or_some, none_paid, failed_within, failed_some)
 
     -- counted for it, with what is left for the line
     failed_next : ended new.rows.stand ≡ None → new.finished ≡ false → counted + 2 * changes_of new
@@ -1047,12 +976,7 @@ plain_most {whole} {tried} {feed} is = by_begun feed.begun is.stands
 
     by_begun : (b : Bool) → StandsIn b tried feed.rows feed.ctx (record { bits = whole; place = offset feed })
         → feed.ctx.ticks ≤ tried + 36 * length whole + 14
-    by_begun true stands = omega (
-      arith,
-      within_most tried feed.rows.stand feed.ctx.held.settings whole feed.ctx.held (offset feed) feed.ctx.ticks stands.0
-          stands.2.paid,
-      most_plain feed.ctx.held.settings.encoding (length whole),
-    )
+    by_begun true stands = grind (arith, common_steps, within_most, most_plain)
     by_begun false front = omega (arith, front.ticks)
 
 -- no more bits were fed than the whole data has
@@ -1067,19 +991,7 @@ fed_within {whole} {tried} {feed} is = omega (
 
 lines_in_all : {calls lost drawn lines : ℕ} {feed : Feeding} → (paid : LinesPaid calls lost drawn lines feed)
     → lines ≤ 8 * fed_bits feed + 2 * drawn + 8 * calls + lost + 2
-lines_in_all {calls} {lost} {drawn} {lines} {feed} paid = elim (none_or_some feed.part) [
-  | inl none ↦ omega (arith, paid.most, none_paid feed.part feed.line_read none, paid.known_most, paid.read_most)
-  | inr some ↦ omega (
-    arith,
-    paid.here some,
-    paid.part_most,
-    paid.seen_is some,
-    paid.known_most,
-    paid.read_most,
-    length-drop feed.place feed.kept,
-    paid.within,
-  )
-]
+lines_in_all {calls} {lost} {drawn} {lines} {feed} paid = grind (arith, common_steps, none_or_some, none_paid, length-drop)
 
 -- what was called is paid
 history_paid : {calls lost tried : ℕ} {feed : Feeding} → IsHistory calls lost tried feed → FeedIsPaid calls lost tried feed

@@ -1,4 +1,5 @@
 -- Rows one at a time: what comes before the first line is passed, in data of which a reader may hold a part.
+use Rattle.hayro_ccitt.proofs.Names.{common_steps}
 use Rattle.hayro_ccitt.proofs.Names.{◌≡◌, ◌≢◌, ◌∙◌, ◌<◌, ◌≤◌, ◌+◌, ◌++◌, ◌⊎◌, [], ℕ, Bool, false, true, inl, inr, length, drop}
 use Rattle.hayro_ccitt.proofs.Names.{ap, sym, subst, arith}
 use Rattle.hayro_ccitt.proofs.Names.{length-drop, IfOk-weaker, on_err_weaker, on_ok_weaker, DecodeSettings, Result, DecodeError}
@@ -9,7 +10,6 @@ use Rattle.hayro_ccitt.proofs.Names.{DamageIsCounted, Stand, IsPaid, ReaderStand
 use Rattle.hayro_ccitt.proofs.Names.{Group3_1D}
 use Rattle.hayro_ccitt.proofs.Names.{Group3_2D, BitsAt}
 use Rattle.std.proofs.lemmas.List.{drop-append-le}
-use Rattle.std.specs.Prelude.{nat_lt, ◌||◌}
 use Rattle.fax_bits.specs.Ones.{holds_one}
 use Rattle.fax_reading.proofs.GapsContinued.ContinuedEols.{all_eols-more}
 use Rattle.hayro_ccitt.proofs.{Readings.DamageCounted.first_gap_left, Work.ChangesStored.changes_white}
@@ -40,9 +40,7 @@ module _ (old new : Context) (bits : Bits) (next : ℕ) (over : Result Bool Deco
   sought = ap (λ (h : Held). h.has_eols) begins
 
   unsought : last.has_eols ≡ false
-  unsought =
-      unsought_after settings old.held.taken old.held.has_eols last.has_eols bits (drop next bits) over sought passes.gap
-      passes.given_up (on_err_weaker over (λ kept. ap (λ (h : Held). h.has_eols) kept) passes.unchanged)
+  unsought = grind (arith, common_steps, unsought_after, on_err_weaker)
 
   pub front_stands : ReaderStands (stand_after over) settings bits last next
   front_stands = first_gap_stands settings wide bits is last next within frame over said passes.only_code unsought
@@ -88,8 +86,7 @@ front_goes_on old new bits next over within is wide begins passes after at =
     at_front : (more : Bits) → (more ≡ []) ⊎ (first_gap_is_settled old.held.settings.encoding old.held.settings bits ≡ true)
         → (more ≡ []) ⊎ (gap_is_settled old.held.settings old.held.taken old.held.has_eols bits ≡ true)
     at_front more (inl none) = inl none
-    at_front more (inr settled) = inr (ap (λ (h : Held). gap_is_settled old.held.settings h.taken h.has_eols bits) begins
-        ∙ by_encoding old.held.settings.encoding is settled)
+    at_front more (inr settled) = grind (arith, common_steps, by_encoding)
 
 -- in Group 3 the EOLs there (T.4, 4.1.2)
 pub eols_go_on : (old new : Context) (bits : Bits) (next : ℕ) → next ≤ length bits → old.held.settings.encoding ≢ Group4
@@ -137,15 +134,12 @@ eols_go_on old new bits next within other wide begins frame rest work counts aft
 
     same_eols : (more : Bits) → (more ≡ []) ⊎ (first_gap_is_settled old.held.settings.encoding old.held.settings bits ≡ true)
         → all_eols (bits ++ more) ≡ ((all_eols bits).0, (all_eols bits).1 ++ more)
-    same_eols more (inl none) = subst (λ (m : Bits). all_eols (bits ++ m) ≡ ((all_eols bits).0, (all_eols bits).1 ++ m))
-        (sym none)
-        (ap all_eols (append-nil bits) ∙ ap (λ (b : Bits). ((all_eols bits).0, b)) (sym (append-nil (all_eols bits).1)))
+    same_eols more (inl none) = grind (arith, common_steps, append-nil)
     same_eols more (inr settled) = all_eols-more more bits (by_encoding old.held.settings.encoding other settled)
 
     first_has : (more : Bits) → (more ≡ []) ⊎ (first_gap_is_settled old.held.settings.encoding old.held.settings bits ≡ true)
         → (first_line old.held.settings (bits ++ more)).has_eols ≡ (first_line old.held.settings bits).has_eols
-    first_has more settled = ap (λ (found : ℕ × Bits). nat_lt 0 found.0 || old.held.settings.end_of_line)
-        (same_eols more settled)
+    first_has more settled = grind (arith, common_steps, same_eols)
 
     first_rest : (more : Bits) → (more ≡ []) ⊎ (first_gap_is_settled old.held.settings.encoding old.held.settings bits ≡ true)
         → (first_line old.held.settings (bits ++ more)).rest ≡ (all_eols bits).1 ++ more

@@ -1,11 +1,10 @@
 -- A gap is looked at no more than twelve bits beyond its end.
+use Rattle.hayro_ccitt.proofs.Names.{common_steps}
 use Rattle.hayro_ccitt.proofs.Names.{◌≡◌, ◌∙◌, ◌+◌, ◌≤◌, ◌∷◌, ◌&&◌, ◌||◌, [], ℕ, zero, suc, Bool, true, false, not, cond, leb}
-use Rattle.hayro_ccitt.proofs.Names.{eqb}
 use Rattle.hayro_ccitt.proofs.Names.{Option, None, Some, Result, Ok, Err, refl, sym, ap, arith, length, and_parts, false≢true}
 use Rattle.hayro_ccitt.proofs.Names.{ne_eqb, eols_here}
-use Rattle.std.proofs.lemmas.Bool.{leb-false}
 use Rattle.hayro_ccitt.proofs.Names.{Bits, DecodeSettings, EncodingMode, Group4, Group3_1D, Group3_2D}
-use Rattle.hayro_ccitt.proofs.Names.{after_eol, all_eols, next_eol, at_end, eols_by, limit_met, Gap, gap_behind_row, InvalidCode}
+use Rattle.hayro_ccitt.proofs.Names.{after_eol, next_eol, at_end, eols_by, limit_met, Gap, gap_behind_row, InvalidCode}
 use Rattle.hayro_ccitt.proofs.Names.{DecodeError, OnErr, gap_said}
 use Rattle.hayro_ccitt.specs.EndOfLine.{eols, eols_with_tags, one_more, past_tag}
 use Rattle.hayro_ccitt.specs.GapsContinued.{holds_one, eols_are_settled, next_eols_are_settled, gap_is_settled}
@@ -30,21 +29,17 @@ use Rattle.hayro_ccitt.proofs.Work.EolsPassed.{eols_here_shorter}
 pub none_needed : (rules : GapRules) (stage : GapStage) (seen : ℕ) (here : Bits) → is_settled stage ≡ true
     → bits_needed rules stage seen here ≡ 0
 none_needed rules stage seen [] is = refl
-none_needed rules stage seen (false ∷ here) is =
-    ap (λ (b : Bool). cond b 0 (suc (bits_needed rules stage (suc seen) here))) is
-none_needed rules stage seen (true ∷ here) is =
-    ap (λ (b : Bool). cond b 0 (suc (bits_needed rules (stage_after rules stage seen) 0 here))) is
+none_needed rules stage seen (false ∷ here) is = grind (arith, common_steps)
+none_needed rules stage seen (true ∷ here) is = grind (arith, common_steps)
 
 -- what isn't needs the bits up to the next one
 one_more_needed : (rules : GapRules) (stage : GapStage) (seen : ℕ) (here : Bits) → is_settled stage ≡ false
     → bits_needed rules stage seen (true ∷ here) ≡ suc (bits_needed rules (stage_after rules stage seen) 0 here)
-one_more_needed rules stage seen here is =
-    ap (λ (b : Bool). cond b 0 (suc (bits_needed rules (stage_after rules stage seen) 0 here))) is
+one_more_needed rules stage seen here is = grind (arith, common_steps)
 
 zero_more_needed : (rules : GapRules) (stage : GapStage) (seen : ℕ) (here : Bits) → is_settled stage ≡ false
     → bits_needed rules stage seen (false ∷ here) ≡ suc (bits_needed rules stage (suc seen) here)
-zero_more_needed rules stage seen here is =
-    ap (λ (b : Bool). cond b 0 (suc (bits_needed rules stage (suc seen) here))) is
+zero_more_needed rules stage seen here is = grind (arith, common_steps)
 
 -- an EOL needs its bits
 eol_needed : (rules : GapRules) (stage : GapStage) (seen : ℕ) (here rest : Bits) → is_settled stage ≡ false
@@ -53,21 +48,7 @@ eol_needed : (rules : GapRules) (stage : GapStage) (seen : ℕ) (here rest : Bit
 eol_needed rules stage seen [] rest is e = absurd cc
 eol_needed rules stage seen (false ∷ here) rest is e =
     omega (arith, zero_more_needed rules stage seen here is, eol_needed rules stage (suc seen) here rest is e)
-eol_needed rules stage seen (true ∷ here) rest is e = by_zeros (leb 11 seen) refl e
-  where
-    by_zeros : (b : Bool) → leb 11 seen ≡ b → cond b (Some here) None ≡ Some rest
-        → bits_needed rules stage seen (true ∷ here) + length rest
-        ≡ length (true ∷ here) + bits_needed rules (stage_after_eol rules stage) 0 rest
-    by_zeros true many some =
-        let same : here ≡ rest = cc in
-        omega (
-          arith,
-          one_more_needed rules stage seen here is,
-          ap (λ (s : GapStage). bits_needed rules s 0 here) (eol_counts rules stage seen many),
-          ap (bits_needed rules (stage_after_eol rules stage) 0) same,
-          ap length same,
-        )
-    by_zeros false few some = absurd cc
+eol_needed rules stage seen (true ∷ here) rest is e = grind (arith, common_steps, one_more_needed, eol_counts)
 
 -- without an EOL few bits lead to a one, and no more are needed where it settles the gap
 few_needed : (rules : GapRules) (stage : GapStage) (seen : ℕ) (here : Bits) → is_settled stage ≡ false
@@ -76,27 +57,13 @@ few_needed : (rules : GapRules) (stage : GapStage) (seen : ℕ) (here : Bits) �
 few_needed rules stage seen [] is settles e one = absurd cc
 few_needed rules stage seen (false ∷ here) is settles e one =
     omega (arith, zero_more_needed rules stage seen here is, few_needed rules stage (suc seen) here is settles e one)
-few_needed rules stage seen (true ∷ here) is settles e one = by_zeros (leb 11 seen) refl e
-  where
-    by_zeros : (b : Bool) → leb 11 seen ≡ b → ◌≡◌ {A = Option Bits} (cond b (Some here) None) None
-        → bits_needed rules stage seen (true ∷ here) + seen ≤ 11
-    by_zeros true many none = absurd cc
-    by_zeros false few none =
-        omega (
-          arith,
-          one_more_needed rules stage seen here is,
-          ap (λ (s : GapStage). bits_needed rules s 0 here) (settles seen few),
-          none_needed rules Settled 0 here refl,
-          leb-false 11 seen few,
-        )
+few_needed rules stage seen (true ∷ here) is settles e one = grind (arith, common_steps, one_more_needed, none_needed)
 
 tag_few : (rules : GapRules) (n : ℕ) → leb 11 n ≡ false → stage_after rules BehindTag n ≡ Settled
 tag_few rules n few = ap (λ (b : Bool). cond b (one_eol_more rules.ends_at_two) Settled) few
 
 start_few : (rules : GapRules) → rules.seeks ≡ false → (n : ℕ) → leb 11 n ≡ false → stage_after rules Start n ≡ Settled
-start_few rules unsought n few =
-    ap (λ (b : Bool). cond b BehindEol (cond rules.seeks Damage Settled)) few
-    ∙ ap (λ (b : Bool). cond b Damage Settled) unsought
+start_few rules unsought n few = grind (arith, common_steps)
 
 -- ---- Behind an EOL
 
@@ -105,17 +72,14 @@ zero_needs : (rules : GapRules) (seen : ℕ) (here : Bits)
     → bits_needed rules BehindEol (suc seen) here ≡ bits_needed rules BehindTag (suc seen) here
 zero_needs rules seen [] = refl
 zero_needs rules seen (false ∷ here) = ap suc (zero_needs rules (suc seen) here)
-zero_needs rules seen (true ∷ here) =
-    ap (λ (b : Bool). suc (bits_needed rules (cond (leb 11 (suc seen)) (one_eol_more rules.ends_at_two)
-    (cond (b && rules.has_tags) BehindTag Settled)) 0 here)) (ne_eqb (suc seen) 0 (λ none. omega (arith, none)))
+zero_needs rules seen (true ∷ here) = grind (arith, common_steps, ne_eqb)
 
 -- without tags none can
 no_tag_needs : (rules : GapRules) (here : Bits) → rules.has_tags ≡ false
     → bits_needed rules BehindEol 0 here ≡ bits_needed rules BehindTag 0 here
 no_tag_needs rules [] none = refl
 no_tag_needs rules (false ∷ here) none = ap suc (zero_needs rules 0 here)
-no_tag_needs rules (true ∷ here) none =
-    ap (λ (b : Bool). suc (bits_needed rules (cond b BehindTag Settled) 0 here)) none
+no_tag_needs rules (true ∷ here) none = grind (arith, common_steps)
 
 -- with tags a one is a tag
 tag_needs : (rules : GapRules) (here : Bits) → rules.has_tags ≡ true
@@ -123,8 +87,7 @@ tag_needs : (rules : GapRules) (here : Bits) → rules.has_tags ≡ true
     ≡ length here + bits_needed rules BehindTag 0 (behind_one here)
 tag_needs rules [] tags = refl
 tag_needs rules (false ∷ here) tags = omega (arith, zero_needs rules 0 here)
-tag_needs rules (true ∷ here) tags =
-    omega (arith, ap (λ (b : Bool). suc (bits_needed rules (cond b BehindTag Settled) 0 here)) tags)
+tag_needs rules (true ∷ here) tags = grind (arith, common_steps)
 
 one_more_leaves : (found : ℕ × Bits) → (one_more found).1 ≡ found.1
 one_more_leaves (count, rest) = refl
@@ -141,13 +104,7 @@ plain_near rules none on (suc most) here few one =
     by_after_eol : ((rest : Bits) → length rest ≤ most → holds_one (eols most rest).1 ≡ true
         → bits_needed rules BehindTag 0 rest + length (eols most rest).1 ≤ length rest + 11) → (o : Option Bits)
         → after_eol 0 here ≡ o → bits_needed rules BehindTag 0 here + length (eols (suc most) here).1 ≤ length here + 11
-    by_after_eol next None e =
-        let left : (eols (suc most) here).1 ≡ here = ap (λ (found : ℕ × Bits). found.1) (eols-none (suc most) here e) in
-        omega (
-          arith,
-          ap length left,
-          few_needed rules BehindTag 0 here refl (tag_few rules) e (sym (ap holds_one left) ∙ one),
-        )
+    by_after_eol next None e = grind (arith, common_steps, eols-none, few_needed, tag_few)
     by_after_eol next (Some rest) e =
         let left : (eols (suc most) here).1 ≡ (eols most rest).1 =
         ap (λ (found : ℕ × Bits). found.1) (eols-some most here rest e) ∙ one_more_leaves (eols most rest) in
@@ -176,15 +133,7 @@ tagged_near rules tags on (suc most) here few one =
         ≤ length (behind_one rest) + 11) → (o : Option Bits) → after_eol 0 (behind_one here) ≡ o
         → bits_needed rules BehindTag 0 (behind_one here)
         + length (behind_one (eols_with_tags (suc most) (past_tag here)).1) ≤ length (behind_one here) + 11
-    by_after_eol next None e =
-        let past = none_past here e in
-        let left : behind_one (eols_with_tags (suc most) (past_tag here)).1 ≡ behind_one here =
-        ap (λ (found : ℕ × Bits). behind_one found.1) (eols_with_tags-none (suc most) (past_tag here) past.0) ∙ past.1 in
-        omega (
-          arith,
-          ap length left,
-          few_needed rules BehindTag 0 (behind_one here) refl (tag_few rules) e (sym (ap holds_one left) ∙ one),
-        )
+    by_after_eol next None e = grind (arith, common_steps, none_past, eols_with_tags-none, few_needed, tag_few)
     by_after_eol next (Some rest) e =
         let past : after_eol 0 (past_tag here) ≡ Some rest = ap (after_eol 0) (some_past here rest e) ∙ e in
         let left : behind_one (eols_with_tags (suc most) (past_tag here)).1
@@ -213,15 +162,7 @@ eols_near : (encoding : EncodingMode) (block seeks : Bool) (here rest : Bits) �
     → eols_are_settled encoding block (eols_by encoding block here) ≡ true
     → bits_needed (rules_of encoding block seeks) BehindEol 0 rest + length (eols_by encoding block here).1 ≤ length rest + 12
 eols_near Group3_1D block seeks here rest e settled =
-    let rules = rules_of Group3_1D block seeks in
-    let left : (all_eols here).1 ≡ (all_eols rest).1 =
-    ap (λ (found : ℕ × Bits). found.1) (all_eols-some here rest e) ∙ one_more_leaves (all_eols rest) in
-    omega (
-      arith,
-      ap length left,
-      no_tag_needs rules rest refl,
-      plain_near rules refl refl (length rest) rest (omega arith) (sym (ap holds_one left) ∙ settled),
-    )
+    grind (arith, common_steps, all_eols-some, one_more_leaves, no_tag_needs, plain_near)
 eols_near Group3_2D block seeks here rest e settled =
     let rules = rules_of Group3_2D block seeks in
     let enough : all_tagged (past_tag rest) ≡ eols_with_tags (length rest) (past_tag rest) =
@@ -243,37 +184,9 @@ eols_near Group3_2D block seeks here rest e settled =
           (sym (ap holds_one (last_tag_tested (all_tagged here) ∙ left)) ∙ settled),
     )
 eols_near Group4 false seeks here rest e settled =
-    let rules = rules_of Group4 false seeks in
-    let left : (all_eols here).1 ≡ (all_eols rest).1 =
-    ap (λ (found : ℕ × Bits). found.1) (all_eols-some here rest e) ∙ one_more_leaves (all_eols rest) in
-    omega (
-      arith,
-      ap length left,
-      no_tag_needs rules rest refl,
-      plain_near rules refl refl (length rest) rest (omega arith) (sym (ap holds_one left) ∙ settled),
-    )
-eols_near Group4 true seeks here rest e settled = by_after_eol (after_eol 0 rest) refl
-  where
-    by_after_eol : (o : Option Bits) → after_eol 0 rest ≡ o
-        → bits_needed (rules_of Group4 true seeks) BehindEol 0 rest + length (eols 2 here).1 ≤ length rest + 12
-    by_after_eol None none =
-        let is : eols 2 here ≡ (1, rest) = eols-some 1 here rest e ∙ ap one_more (eols-none 1 rest none) in
-        omega (
-          arith,
-          ap (λ (found : ℕ × Bits). length found.1) is,
-          no_tag_needs (rules_of Group4 true seeks) rest refl,
-          few_needed (rules_of Group4 true seeks) BehindTag 0 rest refl (tag_few (rules_of Group4 true seeks)) none
-              (sym (ap (eols_are_settled Group4 true) is) ∙ settled),
-        )
-    by_after_eol (Some last) some =
-        let is : eols 2 here ≡ (2, last) = eols-some 1 here rest e ∙ ap one_more (eols-some 0 rest last some) in
-        omega (
-          arith,
-          ap (λ (found : ℕ × Bits). length found.1) is,
-          no_tag_needs (rules_of Group4 true seeks) rest refl,
-          eol_needed (rules_of Group4 true seeks) BehindTag 0 rest last refl some,
-          none_needed (rules_of Group4 true seeks) Settled 0 last refl,
-        )
+    grind (arith, common_steps, all_eols-some, one_more_leaves, no_tag_needs, plain_near)
+eols_near Group4 true seeks here rest e settled =
+    grind (arith, common_steps, eols-some, eols-none, no_tag_needs, few_needed, tag_few, eol_needed, none_needed)
 
 -- ---- The next EOL
 
@@ -281,24 +194,14 @@ damage_needs : (rules : GapRules) (seen : ℕ) (here rest : Bits) → behind_nex
     → bits_needed rules Damage seen here + length rest ≡ length here + bits_needed rules BehindEol 0 rest
 damage_needs rules seen [] rest e = absurd cc
 damage_needs rules seen (false ∷ here) rest e = omega (arith, damage_needs rules (suc seen) here rest e)
-damage_needs rules seen (true ∷ here) rest e = by_zeros (leb 11 seen) e (damage_needs rules 0 here rest)
-  where
-    by_zeros : (b : Bool) → cond b (Some here) (behind_next 0 here) ≡ Some rest
-        → (behind_next 0 here ≡ Some rest
-        → bits_needed rules Damage 0 here + length rest ≡ length here + bits_needed rules BehindEol 0 rest)
-        → suc (bits_needed rules (cond b BehindEol Damage) 0 here) + length rest
-        ≡ suc (length here) + bits_needed rules BehindEol 0 rest
-    by_zeros true some next =
-        let same : here ≡ rest = cc in omega (arith, ap length same, ap (bits_needed rules BehindEol 0) same)
-    by_zeros false some next = omega (arith, next some)
+damage_needs rules seen (true ∷ here) rest e = grind (arith, common_steps, damage_needs rules 0 here rest)
 
 -- where it is sought, the start is as damage
 start_needs : (rules : GapRules) (seen : ℕ) (here : Bits) → rules.seeks ≡ true → after_eol seen here ≡ None
     → bits_needed rules Start seen here ≡ bits_needed rules Damage seen here
 start_needs rules seen [] sought e = refl
 start_needs rules seen (false ∷ here) sought e = ap suc (start_needs rules (suc seen) here sought e)
-start_needs rules seen (true ∷ here) sought e =
-    ap (λ (b : Bool). suc (bits_needed rules (cond (leb 11 seen) BehindEol (cond b Damage Settled)) 0 here)) sought
+start_needs rules seen (true ∷ here) sought e = grind (arith, common_steps)
 
 -- ---- The gap
 
@@ -310,11 +213,7 @@ left_by here (Gap.over (Err fault)) = here
 
 left_by_eols : (settings : DecodeSettings) (taken : ℕ) (has_eols : Bool) (here : Bits) (found : ℕ × Bits)
     → left_by here (behind_eols settings taken has_eols found) ≡ found.1
-left_by_eols settings taken has_eols here (count, rest) = either_way (is_over settings taken (count, rest))
-  where
-    either_way : (b : Bool) → left_by here (cond b (Gap.over (Ok rest)) (Gap.line_at has_eols rest)) ≡ rest
-    either_way true = refl
-    either_way false = refl
+left_by_eols settings taken has_eols here (count, rest) = grind (arith, common_steps)
 
 last_of : (a b c : Bool) → (a || b || c) ≡ true → a ≡ false → b ≡ false → c ≡ true
 last_of true b c e first second = absurd (false≢true (sym first))
@@ -338,13 +237,7 @@ module _ (settings : DecodeSettings) (taken : ℕ) (has_eols : Bool) (here : Bit
     where
       by_next : (o : Option Bits) → next_eol here ≡ o → length (left_by here (from_next_eol settings taken here o)) ≤ length here
       by_next None e = omega arith
-      by_next (Some found) e =
-          omega (
-            arith,
-            ap length (left_by_eols settings taken true here (eols_here settings found)),
-            eols_here_shorter settings found,
-            (next_eol_found here found e).0,
-          )
+      by_next (Some found) e = grind (arith, common_steps, left_by_eols, eols_here_shorter, next_eol_found)
 
       by_strict : (strict : Bool) → length (left_by here (cond strict (Gap.over (Err InvalidCode))
           (from_next_eol settings taken here (next_eol here)))) ≤ length here
@@ -354,12 +247,7 @@ module _ (settings : DecodeSettings) (taken : ℕ) (has_eols : Bool) (here : Bit
       by_missed : (missed : Bool) → length (left_by here (cond missed (missing_eol settings taken here)
           (behind_eols settings taken has_eols (eols_here settings here)))) ≤ length here
       by_missed true = by_strict settings.strict
-      by_missed false =
-          omega (
-            arith,
-            ap length (left_by_eols settings taken has_eols here (eols_here settings here)),
-            eols_here_shorter settings here,
-          )
+      by_missed false = grind (arith, common_steps, left_by_eols, eols_here_shorter)
 
   module _ (settled : gap_is_settled settings taken has_eols here ≡ true) where
     abbrev NearEnd : Type 0
@@ -391,8 +279,7 @@ module _ (settings : DecodeSettings) (taken : ℕ) (has_eols : Bool) (here : Bit
       none_counted = none_here settings.encoding settings.end_of_block here e
 
       one : holds_one here ≡ true
-      one = sym (ap (eols_are_settled settings.encoding settings.end_of_block) none_counted
-          ∙ none_settled settings.encoding settings.end_of_block here) ∙ eols_settled
+      one = grind (arith, common_steps, none_counted, none_settled, eols_settled)
 
       -- the next one is sought
       sought_near : rules_here.seeks ≡ true → NearEnd
@@ -411,12 +298,7 @@ module _ (settings : DecodeSettings) (taken : ℕ) (has_eols : Bool) (here : Bit
           lenient = not_true settings.strict sought_open.1
 
           missed : misses_eol settings taken has_eols here ≡ true
-          missed =
-              ap (λ (found : ℕ × Bits). eqb found.0 0 && has_eols && not (limit_met settings taken) && not (at_end here))
-              none_counted
-              ∙ ap (λ (b : Bool). b && not (limit_met settings taken) && not (at_end here)) has
-              ∙ ap (λ (b : Bool). not b && not (at_end here)) unlimited
-              ∙ ap not (one_is_left here one)
+          missed = grind (arith, common_steps, none_counted, has, one_is_left)
 
           next_settled : next_eols_are_settled settings (next_eol here) ≡ true
           next_settled = last_of (not (misses_eol settings taken has_eols here)) settings.strict
@@ -432,8 +314,7 @@ module _ (settings : DecodeSettings) (taken : ℕ) (has_eols : Bool) (here : Bit
               (from_next_eol settings taken here (next_eol here)))) lenient
 
           by_next : (o : Option Bits) → next_eol here ≡ o → NearEnd
-          by_next None none =
-              absurd (false≢true (sym (ap (next_eols_are_settled settings) none) ∙ next_settled))
+          by_next None none = grind (arith, common_steps, false≢true, next_settled)
           by_next (Some found) some =
               let there = (next_eol_found here found some).1 in
               let next : behind_next 0 here ≡ Some there.0 = next_is_found here ∙ ap after_found some ∙ there.1 in
@@ -467,19 +348,7 @@ pub passed_near : (settings : DecodeSettings) (taken : ℕ) (has_eols : Bool) (s
     → gap_is_settled settings taken has_eols start ≡ true → (over : Result Bool DecodeError) (still : Bool)
     → gap_behind_row settings taken has_eols start ≡ gap_said over still rest → OnErr over (rest ≡ start)
     → bits_needed (rules_behind_row settings taken has_eols) Start 0 start + length rest ≤ length start + 12
-passed_near settings taken has_eols start rest settled over still said put_back =
-    omega (
-      arith,
-      gap_near settings taken has_eols start settled,
-      ap (λ (gap : Gap). length (left_by start gap)) said,
-      left_is over put_back,
-    )
-  where
-    left_is : (over : Result Bool DecodeError) → OnErr over (rest ≡ start)
-        → length (left_by start (gap_said over still rest)) ≡ length rest
-    left_is (Ok true) back = refl
-    left_is (Ok false) back = refl
-    left_is (Err e) back = ap length (sym back)
+passed_near settings taken has_eols start rest settled over still said put_back = grind (arith, common_steps, gap_near)
 
 -- no bits are added
 pub passed_shorter : (settings : DecodeSettings) (taken : ℕ) (has_eols : Bool) (start rest : Bits)
@@ -516,9 +385,7 @@ settled_sought settings taken here rest still settled = by_missed (misses_eol se
   where
     tested : gap_is_settled settings taken true here ≡ true → (not (misses_eol settings taken true here) || settings.strict
         || next_eols_are_settled settings (next_eol here)) ≡ true
-    tested is = (and_parts (eols_are_settled settings.encoding settings.end_of_block (eols_here settings here))
-        (not (misses_eol settings taken true here) || settings.strict
-        || next_eols_are_settled settings (next_eol here)) is).1
+    tested is = grind (arith, common_steps, and_parts)
 
     by_next : (o : Option Bits) → next_eols_are_settled settings o ≡ true
         → from_next_eol settings taken here o ≡ Gap.line_at still rest → still ≡ true

@@ -1,12 +1,12 @@
 -- A gap that is looked at bit by bit: it is found to be settled exactly if its definition says so.
+use Rattle.hayro_ccitt.proofs.Names.{common_steps}
 use Rattle.hayro_ccitt.proofs.Names.{◌≡◌, ◌∙◌, ◌+◌, ◌≤◌, ◌++◌, ◌∷◌, ◌&&◌, ◌||◌, [], ℕ, zero, suc, Bool, true, false, not}
 use Rattle.hayro_ccitt.proofs.Names.{cond, leb, eqb, replicate, Option, None, Some, refl, sym, ap, arith, length, length-append}
-use Rattle.std.proofs.Math.Seq.{drop-append-add}
-use Rattle.std.proofs.lemmas.Bool.{leb-false, lt-leb}
+use Rattle.std.proofs.lemmas.Bool.{lt-leb}
 use Rattle.hayro_ccitt.proofs.Names.{append-nil, append_assoc, drop, length-replicate, ne_eqb, Bits}
 use Rattle.hayro_ccitt.proofs.Names.{EncodingMode, Group4, Group3_1D, Group3_2D, DecodeSettings}
 use Rattle.hayro_ccitt.proofs.Names.{after_eol, all_eols, next_eol, at_end, eols_by, limit_met}
-use Rattle.hayro_ccitt.specs.EndOfLine.{eols, eols_with_tags, one_more, past_tag, pass_last_tag}
+use Rattle.hayro_ccitt.specs.EndOfLine.{eols, eols_with_tags, one_more, past_tag}
 use Rattle.hayro_ccitt.specs.GapsContinued.{behind_line_tag, holds_one, eols_are_settled}
 use Rattle.hayro_ccitt.specs.GapsContinued.{next_eols_are_settled, gap_is_settled, first_gap_is_settled}
 use Rattle.hayro_ccitt.specs.GapsSeen.{IsSeen, LooksTo, bits_needed, ends_at_two, first_rules, has_tags, is_settled, nothing_seen}
@@ -79,52 +79,28 @@ eol_seen : (rules : GapRules) (stage : GapStage) (seen : ℕ) (here rest : Bits)
     → stage_behind rules stage seen here ≡ stage_behind rules (stage_after_eol rules stage) 0 rest
 eol_seen rules stage seen [] rest e = absurd cc
 eol_seen rules stage seen (false ∷ here) rest e = eol_seen rules stage (suc seen) here rest e
-eol_seen rules stage seen (true ∷ here) rest e = by_zeros (leb 11 seen) refl e
-  where
-    by_zeros : (b : Bool) → leb 11 seen ≡ b → cond b (Some here) None ≡ Some rest
-        → stage_behind rules (stage_after rules stage seen) 0 here ≡ stage_behind rules (stage_after_eol rules stage) 0 rest
-    by_zeros true many is =
-        let same : here ≡ rest = cc in
-        ap (λ (s : GapStage). stage_behind rules s 0 here) (eol_counts rules stage seen many)
-        ∙ ap (stage_behind rules (stage_after_eol rules stage) 0) same
-    by_zeros false few is = absurd cc
+eol_seen rules stage seen (true ∷ here) rest e = grind (arith, common_steps, eol_counts)
 
 -- a one that no EOL is before settles what is behind a tag
 tag_settles : (rules : GapRules) (seen : ℕ) (here : Bits) → after_eol seen here ≡ None
     → is_settled (stage_behind rules BehindTag seen here) ≡ holds_one here
 tag_settles rules seen [] e = refl
 tag_settles rules seen (false ∷ here) e = tag_settles rules (suc seen) here e
-tag_settles rules seen (true ∷ here) e = by_zeros (leb 11 seen) refl e
-  where
-    by_zeros : (b : Bool) → leb 11 seen ≡ b → ◌≡◌ {A = Option Bits} (cond b (Some here) None) None
-        → is_settled (stage_behind rules (stage_after rules BehindTag seen) 0 here) ≡ true
-    by_zeros true many is = absurd cc
-    by_zeros false few is =
-        ap (λ (b : Bool). is_settled (stage_behind rules (cond b (one_eol_more rules.ends_at_two) Settled) 0 here)) few
-        ∙ settled_stays rules 0 here
+tag_settles rules seen (true ∷ here) e = grind (arith, common_steps, settled_stays)
 
 -- and what is at the start, where no EOL is sought
 start_settles : (rules : GapRules) (seen : ℕ) (here : Bits) → rules.seeks ≡ false → after_eol seen here ≡ None
     → is_settled (stage_behind rules Start seen here) ≡ holds_one here
 start_settles rules seen [] unsought e = refl
 start_settles rules seen (false ∷ here) unsought e = start_settles rules (suc seen) here unsought e
-start_settles rules seen (true ∷ here) unsought e = by_zeros (leb 11 seen) refl e
-  where
-    by_zeros : (b : Bool) → leb 11 seen ≡ b → ◌≡◌ {A = Option Bits} (cond b (Some here) None) None
-        → is_settled (stage_behind rules (stage_after rules Start seen) 0 here) ≡ true
-    by_zeros true many is = absurd cc
-    by_zeros false few is =
-        ap (λ (b : Bool). is_settled (stage_behind rules (cond b BehindEol (cond rules.seeks Damage Settled)) 0 here)) few
-        ∙ ap (λ (b : Bool). is_settled (stage_behind rules (cond b Damage Settled) 0 here)) unsought
-        ∙ settled_stays rules 0 here
+start_settles rules seen (true ∷ here) unsought e = grind (arith, common_steps, settled_stays)
 
 -- where one is sought, the start is as damage
 start_seeks : (rules : GapRules) (seen : ℕ) (here : Bits) → rules.seeks ≡ true → after_eol seen here ≡ None
     → is_settled (stage_behind rules Start seen here) ≡ is_settled (stage_behind rules Damage seen here)
 start_seeks rules seen [] sought e = refl
 start_seeks rules seen (false ∷ here) sought e = start_seeks rules (suc seen) here sought e
-start_seeks rules seen (true ∷ here) sought e =
-    ap (λ (b : Bool). is_settled (stage_behind rules (cond (leb 11 seen) BehindEol (cond b Damage Settled)) 0 here)) sought
+start_seeks rules seen (true ∷ here) sought e = grind (arith, common_steps)
 
 -- ---- Behind an EOL
 
@@ -133,9 +109,7 @@ zero_no_tag : (rules : GapRules) (seen : ℕ) (here : Bits)
     → is_settled (stage_behind rules BehindEol (suc seen) here) ≡ is_settled (stage_behind rules BehindTag (suc seen) here)
 zero_no_tag rules seen [] = refl
 zero_no_tag rules seen (false ∷ here) = zero_no_tag rules (suc seen) here
-zero_no_tag rules seen (true ∷ here) =
-    ap (λ (b : Bool). is_settled (stage_behind rules (cond (leb 11 (suc seen)) (one_eol_more rules.ends_at_two)
-    (cond (b && rules.has_tags) BehindTag Settled)) 0 here)) (ne_eqb (suc seen) 0 (λ none. omega (arith, none)))
+zero_no_tag rules seen (true ∷ here) = grind (arith, common_steps, ne_eqb)
 
 -- without tags none can
 no_tag : (rules : GapRules) (here : Bits) → rules.has_tags ≡ false
@@ -168,8 +142,7 @@ plain_eols rules none on (suc most) here few = by_after_eol (λ rest. plain_eols
     by_after_eol : ((rest : Bits) → length rest ≤ most
         → is_settled (stage_behind rules BehindTag 0 rest) ≡ holds_one (eols most rest).1) → (o : Option Bits)
         → after_eol 0 here ≡ o → is_settled (stage_behind rules BehindTag 0 here) ≡ holds_one (eols (suc most) here).1
-    by_after_eol next None e =
-        tag_settles rules 0 here e ∙ sym (ap (λ (found : ℕ × Bits). holds_one found.1) (eols-none (suc most) here e))
+    by_after_eol next None e = grind (arith, common_steps, tag_settles, eols-none)
     by_after_eol next (Some rest) e =
         ap is_settled (eol_seen rules BehindTag 0 here rest e)
         ∙ ap (λ (b : Bool). is_settled (stage_behind rules (one_eol_more b) 0 rest)) on
@@ -207,11 +180,7 @@ eols_and_tags rules tags on (suc most) here few =
         ≡ holds_one (behind_one (eols_with_tags most (past_tag rest)).1)) → (o : Option Bits)
         → after_eol 0 (behind_one here) ≡ o → is_settled (stage_behind rules BehindTag 0 (behind_one here))
         ≡ holds_one (behind_one (eols_with_tags (suc most) (past_tag here)).1)
-    by_after_eol next None e =
-        let past = none_past here e in
-        tag_settles rules 0 (behind_one here) e
-        ∙ sym (ap (λ (found : ℕ × Bits). holds_one (behind_one found.1)) (eols_with_tags-none (suc most) (past_tag here) past.0)
-        ∙ ap holds_one past.1)
+    by_after_eol next None e = grind (arith, common_steps, none_past, tag_settles, eols_with_tags-none)
     by_after_eol next (Some rest) e =
         let past : after_eol 0 (past_tag here) ≡ Some rest = ap (after_eol 0) (some_past here rest e) ∙ e in
         ap is_settled (eol_seen rules BehindTag 0 (behind_one here) rest e)
@@ -292,37 +261,19 @@ damage_seen : (rules : GapRules) (seen : ℕ) (here : Bits)
     → is_settled (stage_behind rules Damage seen here) ≡ settled_behind rules (behind_next seen here)
 damage_seen rules seen [] = refl
 damage_seen rules seen (false ∷ here) = damage_seen rules (suc seen) here
-damage_seen rules seen (true ∷ here) = by_zeros (leb 11 seen) (damage_seen rules 0 here)
-  where
-    by_zeros : (b : Bool) → is_settled (stage_behind rules Damage 0 here) ≡ settled_behind rules (behind_next 0 here)
-        → is_settled (stage_behind rules (cond b BehindEol Damage) 0 here)
-        ≡ settled_behind rules (cond b (Some here) (behind_next 0 here))
-    by_zeros true next = refl
-    by_zeros false next = next
+damage_seen rules seen (true ∷ here) = grind (arith, common_steps, damage_seen rules 0 here)
 
 -- an EOL here is the next
 here_is_next : (seen : ℕ) (here rest : Bits) → after_eol seen here ≡ Some rest → behind_next seen here ≡ Some rest
 here_is_next seen [] rest e = absurd cc
 here_is_next seen (false ∷ here) rest e = here_is_next (suc seen) here rest e
-here_is_next seen (true ∷ here) rest e = by_zeros (leb 11 seen) e
-  where
-    by_zeros : (b : Bool) → cond b (Some here) None ≡ Some rest → cond b (Some here) (behind_next 0 here) ≡ Some rest
-    by_zeros true is = is
-    by_zeros false is = absurd cc
+here_is_next seen (true ∷ here) rest e = grind (arith, common_steps)
 
 -- where none is here, a zero fewer makes no difference
 zero_fewer : (seen : ℕ) (here : Bits) → after_eol (suc seen) here ≡ None → behind_next (suc seen) here ≡ behind_next seen here
 zero_fewer seen [] e = refl
 zero_fewer seen (false ∷ here) e = zero_fewer (suc seen) here e
-zero_fewer seen (true ∷ here) e = by_zeros (leb 11 (suc seen)) refl e
-  where
-    by_zeros : (b : Bool) → leb 11 (suc seen) ≡ b → ◌≡◌ {A = Option Bits} (cond b (Some here) None) None
-        → cond (leb 11 (suc seen)) (Some here) (behind_next 0 here) ≡ cond (leb 11 seen) (Some here) (behind_next 0 here)
-    by_zeros true many is = absurd cc
-    by_zeros false few is = rw (few, fewer few) refl
-      where
-        fewer : leb 11 (suc seen) ≡ false → leb 11 seen ≡ false
-        fewer few = lt-leb 11 seen (omega (arith, leb-false 11 (suc seen) few))
+zero_fewer seen (true ∷ here) e = grind (arith, common_steps, lt-leb)
 
 abbrev pub after_found : Option Bits → Option Bits
 after_found None = None
@@ -330,16 +281,7 @@ after_found (Some found) = after_eol 0 found
 
 pub next_is_found : (here : Bits) → behind_next 0 here ≡ after_found (next_eol here)
 next_is_found [] = refl
-next_is_found (bit ∷ here) = by_after_eol (next_is_found here) bit (after_eol 0 (bit ∷ here)) refl
-  where
-    on : (bit : Bool) → after_eol 0 (bit ∷ here) ≡ None → behind_next 0 (bit ∷ here) ≡ behind_next 0 here
-    on true e = refl
-    on false e = zero_fewer 0 here e
-
-    by_after_eol : behind_next 0 here ≡ after_found (next_eol here) → (bit : Bool) (o : Option Bits)
-        → after_eol 0 (bit ∷ here) ≡ o → behind_next 0 (bit ∷ here) ≡ after_found (next_eol (bit ∷ here))
-    by_after_eol next bit None e = rw (e, next_eol) (on bit e ∙ next)
-    by_after_eol next bit (Some rest) e = rw (e, next_eol) (here_is_next 0 (bit ∷ here) rest e ∙ sym e)
+next_is_found (bit ∷ here) = grind (arith, common_steps, zero_fewer, here_is_next, next_is_found here)
 
 -- behind damage it is settled exactly if there is a next EOL, and the EOLs there are
 next_seen : (settings : DecodeSettings) (seeks : Bool) (here : Bits)
@@ -364,12 +306,7 @@ next_seen settings seeks here =
 pub none_here : (encoding : EncodingMode) (block : Bool) (here : Bits) → after_eol 0 here ≡ None
     → eols_by encoding block here ≡ (0, here)
 none_here Group3_1D block here e = all_eols-none here e
-none_here Group3_2D block here e = ap pass_last_tag (all_tagged-none here e) ∙ no_last_tag here
-  where
-    no_last_tag : (here : Bits) → pass_last_tag (0, here) ≡ (0, here)
-    no_last_tag [] = refl
-    no_last_tag (true ∷ here) = refl
-    no_last_tag (false ∷ here) = refl
+none_here Group3_2D block here e = grind (arith, common_steps, all_tagged-none)
 none_here Group4 false here e = all_eols-none here e
 none_here Group4 true here e = eols-none 2 here e
 
@@ -434,22 +371,16 @@ module _ (settings : DecodeSettings) (taken : ℕ) (has_eols : Bool) (here : Bit
 
   none_tested : after_eol 0 here ≡ None
       → gap_is_settled settings taken has_eols here ≡ tested (holds_one here) true (at_end here)
-  none_tested e =
-      let is = none_here encoding block here e in
-      ap (λ (at : ℕ × Bits). tested (eols_are_settled encoding block at) (eqb at.0 0) (at_end here)) is
-      ∙ ap (λ (b : Bool). tested b true (at_end here)) (none_settled encoding block here)
+  none_tested e = grind (arith, common_steps, none_here, none_settled)
 
   by_one : (b : Bool) → holds_one here ≡ b → after_eol 0 here ≡ None
       → is_settled (stage_behind rules Start 0 here) ≡ tested b true (at_end here)
-  by_one true one e =
-      by_flags has_eols (limit_met settings taken) settings.strict e one
-      ∙ ap (tested true true) (sym (one_is_left here one))
+  by_one true one e = grind (arith, common_steps, by_flags, one_is_left)
   by_one false none e = ap is_settled (zeros_stay rules Start 0 here none)
 
   by_after_eol : (o : Option Bits) → after_eol 0 here ≡ o
       → is_settled (stage_behind rules Start 0 here) ≡ gap_is_settled settings taken has_eols here
-  by_after_eol None e =
-      by_one (holds_one here) refl e ∙ sym (none_tested e)
+  by_after_eol None e = grind (arith, common_steps, by_one, none_tested)
   by_after_eol (Some rest) e =
       ap is_settled (eol_seen rules Start 0 here rest e)
       ∙ eols_seen encoding block rules.seeks here rest e
@@ -468,9 +399,7 @@ plain_seen here = by_eol (after_eol 0 here) refl
   where
     by_eol : (o : Option Bits) → after_eol 0 here ≡ o
         → is_settled (stage_behind (rules_of Group3_1D false false) Start 0 here) ≡ holds_one (all_eols here).1
-    by_eol None e =
-        start_settles (rules_of Group3_1D false false) 0 here refl e
-        ∙ sym (ap (λ (found : ℕ × Bits). holds_one found.1) (all_eols-none here e))
+    by_eol None e = grind (arith, common_steps, start_settles, all_eols-none)
     by_eol (Some rest) e =
         ap is_settled (eol_seen (rules_of Group3_1D false false) Start 0 here rest e)
         ∙ eols_seen Group3_1D false false here rest e
@@ -489,8 +418,7 @@ first_gap_seen Group3_2D settings here is = plain_seen here
 
 -- nothing yet
 pub nothing_looked : (rules : GapRules) (look : GapLook) (here : Bits) → LooksTo rules look look here here
-nothing_looked rules look here =
-    record { looked = []; are = refl; stage = refl; zeros = refl; bits = omega arith; needed = λ others. omega arith }
+nothing_looked rules look here = grind (arith, common_steps)
 
 -- all of some bits are needed
 abbrev AllNeeded : GapRules → GapStage → ℕ → Bits → Type 0
@@ -501,13 +429,11 @@ zeros_needed : (rules : GapRules) (stage : GapStage) (seen n : ℕ) → is_settl
     → AllNeeded rules stage seen (replicate n false)
 zeros_needed rules stage seen zero unsettled others = omega arith
 zeros_needed rules stage seen (suc n) unsettled others =
-    ap (λ (b : Bool). cond b 0 (suc (bits_needed rules stage (suc seen) (replicate n false ++ others)))) unsettled
-    ∙ omega (arith, zeros_needed rules stage (suc seen) n unsettled others)
+    grind (arith, common_steps, zeros_needed rules stage (suc seen) n unsettled others)
 
 one_needed : (rules : GapRules) (stage : GapStage) (seen : ℕ) → is_settled stage ≡ false
     → AllNeeded rules stage seen (true ∷ [])
-one_needed rules stage seen unsettled others =
-    ap (λ (b : Bool). cond b 0 (suc (bits_needed rules (stage_after rules stage seen) 0 others))) unsettled ∙ omega arith
+one_needed rules stage seen unsettled others = grind (arith, common_steps)
 
 -- more bits
 pub looks_more : (next : Bits) {rules : GapRules} {old mid : GapLook} {here from rest : Bits}
@@ -542,20 +468,7 @@ by_zeros_looked : (n : ℕ) {rules : GapRules} {old mid : GapLook} {here from re
     → LooksTo rules old mid here from → from ≡ replicate n false ++ rest
     → LooksTo rules old (record { stage = mid.stage; zeros = mid.zeros + n; bits = mid.bits + n }) here rest
 by_zeros_looked n {rules} {old} {mid} unsettled looks is =
-    let on = looks_more (replicate n false) (zeros_needed rules mid.stage mid.zeros n unsettled) looks is in
-    let stays = stage_behind-zeros rules mid.stage mid.zeros n in
-    let sum = zeros_behind-zeros mid.zeros n in
-    record {
-      looked = on.looked;
-      are = on.are;
-      stage = sym stays ∙ on.stage;
-      zeros = sym sum ∙ on.zeros;
-      bits = omega (arith, on.bits, length-replicate n false);
-      needed = λ others. on.needed others
-          ∙ ap (λ (s : GapStage). length on.looked + bits_needed rules s
-          (zeros_behind mid.zeros (replicate n false)) others) stays
-          ∙ ap (λ (m : ℕ). length on.looked + bits_needed rules mid.stage m others) sum;
-    }
+    grind (arith, common_steps, looks_more, zeros_needed, stage_behind-zeros, zeros_behind-zeros, length-replicate)
 
 pub looks_at_zeros : (n : ℕ) {rules : GapRules} {old mid : GapLook} {here from : Bits} → is_settled mid.stage ≡ false
     → LooksTo rules old mid here from → from ≡ replicate n false
@@ -630,18 +543,7 @@ pub found_settled : {rules : GapRules} {look : GapLook} {here rest : Bits} → L
     → (settled : Bool) → settled ≡ is_settled look.stage → (settled ≡ false → rest ≡ [])
     → is_settled (stage_behind rules Start 0 here) ≡ settled
 found_settled {rules} {look} {here} {rest} looks settled is all =
-    ap (λ (b : Bits). is_settled (stage_behind rules Start 0 b)) looks.are
-    ∙ ap is_settled (stage_behind-append rules Start 0 looks.looked rest)
-    ∙ ap (λ (s : GapStage). is_settled (stage_behind rules s (zeros_behind 0 looks.looked) rest)) (sym looks.stage)
-    ∙ by_answer settled is all
-  where
-    by_answer : (b : Bool) → b ≡ is_settled look.stage → (b ≡ false → rest ≡ [])
-        → is_settled (stage_behind rules look.stage (zeros_behind 0 looks.looked) rest) ≡ b
-    by_answer true is all =
-        ap (λ (s : GapStage). is_settled (stage_behind rules s (zeros_behind 0 looks.looked) rest))
-        (only_settled look.stage (sym is)) ∙ settled_stays rules (zeros_behind 0 looks.looked) rest
-    by_answer false is all =
-        ap (λ (b : Bits). is_settled (stage_behind rules look.stage (zeros_behind 0 looks.looked) b)) (all refl) ∙ sym is
+    grind (arith, common_steps, stage_behind-append, only_settled, settled_stays)
 
 pub no_bits : (bits : Bits) → length bits ≡ 0 → bits ≡ []
 no_bits [] e = refl
@@ -650,24 +552,17 @@ no_bits (bit ∷ bits) e = absurd (omega (arith, e))
 -- the rest is behind the bits looked at
 pub rest_is : {rules : GapRules} {look : GapLook} {here rest : Bits} → LooksTo rules nothing_seen look here rest
     → drop look.bits here ≡ rest
-rest_is {rules} {look} {here} {rest} looks =
-    let all : look.bits ≡ length looks.looked + 0 = omega (arith, looks.bits) in
-    ap (drop look.bits) looks.are ∙ ap (λ (n : ℕ). drop n (looks.looked ++ rest)) all
-    ∙ drop-append-add looks.looked rest 0
+rest_is {rules} {look} {here} {rest} looks = grind (arith, common_steps)
 
 -- no more bits than there are were looked at, and no more zeros
 pub looked_within : {rules : GapRules} {look : GapLook} {here rest : Bits} → LooksTo rules nothing_seen look here rest
     → (look.bits + length rest ≡ length here) × (look.zeros ≤ look.bits)
-looked_within {rules} {look} {here} {rest} looks = (
-  omega (arith, looks.bits, ap length looks.are, length-append looks.looked rest),
-  omega (arith, looks.bits, looks.zeros, few_zeros 0 looks.looked),
-)
+looked_within {rules} {look} {here} {rest} looks = grind (arith, common_steps, length-append, few_zeros)
 
 -- no more were than those needed
 pub looked_needed : {rules : GapRules} {look : GapLook} {here rest : Bits} → LooksTo rules nothing_seen look here rest
     → look.bits ≤ bits_needed rules Start 0 here
-looked_needed {rules} {look} {here} {rest} looks =
-    omega (arith, looks.bits, looks.needed rest, ap (bits_needed rules Start 0) looks.are)
+looked_needed {rules} {look} {here} {rest} looks = grind (arith, common_steps)
 
 -- ---- A gap that the bits here settle
 

@@ -1,6 +1,7 @@
 -- What is kept of a gap that was looked at, from step to step.
-use Rattle.hayro_ccitt.proofs.Names.{◌≡◌, ◌∙◌, ◌≤◌, ◌++◌, ℕ, Bool, true, Option, None, Some, Result, Ok, Err, sym, ap}
-use Rattle.hayro_ccitt.proofs.Names.{subst, refl, drop, length, Bits, BitsAt, Held, Context, DecodeError, false≢true}
+use Rattle.hayro_ccitt.proofs.Names.{arith, common_steps}
+use Rattle.hayro_ccitt.proofs.Names.{◌≡◌, ◌≤◌, ◌++◌, ℕ, Bool, true, Option, None, Some, Result, Ok, Err, sym}
+use Rattle.hayro_ccitt.proofs.Names.{subst, drop, length, Bits, BitsAt, Held, Context, DecodeError, false≢true}
 use Rattle.hayro_ccitt.proofs.Names.{here, is_at_line}
 use Rattle.std.proofs.lemmas.List.{drop-append-le}
 use Rattle.hayro_ccitt.specs.GapsSeen.{IsSeen, nothing_seen, rules_for}
@@ -30,10 +31,7 @@ module _ {is_last : Bool} {gap_start : ℕ} {rows kept : RowState} {look kept_lo
   pub kept_seen : (answer : Result (Option Bool) DecodeError)
       → ComesOn is_last gap_start rows kept look kept_look old new before after answer
       → IsSeen (rules_for true new.held) kept_look (here after)
-  kept_seen (Ok None) comes =
-      let w = comes.waits refl in
-      subst (λ (h : Held). IsSeen (rules_for true h) kept_look (here after)) (sym w.0)
-      (subst (λ (b : BitsAt). IsSeen (rules_for true old.held) kept_look (here b)) (sym w.3) (comes.looked refl).1)
+  kept_seen (Ok None) comes = grind (arith, common_steps)
   kept_seen (Ok (Some line)) comes = fresh_look (rules_for true new.held) (here after) (comes.none_looked (λ e. cc))
   kept_seen (Err error) comes = fresh_look (rules_for true new.held) (here after) (comes.none_looked (λ e. cc))
 
@@ -41,9 +39,7 @@ module _ {is_last : Bool} {gap_start : ℕ} {rows kept : RowState} {look kept_lo
   pub kept_line : (answer : Result (Option Bool) DecodeError)
       → ComesOn is_last gap_start rows kept look kept_look old new before after answer → is_at_line kept.stand ≡ true
       → kept_look ≡ nothing_seen
-  kept_line (Ok None) comes line =
-      let w = comes.waits refl in
-      absurd (false≢true (sym w.5 ∙ sym (ap (λ (r : RowState). is_at_line r.stand) w.2) ∙ line))
+  kept_line (Ok None) comes line = grind (arith, common_steps, false≢true)
   kept_line (Ok (Some at)) comes line = comes.none_looked (λ e. cc)
   kept_line (Err error) comes line = comes.none_looked (λ e. cc)
 

@@ -1,4 +1,5 @@
 -- What is kept of a short line in data that comes in pieces.
+use Rattle.hayro_ccitt.proofs.Names.{common_steps}
 use Rattle.hayro_ccitt.proofs.Names.{◌⊎◌, inl, inr}
 use Rattle.hayro_ccitt.proofs.Names.{◌≡◌, ◌≢◌, ◌∙◌, ◌+◌, ◌-◌, ◌*◌, ◌≤◌, [], ℕ, Bool, true, false, Result, Ok, None, Some}
 use Rattle.hayro_ccitt.proofs.Names.{Option, refl, sym, ap, subst, arith, length, drop, Bits, BitsAt, Held, Context}
@@ -6,16 +7,13 @@ use Rattle.hayro_ccitt.proofs.Names.{DecodeError, Group3_2D, White}
 use Rattle.std.proofs.lemmas.Bool.{cases_eq}
 use Rattle.hayro_ccitt.proofs.Names.{redrawn, here, Stand, false≢true, length-drop}
 use Rattle.hayro_ccitt.proofs.Names.{drop-drop, ◌++◌, append_assoc, length-append}
-use Rattle.std.proofs.lemmas.List.{drop-append-le}
-use Rattle.hayro_ccitt.specs.LinesGoOn.{line_from_part}
 use Rattle.hayro_ccitt.proofs.Names.{changes, line_here, row_of_line}
 use Rattle.hayro_ccitt.specs.declared.line_parts.KeptPart.{KeptPart}
 use Rattle.hayro_ccitt.specs.Continuations.{is_short}
-use Rattle.hayro_ccitt.specs.LineParts.{ContinuesLine, IsPartOf, part_at}
-use Rattle.hayro_ccitt.specs.RowsTried.{IsLeft}
+use Rattle.hayro_ccitt.specs.LineParts.{ContinuesLine, IsPartOf}
 use Rattle.hayro_ccitt.proofs.Readings.FeedsOn.{none_paid}
 use Rattle.hayro_ccitt.specs.RowFeeds.{KeepsPart, Feeding, IsFeedOf, LineGoesOn, PartIsKept, ReadsInFeed, Scans, ScansLine}
-use Rattle.hayro_ccitt.specs.RowFeeds.{StandsIn, paid_for_line}
+use Rattle.hayro_ccitt.specs.RowFeeds.{StandsIn}
 use Rattle.hayro_ccitt.specs.RowFeeds.{StaysShort, fed_over, line_of_feed, most_for_line, most_to_find, paid_by}
 use Rattle.hayro_ccitt.specs.Answers.{HasBlack}
 use Rattle.hayro_ccitt.proofs.Names.{RowsRead, ReadsNext, front_of}
@@ -37,22 +35,7 @@ unbegun_none (Some part) begun stand held bits read unbegun kept = absurd (false
 pub kept_longer : (part : Option KeptPart) (begun : Bool) (stand : Stand) (held : Held) (bits : Bits) (read : ℕ) (more : Bits)
     → PartIsKept part begun stand held bits read → PartIsKept part begun stand held (bits ++ more) read
 kept_longer None begun stand held bits read more kept = kept
-kept_longer (Some part) begun stand held bits read more kept = record {
-  is_begun = kept.is_begun;
-  at_line = kept.at_line;
-  none_drawn = kept.none_drawn;
-  within = omega (arith, kept.within, length-append bits more);
-  lawful = kept.lawful;
-  line = record {
-    front = kept.line.front;
-    painted = kept.line.painted;
-    line = λ others. ap (line_here held.settings held.reference) (append_assoc bits more others)
-        ∙ kept.line.line (more ++ others)
-        ∙ ap (λ (b : Bits). line_from_part held.settings held.reference (part_at part kept.line.front b))
-        (sym (append_assoc (drop read bits) more others)
-        ∙ ap (λ (b : Bits). b ++ others) (sym (drop-append-le read bits more kept.within)));
-  };
-}
+kept_longer (Some part) begun stand held bits read more kept = grind (arith, common_steps, length-append, append_assoc)
 
 -- what a call leaves that reads on from a part
 module _ (old new : Feeding) (part next : KeptPart) (read : ℕ) (before after : BitsAt) (short : Bool)
@@ -73,10 +56,7 @@ module _ (old new : Feeding) (part next : KeptPart) (read : ℕ) (before after :
   bits_are = on.same_bits ∙ ap (λ (b : BitsAt). b.bits) before_is
 
   ends : after.place ≤ length after.bits → here after ≡ drop (after.place - old.place) (drop old.place old.kept)
-  ends inside =
-      let sum : after.place ≡ old.place + (after.place - old.place) = omega (arith, on.onward, place_is) in
-      ap (drop after.place) bits_are ∙ ap (λ (n : ℕ). drop n old.kept) sum
-      ∙ sym (drop-drop (after.place - old.place) old.place old.kept)
+  ends inside = grind (arith, common_steps, bits_are, drop-drop)
 
   -- the part that is reached is kept
   pub part_reached : after.place ≤ length after.bits → short ≡ true → LineGoesOn old.begun old.rows.stand new.ctx.held
@@ -103,31 +83,12 @@ module _ (old new : Feeding) (part next : KeptPart) (read : ℕ) (before after :
 
   pub scan_work : after.place ≤ length after.bits → new.ctx.ticks + (part.passed + 2 * read)
       ≤ old.ctx.ticks + (next.passed + 2 * (after.place - old.place) + 2)
-  scan_work inside = omega (
-    arith,
-    on.work,
-    left_before,
-    ap length (ends inside),
-    length-drop (after.place - old.place) (drop old.place old.kept),
-    length-drop old.place old.kept,
-    inside,
-    ap length bits_are,
-    on.onward,
-    place_is,
-  )
+  scan_work inside = grind (arith, common_steps, left_before, length-drop, bits_are)
 
   -- no more is paid for it than the whole line's most
   pub scan_paid : after.place ≤ length after.bits → next.passed + 2 * (after.place - old.place) + 2
       ≤ length (changes old.ctx.held.reference) + 2 * length (drop old.place old.kept) + 2
-  scan_paid inside = omega (
-    arith,
-    on.lawful.passed.within,
-    inside,
-    ap length bits_are,
-    length-drop old.place old.kept,
-    on.onward,
-    place_is,
-  )
+  scan_paid inside = grind (arith, common_steps, bits_are, length-drop)
 
   pub scan_most : new.ctx.ticks + (part.passed + 2 * read) ≤ old.ctx.ticks + most_for_line old + 2
   scan_most = omega (arith, on.work, left_before, on.lawful.passed.within)
@@ -135,60 +96,17 @@ module _ (old new : Feeding) (part next : KeptPart) (read : ℕ) (before after :
   -- the line is short, and goes on from the part that is reached
   pub scans_short : after.place ≤ length after.bits → short ≡ true → ScansLine part.passed read old
       (record old { ctx = new.ctx; part = Some next; line_read = after.place - old.place }) true
-  scans_short inside e = record {
-    scans = record {
-      frame = ap (λ (x : Context). record old { ctx = x; part = Some next; line_read = after.place - old.place }) on.frame;
-      counts = on.counts;
-    };
-    tried = refl;
-    said = said_short ∙ e;
-    none = λ e'. absurd (false≢true (sym e'));
-    some = λ e' none. cc;
-    kept = λ e'. (
-      within,
-      subst (λ (h : Held). next.passed + 2 * (after.place - old.place) + 2
-          ≤ length (changes h.reference) + 2 * length (drop old.place old.kept) + 2)
-          (sym (ap (λ (x : Context). x.held) on.frame)) (scan_paid inside),
-    );
-    work = λ e'. scan_work inside;
-    most = scan_most;
-  }
+  scans_short inside e = grind (arith, common_steps, said_short, false≢true, scan_paid, scan_work, scan_most)
 
   -- or it is whole
   pub scans_whole : short ≡ false → ScansLine part.passed read old
       (record old { ctx = new.ctx; part = None; line_read = 0 }) false
-  scans_whole e = record {
-    scans = record {
-      frame = ap (λ (x : Context). record old { ctx = x; part = None; line_read = 0 }) on.frame;
-      counts = on.counts;
-    };
-    tried = refl;
-    said = said_short ∙ e;
-    none = λ e'. refl;
-    some = λ e'. absurd (false≢true e');
-    kept = λ e'. absurd (false≢true e');
-    work = λ e'. absurd (false≢true e');
-    most = scan_most;
-  }
+  scans_whole e = grind (arith, common_steps, said_short, false≢true, scan_most)
 
 -- the part that was kept is read on from
 pub stays_by : (old new : Feeding) (part : KeptPart) (short : Bool) → old.part ≡ Some part → old.finished ≡ false
     → redrawn old.ctx.held [] White ≡ old.ctx.held → ScansLine part.passed old.line_read old new short → StaysShort old new short
-stays_by old new part short is unfinished none_drawn scans =
-    let paid : paid_for_line old ≡ part.passed + 2 * old.line_read + 2
-    = ap (λ (p : Option KeptPart). paid_by p old.line_read) is in
-    record {
-      scans = scans.scans;
-      tried = scans.tried;
-      said = λ e. (scans.said ∙ e, unfinished, none_drawn);
-      settled = λ e some. inr (scans.said ∙ e);
-      none = scans.none;
-      some = scans.some;
-      kept = scans.kept;
-      unkept = λ e. absurd cc;
-      work = λ e. omega (arith, scans.work e, paid);
-      most = omega (arith, scans.most, paid);
-    }
+stays_by old new part short is unfinished none_drawn scans = grind (arith, common_steps)
 
 -- ---- A line that is read on before it is read, or after it was left
 
@@ -231,12 +149,8 @@ later_next old new ticks r le reads = record {
 -- a line that is settled isn't left as short
 settled_not : {old mid new : Feeding} {answer : Result Bool DecodeError} → StaysShort old mid false → ReadsInFeed mid new answer
     → answer ≡ Ok false → (old.finished ≡ true) ⊎ (is_short (line_of_feed old) ≡ false) → ⊥
-settled_not {old} {mid} {new} {answer} stays reads e (inl last) =
-    false≢true (sym (reads.unsettled e).0 ∙ ap (λ (f : Feeding). f.finished) stays.scans.frame ∙ last)
-settled_not {old} {mid} {new} {answer} stays reads e (inr whole) =
-    let same : new.ctx.held ≡ redrawn mid.ctx.held [] White = (reads.left (subst IsLeft (sym e) refl)).2 in
-    false≢true (sym whole ∙ sym (ap (λ (f : Feeding). is_short (line_of_feed f)) stays.scans.frame)
-    ∙ ap (λ (h : Held). is_short (line_here h.settings h.reference (drop mid.place mid.kept))) (sym same) ∙ (reads.unsettled e).1)
+settled_not {old} {mid} {new} {answer} stays reads e (inl last) = grind (arith, common_steps, false≢true)
+settled_not {old} {mid} {new} {answer} stays reads e (inr whole) = grind (arith, common_steps, false≢true)
 
 -- the line is read on, and then read
 pub scanned_before : {old mid new : Feeding} (answer : Result Bool DecodeError) → StaysShort old mid false → old.begun ≡ true
@@ -413,24 +327,7 @@ pub unread_line : {old left new : Feeding} → ReadsInFeed old left (Ok false) �
     → (old.ctx.held.settings.encoding ≡ Group3_2D → drop old.place old.kept ≡ [] → left.ctx.ticks ≡ old.ctx.ticks)
     → KeepsPart left new → new.part ≡ None
     → (new.ctx.ticks ≡ old.ctx.ticks) ⊎ ((old.tried_at ≢ new.dropped + new.place) × (new.tried_at ≡ new.dropped + new.place))
-unread_line {old} {left} {new} reads tried no_tag keeps_part none =
-    let gone = reads.left refl in
-    let there : drop left.place left.kept ≡ drop old.place old.kept =
-    ap (λ (n : ℕ). drop n left.kept) gone.1 ∙ ap (drop old.place) reads.keeps.kept in
-    let short = ap (λ (b : Bits). is_short (line_here left.ctx.held.settings left.ctx.held.reference b)) there
-    ∙ (reads.unsettled refl).1 in
-    let frame = keeps_part.scans.frame in
-    let offset : new.dropped + new.place ≡ left.dropped + left.place = omega (
-      arith,
-      ap (λ (f : Feeding). f.dropped) frame,
-      ap (λ (f : Feeding). f.place) frame,
-    ) in
-    elim (cases_eq left.tried_at (left.dropped + left.place)) [
-      | inl here ↦
-          let missing = keeps_part.no_tag short none here in
-          inl (missing.2 ∙ no_tag (ap (λ (h : Held). h.settings.encoding) (sym gone.2) ∙ missing.0) (sym there ∙ missing.1))
-      | inr other ↦ inr (λ same_place. other (tried ∙ same_place ∙ offset), keeps_part.tried ∙ sym offset)
-    ]
+unread_line {old} {left} {new} reads tried no_tag keeps_part none = grind (arith, common_steps, cases_eq)
 
 -- the line still is short
 pub stays_short : {old new : Feeding} → StaysShort old new true → old.begun ≡ true → ReadsInFeed old new (Ok false)

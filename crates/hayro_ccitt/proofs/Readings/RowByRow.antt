@@ -1,14 +1,15 @@
 -- Rows one at a time: what is known of a reading between two rows, and what its calls leave.
+use Rattle.hayro_ccitt.proofs.Names.{common_steps}
 use Rattle.hayro_ccitt.proofs.Names.{◌≡◌, ◌+◌, ◌-◌, ◌<◌, ◌≤◌, ℕ, suc, Bool, true, false, eqb, List, [], ◌∷◌, ◌++◌, length, drop}
 use Rattle.hayro_ccitt.proofs.Names.{get_or, Some, Result, Ok, Err, refl, sym, ap, ◌∙◌, subst, arith, cond-true, cond-false}
-use Rattle.hayro_ccitt.proofs.Names.{eq-eqb, ne_eqb, false≢true, length-append, length-drop, cond, take, not, ◌||◌, None}
+use Rattle.hayro_ccitt.proofs.Names.{eq-eqb, ne_eqb, false≢true, length-append, length-drop, cond, take, None}
 use Rattle.hayro_ccitt.proofs.Names.{Option, OnErr, IfOk, IfErr, sum_by, slice_get, IsOkUnless, ◌≢◌, DecodeError, InvalidCode}
-use Rattle.hayro_ccitt.proofs.Names.{OutOfMemory, Refused, DecodeSettings, Bits, BitsAt, IsPrefix, here, Held}
+use Rattle.hayro_ccitt.proofs.Names.{DecodeSettings, Bits, BitsAt, IsPrefix, here, Held}
 use Rattle.hayro_ccitt.proofs.Names.{Repairs, fresh, no_repairs, Damaged, fault_in, repaired_in, repaired_by_turn}
-use Rattle.hayro_ccitt.proofs.Names.{repairs_by_line, missed_by_turn, misses_by_line, TakesOneRow, repairs_with}
+use Rattle.hayro_ccitt.proofs.Names.{repairs_by_line, missed_by_turn, TakesOneRow, repairs_with}
 use Rattle.hayro_ccitt.proofs.Names.{repairs_behind, gap_said, Line, Progress, Ending, Reading, row_before, with_row}
 use Rattle.hayro_ccitt.proofs.Names.{at_gap, gap_behind_row, row_of_line, line_here, line_of_turn, move_on, first_gap, first_line}
-use Rattle.hayro_ccitt.proofs.Names.{at_front, ending_from, ending_behind, turns_behind, turns_of, map}
+use Rattle.hayro_ccitt.proofs.Names.{at_front, ending_from, ending_behind, turns_of, map}
 use Rattle.hayro_ccitt.proofs.Names.{whole_reading, plain, lines_of, line_starts, start_of_turn, Gap, misses_eol}
 use Rattle.hayro_ccitt.proofs.Names.{eols_here, is_over, row_ends, end_of_row, end_of_turn, failed_at, Turn}
 use Rattle.hayro_ccitt.proofs.Names.{Reaches, Row, found_here, words_of, words_of_turn, Stand, AtLine, BehindRow, AtEnd, AtFault}
@@ -16,7 +17,7 @@ use Rattle.hayro_ccitt.proofs.Names.{EncodingMode, Group4, RowsRead, ReadsNext, 
 use Rattle.hayro_ccitt.proofs.Names.{ReachesNextLine, read_so_far, line_after, DamageIsCounted, MissesAreCounted, MissesBehindRow}
 use Rattle.hayro_ccitt.proofs.Names.{Misses, ReaderStands, ended, stand_after, is_at_line, StandsAtLine, StandsBehindRow}
 use Rattle.hayro_ccitt.proofs.Names.{redrawn, White, end_of, ends_with, add_row}
-use Rattle.hayro_ccitt.proofs.Names.{IsWhole, IsFault, cut_by_turn, cuts_by_line, cut_in, cut_since, cuts_with, is_broken}
+use Rattle.hayro_ccitt.proofs.Names.{IsWhole, IsFault, cut_by_turn, cuts_by_line, cut_in, cut_since}
 use Rattle.hayro_ccitt.proofs.Names.{cuts_run}
 use Rattle.hayro_ccitt.proofs.Names.{strict_line_of_turn}
 use Rattle.hayro_ccitt.proofs.Names.{HasEnded, HasFailed, MissIsTold, context_at, missed_before, missed_since, start_in}
@@ -41,8 +42,7 @@ has_columns settings wide = some_columns settings.columns (λ none. absurd (omeg
 -- the plain reading is that which ends so
 pub plain_whole : (settings : DecodeSettings) → 0 < settings.columns → (bits : Bits) → {end : Ending} → end_of settings bits ≡ end
     → plain settings bits ≡ whole_reading bits end
-plain_whole settings wide bits is =
-    cond-false (eqb settings.columns 0) _ _ (has_columns settings wide) ∙ ap (whole_reading bits) is
+plain_whole settings wide bits is = grind (arith, common_steps, cond-false, has_columns)
 
 module _ (settings : DecodeSettings) (wide : 0 < settings.columns) (bits : Bits) {first : Progress}
     (begins : first_gap settings.encoding settings bits ≡ Turn.next first) where
@@ -85,16 +85,10 @@ module _ (settings : DecodeSettings) (wide : 0 < settings.columns) (bits : Bits)
 
       -- the row that is read is the next one of the plain reading
       pub row_is_next : get_or (plain settings bits).rows (length so_far.rows) [] ≡ row
-      row_is_next =
-          ap (λ (rows : List Row). get_or rows (length so_far.rows) []) prefix.1 ∙ get_or-behind so_far.rows row prefix.0 []
+      row_is_next = grind (arith, common_steps, prefix, get_or-behind)
 
       pub row_is_there : length so_far.rows + 1 ≤ length (plain settings bits).rows
-      row_is_there = omega (
-        arith,
-        ap length prefix.1,
-        length-append (so_far.rows ++ row ∷ []) prefix.0,
-        length-append so_far.rows (row ∷ []),
-      )
+      row_is_there = grind (arith, common_steps, prefix, length-append)
 
     -- where its turn is the last, what is known of the whole reading: with its row
     pub whole_behind : {end : Ending} → move_on settings so_far ≡ Turn.done end → (held : Held)
@@ -165,19 +159,7 @@ module _ {settings : DecodeSettings} {bits : Bits} {held : Held} {here : Bits}
       (line_here held.settings held.reference here)) held new answer left_over) where
     takes_turn : TakesOneRow (line_of_turn settings so_far) (strict_line_of_turn settings so_far) (row_of_turn settings so_far)
         (context_at settings so_far held.repairs) new answer left_over
-    takes_turn =
-        let strictly = record settings { strict = true } in
-        let known : TakesOneRow (line_here settings (row_before settings.columns so_far.rows) here)
-        (line_here strictly (row_before settings.columns so_far.rows) here)
-        (row_of_line settings so_far.has_eols here (line_here settings (row_before settings.columns so_far.rows) here))
-        (context_at settings so_far held.repairs) new answer left_over =
-        subst (λ (h : Held). TakesOneRow (line_here h.settings h.reference here)
-        (line_here (record h.settings { strict = true }) h.reference here) (row_of_line h.settings h.has_eols here
-        (line_here h.settings h.reference here)) h new answer left_over) stands.held_is takes in
-        subst (λ (x : Bits). TakesOneRow (line_here settings (row_before settings.columns so_far.rows) x)
-        (line_here strictly (row_before settings.columns so_far.rows) x)
-        (row_of_line settings so_far.has_eols x (line_here settings (row_before settings.columns so_far.rows) x))
-        (context_at settings so_far held.repairs) new answer left_over) stands.rest_is known
+    takes_turn = grind (arith, common_steps)
 
 -- what is repaired of a line is reported
 repaired_told : (settings : DecodeSettings) (has_eols : Bool) (index offset : ℕ) (start : Bits) (line strict : Line)
@@ -185,31 +167,15 @@ repaired_told : (settings : DecodeSettings) (has_eols : Bool) (index offset : �
     → damage_since (repairs_with line strict taken before) before.rows ≡ fault_in
     (repaired_in settings has_eols index offset line)
 repaired_told settings has_eols index offset start (Line.whole pixels behind) strict row rest taken before is =
-    let now = cuts_with (is_broken strict) taken before in
-    cond-true (eqb now.rows before.rows) None (Some now.fault)
-    (eq-eqb now.rows before.rows (ap (λ (r : Repairs). r.rows) (cuts_keep (is_broken strict) taken before)))
+    grind (arith, common_steps, cond-true, eq-eqb, cuts_keep)
 repaired_told settings has_eols index offset start (Line.broken front fault) strict row rest taken before is =
-    by_strict (settings.strict || not has_eols) refl
-  where
-    by_strict : (b : Bool) → (settings.strict || not has_eols) ≡ b → damage_since (repairs_with
-        (Line.broken front fault) strict taken
-        before) before.rows ≡ fault_in (repaired_in settings has_eols index offset (Line.broken front fault))
-    by_strict true e = let never = sym (cond-true (settings.strict || not has_eols) _ _ e) ∙ is in cc
-    by_strict false e =
-        cond-false (eqb (before.rows + 1) before.rows) None
-        (Some fault) (ne_eqb (before.rows + 1) before.rows (λ same. absurd (omega (arith, same)))) ∙ sym (ap fault_in (cond-false
-        {A = List Damaged} (settings.strict || not has_eols) [] (record { row = index; start = offset; fault = fault } ∷ []) e))
+    grind (arith, common_steps, cond-true, cond-false, ne_eqb)
 
 -- it is one row at most
 repaired_once : (settings : DecodeSettings) (has_eols : Bool) (index offset : ℕ) (line : Line)
     → length (repaired_in settings has_eols index offset line) ≤ 1
 repaired_once settings has_eols index offset (Line.whole pixels behind) = omega arith
-repaired_once settings has_eols index offset (Line.broken front fault) = either_way (settings.strict || not has_eols)
-  where
-    either_way : (b : Bool)
-        → length (cond {A = List Damaged} b [] (record { row = index; start = offset; fault = fault } ∷ [])) ≤ 1
-    either_way true = omega arith
-    either_way false = omega arith
+repaired_once settings has_eols index offset (Line.broken front fault) = grind (arith, common_steps)
 
 -- a row was read there
 pub record IsRead (settings : DecodeSettings) (bits : Bits) (held new : Held) (here left_over : Bits) : Type 0 where
@@ -375,14 +341,7 @@ isnt_read {settings} {bits} {held} stands {new} {e = e} takes =
 pub paints_at_line : {settings : DecodeSettings} {bits : Bits} {held : Held} {here : Bits}
     → StandsAtLine settings bits held here → HasBlack (front_of (line_here held.settings held.reference here))
     → PaintsBlack (lines_of settings bits) held.taken
-paints_at_line {settings} {bits} {held} {here} stands black =
-    let so_far = stands.so_far in (
-      line_of_turn settings so_far,
-      ap (λ (h : Held). slice_get (lines_of settings bits) h.taken) stands.held_is
-          ∙ given_there settings stands.wide bits stands.begins stands.reaches (line_of_turn settings),
-      subst (λ (b : Bits). HasBlack (front_of (line_here settings (row_before settings.columns so_far.rows) b))) stands.rest_is
-          (subst (λ (h : Held). HasBlack (front_of (line_here h.settings h.reference here))) stands.held_is black),
-    )
+paints_at_line {settings} {bits} {held} {here} stands black = grind (arith, common_steps, given_there)
 
 -- if a line is here, the invariant says so
 pub at_line_stands : (stand : Stand) (settings : DecodeSettings) (bits : Bits) (held : Held) (place : ℕ) → is_at_line stand ≡ true
@@ -418,40 +377,25 @@ pub failed_stands : (stand : Stand) (settings : DecodeSettings) (bits : Bits) (h
 failed_stands AtLine settings bits held place is stands = absurd cc
 failed_stands BehindRow settings bits held place is stands = absurd cc
 failed_stands AtEnd settings bits held place is stands = absurd cc
-failed_stands (AtFault error) settings bits held place {e} is stands =
-    let same : error ≡ e = cc in subst (λ (x : DecodeError). ReaderStands (AtFault x) settings bits held place) same stands
+failed_stands (AtFault error) settings bits held place {e} is stands = grind (arith, common_steps)
 
 -- ---- A gap is passed
 
 -- an allocation didn't fail in a gap, and no row was refused
 code_failed : (settings : DecodeSettings) (bits : Bits) (taken : ℕ) (e : DecodeError) → e ≡ InvalidCode
     → taken ≡ length (plain settings bits).rows → (plain settings bits).outcome ≡ Err e → HasFailed settings bits taken e
-code_failed settings bits taken e is all outcome =
-    record {
-      all = λ f. all;
-      fault = λ f. outcome;
-      memory = λ g. let never : InvalidCode ≡ OutOfMemory = sym is ∙ g in absurd cc;
-      not_refused = λ g. let never : InvalidCode ≡ Refused = sym is ∙ g in absurd cc;
-    }
+code_failed settings bits taken e is all outcome = grind (arith, common_steps)
 
 -- if the gap before a turn ends the reading, it ends like this
 module _ (settings : DecodeSettings) (wide : 0 < settings.columns) (bits : Bits) (rows : List Row) (last : Held) (place : ℕ)
     (within : place ≤ length bits) (taken : last.taken ≡ length rows) (has_eols : Bool) where
   ended_well : end_of settings bits ≡ record { rows = rows; has_eols = has_eols; outcome = Ok (drop place bits) }
       → HasEnded settings bits last.taken place
-  ended_well is =
-      let reading = plain_whole settings wide bits is in
-      record {
-        all = taken ∙ ap (λ (r : Reading). length r.rows) (sym reading);
-        count = ap (λ (r : Reading). r.outcome) reading ∙ bytes_before-place bits place within;
-      }
+  ended_well is = grind (arith, common_steps, plain_whole, bytes_before-place)
 
   ended_badly : (e : DecodeError) → e ≡ InvalidCode → end_of settings bits
       ≡ record { rows = rows; has_eols = has_eols; outcome = Err e } → HasFailed settings bits last.taken e
-  ended_badly e code is =
-      let reading = plain_whole settings wide bits is in
-      code_failed settings bits last.taken e code (taken ∙ ap (λ (r : Reading). length r.rows) (sym reading))
-      (ap (λ (r : Reading). r.outcome) reading)
+  ended_badly e code is = grind (arith, common_steps, plain_whole, code_failed)
 
 -- the gap after a row leads to a line, or to the end
 module _ (settings : DecodeSettings) (bits : Bits) (held : Held) (here_now : Bits)
@@ -463,9 +407,7 @@ module _ (settings : DecodeSettings) (bits : Bits) (held : Held) (here_now : Bit
   turn_said : (answer : Result Bool DecodeError)
       → gap_behind_row held.settings held.taken held.has_eols here_now ≡ gap_said answer last.has_eols (drop place bits)
       → move_on settings stands.so_far ≡ at_gap next (gap_said answer last.has_eols (drop place bits))
-  turn_said answer said =
-      turn_is settings stands.so_far stands.row here_now (gap_said answer last.has_eols (drop place bits)) stands.row_is
-      (ap (λ (h : Held). gap_behind_row h.settings h.taken h.has_eols here_now) (sym stands.held_is) ∙ said)
+  turn_said answer said = grind (arith, common_steps, turn_is)
 
   last_taken : last.taken ≡ length next.rows
   last_taken = ap (λ (h : Held). h.taken) frame ∙ ap (λ (h : Held). h.taken) stands.held_is
@@ -538,27 +480,12 @@ module _ (settings : DecodeSettings) (wide : 0 < settings.columns) (bits : Bits)
   whole_front : {outcome : Result Bits DecodeError}
       → first_gap settings.encoding settings bits ≡ ends_with (at_front bits) outcome
       → last.has_eols ≡ false → IsWhole settings bits last outcome
-  whole_front ends unsought =
-      let turns : turns_of settings bits ≡ [] =
-      cond-false (eqb settings.columns 0) _ _ (has_columns settings wide) ∙ ap (turns_behind settings) ends in
-      let all_given : (gives : Progress → List Damaged) → sum_by length (take last.taken (map gives (turns_of settings bits)))
-      ≡ sum_by length (map gives (turns_of settings bits)) = λ gives. ap (λ (n : ℕ). sum_by length
-      (take n (map gives (turns_of settings bits)))) none ∙ sym (ap (λ (s : List Progress). sum_by length (map gives s)) turns) in
-      record {
-        rows = none ∙ sym (ap (λ (e : Ending). length e.rows) (first_ended ends));
-        ends = ap (λ (e : Ending). e.outcome) (first_ended ends);
-        has_eols = unsought ∙ sym (ap (λ (e : Ending). e.has_eols) (first_ended ends));
-        repaired = all_given (repaired_by_turn settings bits);
-        cut = all_given (cut_by_turn settings bits);
-        missed = all_given (missed_by_turn settings bits);
-      }
+  whole_front ends unsought = grind (arith, common_steps, cond-false, has_columns, first_ended)
 
   pub first_gap_stands : (answer : Result Bool DecodeError) → gap_behind_row settings 0 false bits ≡ gap_said answer last.has_eols
       (drop place bits) → IsOkUnless answer InvalidCode → last.has_eols ≡ false
       → ReaderStands (stand_after answer) settings bits last place
-  first_gap_stands (Ok true) said code unsought =
-      let ends = first_said (Ok true) said in
-      (ended_well settings wide bits [] last place within none false (first_ended ends), λ wide. whole_front ends unsought)
+  first_gap_stands (Ok true) said code unsought = grind (arith, common_steps, first_said, ended_well, first_ended, whole_front)
   first_gap_stands (Ok false) said code unsought = record {
     wide = wide;
     first = record { rows = []; has_eols = last.has_eols; rest = drop place bits };
@@ -570,11 +497,7 @@ module _ (settings : DecodeSettings) (wide : 0 < settings.columns) (bits : Bits)
         (sym (ap (λ (h : Held). h.repairs) frame));
     rest_is = refl;
   }
-  first_gap_stands (Err e) said code unsought =
-      let ends = first_said (Err e) said in (
-        ended_badly settings wide bits [] last place within none false e code (first_ended ends),
-        λ wide fault. whole_front ends unsought,
-      )
+  first_gap_stands (Err e) said code unsought = grind (arith, common_steps, first_said, ended_badly, first_ended, whole_front)
 
 -- where no EOLs are sought, no gap is faulty
 pub no_fault : (settings : DecodeSettings) (taken : ℕ) (here : Bits) (answer : Result Bool DecodeError) (has_eols : Bool)
@@ -610,8 +533,7 @@ first_line_stands settings wide bits other last rest frame is room = record {
 -- a row adds no missed EOL
 pub repairs_with_missed : (line strict : Line) (taken : ℕ) (before : Repairs)
     → (repairs_with line strict taken before).missed ≡ before.missed
-repairs_with_missed (Line.whole row rest) strict taken before =
-    ap (λ (r : Repairs). r.missed) (cuts_keep (is_broken strict) taken before)
+repairs_with_missed (Line.whole row rest) strict taken before = grind (arith, common_steps, cuts_keep)
 repairs_with_missed (Line.broken front fault) strict taken before = refl
 
 -- the gap behind a row tells of its EOL
@@ -647,14 +569,10 @@ module _ (settings : DecodeSettings) (bits : Bits) (held : Held) (here : Bits) (
   then : last.repairs
       ≡ repairs_behind (context_at settings (with_row there stands.row here)
       (repairs_with its_line misses.strict read misses.before)) here
-  then =
-      counts ∙ ap (λ (h : Held). repairs_behind h here) (stands.held_is
-      ∙ ap (context_at settings (with_row there stands.row here)) read_with)
+  then = grind (arith, common_steps, read_with)
 
   one : last.repairs.missed ≡ misses.before.missed + length (missed_by_turn settings bits there)
-  one =
-      ap (λ (r : Repairs). r.missed) then
-      ∙ missed_counts settings bits there its_line misses.strict stands.row here misses.before stands.row_is known.last known.few
+  one = grind (arith, common_steps, then, missed_counts)
 
   -- it is counted
   pub misses_passed : last.taken ≡ held.taken → MissesAreCounted settings bits last.repairs last.taken
@@ -741,42 +659,20 @@ told_after (Err error) settings bits taken missed told = told
 pub none_damaged : (stand : Stand) (settings : DecodeSettings) (bits : Bits) (held : Held)
     → ((misses : MissesAreCounted settings bits held.repairs held.taken) → Misses stand settings bits held) → held.taken ≡ 0
     → held.repairs ≡ no_repairs → DamageIsCounted stand settings bits held
-none_damaged stand settings bits held stands none no_damage =
-    let rows : held.repairs.rows ≡ 0 = ap (λ (r : Repairs). r.rows) no_damage in
-    let cut : held.repairs.cut ≡ 0 = ap (λ (r : Repairs). r.cut) no_damage in
-    let missed : held.repairs.missed ≡ 0 = ap (λ (r : Repairs). r.missed) no_damage in
-    record {
-      few = omega (arith, rows);
-      counted = rows ∙ sym (ap (λ (n : ℕ). sum_by length (take n (repairs_by_line settings bits))) none);
-      few_cut = omega (arith, cut);
-      cut = cut ∙ sym (ap (λ (n : ℕ). sum_by length (take n (cuts_by_line settings bits))) none);
-      misses = stands (record {
-        few = omega (arith, missed);
-        last = omega (arith, ap (λ (r : Repairs). r.last) no_damage);
-        counted = missed ∙ sym (ap (λ (n : ℕ). sum_by length (take n (misses_by_line settings bits))) none);
-      });
-    }
+none_damaged stand settings bits held stands none no_damage = grind (arith, common_steps)
 
 -- a fact of settings, bits and a number of rows, of others that are equal
 elsewhere : (P : DecodeSettings → Bits → ℕ → Type 0) (s t : DecodeSettings) (b c : Bits) (m n : ℕ) → s ≡ t → b ≡ c → m ≡ n
     → P s b m → P t c n
-elsewhere P s t b c m n settings bits taken given =
-    subst (λ (k : ℕ). P t c k) taken (subst (λ (x : Bits). P t x m) bits (subst (λ (x : DecodeSettings). P x b m) settings given))
+elsewhere P s t b c m n settings bits taken given = grind (arith, common_steps)
 
 -- what was counted is unchanged where no row is read
 pub damage_stays : (before stand : Stand) (settings given : DecodeSettings) (bits read : Bits) (held last : Held)
     → given ≡ settings → read ≡ bits → last.taken ≡ held.taken → last.repairs.rows ≡ held.repairs.rows
     → last.repairs.cut ≡ held.repairs.cut → DamageIsCounted before settings bits held → Misses stand settings bits last
     → DamageIsCounted stand given read last
-damage_stays before stand settings given bits read held last same are taken repairs cuts counted misses = record {
-  few = omega (arith, counted.few, taken, repairs);
-  counted = elsewhere (λ s b n. last.repairs.rows ≡ sum_by length (take n (repairs_by_line s b))) settings given bits read
-      held.taken last.taken (sym same) (sym are) (sym taken) (repairs ∙ counted.counted);
-  few_cut = omega (arith, counted.few_cut, taken, cuts);
-  cut = elsewhere (λ s b n. last.repairs.cut ≡ sum_by length (take n (cuts_by_line s b))) settings given bits read
-      held.taken last.taken (sym same) (sym are) (sym taken) (cuts ∙ counted.cut);
-  misses = elsewhere (λ s b n. Misses stand s b last) settings given bits read 0 0 (sym same) (sym are) refl misses;
-}
+damage_stays before stand settings given bits read held last same are taken repairs cuts counted misses =
+    grind (arith, common_steps, elsewhere)
 
 -- the result of a call that passes a gap
 pub comes_to_line : (old : RowsRead) (last : Held) (ticks space : ℕ) (at : BitsAt) (n : ℕ) (damage : Option DecodeError)
@@ -787,50 +683,11 @@ pub comes_to_line : (old : RowsRead) (last : Held) (ticks space : ℕ) (at : Bit
     → OnErr answer (n ≡ failed_at old.settings old.bits old.taken) → missed ≡ missed_before old.settings old.bits old.taken
     → ReachesNextLine old (read_so_far last ticks space at n damage cut missed (stand_after answer)) (line_after answer)
 comes_to_line old last ticks space at n damage cut missed (Ok true) settings bits taken counts row begun stands start told =
-    record {
-      missed = told;
-      counts = counts;
-      last = row;
-      last_start = begun;
-      fault_start = tt;
-      settings = settings;
-      bits = bits;
-      taken = taken;
-      line = λ e. cc;
-      unended = λ e. cc;
-      end = λ e. (refl, stands.0);
-      error = tt;
-    }
+    grind (arith, common_steps)
 comes_to_line old last ticks space at n damage cut missed (Ok false) settings bits taken counts row begun stands start told =
-    record {
-      missed = told;
-      counts = counts;
-      last = row;
-      last_start = begun;
-      fault_start = tt;
-      settings = settings;
-      bits = bits;
-      taken = taken;
-      line = λ e. refl;
-      unended = λ e. refl;
-      end = λ e. cc;
-      error = tt;
-    }
+    grind (arith, common_steps)
 comes_to_line old last ticks space at n damage cut missed (Err error) settings bits taken counts row begun stands start told =
-    record {
-      missed = told;
-      counts = counts;
-      last = row;
-      last_start = tt;
-      fault_start = start;
-      settings = settings;
-      bits = bits;
-      taken = taken;
-      line = λ e. cc;
-      unended = λ e. cc;
-      end = λ e. cc;
-      error = (refl, stands.0);
-    }
+    grind (arith, common_steps)
 
 -- the result of a call that passes a gap, and then reads the line there
 pub reads_on : (old mid new : RowsRead) (result : Result Bool DecodeError) → ReachesNextLine old mid (Ok true)

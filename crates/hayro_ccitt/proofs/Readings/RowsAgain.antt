@@ -1,9 +1,10 @@
 -- A row whose line follows a gap at which nothing is missed, and white rows that are read again and again.
-use Rattle.hayro_ccitt.proofs.Names.{◌≡◌, ◌+◌, ◌-◌, ◌*◌, ◌≤◌, ◌&&◌, ◌||◌, ◌++◌, ◌∷◌, ℕ, Bool, true, false, eqb, leb, not}
+use Rattle.hayro_ccitt.proofs.Names.{common_steps}
+use Rattle.hayro_ccitt.proofs.Names.{◌≡◌, ◌+◌, ◌-◌, ◌*◌, ◌≤◌, ◌&&◌, ◌++◌, ◌∷◌, ℕ, Bool, true, false, eqb, leb, not}
 use Rattle.hayro_ccitt.proofs.Names.{[], length, drop, cond, min, suc, None, Some, Result, Ok, refl, sym}
 use Rattle.hayro_ccitt.proofs.Names.{ap, ◌∙◌, subst, arith, cond-true, cond-false, eq-eqb, length-drop}
 use Rattle.hayro_ccitt.proofs.Names.{DecodeError, DecodeSettings, EncodingMode, Group4, Bits, BitsAt, here, Context, Held}
-use Rattle.hayro_ccitt.proofs.Names.{Repairs, with_missed, TakesOneRow, repairs_with, repairs_behind, with_row_taken, Line}
+use Rattle.hayro_ccitt.proofs.Names.{Repairs, TakesOneRow, repairs_with, repairs_behind, with_row_taken, Line}
 use Rattle.hayro_ccitt.proofs.Names.{line_here, line_by, row_of_line}
 use Rattle.hayro_ccitt.proofs.Names.{Gap, gap_behind_row, behind_eols, misses_eol, eols_by, eols_here, is_over, limit_met}
 use Rattle.hayro_ccitt.specs.PlainReading.{eols_of_end}
@@ -15,8 +16,7 @@ use Rattle.hayro_ccitt.proofs.Names.{Misses, MissIsTold, WorkIsPaid, PaidAtLine,
 use Rattle.hayro_ccitt.proofs.Names.{cut_since, damage_since, failed_at, tag_tests, looked_ahead}
 use Rattle.hayro_ccitt.specs.declared.row_reader.RowState.{RowState}
 use Rattle.hayro_ccitt.proofs.Names.{Group3_1D, Group3_2D, at_end, ne_eqb, ◌<◌, ◌≢◌}
-use Rattle.hayro_ccitt.proofs.Names.{after_eol, append_assoc, drop-drop, eol, inl, inr, length-append, tagged_eols}
-use Rattle.hayro_ccitt.specs.EndOfLine.{one_more, pass_last_tag}
+use Rattle.hayro_ccitt.proofs.Names.{after_eol, append_assoc, drop-drop, length-append, tagged_eols}
 use Rattle.hayro_ccitt.specs.RowFeeds.{TakesWhite}
 use Rattle.hayro_ccitt.specs.WhiteLines.{AreWhiteLine, IsWhiteLine, MayFollow, PassesLine, eol_before}
 use Rattle.fax_bits.specs.declared.tables.CodeWord.{CodeWord}
@@ -141,8 +141,7 @@ module _ (from : ℕ) (rows : RowState) (ctx : Context) (at : BitsAt) (stands : 
 
     -- the row is the next one of the plain reading
     pub reads_again : ReadsNext (seen rows ctx at) (seen after after_ctx after_at) (Ok true)
-    reads_again =
-        reads_on (seen rows ctx at) (seen mid mid_ctx mid_at) (seen after after_ctx after_at) (Ok true) reaches reads_line
+    reads_again = grind (arith, common_steps, reads_on, reads_line)
 
     abbrev Standing : DecodeSettings → Type 0
     Standing s = StandsBehindRow s bits new (drop end bits) × DamageIsCounted BehindRow s bits new
@@ -200,23 +199,16 @@ one_is_not_end Group3_2D false false = refl
 
 -- the EOLs before a line that no EOL begins, nor after a tag
 no_tagged_eols : (line : Bits) → after_eol 0 line ≡ None → tagged_eols line ≡ (0, line)
-no_tagged_eols line none = ap pass_last_tag (eols_with_tags-none (length line) line none) ∙ kept line
-  where
-    kept : (here : Bits) → pass_last_tag (0, here) ≡ (0, here)
-    kept [] = refl
-    kept (true ∷ here) = refl
-    kept (false ∷ here) = refl
+no_tagged_eols line none = grind (arith, common_steps, eols_with_tags-none)
 
 eols_counted : (e : EncodingMode) (has_eols block : Bool) (line : Bits) → after_eol 0 line ≡ None
     → (e ≡ Group3_2D → after_eol 0 (drop 1 line) ≡ None) → eols_by e block (eol_before has_eols ++ line)
     ≡ (cond has_eols 1 0, line)
 eols_counted Group3_1D true block line none no_tag = one_eol 0 line none
 eols_counted Group3_1D false block line none no_tag = all_eols-none line none
-eols_counted Group3_2D true block line none no_tag =
-    single_tagged_eol (eol 0 ++ line) line (eol_stands 0 line) none (no_tag refl)
+eols_counted Group3_2D true block line none no_tag = grind (arith, common_steps, single_tagged_eol, eol_stands)
 eols_counted Group3_2D false block line none no_tag = no_tagged_eols line none
-eols_counted Group4 true true line none no_tag =
-    eols-some 1 (eol 0 ++ line) line (eol_stands 0 line) ∙ ap one_more (eols-none 1 line none)
+eols_counted Group4 true true line none no_tag = grind (arith, common_steps, eols-some, eol_stands, eols-none)
 eols_counted Group4 true false line none no_tag = one_eol 0 line none
 eols_counted Group4 false true line none no_tag = eols-none 2 line none
 eols_counted Group4 false false line none no_tag = all_eols-none line none
@@ -235,24 +227,12 @@ open_end (b ∷ line) rest some = refl
 pub line_passed : (settings : DecodeSettings) (has_eols : Bool) (reference : Row) (lines : WhiteLines) (at next : BitsAt)
     → MayFollow settings has_eols reference lines → (passes : PassesLine lines at next)
     → (most : ℕ) × IsWhiteLine settings.encoding settings.columns has_eols most passes.word
-line_passed settings has_eols reference lines at next follow passes = elim passes.one [
-  | inl e ↦ (
-    32,
-    subst (λ (h : Bool). IsWhiteLine settings.encoding settings.columns h 32 passes.word) follow.same
-        (subst (IsWhiteLine settings.encoding settings.columns lines.has_eols 32) (sym e) follow.known.first),
-  )
-  | inr e ↦ (
-    33,
-    subst (λ (h : Bool). IsWhiteLine settings.encoding settings.columns h 33 passes.word) follow.same
-        (subst (IsWhiteLine settings.encoding settings.columns lines.has_eols 33) (sym e) follow.known.second),
-  )
-]
+line_passed settings has_eols reference lines at next follow passes = grind (arith, common_steps)
 
 -- the EOL before it
 pub gap_width : (settings : DecodeSettings) (has_eols : Bool) (reference : Row) (lines : WhiteLines)
     → MayFollow settings has_eols reference lines → lines.gap ≡ length (eol_before has_eols)
-gap_width settings has_eols reference lines follow =
-    follow.known.gap follow.some ∙ ap (λ (h : Bool). length (eol_before h)) follow.same
+gap_width settings has_eols reference lines follow = grind (arith, common_steps)
 
 -- its EOL and its line are all of it
 line_width : (encoding : EncodingMode) (columns : ℕ) (has_eols : Bool) (most : ℕ) (word : CodeWord) (gap : ℕ)
@@ -278,17 +258,7 @@ line_within settings has_eols reference lines at next follow passes =
 -- where the limit that is known isn't reached, the row limit isn't met
 pub not_at_limit : (settings : DecodeSettings) (has_eols : Bool) (reference : Row) (lines : WhiteLines) (taken : ℕ)
     → MayFollow settings has_eols reference lines → taken ≢ lines.limit → limit_met settings taken ≡ false
-not_at_limit settings has_eols reference lines taken follow other = elim (follow.known.limit follow.some) [
-  | inl none ↦ ap (λ (n : ℕ). not (eqb n 0) && eqb n taken) none
-  | inr same ↦
-      let differ : settings.rows ≢ taken = λ e. other (sym e ∙ sym same) in
-      ap (λ (b : Bool). not (eqb settings.rows 0) && b) (ne_eqb settings.rows taken differ)
-      ∙ no_more (not (eqb settings.rows 0))
-]
-  where
-    no_more : (b : Bool) → (b && false) ≡ false
-    no_more true = refl
-    no_more false = refl
+not_at_limit settings has_eols reference lines taken follow other = grind (arith, common_steps, ne_eqb)
 
 module _ (from : ℕ) (rows : RowState) (ctx : Context) (at : BitsAt) (stands : IsStanding from rows ctx at)
     (behind_row : rows.stand ≡ BehindRow) (lines : WhiteLines) (follow : MayFollow ctx.held.settings ctx.held.has_eols
@@ -346,10 +316,7 @@ module _ (from : ℕ) (rows : RowState) (ctx : Context) (at : BitsAt) (stands : 
   none_misses = sought_there sought _ _ (eols_here settings_now (here at)) (line_bits ++ rest) eols_are
 
   goes_on : is_over settings_now ctx.held.taken (cond sought 1 0, line_bits ++ rest) ≡ false
-  goes_on =
-      ap (λ (b : Bool). b || limit_met settings_now ctx.held.taken || at_end (line_bits ++ rest))
-      (one_is_not_end settings_now.encoding sought settings_now.end_of_block)
-      ∙ ap (λ (b : Bool). b || at_end (line_bits ++ rest)) limit ∙ open_end line_bits rest white_is.some
+  goes_on = grind (arith, common_steps, one_is_not_end, open_end, white_is)
 
   gap_said : gap_behind_row settings_now ctx.held.taken sought (here at) ≡ Gap.line_at sought (drop place at.bits)
   gap_said =
@@ -359,9 +326,7 @@ module _ (from : ℕ) (rows : RowState) (ctx : Context) (at : BitsAt) (stands : 
       (Gap.line_at sought (line_bits ++ rest)) goes_on ∙ ap (Gap.line_at sought) (sym line_there)
 
   kept_repairs : ctx.held.repairs ≡ repairs_behind ctx.held (here at)
-  kept_repairs =
-      sym (ap (λ (b : Bool). cond (b && not settings_now.strict) (with_missed ctx.held.taken ctx.held.repairs) ctx.held.repairs)
-      none_misses)
+  kept_repairs = grind (arith, common_steps, none_misses)
 
   gap_work : ctx.ticks + 4 * length (drop place at.bits) ≤ ctx.ticks + 4 * length (here at) + tag_tests settings_now.encoding
       + looked_ahead settings_now.encoding (drop place at.bits)

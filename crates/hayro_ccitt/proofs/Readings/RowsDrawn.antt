@@ -1,7 +1,8 @@
 -- The changes of a row are paid by the bits of its line.
-use Rattle.hayro_ccitt.proofs.Names.{◌≡◌, ◌∙◌, ◌+◌, ◌≤◌, ◌<◌, ◌++◌, ◌∷◌, ◌⊎◌, ◌||◌, not, [], Bool, true, false, Result, Ok}
+use Rattle.hayro_ccitt.proofs.Names.{common_steps}
+use Rattle.hayro_ccitt.proofs.Names.{◌≡◌, ◌∙◌, ◌+◌, ◌≤◌, ◌<◌, ◌++◌, ◌∷◌, ◌⊎◌, [], Bool, true, false, Result, Ok}
 use Rattle.hayro_ccitt.proofs.Names.{Err, refl, sym, ap, arith, length, replicate, inl, inr, cases_lt, length-append}
-use Rattle.hayro_ccitt.proofs.Names.{append_assoc, cond, Bits, DecodeError, DecodeSettings, Row, changes, found_here}
+use Rattle.hayro_ccitt.proofs.Names.{append_assoc, Bits, DecodeError, DecodeSettings, Row, changes, found_here}
 use Rattle.hayro_ccitt.proofs.Names.{front_of, line_here, row_of_line}
 use Rattle.hayro_ccitt.specs.Lines.{Line}
 use Rattle.hayro_ccitt.specs.PlainReading.{behind_row}
@@ -69,20 +70,8 @@ rest_of (Err fault) = []
 -- a broken line yields its repaired front
 broken_front : (settings : DecodeSettings) (h : Bool) (here rest : Bits) (front row : Row) (fault : DecodeError)
     → row_of_line settings h here (Line.broken front fault) ≡ Ok (row, rest) → repaired settings.columns front ≡ row
-broken_front settings true here rest front row fault is = by_strict settings.strict is
-  where
-    by_strict : (strict : Bool) → cond {A = Result (Row × Bits) DecodeError} (strict || not true) (Err fault)
-        (Ok (repaired settings.columns front, behind_row settings true here)) ≡ Ok (row, rest)
-        → repaired settings.columns front ≡ row
-    by_strict true e = absurd (let other : ◌≡◌ {A = Result (Row × Bits) DecodeError} (Err fault) (Ok (row, rest)) = e in cc)
-    by_strict false e = ap row_of e
-broken_front settings false here rest front row fault is = by_strict settings.strict is
-  where
-    by_strict : (strict : Bool) → cond {A = Result (Row × Bits) DecodeError} (strict || not false) (Err fault)
-        (Ok (repaired settings.columns front, behind_row settings false here)) ≡ Ok (row, rest)
-        → repaired settings.columns front ≡ row
-    by_strict true e = absurd (let other : ◌≡◌ {A = Result (Row × Bits) DecodeError} (Err fault) (Ok (row, rest)) = e in cc)
-    by_strict false e = absurd (let other : ◌≡◌ {A = Result (Row × Bits) DecodeError} (Err fault) (Ok (row, rest)) = e in cc)
+broken_front settings true here rest front row fault is = grind (arith, common_steps)
+broken_front settings false here rest front row fault is = grind (arith, common_steps)
 
 -- the row of a line has no more changes than bits were read, and a repaired one no more than one besides those up to an EOL's
 -- end

@@ -1,12 +1,13 @@
 -- Rows from data that comes in pieces: what the bits kept say of the whole data, and what a try that is left changes.
+use Rattle.hayro_ccitt.proofs.Names.{common_steps}
 use Rattle.hayro_ccitt.proofs.Names.{◌≡◌, ◌≢◌, ◌∙◌, ◌+◌, ◌≤◌, ◌++◌, ◌⊎◌, [], ℕ, Bool, true, false, Result, Ok, Err, None, Some}
 use Rattle.hayro_ccitt.proofs.Names.{refl, sym, ap}
 use Rattle.hayro_ccitt.proofs.Names.{subst, arith, length, drop, length-drop, length-append, drop-drop, inl, inr, Bits, BitsAt}
 use Rattle.hayro_ccitt.proofs.Names.{Held, Context, DecodeError}
-use Rattle.hayro_ccitt.proofs.Names.{IsStanding, ReachesNextLine, WorkIsPaid, IsPaid, PaidAtLine, Stand, AtLine, BehindRow}
+use Rattle.hayro_ccitt.proofs.Names.{IsStanding, ReachesNextLine, IsPaid, PaidAtLine, Stand, AtLine, BehindRow}
 use Rattle.hayro_ccitt.proofs.Names.{AtEnd, AtFault}
-use Rattle.hayro_ccitt.proofs.Names.{DecodeSettings, is_at_line, ended, seen, here, ReaderStands, DamageIsCounted, MissIsTold}
-use Rattle.hayro_ccitt.proofs.Names.{line_after, false≢true, HasEnded, HasFailed, missed_before, failed_at, IfErr-weaker}
+use Rattle.hayro_ccitt.proofs.Names.{DecodeSettings, is_at_line, ended, seen, here}
+use Rattle.hayro_ccitt.proofs.Names.{line_after, false≢true}
 use Rattle.hayro_ccitt.proofs.Names.{on_err_weaker, not, ◌&&◌, stand_after, row_came, IsStandingAtLine, ReadsNext, IfErr}
 use Rattle.hayro_ccitt.proofs.Names.{IsFault}
 use Rattle.std.proofs.lemmas.List.{drop-append-le}
@@ -47,8 +48,7 @@ later_at_line from more settings bits held rest ticks paid = record {
 
 later_paid : (from more : ℕ) (stand : Stand) (settings : DecodeSettings) (bits : Bits) (held : Held) (place ticks : ℕ)
     → IsPaid from stand settings bits held place ticks → IsPaid (from + more) stand settings bits held place (ticks + more)
-later_paid from more AtLine settings bits held place ticks paid =
-    later_at_line from more settings bits held (drop place bits) ticks paid
+later_paid from more AtLine settings bits held place ticks paid = grind (arith, common_steps, later_at_line)
 later_paid from more BehindRow settings bits held place ticks paid = record {
   before = paid.before;
   start = paid.start;
@@ -66,43 +66,14 @@ later_paid from more (AtFault error) settings bits held place ticks paid = omega
 -- the reading stands where it stood
 pub stands_later : (from more : ℕ) (rows : RowState) (old new : Context) (at : BitsAt) → new.held ≡ old.held
     → new.ticks ≡ old.ticks + more → IsStanding from rows old at → IsStanding (from + more) rows new at
-stands_later from more rows old new at held ticks stands = (
-  subst (λ (h : Held). ReaderStands rows.stand h.settings at.bits h at.place) (sym held) stands.0,
-  subst (λ (h : Held). DamageIsCounted rows.stand h.settings at.bits h) (sym held) stands.1,
-  subst (λ (n : ℕ). WorkIsPaid (from + more) rows.stand new.held.settings at.bits new.held at.place n) (sym ticks)
-      (subst (λ (h : Held). WorkIsPaid (from + more) rows.stand h.settings at.bits h at.place (old.ticks + more)) (sym held)
-      (record {
-        words = omega (arith, stands.2.words);
-        paid = later_paid from more rows.stand old.held.settings at.bits old.held at.place old.ticks stands.2.paid;
-      })),
-  subst (λ (h : Held). MissIsTold rows.stand h.settings at.bits h.taken rows.missed) (sym held) stands.3,
-)
+stands_later from more rows old new at held ticks stands = grind (arith, common_steps, later_paid)
 
 -- ---- The gap before the next line
 
 -- at a line there is none
 pub stays_at_line : (from : ℕ) (rows : RowState) (ctx : Context) (at : BitsAt) → is_at_line rows.stand ≡ true
     → IsStanding from rows ctx at → ReachesNextLine (seen rows ctx at) (seen rows ctx at) (Ok true)
-stays_at_line from rows ctx at line stands = record {
-  settings = refl;
-  bits = refl;
-  counts = omega arith;
-  taken = refl;
-  line = λ e. line;
-  unended = λ e. unended_there rows.stand line;
-  end = λ e. cc;
-  error = tt;
-  fault_start = tt;
-  missed = told_at_line rows.stand ctx.held.settings at.bits ctx.held.taken rows.missed line stands.3;
-  last = (refl, refl, refl);
-  last_start = refl;
-}
-  where
-    unended_there : (stand : Stand) → is_at_line stand ≡ true → ended stand ≡ None
-    unended_there AtLine is = refl
-    unended_there BehindRow is = absurd (false≢true is)
-    unended_there AtEnd is = absurd (false≢true is)
-    unended_there (AtFault error) is = absurd (false≢true is)
+stays_at_line from rows ctx at line stands = grind (arith, common_steps, told_at_line, false≢true)
 
 -- where it is passed, that is so in the whole data
 module _ (is_last : Bool) (gap_start : ℕ) (rows kept : RowState) (old mid new : Context) (before after : BitsAt)
@@ -170,23 +141,7 @@ module _ (is_last : Bool) (gap_start : ℕ) (rows kept : RowState) (old mid new 
           (seen kept new (record { bits = whole; place = dropped + after.place })) r → ReachesNextLine
           (seen rows old (record { bits = whole; place = gap_start }))
           (seen kept new (record { bits = whole; place = dropped + after.place })) r
-      from_before {r = r} reached = record {
-        settings = reached.settings ∙ ap (λ (h : Held). h.settings) same;
-        bits = reached.bits;
-        counts = omega (arith, reached.counts, ticks);
-        taken = reached.taken ∙ ap (λ (h : Held). h.taken) same;
-        line = reached.line;
-        unended = reached.unended;
-        end = λ e. subst (λ (h : Held). (ended kept.stand ≡ Some (Ok tt)) × HasEnded h.settings whole new.held.taken
-            (dropped + after.place)) same (reached.end e);
-        error = IfErr-weaker r _ _ (λ e failed. subst (λ (h : Held). (ended kept.stand ≡ Some (Err e))
-            × HasFailed h.settings whole new.held.taken e) same failed) reached.error;
-        fault_start = on_err_weaker r (λ is. is ∙ ap (λ
-            (h : Held). failed_at h.settings whole h.taken) same) reached.fault_start;
-        missed = reached.missed ∙ ap (λ (h : Held). missed_before h.settings whole h.taken) same;
-        last = (reached.last.0 ∙ ap (λ (h : Held). h.reference) same, reached.last.1, reached.last.2);
-        last_start = reached.last_start;
-      }
+      from_before {r = r} reached = grind (arith, common_steps, on_err_weaker)
 
 -- a step waits where more data may come, and what is here can be changed
 pub waits_for : (is_last settled : Bool) → (not is_last && not settled) ≡ true → (is_last ≡ false) × (settled ≡ false)
@@ -208,18 +163,15 @@ passed_some (Err error) e = cc
 pub said_line : (over : Result Bool DecodeError) (r : Result Bool DecodeError) → r ≡ line_after over → some_line r ≡ Ok
     (Some true)
     → is_at_line (stand_after over) ≡ true
-said_line (Ok true) r is e = let never : some_line (line_after (Ok true)) ≡ Ok (Some true) = ap some_line (sym is)
-    ∙ e in absurd cc
+said_line (Ok true) r is e = grind (arith, common_steps)
 said_line (Ok false) r is e = refl
-said_line (Err error) r is e =
-    let never : some_line (line_after (Err error)) ≡ Ok (Some true) = ap some_line (sym is) ∙ e in absurd cc
+said_line (Err error) r is e = grind (arith, common_steps)
 
 -- its only fault is a missing EOL
 pub said_code : (over r : Result Bool DecodeError) → r ≡ line_after over → IfErr over (λ e. e ≡ InvalidCode)
     → IfErr (some_line r) (λ e. e ≡ InvalidCode)
 said_code (Ok over) r is code = subst (λ (r : Result Bool DecodeError). IfErr (some_line r) (λ e. e ≡ InvalidCode)) (sym is) tt
-said_code (Err error) r is code = subst (λ (r : Result Bool DecodeError). IfErr (some_line r) (λ e. e ≡ InvalidCode))
-    (sym is) code
+said_code (Err error) r is code = grind (arith, common_steps)
 
 -- ---- The line here
 

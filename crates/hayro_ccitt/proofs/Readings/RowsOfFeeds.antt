@@ -1,4 +1,5 @@
 -- The rows that calls read one after another, of data in pieces, are those that the plain reading has next.
+use Rattle.hayro_ccitt.proofs.Names.{common_steps}
 use Rattle.hayro_ccitt.proofs.Names.{◌≡◌, ◌≢◌, ◌∙◌, ◌∷◌, [], refl, sym, ap, subst, ℕ, List, Ok, Err, changes, meaning_after}
 use Rattle.hayro_ccitt.proofs.Names.{◌+◌, ◌<◌, ◌≤◌, suc, inl, inr, Result, None, DecodeError, DecodeSettings, arith, Row, plain}
 use Rattle.hayro_ccitt.proofs.Names.{Bits, SinkState, IsFault, HasEnded, HasFailed, OutOfMemory, Refused, ended}
@@ -24,29 +25,18 @@ record HaveRead (whole : Bits) (old last : Feeding) (rows : List Feeding) : Type
 -- the rows of the plain reading from the next one on are those of equal settings from an equal one on
 same_rows : (whole : Bits) {s t : DecodeSettings} {m n : ℕ} (count : ℕ) → s ≡ t → m ≡ n
     → take count (drop m (plain s whole).rows) ≡ take count (drop n (plain t whole).rows)
-same_rows whole {s} {t} {m} {n} count settings index =
-    ap (λ (x : DecodeSettings). take count (drop m (plain x whole).rows)) settings
-    ∙ ap (λ (i : ℕ). take count (drop i (plain t whole).rows)) index
+same_rows whole {s} {t} {m} {n} count settings index = grind (arith, common_steps)
 
 -- behind the first row there are at least as many rows as were read
 within_rows : (whole : Bits) (old : Feeding) {new last : Feeding} (rows : List Feeding) → HaveRead whole new last rows
     → new.ctx.held.settings ≡ old.ctx.held.settings → new.ctx.held.taken ≤ length (rows_of old whole)
     → last.ctx.held.taken ≤ length (rows_of old whole)
 within_rows whole old [] rest settings within = omega (arith, rest.taken, within)
-within_rows whole old {last = last} (row ∷ rows) rest settings within =
-    subst (λ (s : DecodeSettings). last.ctx.held.taken ≤ length (plain s whole).rows) settings (rest.within (omega arith))
+within_rows whole old {last = last} (row ∷ rows) rest settings within = grind (arith, common_steps)
 
 have_read : (whole : Bits) (tried : ℕ) (old : Feeding) (rows : List Feeding) → ended old.rows.stand ≡ None
     → IsFeedOf whole tried old → FeedsRows old rows → HaveRead whole old (last_left old rows) rows
-have_read whole tried old [] unended stands reads = record {
-  tried = tried;
-  stands = stands;
-  unended = unended;
-  settings = refl;
-  taken = omega arith;
-  within = λ some. absurd (omega (arith, some));
-  are = refl;
-}
+have_read whole tried old [] unended stands reads = grind (arith, common_steps)
 have_read whole tried old (new ∷ rows) unended stands reads =
     let call = reads.0.reads whole tried unended stands in
     let next = call.row refl in
@@ -75,8 +65,7 @@ module _ {whole : Bits} {tried : ℕ} {old new : Feeding} where
   failed e other next = let (over, taken, has) = (next.fault other).error in (taken, has)
 
   never_refused : (answer : Result Fed DecodeError) → FeedsNext whole tried old new answer → answer ≢ Err Refused
-  never_refused answer next is =
-      (failed Refused (λ e. cc) (subst (FeedsNext whole tried old new) is next)).1.not_refused refl
+  never_refused answer next is = grind (arith, common_steps)
 
   none_taken : (answer : Result Fed DecodeError) → answer ≢ Ok Fed.Row → FeedsNext whole tried old new answer
       → new.ctx.held.taken ≡ old.ctx.held.taken
@@ -105,8 +94,7 @@ module _ {whole : Bits} {tried : ℕ} {old new : Feeding} where
 -- a refusal is no fault
 refusal_is_no_fault : (P : DecodeError → Type 0) (answer : Result Fed DecodeError) → answer ≡ Err Refused
     → IfErr answer (λ e. IsFault e → P e)
-refusal_is_no_fault P answer is =
-    subst (λ (a : Result Fed DecodeError). IfErr a (λ e. IsFault e → P e)) (sym is) (λ fault. absurd fault)
+refusal_is_no_fault P answer is = grind (arith, common_steps)
 
 -- ---- All of them
 

@@ -1,6 +1,7 @@
 -- Rows of data in pieces that are passed to a sink.
+use Rattle.hayro_ccitt.proofs.Names.{common_steps}
 use Rattle.hayro_ccitt.proofs.Names.{◌≡◌, ◌∙◌, ◌++◌, ◌∷◌, [], refl, sym, ap, subst, ℕ, List, Ok, Err, changes, meaning_after}
-use Rattle.hayro_ccitt.proofs.Names.{◌+◌, ◌<◌, ◌≢◌, inl, inr, Bool, true, false, Result, DecodeError, DecodeSettings, arith}
+use Rattle.hayro_ccitt.proofs.Names.{◌+◌, ◌<◌, ◌≢◌, inl, inr, Bool, true, false, Result, DecodeError, arith}
 use Rattle.std.specs.Prelude.{◌^◌}
 use Rattle.hayro_ccitt.specs.RowFeeds.{CountsRow, Feeding, FeedsRow, FeedsRows, KeepsBits, PassesRows, ReadsInFeed, fed_row}
 use Rattle.hayro_ccitt.specs.RowFeeds.{PushesRows, last_left, rows_left}
@@ -17,19 +18,7 @@ line_was_read (Err error) e = absurd cc
 pub counts_row : {old mid new : Feeding} (answer : Result Bool DecodeError)
     → mid.ctx.held.settings ≡ old.ctx.held.settings → mid.ctx.held.taken ≡ old.ctx.held.taken
     → mid.ctx.held.taken + 1 < 2 ^ 64 → ReadsInFeed mid new answer → CountsRow old new (fed_row answer)
-counts_row answer settings taken room reads = record {
-  settings = reads.settings ∙ settings;
-  taken = λ e. (
-    omega (arith, reads.taken (line_was_read answer e), taken),
-    omega (arith, reads.taken (line_was_read answer e), room),
-  );
-  stands = λ e. (
-    reads.begun,
-    reads.behind (line_was_read answer e),
-    reads.done (λ left. let never = sym (line_was_read answer e) ∙ left in absurd cc),
-  );
-  width = λ e. reads.width (line_was_read answer e) ∙ ap (λ (s : DecodeSettings). s.columns) settings;
-}
+counts_row answer settings taken room reads = grind (arith, common_steps, line_was_read)
 
 -- one more row was read
 more_read : (old new : Feeding) (rows : List Feeding) → FeedsRows old rows → FeedsRow (last_left old rows) new (Ok Fed.Row)
@@ -69,12 +58,7 @@ passes_more {M} {step} {before} {mid} {after} {old} {last} {new} passes call mea
 }
 
 pub keeps_on : {old mid new : Feeding} → KeepsBits old mid → KeepsBits mid new → KeepsBits old new
-keeps_on first then = record {
-  order = then.order ∙ first.order;
-  finished = then.finished ∙ first.finished;
-  kept = then.kept ∙ first.kept;
-  dropped = then.dropped ∙ first.dropped;
-}
+keeps_on first then = grind (arith, common_steps)
 
 module _ {M : Type 0} {step : M → List ℕ → M} {before after : SinkState M} {old mid new : Feeding}
     {answer : Result Fed DecodeError} (passes : PassesRows step before.meaning after.meaning old mid) (keeps : KeepsBits old mid)
@@ -82,24 +66,12 @@ module _ {M : Type 0} {step : M → List ℕ → M} {before after : SinkState M}
   -- no row is next
   pub pushed_to_end : FeedsRow mid new answer → answer ≢ Ok Fed.Row → after.refused ≡ before.refused
       → PushesRows step before after old new answer
-  pushed_to_end call no_row flag = record {
-    mid = mid;
-    passes = passes;
-    ends = inl (record { call = call; no_row = no_row; flag = flag });
-    keeps = keeps_on keeps call.keeps;
-    settings = call.counts.settings ∙ settings;
-  }
+  pushed_to_end call no_row flag = grind (arith, common_steps, keeps_on)
 
   -- the sink refuses the row that is next
   pub pushed_to_refusal : FeedsRow mid new (Ok Fed.Row) → answer ≡ Err Refused → after.refused ≡ true
       → after.refuses (changes new.ctx.held.reference) → PushesRows step before after old new answer
-  pushed_to_refusal call is flag row = record {
-    mid = mid;
-    passes = passes;
-    ends = inr (record { call = call; answer_is = is; flag = flag; row = row });
-    keeps = keeps_on keeps call.keeps;
-    settings = call.counts.settings ∙ settings;
-  }
+  pushed_to_refusal call is flag row = grind (arith, common_steps, keeps_on)
 
 -- the first row was passed, and then others
 pub pushed_on : {M : Type 0} {step : M → List ℕ → M} {before mid after : SinkState M} {old first new : Feeding}

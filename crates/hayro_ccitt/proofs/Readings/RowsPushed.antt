@@ -1,4 +1,5 @@
 -- A run over rows that are passed to a sink: what it leaves, from where the reading of rows is.
+use Rattle.hayro_ccitt.proofs.Names.{common_steps}
 use Rattle.hayro_ccitt.proofs.Names.{◌≡◌, ◌≢◌, ◌<◌, ◌≤◌, ◌+◌, ◌-◌, ℕ, true, List, [], length, take}
 use Rattle.hayro_ccitt.proofs.Names.{get_or, sum_by, None, Some, Result, Ok, Err, IfOk, IfErr, refl, sym, ap}
 use Rattle.hayro_ccitt.proofs.Names.{◌∙◌, subst, arith, DecodeError, OutOfMemory, Refused, DecodeSettings, IsFault}
@@ -6,11 +7,10 @@ use Rattle.hayro_ccitt.proofs.Names.{OnAnswer, meaning_after, Bits, BitsAt, here
 use Rattle.hayro_ccitt.proofs.Names.{DecodesRows, leaving, plain, lines_of, end_of}
 use Rattle.hayro_ccitt.proofs.Names.{cuts_by_line}
 use Rattle.hayro_ccitt.proofs.Names.{repairs_by_line, misses_by_line, words_of}
-use Rattle.hayro_ccitt.proofs.Names.{most_counted, Row, changes, is_some, ReadsNext, suc, ◌∷◌, ◌++◌, map, fold}
+use Rattle.hayro_ccitt.proofs.Names.{most_counted, Row, changes, is_some, ReadsNext}
 use Rattle.hayro_ccitt.proofs.Names.{map-append, fold-append}
-use Rattle.std.proofs.Common.{take-suc}
 use Rattle.hayro_ccitt.proofs.Names.{IsStanding, IsWhole, Misses, MissesBehindRow, MissIsTold, Stand, AtLine, BehindRow}
-use Rattle.hayro_ccitt.proofs.Names.{AtEnd, AtFault, ended, missed_before, seen, Reading}
+use Rattle.hayro_ccitt.proofs.Names.{AtEnd, AtFault, ended, missed_before, seen}
 use Rattle.hayro_ccitt.specs.declared.row_reader.RowState.{RowState}
 use Rattle.hayro_ccitt.proofs.DrawingLines.CountedLines.{on_answer_weaker}
 use Rattle.hayro_ccitt.proofs.Readings.RowByRow.{plain_whole, ended_stands, failed_stands, misses_ended}
@@ -48,38 +48,13 @@ pub decodes_rows : {M : Type 0} (bits : Bits) (step : M → List ℕ → M) (bef
     → HasRun old.held.settings bits old.ticks step before after new.held new.ticks answer
     → DecodesRows bits step before after old new answer
 decodes_rows bits step before after old new answer wide same run =
-    let settings = old.held.settings in
-    let taken = new.held.taken in
-    let rows : (plain settings bits).rows ≡ (end_of settings bits).rows =
-    ap (λ (r : Reading). r.rows) (plain_whole settings wide bits refl) in
-    record {
-      settings = same;
-      reading = record {
-        taken = omega (arith, run.few, ap length rows);
-        meaning = run.meaning ∙ ap (λ (r : List Row). meaning_after step before.meaning (take taken r)) rows;
-        all = on_answer_weaker answer (λ w. w.rows) run.whole;
-        ok = (ends_so settings bits new.held answer run.whole).0;
-        fault = (ends_so settings bits new.held answer run.whole).1;
-        has_eols = on_answer_weaker answer (λ w. w.has_eols) run.whole;
-      };
-      short = subst (λ (r : List Row). StopsShort r (lines_of settings bits) before after new.held answer) rows run.short;
-      repaired = record { of_taken = run.repaired; all = on_answer_weaker answer (λ w. run.repaired ∙ w.repaired) run.whole };
-      cut = record { of_taken = run.cut; all = on_answer_weaker answer (λ w. run.cut ∙ w.cut) run.whole };
-      missed = record { of_taken = run.missed; all = on_answer_weaker answer (λ w. run.missed ∙ w.missed) run.whole };
-      work = record { at_least = run.words; at_most = run.most };
-    }
+    grind (arith, common_steps, plain_whole, on_answer_weaker, ends_so)
 
 -- the sink means one more row
 pub means_more : {M : Type 0} (step : M → List ℕ → M) (meaning : M) (rows : List Row) (taken : ℕ) (row : Row)
     → taken + 1 ≤ length rows → row ≡ get_or rows taken [] → step (meaning_after step meaning (take taken rows)) (changes row)
     ≡ meaning_after step meaning (take (taken + 1) rows)
-means_more step meaning rows taken row there is =
-    let next : taken + 1 ≡ suc taken = omega arith in
-    let more : take (taken + 1) rows ≡ take taken rows ++ row ∷ [] =
-    ap (λ (n : ℕ). take n rows) next ∙ take-suc rows taken [] (omega (arith, there))
-    ∙ ap (λ (r : Row). take taken rows ++ r ∷ []) (sym is) in
-    sym (ap (meaning_after step meaning) more ∙ ap (fold step meaning) (map-append changes (take taken rows) (row ∷ []))
-    ∙ fold-append step meaning (map changes (take taken rows)) (changes row ∷ []))
+means_more step meaning rows taken row there is = grind (arith, common_steps, map-append, fold-append)
 
 -- so it does where the sink took it
 pub means_pushed : {M : Type 0} (by_width : ℕ → M → List ℕ → M) (width first : ℕ) (start before after : M) (rows : List Row)
@@ -88,10 +63,7 @@ pub means_pushed : {M : Type 0} (by_width : ℕ → M → List ℕ → M) (width
     → pushed ≡ changes row → row ≡ get_or rows taken [] → now ≡ taken + 1 → now ≤ length rows
     → after ≡ meaning_after (by_width first) start (take now rows)
 means_pushed {M} by_width width first start before after rows taken now row pushed same means takes is there more within =
-    takes ∙ ap (λ (w : ℕ). by_width w before pushed) same ∙ ap (λ (m : M). by_width first m pushed) means
-    ∙ ap (by_width first (meaning_after (by_width first) start (take taken rows))) is
-    ∙ means_more (by_width first) start rows taken row (omega (arith, more, within)) there
-    ∙ ap (λ (n : ℕ). meaning_after (by_width first) start (take n rows)) (sym more)
+    grind (arith, common_steps, means_more)
 
 -- ---- Before the first row
 
@@ -121,20 +93,7 @@ module _ {M : Type 0} {step : M → List ℕ → M} {before after : SinkState M}
       → after.refused ≡ before.refused → (answer : Result (Unit {0}) DecodeError) → ended rows.stand ≡ Some answer
       → HasRun ctx.held.settings reader.bits from step before after ctx.held ctx.ticks (leaving answer (here reader))
   run_ended rows ctx reader stands wide few means unrefused (Ok x) is =
-      let settings = ctx.held.settings in
-      let bits = reader.bits in
-      let at = ended_stands rows.stand settings bits ctx.held reader.place is stands.0 in
-      record {
-        few = few;
-        meaning = means;
-        short = record { memory = λ e. cc; refused = λ e. cc; refused_row = λ e. cc; flag = λ e. cc; no_flag = λ e. unrefused };
-        whole = at.1 wide;
-        repaired = stands.1.counted;
-        cut = stands.1.cut;
-        missed = (misses_ended rows.stand settings bits ctx.held is stands.1.misses).counted;
-        words = stands.2.words;
-        most = within_most from rows.stand settings bits ctx.held reader.place ctx.ticks stands.0 stands.2.paid;
-      }
+      grind (arith, common_steps, ended_stands, misses_ended, within_most)
   run_ended rows ctx reader stands wide few means unrefused (Err e) is =
       let settings = ctx.held.settings in
       let bits = reader.bits in
@@ -165,11 +124,7 @@ module _ {M : Type 0} {step : M → List ℕ → M} {before after : SinkState M}
       → after.meaning ≡ meaning_after step before.meaning (take ctx.held.taken (plain settings bits).rows)
       → after.refused ≡ before.refused → (answer : Result (Unit {0}) DecodeError) → ended rows.stand ≡ Some answer
       → HasRun settings bits from step before after ctx.held ctx.ticks (leaving answer (here reader))
-  run_is_over rows ctx reader stands same are wide few means unrefused answer is =
-      of_same (λ s b. HasRun s b from step before after ctx.held ctx.ticks (leaving answer (here reader))) same are
-      (run_ended rows ctx reader stands (of_same (λ s b. 0 < s.columns) (sym same) (sym are) wide)
-      (of_same (λ s b. ctx.held.taken ≤ length (plain s b).rows) (sym same) (sym are) few) (of_same (λ s b. after.meaning
-      ≡ meaning_after step before.meaning (take ctx.held.taken (plain s b).rows)) (sym same) (sym are) means) unrefused answer is)
+  run_is_over rows ctx reader stands same are wide few means unrefused answer is = grind (arith, common_steps, of_same, run_ended)
 
   -- where a row was refused, and taken back
   pub run_refused : (rows read : RowState) (ctx new : Context) (reader behind : BitsAt) → IsStanding from rows ctx reader

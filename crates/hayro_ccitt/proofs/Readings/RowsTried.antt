@@ -1,13 +1,13 @@
 -- A row that no data that follows can change, and a line that is left.
+use Rattle.hayro_ccitt.proofs.Names.{common_steps}
 use Rattle.hayro_ccitt.proofs.Names.{◌≡◌, ◌+◌, ◌*◌, ◌≤◌, ℕ, Bool, true, false, [], ◌++◌, length, Result, Ok, Err, OnOk, refl}
-use Rattle.hayro_ccitt.proofs.Names.{sym, ap, ◌∙◌}
+use Rattle.hayro_ccitt.proofs.Names.{sym, ap}
 use Rattle.hayro_ccitt.proofs.Names.{subst, DecodeError, IsFault, OnAnswer, DrawsLine, Row, Bits, Line, Held, Context, Repairs}
 use Rattle.hayro_ccitt.proofs.Names.{AreWholeBytes}
-use Rattle.hayro_ccitt.proofs.Names.{TakesOneRow, repairs_with, with_row_taken, line_here, row_of_line, front_of, changes}
+use Rattle.hayro_ccitt.proofs.Names.{TakesOneRow, repairs_with, line_here, row_of_line, front_of, changes}
 use Rattle.hayro_ccitt.proofs.Names.{append-nil, List, IfErr, inl, inr, ◌⊎◌, BitsAt, here, row_came, ◌≢◌, arith, redrawn, White}
 use Rattle.fax_reading.proofs.Continuations.ShortLines.{line_stays}
 use Rattle.hayro_ccitt.proofs.DrawingLines.FullRows.{IsFull}
-use Rattle.hayro_ccitt.specs.Answers.{HasBlack}
 use Rattle.hayro_ccitt.specs.Continuations.{StaysAsRead, is_short, line_before, row_continued}
 use Rattle.hayro_ccitt.specs.RowsTried.{ReadsRow, CanCome, TriesRow, falls_short, lacks_memory, needs_more}
 use Rattle.fax_bits.specs.declared.error.DecodeError.TheVariants.{UnexpectedEof, InvalidCode, Overflow, OutOfMemory, Refused}
@@ -44,25 +44,8 @@ same_repairs more (Line.broken front fault) strict taken before = refl
 row_continues : (more : Bits) (line strict : Line) (row : Result (Row × Bits) DecodeError) (old new : Held)
     (answer : Result (Unit {0}) DecodeError) (rest : Bits) → TakesOneRow line strict row old new answer rest
     → TakesOneRow (line_before more line) (line_before more strict) (row_continued more row) old new answer (rest ++ more)
-row_continues more line strict row old new (Ok x) rest takes = record {
-  taken = record {
-    taken = takes.taken.taken;
-    is = ap (row_continued more) takes.taken.is;
-    held = takes.taken.held ∙ ap (λ (r : Repairs). record (with_row_taken old takes.taken.taken) { repairs = r })
-        (sym (same_repairs more line strict old.taken old.repairs));
-  };
-  fault = tt;
-  held = tt;
-  memory = λ e. cc;
-  not_refused = λ e. cc;
-}
-row_continues more line strict row old new (Err e) rest takes = record {
-  taken = tt;
-  fault = λ fault. ap (row_continued more) (takes.fault fault);
-  held = takes.held;
-  memory = λ is. subst HasBlack (sym (same_front more line)) (takes.memory is);
-  not_refused = takes.not_refused;
-}
+row_continues more line strict row old new (Ok x) rest takes = grind (arith, common_steps, same_repairs)
+row_continues more line strict row old new (Err e) rest takes = grind (arith, common_steps, same_front)
 
 -- a row that was read is the same whatever follows, where its line stays as it was read
 pub row_goes_on : (old new : Context) (answer : Result (Unit {0}) DecodeError) (start rest more : Bits)
@@ -99,10 +82,7 @@ row_goes_on old new answer start rest more stays bytes read =
 -- nothing follows the last data
 pub nothing_follows : (old new : Context) (answer : Result (Unit {0}) DecodeError) (start rest more : Bits) → more ≡ []
     → ReadsRow old new answer start rest → ReadsRow old new answer (start ++ more) (rest ++ more)
-nothing_follows old new answer start rest more none read =
-    subst (λ (m : Bits). ReadsRow old new answer (start ++ m) (rest ++ m)) (sym none)
-    (subst (λ (s : Bits). ReadsRow old new answer s (rest ++ [])) (sym (append-nil start))
-    (subst (ReadsRow old new answer start) (sym (append-nil rest)) read))
+nothing_follows old new answer start rest more none read = grind (arith, common_steps, append-nil)
 
 -- no data that follows changes a line for which none is needed
 pub settled : (is_last : Bool) (line : Line) (answer : Result (Unit {0}) DecodeError) (front : Row) (rest : Bits)
@@ -118,8 +98,7 @@ pub goes_on : (is_last : Bool) (old new : Context) (answer : Result (Unit {0}) D
     → (is_last ≡ true) ⊎ (is_short (line_here old.held.settings old.held.reference start) ≡ false)
     → ReadsRow old new answer start rest → (more : Bits) → CanCome is_last more
     → ReadsRow old new answer (start ++ more) (rest ++ more)
-goes_on is_last old new answer start rest (inl last) read more come =
-    nothing_follows old new answer start rest more (come.none last) read
+goes_on is_last old new answer start rest (inl last) read more come = grind (arith, common_steps, nothing_follows)
 goes_on is_last old new answer start rest (inr whole) read more come =
     row_goes_on old new answer start rest more (line_stays old.held.settings old.held.reference start whole) come.bytes read
 
@@ -181,15 +160,5 @@ leaves_row is_last old mid new (Ok x) before after rest read lacks frame = absur
 leaves_row is_last old mid new (Err UnexpectedEof) before after rest read lacks frame = absurd cc
 leaves_row is_last old mid new (Err InvalidCode) before after rest read lacks frame = absurd cc
 leaves_row is_last old mid new (Err Overflow) before after rest read lacks frame = absurd cc
-leaves_row is_last old mid new (Err OutOfMemory) before after rest read lacks frame = record {
-  read = λ is. cc;
-  failed = λ fault. absurd fault;
-  left = λ is. ap (λ (x : Context). x.held) frame ∙ ap (λ (h : Held). redrawn h [] White) read.row.held;
-  short = λ is. cc;
-  memory = λ is. read.row.memory refl;
-  not_refused = λ is. cc;
-  counts = omega (arith, read.counts, ap (λ (x : Context). x.ticks) frame);
-  at_most = omega (arith, read.at_most, ap (λ (x : Context). x.ticks) frame);
-  space = omega (arith, read.space, ap (λ (x : Context). x.space) frame);
-}
+leaves_row is_last old mid new (Err OutOfMemory) before after rest read lacks frame = grind (arith, common_steps)
 leaves_row is_last old mid new (Err Refused) before after rest read lacks frame = absurd cc

@@ -1,4 +1,5 @@
 -- White rows that are read one after another, and passed to a sink.
+use Rattle.hayro_ccitt.proofs.Names.{common_steps}
 use Rattle.hayro_ccitt.proofs.Names.{◌≡◌, ◌+◌, ◌-◌, ◌<◌, ◌∙◌, ℕ, zero, suc, List, [], Ok, Err, ap, arith, refl, subst, sym}
 use Rattle.hayro_ccitt.proofs.Names.{BitsAt, BehindRow, Context, DecodeError, None, Refused, SinkState, false, true}
 use Rattle.hayro_ccitt.proofs.Readings.RowsAgain.{not_at_limit}
@@ -45,20 +46,7 @@ pub record HasPushedWhite {M : Type 0} (step : M → List ℕ → M) (lines : Wh
 pub none_pushed : {M : Type 0} {step : M → List ℕ → M} {lines : WhiteLines} {dropped most start : ℕ} {rows : RowState}
     {ctx : Context} {at next : BitsAt} {meaning : M} → next ≡ at
     → HasPushedWhite step lines dropped most most start rows ctx at next meaning meaning
-none_pushed {rows = rows} {ctx} {at} {next} {meaning} same = record {
-  count = 0;
-  count_is = omega arith;
-  pass =
-      let taken : ctx.held.taken + 0 ≡ ctx.held.taken = omega arith in
-      let ticks : ctx.ticks + 0 + 0 ≡ ctx.ticks = omega arith in
-      ap (λ (n : ℕ). record {
-        rows = rows;
-        ctx = record ctx { held = record ctx.held { taken = n }; ticks = ctx.ticks + 0 + 0 };
-        at = next;
-        meaning = meaning;
-      }) taken ∙ ap (λ (n : ℕ). record { rows = rows; ctx = record ctx { ticks = n }; at = next; meaning = meaning }) ticks
-      ∙ ap (λ (b : BitsAt). record { rows = rows; ctx = ctx; at = b; meaning = meaning }) same;
-}
+none_pushed {rows = rows} {ctx} {at} {next} {meaning} same = grind (arith, common_steps)
 
 module _ {M : Type 0} {step : M → List ℕ → M} {lines : WhiteLines} {dropped most left start : ℕ} {rows : RowState} {ctx : Context}
     {at next : BitsAt} {before after : M}
@@ -82,18 +70,7 @@ module _ {M : Type 0} {step : M → List ℕ → M} {lines : WhiteLines} {droppe
 
     takes_more : TakesWhite lines (dropped + next.place) so_far.rows (rows_behind (suc count) start_then rows) so_far.ctx
         (ctx_behind (suc count) ctx) next then
-    takes_more = record {
-      unmet = not_at_limit ctx.held.settings ctx.held.has_eols ctx.held.reference lines (ctx.held.taken + count) follow
-          (λ e. omega (arith, e, limit, more, pushed.count_is));
-      room = omega (arith, limit, more, pushed.count_is, follow.known.limit_fits);
-      passes = passes;
-      kept_is = refl;
-      new_is =
-          let taken : ctx.held.taken + suc count ≡ ctx.held.taken + count + 1 = omega arith in
-          let ticks : ctx.ticks + suc count + suc count ≡ ctx.ticks + count + count + 2 = omega arith in
-          ap (λ (n : ℕ). record ctx { held = record ctx.held { taken = n }; ticks = ctx.ticks + suc count + suc count }) taken
-          ∙ ap (λ (n : ℕ). record ctx { held = record ctx.held { taken = ctx.held.taken + count + 1 }; ticks = n }) ticks;
-    }
+    takes_more = grind (arith, common_steps, not_at_limit)
 
     reads_more : {after_it : M} → ReadsWhite lines dropped so_far (record {
       rows = rows_behind (suc count) start_then rows;
@@ -166,9 +143,7 @@ module _ {M : Type 0} {step : M → List ℕ → M} {lines : WhiteLines} {droppe
     pub some_pushed : (counted : ℕ) → counted ≡ most - left → left < most
         → kept ≡ record { started_at = dropped + start + lines.gap; damage = None; cut = false; missed = None; stand = BehindRow }
         → new ≡ ctx_behind counted ctx → last ≡ next → PushesWhite step lines dropped first end rows kept ctx new at last (Ok tt)
-    some_pushed counted many some kept_is new_is last_is = all_pushed
-        (kept_is ∙ sym (some_behind count (dropped + start + lines.gap) rows (omega (arith, some, pushed.count_is))))
-        (new_is ∙ ap (λ (n : ℕ). ctx_behind n ctx) (omega (arith, many, pushed.count_is))) last_is
+    some_pushed counted many some kept_is new_is last_is = grind (arith, common_steps, all_pushed, some_behind)
 
     pub no_row_left : most - left ≡ 0 → kept ≡ rows → new ≡ ctx → last ≡ at
         → PushesWhite step lines dropped first end rows kept ctx new at last (Ok tt)

@@ -1,5 +1,6 @@
 -- White rows that are read one after another are the next ones of the plain reading.
-use Rattle.hayro_ccitt.proofs.Names.{◌≡◌, ◌+◌, ◌≤◌, ◌∙◌, ℕ, zero, suc, List, [], Ok, ap, arith, refl, subst, sym, take, true}
+use Rattle.hayro_ccitt.proofs.Names.{common_steps}
+use Rattle.hayro_ccitt.proofs.Names.{◌≡◌, ◌+◌, ◌≤◌, ◌∙◌, ℕ, zero, suc, List, [], Ok, ap, arith, refl, sym, take, true}
 use Rattle.hayro_ccitt.proofs.Names.{length, get_or}
 use Rattle.hayro_ccitt.proofs.Names.{Bits, BitsAt, BehindRow, Context, DecodeSettings, IsStanding, ReadsNext, changes}
 use Rattle.hayro_ccitt.proofs.Names.{meaning_after, plain}
@@ -21,20 +22,9 @@ pub record CountsRows (old new : Context) : Type 0 where
 
 pub counts_rows : {M : Type 0} (step : M → List ℕ → M) (lines : WhiteLines) (dropped : ℕ) (old new : Pushed M) (count : ℕ)
     → PassWhite step lines dropped count old new → CountsRows old.ctx new.ctx
-counts_rows {M} step lines dropped old new zero pass =
-    let is = ap (λ (p : Pushed M). p.ctx) pass in
-    subst (CountsRows old.ctx) (sym is) (record { same = refl; more = omega arith })
+counts_rows {M} step lines dropped old new zero pass = grind (arith, common_steps)
 counts_rows step lines dropped old new (suc count) pass =
-    let before = counts_rows step lines dropped old pass.0 count pass.1 in
-    let takes = pass.2.reads.takes in
-    let taken = ap (λ (x : Context). x.held.taken) takes.new_is in
-    let ticks = ap (λ (x : Context). x.ticks) takes.new_is in
-    record {
-      same = takes.new_is ∙ ap (λ (x : Context). with_rows (pass.0.ctx.held.taken + 1) (pass.0.ctx.ticks + 2) x) before.same
-          ∙ ap (λ (n : ℕ). with_rows n (pass.0.ctx.ticks + 2) old.ctx) (sym taken)
-          ∙ ap (λ (n : ℕ). with_rows new.ctx.held.taken n old.ctx) (sym ticks);
-      more = omega (arith, before.more, taken);
-    }
+    grind (arith, common_steps, counts_rows step lines dropped old pass.0 count pass.1)
 
 -- the reading is behind a row, and the sink means the rows so far
 pub record IsBehindRows {M : Type 0} (step : M → List ℕ → M) (from : ℕ) (settings : DecodeSettings) (bits : Bits) (start : M)
@@ -88,7 +78,6 @@ module _ {M : Type 0} {step : M → List ℕ → M} {from : ℕ} {settings : Dec
 pub some_on : {M : Type 0} (step : M → List ℕ → M) (from : ℕ) (settings : DecodeSettings) (bits : Bits) (start : M)
     (lines : WhiteLines) (count : ℕ) (old new : Pushed M) → IsBehindRows step from settings bits start old
     → PassWhite step lines 0 count old new → IsBehindRows step from settings bits start new
-some_on step from settings bits start lines zero old new behind pass =
-    subst (IsBehindRows step from settings bits start) (sym pass) behind
+some_on step from settings bits start lines zero old new behind pass = grind (arith, common_steps)
 some_on step from settings bits start lines (suc count) old new behind pass =
     one_on (some_on step from settings bits start lines count old pass.0 behind pass.1) pass.2

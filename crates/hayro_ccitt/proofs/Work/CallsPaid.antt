@@ -1,10 +1,11 @@
 -- Rows one at a time: what all calls of a reader of rows count is paid.
-use Rattle.hayro_ccitt.proofs.Names.{IfOk, OnOk, OnErr, sum_by, ◌≡◌, ◌≢◌, ◌+◌, ◌*◌, ◌<◌, ◌≤◌, ℕ, Bool, true, false, length, take}
+use Rattle.hayro_ccitt.proofs.Names.{common_steps}
+use Rattle.hayro_ccitt.proofs.Names.{IfOk, OnOk, OnErr, ◌≡◌, ◌≢◌, ◌+◌, ◌*◌, ◌<◌, ◌≤◌, ℕ, Bool, true, false, length}
 use Rattle.hayro_ccitt.proofs.Names.{drop, None, Result, Ok, Err, refl, sym, ap, ◌∙◌, arith, false≢true, length-drop, DecodeError}
 use Rattle.hayro_ccitt.proofs.Names.{Stand, AtLine, BehindRow, AtEnd, AtFault, DecodeSettings, EncodingMode, Group4, Group3_1D}
 use Rattle.hayro_ccitt.proofs.Names.{Group3_2D, Bits, Held, fresh, gap_said, Gap, gap_behind_row, changes, IsPaid, PaidAtLine}
 use Rattle.hayro_ccitt.proofs.Names.{PaidBehindRow, ReaderStands, WorkIsPaid, ended, is_at_line, stand_after, looked}
-use Rattle.hayro_ccitt.proofs.Names.{looked_ahead, tag_tests, CountsWork, found_here, most_counted, words_of}
+use Rattle.hayro_ccitt.proofs.Names.{looked_ahead, tag_tests, CountsWork, found_here, most_counted}
 use Rattle.hayro_ccitt.proofs.Work.ChangesStored.{changes_white}
 use Rattle.hayro_ccitt.proofs.Work.EolsPassed.{few_tag_tests, line_has_bits, line_without_eols, looked_ahead_most, looked_most}
 use Rattle.hayro_ccitt.proofs.Work.TurnsPaid.{line_ends, missing_ends, gap_ends, turn_goes_on}
@@ -142,8 +143,7 @@ module _ (from : ℕ) (settings : DecodeSettings) (is : settings.encoding ≡ Gr
       → OnOk answer (last.has_eols ≡ false
       → now + 4 * length line ≤ from + 4 * length bits + tag_tests settings.encoding + looked_ahead settings.encoding line)
       → OnErr answer (now ≤ from + looked bits) → IsPaid from (stand_after answer) settings bits last place now
-  first_gap_paid (Ok true) said over kept refused =
-      omega (arith, most_t6, kept (over refl), ap tag_tests is, looked_ahead_most settings.encoding line)
+  first_gap_paid (Ok true) said over kept refused = grind (arith, common_steps, most_t6, looked_ahead_most)
   first_gap_paid (Ok false) said over kept refused =
       let unsought : last.has_eols ≡ false = (line_without_eols settings 0 last.has_eols bits line said).0 in
       let work = kept unsought in
@@ -207,21 +207,11 @@ within_most from (AtFault error) settings bits held place ticks stands paid = pa
 pub work_is_counted : (stand : Stand) (settings : DecodeSettings) (bits : Bits) (held : Held) (place ticks : ℕ)
     → ReaderStands stand settings bits held place → WorkIsPaid 0 stand settings bits held place ticks
     → CountsWork settings bits held.taken ticks
-work_is_counted stand settings bits held place ticks stands work =
-    let most = within_most 0 stand settings bits held place ticks stands work.paid in
-    record {
-      words = omega (arith, work.words);
-      bound = omega (arith, most, most_below settings.encoding (length bits));
-      closer = omega (arith, most);
-    }
+work_is_counted stand settings bits held place ticks stands work = grind (arith, common_steps, within_most, most_below)
 
 -- so it is before the first row
 pub begun_is_counted : (stand : Stand) (settings : DecodeSettings) (bits : Bits) (held : Held) (place ticks : ℕ)
     → held.taken ≡ 0
     → ReaderStands stand settings bits held place → IsPaid 0 stand settings bits held place ticks
     → CountsWork settings bits held.taken ticks
-begun_is_counted stand settings bits held place ticks none stands paid =
-    work_is_counted stand settings bits held place ticks stands (record {
-      words = omega (arith, ap (λ (n : ℕ). sum_by length (take n (words_of settings bits))) none);
-      paid = paid;
-    })
+begun_is_counted stand settings bits held place ticks none stands paid = grind (arith, common_steps, work_is_counted)

@@ -1,6 +1,7 @@
 -- The lists of changes have no more room than the columns, and the bits that were read, account for.
-use Rattle.hayro_ccitt.proofs.Names.{◌≡◌, ℕ, suc, ◌+◌, ◌≤◌, Bool, true, false, cond, beq, List, [], ◌∷◌, ◌++◌, length, ap, arith}
-use Rattle.hayro_ccitt.proofs.Names.{length-append, DecodeSettings, Bits, Row, Pen, changes, last_pixel}
+use Rattle.hayro_ccitt.proofs.Names.{common_steps}
+use Rattle.hayro_ccitt.proofs.Names.{◌≡◌, ℕ, suc, ◌+◌, ◌≤◌, Bool, true, false, cond, List, [], ◌∷◌, ◌++◌, length, ap, arith}
+use Rattle.hayro_ccitt.proofs.Names.{length-append, DecodeSettings, Bits, Row, Pen, changes}
 use Rattle.hayro_ccitt.proofs.Names.{front_of, line_here, most_room, most_stored, room_for, max, subst, BitsAt, Context, Line}
 use Rattle.hayro_ccitt.proofs.Names.{here, line_from_1d, line_from_2d, pen_of, min, ◌*◌, drop, Stand, Held, IsPaid, is_at_line}
 use Rattle.hayro_ccitt.proofs.Names.{found_here, line_1d, Group3_1D}
@@ -18,22 +19,14 @@ one_more false place n places few = omega (arith, few)
 
 few_changes_from : (place : ℕ) (before : Bool) (row : Row) → length (changes_from place before row) ≤ length row
 few_changes_from place before [] = omega arith
-few_changes_from place before (pixel ∷ row) =
-    one_more (beq before pixel) place (length row) (changes_from (suc place) pixel row) (few_changes_from (suc place) pixel row)
+few_changes_from place before (pixel ∷ row) = grind (arith, common_steps, few_changes_from (suc place) pixel row)
 
 pub changes_few : (row : Row) → length (changes row) ≤ length row
 changes_few row = omega (arith, few_changes_from 0 false row, ap length (changes-recursive row))
 
 -- a row that continues further has no fewer changes
 changes_stay : (row more : Row) → length (changes row) ≤ length (changes (row ++ more))
-changes_stay row more =
-    omega (
-      arith,
-      ap length (changes-recursive row),
-      ap length (changes-recursive (row ++ more)),
-      ap length (changes_from-append 0 false row more),
-      length-append (changes_from 0 false row) (changes_from (0 + length row) (last_pixel false row) more),
-    )
+changes_stay row more = grind (arith, common_steps, changes-recursive, changes_from-append, length-append)
 
 -- a front has no more changes than the line that continues it
 module _ (strict : Bool) (columns : ℕ) (pen : Pen) where
@@ -97,16 +90,7 @@ pub room_enough : (settings : DecodeSettings) (reference : Row) (bits here : Bit
     → length (changes reference) ≤ suc (min settings.columns (length bits)) → length here ≤ length bits
     → room_for (most_stored reference (line_here settings reference here)) ≤ most_room settings bits
 room_enough settings reference bits here few within =
-    let line = line_here settings reference here in
-    omega (
-      arith,
-      few,
-      within,
-      changes_few (front_of line),
-      line_by_within settings.encoding settings.strict settings.columns reference here,
-      changes_found settings.encoding settings.strict settings.columns reference here,
-      found_within settings.encoding settings.strict settings.columns reference here,
-    )
+    grind (arith, common_steps, changes_few, line_by_within, changes_found, found_within)
 
 -- nor does a one-dimensional one
 pub line_1d_enough : (settings : DecodeSettings) (bits here : Bits) → length here ≤ length bits
@@ -124,34 +108,16 @@ line_1d_enough settings bits here within =
 -- nor more than that of a row
 pub row_enough : (settings : DecodeSettings) (reference : Row) (here : Bits) → length reference ≡ settings.columns
     → room_for (most_stored reference (line_here settings reference here)) ≤ 2 * settings.columns + 66
-row_enough settings reference here width =
-    let line = line_here settings reference here in
-    omega (
-      arith,
-      width,
-      changes_few reference,
-      changes_few (front_of line),
-      line_by_within settings.encoding settings.strict settings.columns reference here,
-    )
+row_enough settings reference here width = grind (arith, common_steps, changes_few, line_by_within)
 
 -- the row of a line has no more changes than pixels, and but one more than there are bits
 pub row_short : (settings : DecodeSettings) (reference row : Row) (bits here : Bits) → length row ≡ settings.columns
     → length (changes row) ≤ length (found_here settings reference here) + 1 → length here ≤ length bits
     → length (changes row) ≤ suc (min settings.columns (length bits))
-row_short settings reference row bits here width stored within =
-    omega (
-      arith,
-      width,
-      stored,
-      within,
-      changes_few row,
-      found_within settings.encoding settings.strict settings.columns reference here,
-    )
+row_short settings reference row bits here width stored within = grind (arith, common_steps, changes_few, found_within)
 
 -- so if a line is here, it takes no more room
 pub line_enough : (from : ℕ) (stand : Stand) (settings : DecodeSettings) (bits : Bits) (held : Held) (place ticks : ℕ)
     → is_at_line stand ≡ true → IsPaid from stand settings bits held place ticks
     → room_for (most_stored held.reference (line_here settings held.reference (drop place bits))) ≤ most_room settings bits
-line_enough from stand settings bits held place ticks is paid =
-    let at = at_line_paid from stand settings bits held place ticks is paid in
-    room_enough settings held.reference bits (drop place bits) at.short at.within
+line_enough from stand settings bits held place ticks is paid = grind (arith, common_steps, at_line_paid, room_enough)
