@@ -170,17 +170,17 @@ pub end_color : Bool → List ℕ → Bool
 end_color color [] = color
 end_color color (place ∷ places) = end_color (not color) places
 
-pub ends_black : (places : List ℕ) → length places % 2 ≡ 1 → end_color false places ≡ true
+pub odd_ends_black : (places : List ℕ) → length places % 2 ≡ 1 → end_color false places ≡ true
 unfolding end_color
-ends_black [] odd = absurd (omega arith)
-ends_black (a ∷ []) odd = refl
-ends_black (a ∷ b ∷ places) odd = ends_black places (omega arith)
+odd_ends_black [] odd = absurd (omega arith)
+odd_ends_black (a ∷ []) odd = refl
+odd_ends_black (a ∷ b ∷ places) odd = odd_ends_black places (omega arith)
 
-pub ends_white_again : (places : List ℕ) → length places % 2 ≡ 0 → end_color false places ≡ false
+pub even_ends_white : (places : List ℕ) → length places % 2 ≡ 0 → end_color false places ≡ false
 unfolding end_color
-ends_white_again [] even = refl
-ends_white_again (a ∷ []) even = absurd (omega arith)
-ends_white_again (a ∷ b ∷ places) even = ends_white_again places (omega arith)
+even_ends_white [] even = refl
+even_ends_white (a ∷ []) even = absurd (omega arith)
+even_ends_white (a ∷ b ∷ places) even = even_ends_white places (omega arith)
 
 -- one position more
 pub one_turned : (places : List ℕ) (i : ℕ) (bits : Bits) → i < length places

@@ -1,7 +1,7 @@
 use Rattle.fax_encode.proofs.Names.{◌≡◌, ◌+◌, ◌-◌, ◌*◌, ◌<◌, ◌≤◌, ◌++◌, ℕ, List, Bool, true, false, length, drop, replicate}
 use Rattle.fax_encode.proofs.Names.{refl, sym, ap, ◌∙◌, arith, Bits, joined_pixels, length-pixels, pixels, turned_at_all, turned_from}
 use Rattle.fax_encode.proofs.Names.{[], AreChanges}
-use Rattle.fax_encode.proofs.TurnedWords.{all_places_turned, change_below, end_color, ends_black, ends_white_again, joined_zeros}
+use Rattle.fax_encode.proofs.TurnedWords.{all_places_turned, change_below, end_color, odd_ends_black, even_ends_white, joined_zeros}
 use Rattle.fax_encode.proofs.TurnedWords.{one_turned, plain_turned, turned_is_row}
 use Rattle.fax_encode.proofs.turned_words.turn_at_changes.Goals as goal
 
@@ -55,7 +55,7 @@ returns-then-changes-eq1-clause-painted c =
     (omega (arith, c.changes-test.false)) c.changes.invariant.left in
     let row : Bits = pixels columns changes in
     let black : joined_pixels false c.changes.words ≡ row ++ replicate n true =
-    all ∙ ap (λ (b : Bool). row ++ replicate n b) (ends_black changes c.if-changes-eq1.true) in
+    all ∙ ap (λ (b : Bool). row ++ replicate n b) (odd_ends_black changes c.if-changes-eq1.true) in
     c.turn_behind-then-changes-eq1.ensures.turned ∙ ap (turned_from columns) black
     ∙ ap (λ (k : ℕ). turned_from k (row ++ replicate n true)) (sym (length-pixels columns changes c.requires.changes))
     ∙ plain_turned row n true
@@ -69,4 +69,4 @@ returns-else-changes-eq1-clause-painted c =
     turned_all c.args.columns c.changes.done changes words c.changes.words c.requires.changes c.requires.room c.requires.white
     (omega (arith, c.changes-test.false)) is.left in
     all ∙ ap (λ (b : Bool). pixels c.args.columns changes ++ replicate (64 * length words - c.args.columns) b)
-    (ends_white_again changes (omega (arith, c.if-changes-eq1.false)))
+    (even_ends_white changes (omega (arith, c.if-changes-eq1.false)))
