@@ -103,7 +103,8 @@ pub use Rattle.std.proofs.lemmas.Bool.{agree_below_at, and_parts, cases_eq, case
 pub use Rattle.std.proofs.lemmas.Bool.{le-ltb, leb-true, lt-ltb, ltb-true}
 pub use Rattle.std.proofs.lemmas.Grind.{flat_map-append, get_or_default_zero}
 pub use Rattle.std.proofs.lemmas.Int.{ints}
-pub use Rattle.std.proofs.lemmas.List.{append-nil, at_drop_more, drop-drop, drop_more, drop_all, get_or-map, get_or-set_other, get_or-set_same}
+pub use Rattle.std.proofs.lemmas.List.{append-nil, drop-drop, drop_all, drop_more, get_or-map, get_or-set_other}
+pub use Rattle.std.proofs.lemmas.List.{get_or-set_same}
 pub use Rattle.std.proofs.lemmas.List.{get_or_default, get_or_past, length-append, length-drop, length-map, length-replicate}
 pub use Rattle.std.proofs.lemmas.List.{length-set, length-take, map-append, nil_from_length, replicate-append-replicate}
 pub use Rattle.std.proofs.lemmas.List.{drop-append-le, drop-replicate, length-take-le}

@@ -60,7 +60,8 @@ all_after_black [] = refl
 all_after_black (bit ∷ bits) = ap (λ (b : Bits). not bit ∷ b) (all_after_black bits)
 
 -- the pixels after pixels are turned from a position on
-turned_behind_part : (front bits : Bits) (k n : ℕ) → k ≡ length front + n → turned_from k (front ++ bits) ≡ front ++ turned_from n bits
+turned_behind_part : (front bits : Bits) (k n : ℕ) → k ≡ length front + n
+    → turned_from k (front ++ bits) ≡ front ++ turned_from n bits
 unfolding turned_from
 turned_behind_part [] bits k n is = ap (λ (m : ℕ). turned_from m bits) (let same : k ≡ n = omega arith in same)
 turned_behind_part (bit ∷ front) bits zero n is = absurd (omega arith)
@@ -88,7 +89,8 @@ all_low_bits (suc k) m n le =
     cc
 
 -- those from one on are turned
-turned_low_bits : (p n total : ℕ) → p ≤ total → low_bits total (bit_xor n (2 ^ (total - p) - 1)) ≡ turned_from p (low_bits total n)
+turned_low_bits : (p n total : ℕ) → p ≤ total
+    → low_bits total (bit_xor n (2 ^ (total - p) - 1)) ≡ turned_from p (low_bits total n)
 unfolding turned_from
 turned_low_bits zero n total le = all_low_bits total (total - 0) n (omega arith)
 turned_low_bits (suc p) n zero le = absurd (omega arith)
@@ -104,7 +106,8 @@ unfolding joined_pixels
 joined_after_turned color [] = refl
 joined_after_turned color (word ∷ words) =
     let last : Bool = turned_after color (bit_of word 0) in
-    ap (λ (b : Bool). map (turned_after (not color)) (low_bits 64 word) ++ joined_pixels b words) (after_turned color (bit_of word 0))
+    ap (λ (b : Bool). map (turned_after (not color)) (low_bits 64 word) ++ joined_pixels b words)
+    (after_turned color (bit_of word 0))
     ∙ ap (λ (b : Bits). map (turned_after (not color)) (low_bits 64 word) ++ b) (joined_after_turned last words)
     ∙ ap (λ (b : Bits). b ++ map not (joined_pixels last words)) (all_after_turned color (low_bits 64 word))
     ∙ sym (map-append not (map (turned_after color) (low_bits 64 word)) (joined_pixels last words))
@@ -140,10 +143,12 @@ word_turned color zero r mask (word ∷ words) lt below is =
     let turned : turned_after color (bit_of new 0) ≡ not last =
     ap (turned_after color) (turned_at (64 - r) word 0 (omega arith)) ∙ turned_pixel color (bit_of word 0) in
     let place : r ≡ 64 * 0 + r = omega arith in
-    ap (λ (m : ℕ). map (turned_after color) (low_bits 64 (bit_xor word m)) ++ joined_pixels (turned_after color (bit_of (bit_xor word m) 0)) words) is
+    ap (λ (m : ℕ). map (turned_after color) (low_bits 64 (bit_xor word m))
+    ++ joined_pixels (turned_after color (bit_of (bit_xor word m) 0)) words) is
     ∙ ap (λ (b : Bool). map (turned_after color) (low_bits 64 new) ++ joined_pixels b words) turned
     ∙ ap (λ (b : Bits). map (turned_after color) (low_bits 64 new) ++ b) (joined_after_turned last words)
-    ∙ ap (λ (b : Bits). map (turned_after color) b ++ map not (joined_pixels last words)) (turned_low_bits r word 64 (omega arith))
+    ∙ ap (λ (b : Bits). map (turned_after color) b ++ map not (joined_pixels last words))
+    (turned_low_bits r word 64 (omega arith))
     ∙ sym (turned_in_part color r (low_bits 64 word) (joined_pixels last words) (omega (arith, length-low_bits 64 word)))
     ∙ ap (λ (k : ℕ). turned_from k (map (turned_after color) (low_bits 64 word) ++ joined_pixels last words)) place
 word_turned color (suc i) r mask (word ∷ words) lt below is =
@@ -160,7 +165,8 @@ all_turned zero color = refl
 all_turned (suc n) color = ap (λ (b : Bits). not color ∷ b) (all_turned n color)
 
 -- pixels of a colour are turned from a position on
-pub plain_turned : (front : Bits) (n : ℕ) (color : Bool) → turned_from (length front) (front ++ replicate n color) ≡ front ++ replicate n (not color)
+pub plain_turned : (front : Bits) (n : ℕ) (color : Bool)
+    → turned_from (length front) (front ++ replicate n color) ≡ front ++ replicate n (not color)
 unfolding turned_from
 plain_turned [] n color = all_turned n color
 plain_turned (bit ∷ front) n color = ap (λ (b : Bits). bit ∷ b) (plain_turned front n color)
@@ -221,7 +227,8 @@ turned_is_row front place from columns total color (p ∷ places) long le within
     ap (λ (n : ℕ). front ++ replicate n color) sum
     ∙ ap (λ (b : Bits). front ++ b) (sym (replicate-append-replicate (p - place) (total - p) color))
     ∙ sym (append_assoc front part (replicate (total - p) color)) in
-    let turned : turned_from p (front ++ replicate (total - place) color) ≡ (front ++ part) ++ replicate (total - p) (not color) =
+    let turned : turned_from p (front ++ replicate (total - place) color)
+    ≡ (front ++ part) ++ replicate (total - p) (not color) =
     ap (turned_from p) split ∙ ap (λ (n : ℕ). turned_from n ((front ++ part) ++ replicate (total - p) color)) (sym here)
     ∙ plain_turned (front ++ part) (total - p) color in
     let rest : Bits = pixels_from p (not color) columns places in

@@ -1,7 +1,9 @@
 use Rattle.fax_encode.proofs.Names.{◌≡◌, ◌+◌, ◌-◌, ◌*◌, ◌<◌, ◌≤◌, ◌++◌, ℕ, List, Bool, true, false, length, drop, replicate}
-use Rattle.fax_encode.proofs.Names.{refl, sym, ap, ◌∙◌, arith, Bits, joined_pixels, length-pixels, pixels, turned_at_all, turned_from}
+use Rattle.fax_encode.proofs.Names.{refl, sym, ap, ◌∙◌, arith, Bits, joined_pixels, length-pixels, pixels}
+use Rattle.fax_encode.proofs.Names.{turned_at_all, turned_from}
 use Rattle.fax_encode.proofs.Names.{[], AreChanges}
-use Rattle.fax_encode.proofs.TurnedWords.{all_places_turned, change_below, end_color, odd_ends_black, even_ends_white, joined_zeros}
+use Rattle.fax_encode.proofs.TurnedWords.{all_places_turned, change_below, end_color, odd_ends_black}
+use Rattle.fax_encode.proofs.TurnedWords.{even_ends_white, joined_zeros}
 use Rattle.fax_encode.proofs.TurnedWords.{one_turned, plain_turned, turned_is_row}
 use Rattle.fax_encode.proofs.turned_words.turn_at_changes.Goals as goal
 
