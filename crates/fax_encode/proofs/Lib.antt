@@ -37,6 +37,7 @@ pub mod ShortestWays
 pub mod StepsToB1
 pub mod StoredWords
 pub mod TurnedBits
+pub mod TurnedWords
 pub mod WhiteRowLines
 pub mod WordTables
 pub mod WrittenBits

@@ -65,12 +65,12 @@ turned_bit (suc (suc b)) lt = absurd (omega arith)
 kept_bit : (b : ℕ) → b < 2 → (b + 0) % 2 ≡ b
 kept_bit b lt = omega arith
 
-turned_at : (m n k : ℕ) → k < m → bit_of (bit_xor n (2 ^ m - 1)) k ≡ not (bit_of n k)
+pub turned_at : (m n k : ℕ) → k < m → bit_of (bit_xor n (2 ^ m - 1)) k ≡ not (bit_of n k)
 turned_at m n k lt =
     ap (λ (b : ℕ). eqb b 1) (bit_at_xor n (2 ^ m - 1) k ∙ ap (λ (b : ℕ). (bit_at n k + b) % 2) (bit_at_ones m k lt))
     ∙ turned_bit (bit_at n k) (bit_at-lt n k)
 
-kept_at : (m n k : ℕ) → m ≤ k → bit_of (bit_xor n (2 ^ m - 1)) k ≡ bit_of n k
+pub kept_at : (m n k : ℕ) → m ≤ k → bit_of (bit_xor n (2 ^ m - 1)) k ≡ bit_of n k
 kept_at m n k le =
     ap (λ (b : ℕ). eqb b 1) (bit_at_xor n (2 ^ m - 1) k ∙ ap (λ (b : ℕ). (bit_at n k + b) % 2) (bit_at_ones_above m k le)
     ∙ kept_bit (bit_at n k) (bit_at-lt n k))

@@ -1,6 +1,7 @@
 -- A row that is being painted.
-use Rattle.std.specs.Prelude.{◌≡◌, ◌+◌, ◌-◌, ◌*◌, ◌%◌, ◌<◌, ◌≤◌, ℕ, List, ◌++◌, false, length, take, replicate}
-use Rattle.hayro_ccitt.specs.Bits.{Bits, bits_of, low_bits}
+use Rattle.std.specs.Prelude.{◌≡◌, ◌+◌, ◌-◌, ◌*◌, ◌%◌, ◌<◌, ◌≤◌, ℕ, zero, suc, List, [], ◌∷◌, ◌++◌, Bool, true, false, not}
+use Rattle.std.specs.Prelude.{length, map, take, replicate}
+use Rattle.hayro_ccitt.specs.Bits.{Bits, bit_of, bits_of, low_bits}
 use Rattle.fax_encode.specs.declared.painting.Brush.{Brush}
 
 -- the pixels painted so far: the bytes before the word, and the word
@@ -16,3 +17,25 @@ pub record StandsAt (brush : Brush) (place : ℕ) : Type 0 where
 -- the pixels up to a position, and white ones from there on, of a row of so many bytes
 abbrev pub then_white : Bits → ℕ → Bits
 then_white front bytes = front ++ replicate (8 * bytes - length front) false
+
+-- pixels that are turned from a position on
+unfoldable pub turned_from : ℕ → Bits → Bits
+turned_from zero bits = map not bits
+turned_from (suc n) [] = []
+turned_from (suc n) (bit ∷ bits) = bit ∷ turned_from n bits
+
+-- and at each of several positions
+unfoldable pub turned_at_all : List ℕ → Bits → Bits
+turned_at_all [] bits = bits
+turned_at_all (place ∷ places) bits = turned_at_all places (turned_from place bits)
+
+-- a pixel after black is turned
+unfoldable pub turned_after : Bool → Bool → Bool
+turned_after true pixel = not pixel
+turned_after false pixel = pixel
+
+-- the pixels of words, of which each is turned if the one before it ends black
+unfoldable pub joined_pixels : Bool → List ℕ → Bits
+joined_pixels color [] = []
+joined_pixels color (word ∷ words) =
+    map (turned_after color) (low_bits 64 word) ++ joined_pixels (turned_after color (bit_of word 0)) words

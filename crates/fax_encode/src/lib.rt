@@ -21,6 +21,7 @@ mod rows;
 mod runs;
 mod settings;
 mod shortest_lines;
+mod turned_words;
 mod white_rows;
 mod words;
 

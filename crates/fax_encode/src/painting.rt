@@ -8,7 +8,8 @@ ghost use Rattle.fax_encode.specs.Chosen.{filled_up};
 ghost use Rattle.fax_encode.specs.Painting.{under, StandsAt};
 
 use crate::black_runs::{paint_apart, paint_by_runs};
-use crate::pixel_words::{MOST_FILLED, fill_all, plain_word};
+use crate::pixel_words::{MOST_FILLED, fill_all, ones_from, plain_word};
+use crate::turned_words::{MOST_TURNED, paint_by_words};
 
 /// The most changes of a row that is painted without a call.
 const FEW: usize = 24;
@@ -75,7 +76,7 @@ fn turned(brush: Brush, place: u32) -> Brush
 {
     Brush {
         start: brush.start,
-        word: brush.word ^ u64::MAX >> (place % 64),
+        word: brush.word ^ ones_from((place % 64) as usize),
         is_black: !brush.is_black,
     }
 }
@@ -106,14 +107,16 @@ fn paint_changes(row: &mut [u8], columns: u32, changes: &[u32])
     'runs: while done + 1 < changes.len() {
         let first = changes[done];
         let behind = changes[done + 1];
-        if (behind as usize) < 8 * brush.start + 64 {
-            // The black run lies within the word.
-            brush = turned(turned(brush, first), behind);
-        } else {
-            brush = turned(move_to(row, brush, first), first);
-            brush = turned(move_to(row, brush, behind), behind);
-        }
+        brush = turned(move_to(row, brush, first), first);
+        brush = turned(move_to(row, brush, behind), behind);
         done += 2;
+        // The black runs that lie within the word.
+        'word: while done + 1 < changes.len()
+            && (changes[done + 1] as usize) < 8 * brush.start + 64
+        {
+            brush = turned(turned(brush, changes[done]), changes[done + 1]);
+            done += 2;
+        }
     }
     if done < changes.len() {
         let last = changes[done];
@@ -138,7 +141,7 @@ fn put_bytes(row: &mut [u8], word: u64, count: usize)
 
 /// Writes the first bytes of a word over all bytes of a row. Each number of them has a copy of its own, which is no call.
 #[inline(always)]
-fn put_first(row: &mut [u8], word: u64)
+pub fn put_first(row: &mut [u8], word: u64)
     requires { length row.old < 8 }
     ensures { bits_of row.new ≡ take (8 * length row.old) (low_bits 64 word) }
 {
@@ -189,11 +192,13 @@ pub fn paint_row(row: &mut [u8], columns: u32, changes: &[u32])
         paint_narrow(row, columns, changes);
     } else if changes.is_empty() {
         fill_all(row, 0);
-    } else if row.len() <= changes.len() {
-        paint_changes(row, columns, changes);
-    } else if row.len() > MOST_FILLED || changes.len() > FEW {
-        paint_apart(row, columns, changes);
-    } else {
+    } else if changes.len() <= FEW && row.len() <= MOST_FILLED {
         paint_by_runs(row, columns, changes);
+    } else if row.len() + row.len() / 2 <= changes.len() {
+        paint_changes(row, columns, changes);
+    } else if row.len() <= MOST_TURNED {
+        paint_by_words(row, columns, changes);
+    } else {
+        paint_apart(row, columns, changes);
     }
 }

@@ -1,6 +1,6 @@
 //! Words of 64 pixels, the leftmost in the highest bit.
 
-ghost use Rattle.std.specs.Prelude.{◌≡◌, ◌+◌, ◌≤◌, ◌++◌, false, length, replicate, take, drop};
+ghost use Rattle.std.specs.Prelude.{◌≡◌, ◌+◌, ◌-◌, ◌^◌, ◌<◌, ◌≤◌, ◌++◌, false, length, get_or, replicate, take, drop};
 ghost use Rattle.hayro_ccitt.specs.Bits.{bits_of, low_bits};
 
 /// Returns a word of pixels of one colour.
@@ -9,6 +9,45 @@ pub fn plain_word(is_black: bool) -> u64
     ensures { low_bits 64 result ≡ replicate 64 is_black }
 {
     if is_black { u64::MAX } else { 0 }
+}
+
+/// For each offset a word of 64 bits that are zeros left of it, and ones from there on.
+#[rattlefmt::skip]
+const ONES_FROM: [u64; 64] = [
+    0xFFFFFFFFFFFFFFFF, 0x7FFFFFFFFFFFFFFF, 0x3FFFFFFFFFFFFFFF, 0x1FFFFFFFFFFFFFFF,
+    0x0FFFFFFFFFFFFFFF, 0x07FFFFFFFFFFFFFF, 0x03FFFFFFFFFFFFFF, 0x01FFFFFFFFFFFFFF,
+    0x00FFFFFFFFFFFFFF, 0x007FFFFFFFFFFFFF, 0x003FFFFFFFFFFFFF, 0x001FFFFFFFFFFFFF,
+    0x000FFFFFFFFFFFFF, 0x0007FFFFFFFFFFFF, 0x0003FFFFFFFFFFFF, 0x0001FFFFFFFFFFFF,
+    0x0000FFFFFFFFFFFF, 0x00007FFFFFFFFFFF, 0x00003FFFFFFFFFFF, 0x00001FFFFFFFFFFF,
+    0x00000FFFFFFFFFFF, 0x000007FFFFFFFFFF, 0x000003FFFFFFFFFF, 0x000001FFFFFFFFFF,
+    0x000000FFFFFFFFFF, 0x0000007FFFFFFFFF, 0x0000003FFFFFFFFF, 0x0000001FFFFFFFFF,
+    0x0000000FFFFFFFFF, 0x00000007FFFFFFFF, 0x00000003FFFFFFFF, 0x00000001FFFFFFFF,
+    0x00000000FFFFFFFF, 0x000000007FFFFFFF, 0x000000003FFFFFFF, 0x000000001FFFFFFF,
+    0x000000000FFFFFFF, 0x0000000007FFFFFF, 0x0000000003FFFFFF, 0x0000000001FFFFFF,
+    0x0000000000FFFFFF, 0x00000000007FFFFF, 0x00000000003FFFFF, 0x00000000001FFFFF,
+    0x00000000000FFFFF, 0x000000000007FFFF, 0x000000000003FFFF, 0x000000000001FFFF,
+    0x000000000000FFFF, 0x0000000000007FFF, 0x0000000000003FFF, 0x0000000000001FFF,
+    0x0000000000000FFF, 0x00000000000007FF, 0x00000000000003FF, 0x00000000000001FF,
+    0x00000000000000FF, 0x000000000000007F, 0x000000000000003F, 0x000000000000001F,
+    0x000000000000000F, 0x0000000000000007, 0x0000000000000003, 0x0000000000000001,
+];
+
+/// Returns the word at an index of a table.
+#[inline(always)]
+fn word_of(table: &[u64], index: usize) -> u64
+    requires { index < length table.now }
+    ensures { result ≡ get_or table.now index 0 }
+{
+    table[index]
+}
+
+/// Returns a word whose bits are zeros left of an offset, and ones from there on: a look-up is faster than a shift.
+#[inline(always)]
+pub fn ones_from(offset: usize) -> u64
+    requires { offset < 64 }
+    ensures { result ≡ 2 ^ (64 - offset) - 1 }
+{
+    word_of(&ONES_FROM, offset)
 }
 
 /// Returns the first 64 pixels of eight bytes or more.

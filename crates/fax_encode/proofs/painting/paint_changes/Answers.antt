@@ -1,50 +1,64 @@
-use Rattle.fax_encode.proofs.Names.{◌≡◌, ◌+◌, ◌-◌, ◌*◌, ◌/◌, ◌<◌, ◌≤◌, ◌++◌, ℕ, List, false, length, replicate, ap, ◌∙◌, arith}
+use Rattle.fax_encode.proofs.Names.{◌≡◌, ◌+◌, ◌-◌, ◌*◌, ◌/◌, ◌≤◌, ◌++◌, ℕ, List, false, length, replicate, ap, ◌∙◌, arith}
 use Rattle.fax_encode.proofs.Names.{pixels, Brush, under}
 use Rattle.fax_encode.proofs.PaintedRows.{one_change, run_at_hand, all_painted, ends_white, filled}
-use Rattle.fax_encode.proofs.painting.paint_changes.Goals.{then-at, else-at, then-behind-brush, else-behind-brush}
+use Rattle.fax_encode.proofs.painting.paint_changes.Goals.{then-at, else-at}
 use Rattle.fax_encode.proofs.painting.paint_changes.Goals.{then-done-changes, else-done-changes}
 use Rattle.fax_encode.proofs.painting.paint_changes.Goals as goal
 
-pub runs-preserved : goal.runs-preserved
-runs-preserved c =
+pub word-init : goal.word-init
+word-init c =
     let columns : ℕ = c.args.columns in
     let changes : List ℕ = c.args.changes.now in
     let done : ℕ = c.runs.done in
     let is = c.runs.invariant in
     let room : columns ≤ 8 * length c.runs.row = omega (arith, is.room, c.requires.room) in
+    let at = c.move_to.ensures in
+    let turned = c.turned-brush.ensures in
+    let wide : columns ≤ 8 * length c.move_to.new.row = omega (arith, at.length, room) in
+    let one = one_change columns changes done c.runs.brush c.move_to.result c.turned-brush.result c.runs.row c.move_to.new.row
+    (omega (arith, c.runs-test.true)) wide is.painted at.stands at.right at.color at.painted turned.start turned.color
+    turned.word in
+    let at' = c.move_to-in-runs.ensures in
+    let turned' = c.turned-brush-in-runs.ensures in
+    let wide' : columns ≤ 8 * length c.move_to-in-runs.new.row = omega (arith, at'.length, wide) in
+    let two = one_change columns changes (done + 1) c.turned-brush.result c.move_to-in-runs.result c.turned-brush-in-runs.result
+    c.move_to.new.row c.move_to-in-runs.new.row c.runs-test.true wide' one at'.stands at'.right at'.color at'.painted
+    turned'.start turned'.color turned'.word in
+    let sum : done + 1 + 1 ≡ done + 2 = omega arith in
     record {
-      painted = elim c.if-behind-brush.branch [
-        | then-behind-brush w ↦
-            let one = w.turned.ensures in
-            let two = w.turned-brush.ensures in
-            rw (w.brush-is, w.row-is)
-            (run_at_hand columns changes done c.runs.brush w.turned.result w.turned-brush.result c.runs.row c.runs-test.true
-            room is.painted w.if-behind-brush.true one.start one.color one.word two.start two.color two.word)
-        | else-behind-brush w ↦
-            let first : done < length changes = omega (arith, c.runs-test.true) in
-            let at = w.move_to.ensures in
-            let turned = w.turned-brush-else-behind-brush.ensures in
-            let wide : columns ≤ 8 * length w.move_to.new.row = omega (arith, at.length, room) in
-            let one = one_change columns changes done c.runs.brush w.move_to.result w.turned-brush-else-behind-brush.result
-            c.runs.row w.move_to.new.row first wide is.painted at.stands at.right at.color at.painted turned.start
-            turned.color turned.word in
-            let at' = w.move_to-else-behind-brush.ensures in
-            let turned' = w.turned-brush-else-behind-brush-2.ensures in
-            let wide' : columns ≤ 8 * length w.move_to-else-behind-brush.new.row = omega (arith, at'.length, wide) in
-            let two =
-            one_change columns changes (done + 1) w.turned-brush-else-behind-brush.result w.move_to-else-behind-brush.result
-            w.turned-brush-else-behind-brush-2.result w.move_to.new.row w.move_to-else-behind-brush.new.row c.runs-test.true
-            wide' one at'.stands at'.right at'.color at'.painted turned'.start turned'.color turned'.word in
-            let sum : done + 1 + 1 ≡ done + 2 = omega arith in
-            rw (w.brush-is, w.row-is) (rw sum at two)
-      ];
+      painted = rw sum at two;
       within = omega (arith, c.runs-test.true);
-      room = elim c.if-behind-brush.branch [
-        | then-behind-brush w ↦ ap length w.row-is ∙ is.room
-        | else-behind-brush w ↦
-            ap length w.row-is ∙ w.move_to-else-behind-brush.ensures.length ∙ w.move_to.ensures.length ∙ is.room
-      ];
+      further = omega arith;
+      room = at'.length ∙ at.length ∙ is.room;
     }
+
+pub word-preserved : goal.word-preserved
+word-preserved c =
+    let is = c.word.invariant in
+    let one = c.turned.ensures in
+    let two = c.turned-brush-in-word.ensures in
+    record {
+      painted = run_at_hand c.args.columns c.args.changes.now c.word.done c.word.brush c.turned.result
+          c.turned-brush-in-word.result c.move_to-in-runs.new.row c.word-test.true
+          (omega (arith, is.room, c.requires.room)) is.painted c.if-changes-done.true one.start one.color one.word two.start
+          two.color two.word;
+      within = omega (arith, c.word-test.true);
+      further = omega (arith, is.further);
+      room = is.room;
+    }
+
+pub runs-preserved : goal.runs-preserved
+runs-preserved c =
+    let is = c.word.invariant in
+    record { painted = is.painted; within = is.within; room = is.room }
+
+pub runs-preserved-else-changes-done : goal.runs-preserved-else-changes-done
+runs-preserved-else-changes-done c =
+    let is = c.word.invariant in
+    record { painted = is.painted; within = is.within; room = is.room }
+
+pub runs-smaller-else-changes-done : goal.runs-smaller-else-changes-done
+runs-smaller-else-changes-done c = omega (arith, c.word.invariant.further, c.word.invariant.within, c.runs-test.true)
 
 pub returns : goal.returns
 returns c =

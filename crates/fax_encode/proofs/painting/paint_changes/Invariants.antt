@@ -12,3 +12,15 @@ invariant-runs l =
 
 abbrev pub decreases-runs : goal.decreases-runs
 decreases-runs l = length l.changes - l.done
+
+abbrev pub invariant-word : goal.invariant-word
+invariant-word l =
+    record {
+      painted : IsPainted l.columns l.changes l.done l.brush l.row;
+      within : l.done ≤ length l.changes;
+      further : l.initial.done ≤ l.done;
+      room : length l.row ≡ length l.fn.row;
+    }
+
+abbrev pub decreases-word : goal.decreases-word
+decreases-word l = length l.changes - l.done

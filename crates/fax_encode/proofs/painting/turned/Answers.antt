@@ -1,4 +1,4 @@
-use Rattle.fax_encode.proofs.Names.{◌≡◌, ◌-◌, ◌≤◌, ◌%◌, ◌/◌, ◌^◌, ℕ, length, ap, ◌∙◌, arith, bit_xor, ones_shr, low_bits}
+use Rattle.fax_encode.proofs.Names.{◌≡◌, ◌-◌, ◌≤◌, ◌%◌, ◌^◌, ℕ, length, ap, ◌∙◌, arith, bit_xor, low_bits}
 use Rattle.fax_encode.proofs.PaintedWords.{turned_behind}
 use Rattle.fax_encode.proofs.painting.turned.Goals as goal
 
@@ -7,7 +7,7 @@ returns-clause-word c = λ front len e.
     let in_word : c.args.place % 64 ≡ length front =
     omega (arith, c.requires.stands.begun, c.requires.stands.from, c.requires.stands.below) in
     let few : length front ≤ 64 = omega arith in
-    let mask : 18446744073709551615 / 2 ^ (c.args.place % 64) ≡ 2 ^ (64 - length front) - 1 =
-    ap (λ (k : ℕ). 18446744073709551615 / 2 ^ k) in_word ∙ ones_shr 64 (length front) few in
+    let mask : c.ones_from.result ≡ 2 ^ (64 - length front) - 1 =
+    c.ones_from.ensures ∙ ap (λ (k : ℕ). 2 ^ (64 - k) - 1) in_word in
     ap (λ (m : ℕ). low_bits 64 (bit_xor c.args.brush.word m)) mask
     ∙ turned_behind front (64 - length front) c.args.brush.word 64 c.args.brush.is_black (omega arith) e
