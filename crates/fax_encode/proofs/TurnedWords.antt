@@ -235,7 +235,8 @@ turned_is_row front place from columns total color (p ∷ places) long le within
     let last : Bits = replicate (total - columns) (end_color (not color) places) in
     let all : (front ++ part) ++ (rest ++ last) ≡ front ++ ((part ++ rest) ++ last) = simp append_assoc refl in
     ap (turned_at_all places) turned
-    ∙ turned_is_row (front ++ part) p (suc p) columns total (not color) places here (omega arith) (omega arith) fits ascend.2 ∙ all
+    ∙ turned_is_row (front ++ part) p (suc p) columns total (not color) places here (omega arith) (omega arith) fits ascend.2
+    ∙ all
 
 -- ---- writing the words
 -- one word more is written

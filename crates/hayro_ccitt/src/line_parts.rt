@@ -184,11 +184,7 @@ fn add_mode(ctx: &mut DecoderContext, part: &mut KeptPart, mode: Mode) -> Word
 
 /// Goes on behind a mode that is read here.
 #[inline(always)]
-fn read_any_mode(
-    ctx: &mut DecoderContext,
-    reader: &mut BitScanner<'_>,
-    part: &mut KeptPart,
-) -> Word
+fn read_any_mode(ctx: &mut DecoderContext, reader: &mut BitScanner<'_>, part: &mut KeptPart) -> Word
     requires lawful { IsLawfulPart ctx.old.held.settings ctx.old.held.reference part.old }
     requires run { part.old.in_run ≡ false }
     requires mode { part.old.is_2d ≡ true }

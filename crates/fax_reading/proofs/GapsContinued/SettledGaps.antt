@@ -183,10 +183,6 @@ first_settled : (settings : DecodeSettings) (bits : Bits) → first_gap_is_settl
     → FirstGapIsSettled settings bits
 first_settled settings bits passes more = grind (arith, common_steps, gap_settled, at_gap-more, all_eols-more)
 
-abbrev left_at : Move → Bits
-left_at (Turn.next so_far) = so_far.rest
-left_at (Turn.done end) = []
-
 -- a first gap with more bits behind it isn't the end of the data
 done_differs : (bits more : Bits) (gap : Gap)
     → at_gap (at_front more) (Gap.over (Ok [])) ≢ move_before bytes_of_eol (at_gap (at_front bits) gap)

@@ -291,9 +291,6 @@ module _ (settings : DecodeSettings) (taken : ℕ) (has_eols : Bool) (here : Bit
           has : has_eols ≡ true
           has = (and_parts has_eols (not (limit_met settings taken)) sought_open.0).0
 
-          unlimited : limit_met settings taken ≡ false
-          unlimited = not_true (limit_met settings taken) (and_parts has_eols (not (limit_met settings taken)) sought_open.0).1
-
           lenient : settings.strict ≡ false
           lenient = not_true settings.strict sought_open.1
 

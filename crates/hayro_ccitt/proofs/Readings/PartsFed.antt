@@ -49,9 +49,6 @@ module _ (old new : Feeding) (part next : KeptPart) (read : ℕ) (before after :
   begins : IsPartOf old.ctx.held.settings old.ctx.held.reference (drop old.place old.kept) part (here before)
   begins = subst (IsPartOf old.ctx.held.settings old.ctx.held.reference (drop old.place old.kept) part) (sym starts) kept.line
 
-  place_is : before.place ≡ old.place + read
-  place_is = ap (λ (b : BitsAt). b.place) before_is
-
   bits_are : after.bits ≡ old.kept
   bits_are = on.same_bits ∙ ap (λ (b : BitsAt). b.bits) before_is
 

@@ -87,10 +87,6 @@ module _ (from : ℕ) (rows : RowState) (ctx : Context) (at : BitsAt) (stands : 
   abbrev mid_at : BitsAt
   mid_at = record { bits = bits; place = place }
 
-  reaches : ReachesNextLine (seen rows ctx at) (seen mid mid_ctx mid_at) (Ok true)
-  reaches = comes_to_line (seen rows ctx at) held now ctx.space mid_at rows.started_at rows.damage rows.cut None (Ok false)
-      refl refl refl counts (refl, refl, refl) refl at_line tt told
-
   -- a reading that fails would fail there
   pub again_starts : length bits - length line ≡ failed_at settings bits held.taken
   again_starts = reader_fails_at_line at_line

@@ -13,10 +13,6 @@ use Rattle.hayro_ccitt.proofs.PixelRows.{RowChanges.changes_from-append}
 use Rattle.hayro_ccitt.proofs.{Work.CallsPaid.at_line_paid, Work.ChangesStored.changes_found, Work.WordsPay.found_within}
 
 -- a row has no more changes than pixels
-one_more : (same : Bool) (place n : ℕ) (places : List ℕ) → length places ≤ n → length (cond same places (place ∷ places)) ≤ suc n
-one_more true place n places few = omega (arith, few)
-one_more false place n places few = omega (arith, few)
-
 few_changes_from : (place : ℕ) (before : Bool) (row : Row) → length (changes_from place before row) ≤ length row
 few_changes_from place before [] = omega arith
 few_changes_from place before (pixel ∷ row) = grind (arith, common_steps, few_changes_from (suc place) pixel row)

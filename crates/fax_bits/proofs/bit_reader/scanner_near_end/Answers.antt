@@ -16,12 +16,12 @@ invariant_of-result c =
     λ k h. c.whole_word.ensures k h ∙ ap (λ (xs : List ℕ). get_or (bits_in c.args.order xs) k false) (take_rest bytes start)
     ∙ bits_in-drop c.args.order bytes start k in
     let there : (k : ℕ) → k < 64
-        → bit_of (c.whole_word.result * 2 ^ shift % 2 ^ 64) (63 - k) ≡ get_or bits (end - (end - c.args.place) + k) false =
+    → bit_of (c.whole_word.result * 2 ^ shift % 2 ^ 64) (63 - k) ≡ get_or bits (end - (end - c.args.place) + k) false =
     λ k h.
-        let at : 8 * start + shift + k ≡ end - (end - c.args.place) + k =
-        omega (arith, c.requires.whole, c.requires.near, c.requires.within) in
-        all_behind bits (8 * start) shift c.whole_word.result
-        (omega (arith, length-bits_in c.args.order bytes, c.requires.whole)) word k h ∙ ap (λ (i : ℕ). get_or bits i false) at in
+    let at : 8 * start + shift + k ≡ end - (end - c.args.place) + k =
+    omega (arith, c.requires.whole, c.requires.near, c.requires.within) in
+    all_behind bits (8 * start) shift c.whole_word.result
+    (omega (arith, length-bits_in c.args.order bytes, c.requires.whole)) word k h ∙ ap (λ (i : ℕ). get_or bits i false) at in
     record {
       fit = c.requires.fit;
       some = omega arith;

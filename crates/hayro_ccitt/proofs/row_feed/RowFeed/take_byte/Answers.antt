@@ -57,7 +57,6 @@ returns-clause-fit c = λ e. omega (
   ap fed_bits c.self.view_is,
   length-bits_in c.self.inside.order c.self.inside.«data».items,
   c.len-kept.ensures,
-  
   c.if-self-kept.false,
   c.if-bytes-ne1.false,
 )
