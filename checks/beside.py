@@ -6,6 +6,35 @@ import shutil
 import time
 
 
+# How often a folder is copied again, a second later each time, if it changes meanwhile.
+MOST_COPIES = 60
+
+
+def files_of(folder):
+    """Each file below a folder, with its size and when it was written."""
+    found = {}
+    for where, _, names in os.walk(folder):
+        for name in names:
+            status = os.stat(f"{where}/{name}")
+            found[f"{where}/{name}"] = status.st_size, status.st_mtime_ns
+    return found
+
+
+def copy_settled(built, own):
+    """Copies a library's folder, the only one in its own. `rt ci` may make it anew meanwhile: then it is copied again."""
+    for _ in range(MOST_COPIES):
+        shutil.rmtree(os.path.dirname(own), ignore_errors=True)
+        try:
+            before = files_of(built)
+            shutil.copytree(built, own)
+            if before and files_of(built) == before:
+                return
+        except (shutil.Error, FileNotFoundError):
+            pass  # a file is gone
+        time.sleep(1)
+    raise TimeoutError(f"{built} changes all the time")
+
+
 class Beside:
     """An `rt ci` that runs beside. The folder has what it prints, in the file `ci`; the path of its checkout, in the file `checkout`;
     and, once it has ended, the file `ci.end`."""
@@ -41,8 +70,7 @@ class Beside:
         if not os.path.exists(built):
             return False
         if crate.makes_rlib():
-            shutil.rmtree(os.path.dirname(own), ignore_errors=True)
-            shutil.copytree(built, own)
+            copy_settled(built, own)
             with open(f"{os.path.dirname(own)}/stamp", "w", encoding="utf-8") as file:
                 file.write(crate.stamp())
         else:
