@@ -5,6 +5,7 @@ mod PageTurns
 mod PagesCut
 mod PagesFed
 mod PagesInTurn
+mod PagesPaid
 mod PagesRead
 mod ReadsOnward
 mod RtcFound

@@ -59,6 +59,11 @@ module _ (bytes piece rest : List ℕ) (given : ℕ) (within : given ≤ length 
   longer n le = take-add given n bytes ∙ ap (λ (l : List ℕ). take given bytes ++ take n l) split
       ∙ ap (λ (l : List ℕ). take given bytes ++ l) (take-append-le n piece rest le)
 
+  pub with_more : (n : ℕ) → n ≤ length piece → (more : List ℕ)
+      → take (given + n) bytes ++ more ≡ take given bytes ++ (take n piece ++ more)
+  with_more n le more =
+      ap (λ (l : List ℕ). l ++ more) (longer n le) ∙ append_assoc (take given bytes) (take n piece) more
+
   pub longer_within : (n : ℕ) → n ≤ length piece → given + n ≤ length bytes
   longer_within n le = omega (
     arith,
@@ -92,6 +97,19 @@ kept_page {order} {bytes} {given} {seen} {old} {new} is again settings order_is 
   has_memory = memory;
 }
 
+-- the bytes of a piece come next, whatever follows them
+pub comes : {order : BitOrder} {bytes : List ℕ} {given : ℕ} {seen : EolsSeen} {page : Feeding}
+    → IsPageReading order bytes given seen page → (next more : List ℕ)
+    → ComeNext (bits_in order (take given bytes ++ (next ++ more))) page (bits_in page.order next)
+comes {order} {bytes} {given} is next more = record {
+  rest = bits_in order more;
+  bits = ap (λ (k : ℕ). drop k (bits_in order (take given bytes ++ (next ++ more))))
+      (is.counted ∙ ap (λ (k : ℕ). 8 * k) (sym (length-take-le given bytes is.within)))
+      ∙ bits_behind order (take given bytes) (next ++ more) ∙ bits_more order next more
+      ∙ ap (λ (o : BitOrder). bits_in o next ++ bits_in order more) (sym is.order_is);
+  bytes = bits_are_whole order more;
+}
+
 -- it is given the bytes that come next
 module _ {order : BitOrder} {seen : EolsSeen} {old new : Feeding} (bytes piece rest : List ℕ) (given : ℕ)
     (is : IsPageReading order bytes given seen old) (split : drop given bytes ≡ piece ++ rest)
@@ -99,28 +117,15 @@ module _ {order : BitOrder} {seen : EolsSeen} {old new : Feeding} (bytes piece r
     (fed : (whole : Bits) (tried : ℕ) → IsFeedOf whole tried old → ComeNext whole old (bits_in old.order (take n piece))
     → IsFeedOf whole tried new) (count : fed_bits new ≡ fed_bits old + 8 * n) (ctx : new.ctx ≡ old.ctx)
     (rows : new.rows ≡ old.rows) (order_is : new.order ≡ old.order) where
-  comes : (more : List ℕ) → ComeNext (bits_in order (take given bytes ++ (take n piece ++ more))) old
-      (bits_in old.order (take n piece))
-  comes more = record {
-    rest = bits_in order more;
-    bits = ap (λ (k : ℕ). drop k (bits_in order (take given bytes ++ (take n piece ++ more))))
-        (is.counted ∙ ap (λ (k : ℕ). 8 * k) (sym (front_length bytes piece rest given is.within split)))
-        ∙ bits_behind order (take given bytes) (take n piece ++ more) ∙ bits_more order (take n piece) more
-        ∙ ap (λ (o : BitOrder). bits_in o (take n piece) ++ bits_in order more) (sym is.order_is);
-    bytes = bits_are_whole order more;
-  }
-
   pub reads_on : (more : List ℕ) → BitsFit (take (given + n) bytes ++ more)
       → (tried : ℕ) × IsFeedOf (bits_in order (take (given + n) bytes ++ more)) tried new
   reads_on more fit =
-      let same : take (given + n) bytes ++ more ≡ take given bytes ++ (take n piece ++ more)
-      = ap (λ (l : List ℕ). l ++ more) (longer bytes piece rest given is.within split n le)
-      ∙ append_assoc (take given bytes) (take n piece) more in
+      let same = with_more bytes piece rest given is.within split n le more in
       let before = is.reads (take n piece ++ more) (λ last. absurd (false≢true (sym unfinished
       ∙ last))) (subst BitsFit same fit) in (
         before.0,
         subst (λ (l : List ℕ). IsFeedOf (bits_in order l) before.0 new) (sym same)
-            (fed (bits_in order (take given bytes ++ (take n piece ++ more))) before.0 before.1 (comes more)),
+            (fed (bits_in order (take given bytes ++ (take n piece ++ more))) before.0 before.1 (comes is (take n piece) more)),
       )
 
   still_counted : fed_bits new ≡ 8 * (given + n)
@@ -145,6 +150,18 @@ module _ {order : BitOrder} {seen : EolsSeen} {old new : Feeding} (bytes piece r
     has_memory = has_memory_still;
   }
 
+-- of data that ends behind the bytes given all bits were fed
+pub counted_all : {fed : ℕ} (order : BitOrder) (bytes more : List ℕ) (given : ℕ) → given ≤ length bytes → fed ≡ 8 * given
+    → more ≡ [] → length (bits_in order (take given bytes ++ more)) ≡ fed
+counted_all order bytes more given within counted none = omega (
+  arith,
+  counted,
+  length-bits_in order (take given bytes ++ more),
+  length-append (take given bytes) more,
+  ap length none,
+  length-take-le given bytes within,
+)
+
 -- its data is finished, where the page ends
 pub page_finished : {order : BitOrder} {bytes : List ℕ} {given : ℕ} {seen : EolsSeen} {old new : Feeding} → BitsFit bytes
     → given ≤ length bytes → old.order ≡ order → fed_bits old ≡ 8 * given → ((more : List ℕ)
@@ -162,19 +179,10 @@ page_finished {order} {bytes} {given} {seen} {old} {new} fit within order_is cou
           let before = reads more enough in (
             before.0,
             subst (IsFeedOf (bits_in order (take given bytes ++ more)) before.0) is
-                (finish (bits_in order (take given bytes ++ more)) before.0 before.1 (all more (none refl))),
+                (finish (bits_in order (take given bytes ++ more)) before.0 before.1
+                (counted_all order bytes more given within counted (none refl))),
           );
       sought = λ unended. absurd (false≢true (sym unended));
       found = λ last. found;
       has_memory = memory;
     })
-  where
-    all : (more : List ℕ) → more ≡ [] → length (bits_in order (take given bytes ++ more)) ≡ fed_bits old
-    all more none = omega (
-      arith,
-      counted,
-      length-bits_in order (take given bytes ++ more),
-      length-append (take given bytes) more,
-      ap length none,
-      length-take-le given bytes within,
-    )

@@ -85,7 +85,7 @@ good_end : (end : Result (Unit {0}) DecodeError) → ◌≡◌ {A = Result Fed D
 good_end (Ok x) e = refl
 good_end (Err error) e = absurd cc
 
-bad_end : (end : Result (Unit {0}) DecodeError) (error : DecodeError) → ◌≡◌ {A = Result Fed DecodeError} (Err error) (fed_end end)
+pub bad_end : (end : Result (Unit {0}) DecodeError) (error : DecodeError) → ◌≡◌ {A = Result Fed DecodeError} (Err error) (fed_end end)
     → end ≡ Err error
 bad_end (Ok x) error e = absurd cc
 bad_end (Err other) error e = let same : other ≡ error = cc in ap Err same
@@ -135,7 +135,7 @@ module _ (feed : PageFeeding) (new : Feeding) (answer : Result Fed DecodeError) 
     → FeedsNext whole tried feed.page new answer)
     (at_end : (end : Result (Unit {0}) DecodeError) → ended feed.page.rows.stand ≡ Some end
     → (new ≡ feed.page) × (answer ≡ fed_end end)) where
-  either_way : (P : Type 0) → (ended feed.page.rows.stand ≡ None → P)
+  pub either_way : (P : Type 0) → (ended feed.page.rows.stand ≡ None → P)
       → ((end : Result (Unit {0}) DecodeError) → ended feed.page.rows.stand ≡ Some end → P) → P
   either_way P on after = by_end (ended feed.page.rows.stand) refl
     where
@@ -220,7 +220,7 @@ module _ (feed : PageFeeding) (new : Feeding) (answer : Result Fed DecodeError) 
 
     -- the page has ended
     module _ (e : answer ≡ Ok ReadAll) where
-      new_ended : ended new.rows.stand ≡ Some (Ok tt)
+      pub new_ended : ended new.rows.stand ≡ Some (Ok tt)
       new_ended = either_way _ (λ none. (((next_of e none).end refl).end refl).0) (λ end some.
           ap (λ (f : Feeding). ended f.rows.stand) (at_end end some).0 ∙ some
           ∙ ap Some (good_end end (sym e ∙ (at_end end some).1)))
@@ -234,7 +234,7 @@ module _ (feed : PageFeeding) (new : Feeding) (answer : Result Fed DecodeError) 
       has = subst (λ (s : DecodeSettings). HasEnded s (bits_in feed.order (page_bytes s feed.order whole start))
           new.ctx.held.taken (new.dropped + new.place)) new_settings (has_ended (page_reads new_reading).1 new_ended)
 
-      count_within : bytes_read after ≤ feed.given
+      pub count_within : bytes_read after ≤ feed.given
       count_within = ended_within new_reading new_ended
 
       -- the next one begins behind it
@@ -263,7 +263,7 @@ module _ (feed : PageFeeding) (new : Feeding) (answer : Result Fed DecodeError) 
             unread = λ count read. omega (arith, least);
           }
 
-      unended_is : {last : PageFeeding} (result : Result PageFed DecodeError) → EndsPageHere after last result
+      pub unended_is : {last : PageFeeding} (result : Result PageFed DecodeError) → EndsPageHere after last result
           → result ≢ Ok PageEnd → last ≡ after
       unended_is (Ok OneRow) ends other = absurd (ends.only.0 refl)
       unended_is (Ok NeedsMore) ends other = absurd (ends.only.1 refl)

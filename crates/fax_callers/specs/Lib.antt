@@ -5,5 +5,6 @@ pub mod InStep
 pub mod PageFeeds
 pub mod PageSearches
 pub mod Pages
+pub mod PagesPaid
 pub mod Readings
 pub mod Rtc

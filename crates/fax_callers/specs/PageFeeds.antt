@@ -7,6 +7,7 @@ use Rattle.hayro_ccitt.specs.DecodeError.{DecodeError}
 use Rattle.hayro_ccitt.specs.DecodeError.TheVariants.{OutOfMemory}
 use Rattle.hayro_ccitt.specs.DecodeSettings.{DecodeSettings}
 use Rattle.hayro_ccitt.specs.Bits.{Bits, BitsFit, bits_in}
+use Rattle.hayro_ccitt.specs.FeedsPaid.{IsHistory}
 use Rattle.hayro_ccitt.specs.RowFeeds.{Feeding, IsFeedOf, fed_bits, fed_over}
 use Rattle.hayro_ccitt.specs.Rows.{Row}
 use Rattle.hayro_ccitt.specs.RowsRead.{ReadsNext, RowsRead, ended}
@@ -93,6 +94,22 @@ pub record IsPageFeedOf (whole : List ℕ) (start : ℕ) (feed : PageFeeding) : 
 -- these bytes are those of the whole data that come next
 abbrev pub BytesComeNext : List ℕ → ℕ → PageFeeding → List ℕ → Type 0
 BytesComeNext whole start feed bytes = (rest : List ℕ) × (drop (start + fed_from_start feed) whole ≡ bytes ++ rest)
+
+-- ---- What was called
+
+-- The reading of the page that begins these bytes, of which it was given so many, has a history with this cost of calls that failed
+-- for memory: no more calls than these, and one for each byte that it was given and for the end of its data.
+pub record IsPaidPage (order : BitOrder) (bytes : List ℕ) (given calls lost : ℕ) (page : Feeding) : Type 0 where
+  pub fit : BitsFit bytes
+  pub within : given ≤ length bytes
+  pub made : ℕ
+  pub most : made ≤ calls + given + (if page.finished then 1 else 0)
+  pub history : (rest : List ℕ) → (page.finished ≡ true → rest ≡ []) → BitsFit (take given bytes ++ rest)
+      → (tried : ℕ) × IsHistory made lost tried page × IsFeedOf (bits_in order (take given bytes ++ rest)) tried page
+
+-- so has that of the page that is next or under way, and begins at this byte offset
+abbrev pub IsPaidFrom : List ℕ → ℕ → ℕ → ℕ → PageFeeding → Type 0
+IsPaidFrom whole start calls lost feed = IsPaidPage feed.order (drop start whole) feed.given calls lost feed.page
 
 -- ---- What a call leaves
 
@@ -184,6 +201,11 @@ pub record GivesPiece (order : BitOrder) (piece : List ℕ) (old_seen new_seen :
       → drop given bytes ≡ piece ++ rest → IfOk answer (λ n. IsPageReading order bytes (given + n) new_seen new)
   pub failed : (bytes rest : List ℕ) (given : ℕ) → IsPageReading order bytes given old_seen old
       → drop given bytes ≡ piece ++ rest → IfErr answer (λ e. (e ≡ OutOfMemory) × IsPageReading order bytes given new_seen new)
+  pub paid : (bytes rest : List ℕ) (given calls lost : ℕ) → IsPageReading order bytes given old_seen old
+      → drop given bytes ≡ piece ++ rest → IsPaidPage order bytes given (calls + 1) lost old
+      → IfOk answer (λ n. IsPaidPage order bytes (given + n) calls lost new)
+  pub unpaid : (bytes : List ℕ) (given calls lost : ℕ) → IsPaidPage order bytes given calls lost old
+      → OnErr answer (IsPaidPage order bytes given calls lost new)
 
 -- how many times it can be given bytes or finished, at most
 abbrev pub left_to_give : PageFeeding → ℕ
@@ -197,6 +219,10 @@ pub record GivesOn (old new : PageFeeding) (answer : Result Bool DecodeError) : 
   pub finished : new.finished ≡ old.finished
   pub none : answer ≡ Ok false → (old.page.finished ≡ true) ⊎ (old.finished ≡ false)
   pub smaller : answer ≡ Ok true → left_to_give new < left_to_give old
+  pub paid : (whole : List ℕ) (start calls lost : ℕ) → answer ≡ Ok true → IsPageFeedOf whole start old
+      → IsPaidFrom whole start (calls + 1) lost old → IsPaidFrom whole start calls lost new
+  pub unpaid : (whole : List ℕ) (start calls lost : ℕ) → answer ≢ Ok true → IsPaidFrom whole start calls lost old
+      → IsPaidFrom whole start calls lost new
 
 -- where a page's reading has ended, what a call leaves that begins the next one
 pub record EndsPageHere (old new : PageFeeding) (answer : Result PageFed DecodeError) : Type 0 where
@@ -206,6 +232,7 @@ pub record EndsPageHere (old new : PageFeeding) (answer : Result PageFed DecodeE
   pub failed : IfErr answer (λ e. (e ≡ OutOfMemory) × (new ≡ old))
   pub some : answer ≡ Ok PageEnd → 0 < bytes_read old
   pub begins : answer ≡ Ok PageEnd → (bytes : List ℕ) → BitsFit bytes → IsPageReading old.order bytes 0 none_seen new.page
+  pub paid : answer ≡ Ok PageEnd → (bytes : List ℕ) → BitsFit bytes → IsPaidPage old.order bytes 0 0 0 new.page
   pub none_read : answer ≡ Ok PageEnd → (settings_of new ≡ settings_of old) × (new.page.ctx.held.taken ≡ 0)
   pub back : answer ≡ Ok PageEnd → (new.held ≡ old.held) × (new.given ≡ 0) × (new.seen ≡ none_seen)
       × (new.next ≡ old.next - (old.given - bytes_read old))

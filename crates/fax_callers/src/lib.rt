@@ -9,6 +9,7 @@ mod black_pixels;
 mod blank;
 mod first_rows;
 mod in_step;
+pub mod laws;
 mod once;
 mod page_feed;
 mod page_search;

@@ -9,7 +9,9 @@ ghost use Rattle.hayro_ccitt.specs.Rows.{AreChanges, Row, changes};
 ghost use Rattle.fax_callers.specs.PageFeeds.{BytesComeNext, GivesNext, GivesOn, GivesPage, GivesPiece, IsPageFeedOf};
 ghost use Rattle.fax_callers.specs.PageFeeds.{settings_of};
 ghost use Rattle.fax_callers.specs.PageFeeds.{DropsRead, EndsPageHere, HasFailed, Waits, bytes_read, fed_from_start};
+ghost use Rattle.fax_callers.specs.PageFeeds.{IsPaidFrom};
 ghost use Rattle.fax_callers.specs.Pages.{IsPage};
+ghost use Rattle.fax_callers.specs.PagesPaid.{PaysNext};
 
 use crate::pages_by::pages_are_read;
 use crate::rtc::{EolsSeen, find_page_end, none_seen};
@@ -138,6 +140,7 @@ impl PageFeed {
         ensures order { IfOk result (λ feed. feed.order ≡ order) }
         ensures none_fed { IfOk result (λ feed. (fed_from_start feed ≡ 0) × (feed.finished ≡ false)) }
         ensures none_read { IfOk result (λ feed. feed.page.ctx.held.taken ≡ 0) }
+        ensures none_paid { (whole : List ℕ) → BitsFit whole → IfOk result (λ feed. IsPaidFrom whole 0 0 0 feed) }
         ensures only_memory { IsOkUnless result DecodeError.OutOfMemory }
     {
         Ok(PageFeed {
@@ -176,6 +179,8 @@ impl PageFeed {
         ensures failed { (error : DecodeError) → HasFailed self.old error → (self.new ≡ self.old) × (result ≡ Err error) }
         ensures order { self.new.order ≡ self.old.order }
         ensures finished { self.new.finished ≡ self.old.finished }
+        ensures pays { (whole : List ℕ) (start : ℕ) → IsPageFeedOf whole start self.old
+            → PaysNext whole start self.old self.new result }
     {
         match self.page.next_row()? {
             Fed::Row => Ok(PageFed::Row),
@@ -234,6 +239,9 @@ impl PageFeed {
         ensures pages { (whole : List ℕ) (start : ℕ) (rows : List Row) (count : ℕ) → IsPageFeedOf whole start self.old
             → IsPage (settings_of self.old) rows count (bits_in self.old.order (drop start whole))
             → GivesPage whole start rows count self.old self.new result }
+        // What it counts is paid, as `laws::pages_paid` says.
+        ensures pays { (whole : List ℕ) (start : ℕ) → IsPageFeedOf whole start self.old
+            → PaysNext whole start self.old self.new result }
     {
         pages_are_read(self.page.settings(), self.order);
         if self.has_no_page() {
@@ -276,6 +284,7 @@ impl PageFeed {
         ensures only_memory { IsOkUnless result DecodeError.OutOfMemory }
         ensures same { (self.new.page ≡ self.old.page) × (self.new.order ≡ self.old.order)
             × (self.new.finished ≡ self.old.finished) }
+        ensures given { self.new.given ≡ self.old.given }
         ensures counts { OnOk result (fed_from_start self.new ≡ fed_from_start self.old + length bytes.now) }
         // Of the bytes that the page was given only those that it hasn't read are held.
         ensures held { OnOk result (length self.new.held + min (bytes_read self.old) self.old.given

@@ -12,6 +12,7 @@ use Rattle.fax_callers.specs.Rtc.{GoesOnBehind, page_size}
 use Rattle.fax_callers.proofs.PageReadings.{bytes_are, count_within, front_length, kept_page, longer, longer_within, none_all}
 use Rattle.fax_callers.proofs.PageReadings.{none_is}
 use Rattle.fax_callers.proofs.PageReadings.{page_finished, page_goes_on, reads_on, some_is}
+use Rattle.fax_callers.proofs.PagesPaid.{finished_paid, given_paid, kept_paid, paid_more}
 use Rattle.fax_callers.proofs.page_feed.give_piece.Goals.{After-feed}
 use Rattle.fax_callers.proofs.page_feed.give_piece.Goals as goal
 
@@ -77,6 +78,8 @@ returns-in_err-feed c =
             (subst (λ (r : RowState). ended r.stand ≢ Some (Err OutOfMemory)) (sym c.in_err-feed.ensures.kept.reading.1)
             page.has_memory),
       );
+      paid = λ bytes rest given calls lost page split paid. tt;
+      unpaid = λ bytes given calls lost. kept_paid c.in_err-feed.ensures.kept c.in_err-feed.ensures.refused;
     })
 
 pub returns-then-is_some : goal.returns-then-is_some
@@ -110,6 +113,11 @@ returns-then-is_some c =
           (r : RowState). ended r.stand ≢ Some (Err OutOfMemory)) (sym feed.held.reading.1) page.has_memory)
           c.finish.ensures.finished frame;
       failed = λ bytes rest given page split. tt;
+      paid = λ bytes rest given calls lost page split paid.
+          paid_more (omega arith) (finished_paid (omega (arith, count, page.counted)) c.finish.ensures.finished frame
+          (feed.held.reading.2 ∙ c.requires.unfinished) (given_paid bytes c.args.piece.now rest given page split
+          c.requires.unfinished (n at) (within at) feed.fed feed.held (calls + 1) lost paid));
+      unpaid = λ bytes given calls lost paid. tt;
     }
 
 pub returns-else-is_some : goal.returns-else-is_some
@@ -132,4 +140,8 @@ returns-else-is_some c =
           (behind at bytes rest given page split all (none_is _ c.find_page_end-end.result none
           c.find_page_end-end.ensures.none));
       failed = λ bytes rest given page split. tt;
+      paid = λ bytes rest given calls lost page split paid.
+          paid_more (omega (arith, all, c.requires.some)) (given_paid bytes c.args.piece.now rest given page split
+          c.requires.unfinished (n at) (within at) feed.fed feed.held (calls + 1) lost paid);
+      unpaid = λ bytes given calls lost paid. tt;
     }

@@ -1,5 +1,6 @@
 use Rattle.hayro_ccitt.proofs.Names.{refl, arith, ◌∙◌}
 use Rattle.fax_callers.proofs.PagesFed.{fresh_page}
+use Rattle.fax_callers.proofs.PagesPaid.{fresh_paid}
 use Rattle.fax_callers.proofs.page_feed.PageFeed.end_page.Goals as goal
 
 pub returns : goal.returns
@@ -12,6 +13,7 @@ returns c =
       failed = tt;
       some = λ e. omega (arith, c.bytes_read-read.ensures, c.if-read-eq0.false);
       begins = λ e. fresh_page new.reading new.order new.none_fed new.none_read.1;
+      paid = λ e. fresh_paid new.reading new.none_read.1 new.none_read.2 new.none_read.3;
       none_read = λ e. (new.settings ∙ c.settings.ensures, new.none_read.0);
       back = λ e. (
         refl,

@@ -4,6 +4,7 @@ use Rattle.std.proofs.lemmas.List.{take_rest}
 use Rattle.hayro_ccitt.specs.RowFeeds.{Feeding}
 use Rattle.fax_callers.specs.PageFeeds.{IsPageFeedOf, page_feeding_of}
 use Rattle.fax_callers.proofs.PagesFed.{all_given, less_to_give, page_moves, piece_comes, stays_on}
+use Rattle.fax_callers.proofs.PagesPaid.{finished_paid, paid_more}
 use Rattle.fax_callers.proofs.page_feed.PageFeed.give.Goals.{After-give_piece}
 use Rattle.fax_callers.proofs.page_feed.PageFeed.give.Goals as goal
 
@@ -53,6 +54,10 @@ returns-then-self-len c =
           subst (λ (f : Feeding). (length c.self.inside.held.items - c.self.inside.next) + cond f.finished 0 1
           < (length c.self.inside.held.items - c.self.inside.next) + cond c.self.inside.page.finished 0 1)
           (sym c.finish.ensures.same) (rw (sym c.if-is_finished.ensures) (omega arith));
+      paid = λ whole start calls lost e is paid.
+          paid_more (omega arith) (finished_paid is.page.counted c.finish.ensures.finished c.finish.ensures.same
+          (sym c.if-is_finished.ensures) paid);
+      unpaid = λ whole start calls lost other. absurd (other refl);
     })
 
 pub returns-in_err-count : goal.returns-in_err-count
@@ -71,6 +76,9 @@ returns-in_err-count c =
       finished = refl;
       none = λ e. absurd cc;
       smaller = λ e. absurd cc;
+      paid = λ whole start calls lost e. absurd cc;
+      unpaid = λ whole start calls lost other.
+          c.in_err-count.ensures.unpaid (drop start whole) c.self.inside.given calls lost;
     })
 
 pub returns : goal.returns
@@ -92,4 +100,7 @@ returns c =
       smaller = λ e.
           less_to_give (length c.self.inside.held.items) c.self.inside.next c.in_ok-count.count c.self.inside.page.finished
           c.give_piece.new.page.finished (sym c.if-is_finished.ensures) within gives.within.2;
+      paid = λ whole start calls lost e is.
+          gives.paid (drop start whole) _ c.self.inside.given calls lost is.page (comes at whole start is);
+      unpaid = λ whole start calls lost other. absurd (other refl);
     })

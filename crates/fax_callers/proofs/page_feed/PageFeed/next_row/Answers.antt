@@ -1,11 +1,15 @@
-use Rattle.hayro_ccitt.proofs.Names.{◌≡◌, ◌∙◌, ℕ, List, Ok, Err, ap, arith, cond, rules, subst, sym, inl, inr, false≢true}
+use Rattle.hayro_ccitt.proofs.Names.{◌≡◌, ◌≢◌, ◌+◌, ◌∙◌, true, Result, ℕ, List, Ok, Err, ap, arith, cond, rules, subst, sym, inl, inr, false≢true}
 use Rattle.hayro_ccitt.proofs.Names.{Bool, length}
 use Rattle.hayro_ccitt.specs.DecodeError.{DecodeError}
 use Rattle.hayro_ccitt.specs.DecodeSettings.{DecodeSettings}
-use Rattle.fax_callers.specs.PageFeeds.{GivesNext, HasFailed, IsPageFeedOf, PageFeeding, Stays, left_to_give, settings_of}
+use Rattle.fax_callers.specs.PageFeeds.{GivesNext, HasFailed, IsPageFeedOf, IsPaidFrom, PageFeeding, Stays, left_to_give}
+use Rattle.fax_callers.specs.PageFeeds.{settings_of}
 use Rattle.fax_callers.specs.Pages.{ReadsPages}
-use Rattle.fax_callers.specs.declared.page_feed.PageFed.TheVariants.{NeedsMore}
+use Rattle.fax_callers.specs.PagesPaid.{PaysNext}
+use Rattle.fax_callers.specs.declared.page_feed.PageFed.{PageFed}
+use Rattle.fax_callers.specs.declared.page_feed.PageFed.TheVariants.{NeedsMore, PageEnd}
 use Rattle.fax_callers.proofs.PagesInTurn.{gives_later, given_page, needs_stays, stays_fails, stays_later, stays_needs}
+use Rattle.fax_callers.proofs.PagesPaid.{paid_more, pays_here, pays_later, pays_still}
 use Rattle.fax_callers.proofs.page_feed.PageFeed.next_row.Goals.{After-read_page-answer, After-give}
 use Rattle.fax_callers.proofs.page_feed.PageFeed.next_row.Goals as goal
 
@@ -47,6 +51,21 @@ module _ (c : After-give) where
   stays_now whole start is =
       let before = stays_before whole start is in
       stays_later before (c.give.ensures.stays whole start before.is)
+
+  -- one call is to be paid
+  paid_before : (whole : List ℕ) (start : ℕ) → IsPageFeedOf whole start c.args.self.now → (calls before : ℕ)
+      → IsPaidFrom whole start calls before c.args.self.now → IsPaidFrom whole start (calls + 1) before c.read_page-answer.new.self
+  paid_before whole start is calls before paid =
+      let stays = c.loop-answer.invariant.stays whole start is in
+      pays_here (c.read_page-answer.ensures.pays whole start stays.is) (λ e. let never = sym more ∙ e in cc)
+      (λ e. let never = sym more ∙ e in cc) calls before (c.loop-answer.invariant.paid whole start is calls before paid)
+
+  -- it is still, unless more was given
+  pays : (whole : List ℕ) (start : ℕ) → IsPageFeedOf whole start c.args.self.now → c.give.result ≢ Ok true
+      → (answer : Result PageFed DecodeError) → answer ≢ Ok PageEnd → PaysNext whole start c.args.self.now c.give.new.self answer
+  pays whole start is other answer still =
+      pays_still answer (stays_now whole start is).rows.counts still (λ calls before paid.
+      c.give.ensures.unpaid whole start (calls + 1) before other (paid_before whole start is calls before paid))
 
   -- as much could be given before
   left_same : left_to_give c.read_page-answer.new.self ≡ left_to_give c.loop-answer.self
@@ -116,6 +135,27 @@ returns-then-not-branch-clause-pages c = λ whole start rows count is page.
     given_page c.read_page-answer.result (returns-then-not-branch-clause-gives c whole start is)
     (law (goal.at.returns-then-not-branch-clause-pages c).After-read_page-answer) rows count page
 
+pub returns-then-has_no_page-clause-pays : goal.returns-then-has_no_page-clause-pays
+returns-then-has_no_page-clause-pays c = λ whole start is.
+    pays_still _ (omega arith) (λ e. cc) (λ calls before. paid_more (omega arith))
+
+pub returns-then-not-needs_more-clause-pays : goal.returns-then-not-needs_more-clause-pays
+returns-then-not-needs_more-clause-pays c = λ whole start is.
+    let stays = c.loop-answer.invariant.stays whole start is in
+    pays_later stays (c.loop-answer.invariant.paid whole start is) (c.read_page-answer.ensures.pays whole start stays.is)
+
+pub returns-in_err-give-clause-pays : goal.returns-in_err-give-clause-pays
+returns-in_err-give-clause-pays c =
+    let at = (goal.at.returns-in_err-give-clause-pays c).After-give in
+    let is_err : c.from_residual.result ≡ Err c.in_err-give.field-0.0 = search rules in
+    rw is_err (λ whole start is. pays at whole start is (λ e. let never = sym c.in_err-give.was ∙ e in cc) _ (λ e. cc))
+
+pub returns-then-not-branch-clause-pays : goal.returns-then-not-branch-clause-pays
+returns-then-not-branch-clause-pays c = λ whole start is.
+    let at = (goal.at.returns-then-not-branch-clause-pays c).After-give in
+    pays at whole start is (λ e. let never = sym (c.in_ok-give.was ∙ ap Ok c.if-not-branch.true) ∙ e in cc) _
+    (λ e. let never = sym (more at) ∙ e in cc)
+
 pub loop-answer-preserved : goal.loop-answer-preserved
 loop-answer-preserved c =
     let at = (goal.at.loop-answer-preserved c).After-give in
@@ -126,6 +166,9 @@ loop-answer-preserved c =
       failed = λ error e. absurd (let never = sym (more at) ∙ (failed
           (goal.at.loop-answer-preserved c).After-read_page-answer error e).1
           in cc);
+      paid = λ whole start is calls before paid.
+          c.give.ensures.paid whole start calls before (c.in_ok-give.was ∙ ap Ok c.if-not-branch.false)
+          (stays_before at whole start is).is (paid_before at whole start is calls before paid);
     }
 
 pub loop-answer-smaller : goal.loop-answer-smaller

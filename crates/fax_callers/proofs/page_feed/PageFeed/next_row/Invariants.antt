@@ -1,6 +1,6 @@
 use Rattle.hayro_ccitt.proofs.Names.{◌≡◌, ℕ, List}
 use Rattle.hayro_ccitt.specs.DecodeError.{DecodeError}
-use Rattle.fax_callers.specs.PageFeeds.{HasFailed, IsPageFeedOf, Stays, left_to_give}
+use Rattle.fax_callers.specs.PageFeeds.{HasFailed, IsPageFeedOf, IsPaidFrom, Stays, left_to_give}
 use Rattle.fax_callers.proofs.page_feed.PageFeed.next_row.Given as goal
 
 abbrev pub invariant-loop-answer : goal.invariant-loop-answer
@@ -9,6 +9,8 @@ invariant-loop-answer l = record {
   order : l.self.order ≡ l.fn.self.order;
   finished : l.self.finished ≡ l.fn.self.finished;
   failed : (error : DecodeError) → HasFailed l.fn.self error → l.self ≡ l.fn.self;
+  paid : (whole : List ℕ) (start : ℕ) → IsPageFeedOf whole start l.fn.self → (calls before : ℕ)
+      → IsPaidFrom whole start calls before l.fn.self → IsPaidFrom whole start calls before l.self;
 }
 
 abbrev pub decreases-loop-answer : goal.decreases-loop-answer

@@ -3,6 +3,7 @@ use Rattle.hayro_ccitt.specs.DecodeError.{DecodeError}
 use Rattle.hayro_ccitt.specs.RowFeeds.{Feeding}
 use Rattle.fax_callers.specs.PageFeeds.{HasFailed, PageFeeding, page_feeding_of}
 use Rattle.fax_callers.proofs.PageTurns.{gives_end, gives_fault, gives_none, gives_row, waits_unended, waits_unfinished}
+use Rattle.fax_callers.proofs.PagesPaid.{pays_end, pays_error, pays_read}
 use Rattle.fax_callers.proofs.page_feed.PageFeed.read_page.Goals.{After-next_row}
 use Rattle.fax_callers.proofs.page_feed.PageFeed.read_page.Goals as goal
 
@@ -71,5 +72,30 @@ returns-in-NeedsMore-clause-waits c = rw (← c.self.view_is) (λ e. record {
 pub returns-in-End-clause-gives : goal.returns-in-End-clause-gives
 returns-in-End-clause-gives c = rw (← c.self.view_is) (λ whole start is.
     gives_end (page_feeding_of c.self.inside) c.next_row.new.self c.next_row.result c.next_row.ensures.keeps
+    c.next_row.ensures.reads c.next_row.ensures.ended whole start is (c.in_ok-next_row.was ∙ ap Ok c.in-End.is) c.end_page.result
+    c.end_page.ensures)
+
+pub returns-in_err-next_row-clause-pays : goal.returns-in_err-next_row-clause-pays
+returns-in_err-next_row-clause-pays c =
+    let is_err : c.from_residual.result ≡ Err c.in_err-next_row.field-0.0 = search rules in
+    rw (is_err, ← c.self.view_is) (λ whole start is.
+    pays_error (page_feeding_of c.self.inside) c.next_row.new.self c.next_row.result c.next_row.ensures.keeps
+    c.next_row.ensures.reads c.next_row.ensures.ended whole start is c.in_err-next_row.field-0.0 c.in_err-next_row.was)
+
+pub returns-in-Row-clause-pays : goal.returns-in-Row-clause-pays
+returns-in-Row-clause-pays c = rw (← c.self.view_is) (λ whole start is.
+    pays_read (page_feeding_of c.self.inside) c.next_row.new.self c.next_row.result c.next_row.ensures.keeps
+    c.next_row.ensures.reads c.next_row.ensures.ended whole start is _
+    (λ memory. let both = sym c.in_ok-next_row.was ∙ memory in cc) (λ e. cc))
+
+pub returns-in-NeedsMore-clause-pays : goal.returns-in-NeedsMore-clause-pays
+returns-in-NeedsMore-clause-pays c = rw (← c.self.view_is) (λ whole start is.
+    pays_read (page_feeding_of c.self.inside) c.next_row.new.self c.next_row.result c.next_row.ensures.keeps
+    c.next_row.ensures.reads c.next_row.ensures.ended whole start is _
+    (λ memory. let both = sym c.in_ok-next_row.was ∙ memory in cc) (λ e. cc))
+
+pub returns-in-End-clause-pays : goal.returns-in-End-clause-pays
+returns-in-End-clause-pays c = rw (← c.self.view_is) (λ whole start is.
+    pays_end (page_feeding_of c.self.inside) c.next_row.new.self c.next_row.result c.next_row.ensures.keeps
     c.next_row.ensures.reads c.next_row.ensures.ended whole start is (c.in_ok-next_row.was ∙ ap Ok c.in-End.is) c.end_page.result
     c.end_page.ensures)

@@ -1,0 +1,361 @@
+-- What all calls of a feed of pages count is paid.
+use Rattle.hayro_ccitt.proofs.Names.{◌≡◌, ◌≢◌, ℕ, ◌+◌, ◌-◌, ◌*◌, ◌<◌, ◌≤◌, ◌++◌, ◌∙◌, Bool, true, false, List, []}
+use Rattle.hayro_ccitt.proofs.Names.{None, Some, Result, Ok, Err, refl, sym, ap, subst, arith, length, drop, take, cond}
+use Rattle.hayro_ccitt.proofs.Names.{length-append, length-drop, append_assoc, Bits, AreWholeBytes, bits_in, DecodeError}
+use Rattle.hayro_ccitt.proofs.Names.{OutOfMemory, IsFault, ended, false≢true}
+use Rattle.std.specs.Prelude.{◌^◌}
+use Rattle.std.proofs.lemmas.List.{length-take-le}
+use Rattle.hayro_ccitt.specs.BitOrder.{BitOrder}
+use Rattle.hayro_ccitt.specs.Bits.{BitsFit}
+use Rattle.hayro_ccitt.specs.FeedsPaid.{IsHistory, cost_of_failure}
+use Rattle.hayro_ccitt.specs.RowFeeds.{ComeNext, Feeding, FeedsNext, HoldsMore, IsFeedOf, KeepsBits, fed_bits, fed_end}
+use Rattle.hayro_ccitt.specs.declared.row_feed.Fed.{Fed}
+use Rattle.hayro_ccitt.specs.declared.row_feed.Fed.TheVariants.{End as ReadAll}
+use Rattle.hayro_ccitt.proofs.BitReading.BitLists.{bits_are_whole, length-bits_in}
+use Rattle.hayro_ccitt.proofs.ErrorKinds.{by_kind}
+use Rattle.hayro_ccitt.proofs.Readings.FeedsPaid.{feeds_are_paid}
+use Rattle.fax_callers.specs.PageFeeds.{EndsPageHere, IsPageFeedOf, IsPageReading, IsPaidFrom, IsPaidPage, PageFeeding, Stays}
+use Rattle.fax_callers.specs.PageFeeds.{fed_from_start}
+use Rattle.fax_callers.specs.PagesPaid.{IsPagesHistory, PagesArePaid, PagesCount, PaysNext, size_of}
+use Rattle.fax_callers.specs.declared.page_feed.PageFed.{PageFed}
+use Rattle.fax_callers.specs.declared.page_feed.PageFed.TheVariants.{PageEnd}
+use Rattle.fax_callers.specs.declared.rtc.EolsSeen.{EolsSeen}
+use Rattle.fax_callers.proofs.PageReadings.{comes, counted_all, longer_within, with_more}
+use Rattle.fax_callers.proofs.PageTurns.{bad_end, count_within, either_way, new_ended, unended_is}
+
+-- ---- The reading of a page
+
+-- nothing was called yet
+pub fresh_paid : {order : BitOrder} {page : Feeding} → ((whole : Bits) → AreWholeBytes whole → length whole + 64 < 2 ^ 64
+    → IsFeedOf whole 0 page) → page.begun ≡ false → page.looked ≡ 0 → page.part ≡ None
+    → (bytes : List ℕ) → BitsFit bytes → IsPaidPage order bytes 0 0 0 page
+fresh_paid {order} {page} reading unbegun unlooked unkept bytes fit = record {
+  fit = fit;
+  within = omega arith;
+  made = 0;
+  most = omega arith;
+  history = λ rest none enough.
+      let is = reading (bits_in order rest) (bits_are_whole order rest) (omega (arith, enough, length-bits_in order rest)) in
+      (0, IsHistory.opens (bits_in order rest) is unbegun unlooked unkept, is);
+}
+
+-- more calls may have been made
+pub paid_more : {order : BitOrder} {bytes : List ℕ} {given calls more lost : ℕ} {page : Feeding} → calls ≤ more
+    → IsPaidPage order bytes given calls lost page → IsPaidPage order bytes given more lost page
+paid_more le paid = record {
+  fit = paid.fit;
+  within = paid.within;
+  made = paid.made;
+  most = omega (arith, paid.most, le);
+  history = paid.history;
+}
+
+-- it is given bytes, each of which pays for a call
+pub given_paid : {order : BitOrder} {seen : EolsSeen} {old new : Feeding} (bytes piece rest : List ℕ) (given : ℕ)
+    (is : IsPageReading order bytes given seen old) (split : drop given bytes ≡ piece ++ rest)
+    (unfinished : old.finished ≡ false) (n : ℕ) (le : n ≤ length piece)
+    → ((whole : Bits) (tried : ℕ) → IsFeedOf whole tried old
+    → ComeNext whole old (bits_in old.order (take n piece)) → IsFeedOf whole tried new)
+    → HoldsMore (bits_in old.order (take n piece)) old new → (calls lost : ℕ)
+    → IsPaidPage order bytes given calls lost old → IsPaidPage order bytes (given + n) (calls - n) lost new
+given_paid {order} {seen} {old} {new} bytes piece rest given is split unfinished n le fed holds calls lost paid = record {
+  fit = paid.fit;
+  within = longer_within bytes piece rest given is.within split n le;
+  made = paid.made;
+  most = omega (arith, paid.most, ap {B = ℕ} (λ (b : Bool). cond b 1 0) unfinished);
+  history = λ more none enough.
+      let same = with_more bytes piece rest given is.within split n le more in
+      let before = paid.history (take n piece ++ more) (λ last. absurd (false≢true (sym unfinished
+      ∙ last))) (subst BitsFit same enough) in (
+        before.0,
+        IsHistory.feeds (bits_in old.order (take n piece)) before.1 holds,
+        subst (λ (l : List ℕ). IsFeedOf (bits_in order l) before.0 new) (sym same)
+            (fed (bits_in order (take given bytes ++ (take n piece ++ more))) before.0 before.2
+            (comes is (take n piece) more)),
+      );
+}
+
+-- it can't be given them
+pub kept_paid : {order : BitOrder} {bytes : List ℕ} {given calls lost : ℕ} {old new : Feeding} → HoldsMore [] old new
+    → ((whole : Bits) (tried : ℕ) → IsFeedOf whole tried old → IsFeedOf whole tried new)
+    → IsPaidPage order bytes given calls lost old → IsPaidPage order bytes given calls lost new
+kept_paid {order} {bytes} {given} {calls} {lost} {old} {new} holds fed paid = record {
+  fit = paid.fit;
+  within = paid.within;
+  made = paid.made;
+  most = omega (arith, paid.most, ap {B = ℕ} (λ (b : Bool). cond b 1 0) holds.reading.2);
+  history = λ more none enough.
+      let before = paid.history more (λ last. none (holds.reading.2 ∙ last)) enough in
+      (before.0, IsHistory.feeds [] before.1 holds, fed (bits_in order (take given bytes ++ more)) before.0 before.2);
+}
+
+-- its data is finished, which pays for a call
+pub finished_paid : {order : BitOrder} {bytes : List ℕ} {given calls lost : ℕ} {old new : Feeding} → fed_bits old ≡ 8 * given
+    → ((whole : Bits) (tried : ℕ) → IsFeedOf whole tried old → length whole ≡ fed_bits old → IsFeedOf whole tried new)
+    → new ≡ record old { finished = true } → old.finished ≡ false
+    → IsPaidPage order bytes given calls lost old → IsPaidPage order bytes given (calls - 1) lost new
+finished_paid {order} {bytes} {given} {calls} {lost} {old} {new} counted finish is unfinished paid = record {
+  fit = paid.fit;
+  within = paid.within;
+  made = paid.made;
+  most = omega (
+    arith,
+    paid.most,
+    ap {B = ℕ} (λ (b : Bool). cond b 1 0) unfinished,
+    ap {B = ℕ} (λ (f : Feeding). cond f.finished 1 0) is,
+  );
+  history = λ more none enough.
+      let last : new.finished ≡ true = ap (λ (f : Feeding). f.finished) is in
+      let before = paid.history more (λ end. absurd (false≢true (sym unfinished ∙ end))) enough in (
+        before.0,
+        IsHistory.finishes before.1 is,
+        finish (bits_in order (take given bytes ++ more)) before.0 before.2
+            (counted_all order bytes more given paid.within counted (none last)),
+      );
+}
+
+-- ---- A call of it
+
+module _ {order : BitOrder} {bytes : List ℕ} {given calls lost : ℕ} {old new : Feeding} (answer : Result Fed DecodeError)
+    (keeps : KeepsBits old new) (unended : ended old.rows.stand ≡ None) (reads : (whole : Bits) (tried : ℕ)
+    → IsFeedOf whole tried old → FeedsNext whole tried old new answer) (paid : IsPaidPage order bytes given calls lost old) where
+  one_more : paid.made + 1 ≤ calls + 1 + given + cond new.finished 1 0
+  one_more = omega (arith, paid.most, ap {B = ℕ} (λ (b : Bool). cond b 1 0) keeps.finished)
+
+  pub read_paid : answer ≢ Err OutOfMemory → IsPaidPage order bytes given (calls + 1) lost new
+  read_paid other = record {
+    fit = paid.fit;
+    within = paid.within;
+    made = paid.made + 1;
+    most = one_more;
+    history = λ more none enough.
+        let before = paid.history more (λ last. none (keeps.finished ∙ last)) enough in
+        let next = reads (bits_in order (take given bytes ++ more)) before.0 before.2 in (
+          before.0 + next.extra,
+          IsHistory.reads (bits_in order (take given bytes ++ more)) before.1 unended keeps next other,
+          next.stands,
+        );
+  }
+
+  pub fail_paid : answer ≡ Err OutOfMemory → IsPaidPage order bytes given (calls + 1) (lost + cost_of_failure new) new
+  fail_paid e = record {
+    fit = paid.fit;
+    within = paid.within;
+    made = paid.made + 1;
+    most = one_more;
+    history = λ more none enough.
+        let before = paid.history more (λ last. none (keeps.finished ∙ last)) enough in
+        let next = subst (FeedsNext (bits_in order (take given bytes ++ more)) before.0 old new) e
+        (reads (bits_in order (take given bytes ++ more)) before.0 before.2) in
+        (before.0 + next.extra, IsHistory.fails (bits_in order (take given bytes ++ more)) before.1 unended keeps next, next.stands);
+  }
+
+-- ---- A call of the feed
+
+-- the page goes on, and nothing was lost
+pub pays_still : {whole : List ℕ} {start : ℕ} {old new : PageFeeding} (answer : Result PageFed DecodeError)
+    → old.page.ctx.ticks ≤ new.page.ctx.ticks → answer ≢ Ok PageEnd
+    → ((calls before : ℕ) → IsPaidFrom whole start calls before old → IsPaidFrom whole start (calls + 1) before new)
+    → PaysNext whole start old new answer
+pays_still {whole} {start} {old} {new} answer counts other goes = record {
+  page = new.page;
+  given = new.given;
+  lost = 0;
+  counts = counts;
+  failed = omega arith;
+  unfailed = λ e. refl;
+  goes_on = λ calls before paid.
+      let none : before ≡ before + 0 = omega arith in
+      subst (λ (n : ℕ). IsPaidFrom whole start (calls + 1) n new) none (goes calls before paid);
+  stays = λ e. (refl, refl);
+  over = λ e. absurd (other e);
+}
+
+-- so it does after a call that didn't fail
+pub pays_here : {whole : List ℕ} {start : ℕ} {old new : PageFeeding} {answer : Result PageFed DecodeError}
+    → PaysNext whole start old new answer → answer ≢ Ok PageEnd → answer ≢ Err OutOfMemory → (calls before : ℕ)
+    → IsPaidFrom whole start calls before old → IsPaidFrom whole start (calls + 1) before new
+pays_here {whole} {start} {old} {new} next other memory calls before paid =
+    let none : before + next.lost ≡ before = omega (arith, next.unfailed memory) in
+    let same = next.stays other in
+    subst (λ (n : ℕ). IsPaidFrom whole start (calls + 1) n new) none
+    (subst (λ (n : ℕ). IsPaidPage new.order (drop start whole) n (calls + 1) (before + next.lost) new.page) (sym same.1)
+    (subst (IsPaidPage new.order (drop start whole) next.given (calls + 1) (before + next.lost)) (sym same.0)
+    (next.goes_on calls before paid)))
+
+-- a call that pays after others that are paid
+pub pays_later : {whole : List ℕ} {start : ℕ} {old mid new : PageFeeding} {answer : Result PageFed DecodeError}
+    → Stays whole start old mid
+    → ((calls before : ℕ) → IsPaidFrom whole start calls before old → IsPaidFrom whole start calls before mid)
+    → PaysNext whole start mid new answer → PaysNext whole start old new answer
+pays_later stays goes next = record {
+  page = next.page;
+  given = next.given;
+  lost = next.lost;
+  counts = omega (arith, stays.rows.counts, next.counts);
+  failed = next.failed;
+  unfailed = next.unfailed;
+  goes_on = λ calls before paid. next.goes_on calls before (goes calls before paid);
+  stays = next.stays;
+  over = next.over;
+}
+
+-- ---- A call of the page's reading
+
+module _ (feed : PageFeeding) (new : Feeding) (answer : Result Fed DecodeError) (keeps : KeepsBits feed.page new)
+    (reads : (whole : Bits) (tried : ℕ) → ended feed.page.rows.stand ≡ None → IsFeedOf whole tried feed.page
+    → FeedsNext whole tried feed.page new answer)
+    (at_end : (end : Result (Unit {0}) DecodeError) → ended feed.page.rows.stand ≡ Some end
+    → (new ≡ feed.page) × (answer ≡ fed_end end)) (whole : List ℕ) (start : ℕ) (is : IsPageFeedOf whole start feed) where
+  abbrev after : PageFeeding
+  after = record feed { page = new }
+
+  either : (P : Type 0) → (ended feed.page.rows.stand ≡ None → P)
+      → ((end : Result (Unit {0}) DecodeError) → ended feed.page.rows.stand ≡ Some end → P) → P
+  either = either_way feed new answer keeps reads at_end
+
+  counts : feed.page.ctx.ticks ≤ new.ctx.ticks
+  counts = either _
+      (λ none. let read = is.page.reads [] (λ last. refl) enough in
+      let next = reads (bits_in feed.order (take feed.given (drop start whole) ++ [])) read.0 none read.1 in
+      omega (arith, next.goes_on.counts))
+      (λ end e. omega (arith, ap (λ (f : Feeding). f.ctx.ticks) (at_end end e).0))
+    where
+      enough : BitsFit (take feed.given (drop start whole) ++ [])
+      enough = omega (
+        arith,
+        length-append (take feed.given (drop start whole)) [],
+        length-take-le feed.given (drop start whole) is.page.within,
+        is.page.fit,
+        is.page.within,
+      )
+
+  goes : answer ≢ Err OutOfMemory → (calls before : ℕ) → IsPaidFrom whole start calls before feed
+      → IsPaidFrom whole start (calls + 1) before after
+  goes other calls before paid = either _ (λ none. read_paid answer keeps none (λ any tried. reads any tried none) paid other)
+      (λ end e. subst (IsPaidPage feed.order (drop start whole) feed.given (calls + 1) before) (sym (at_end end e).0)
+      (paid_more (omega arith) paid))
+
+  pub pays_read : (result : Result PageFed DecodeError) → answer ≢ Err OutOfMemory → result ≢ Ok PageEnd
+      → PaysNext whole start feed after result
+  pays_read result other still = pays_still result counts still (goes other)
+
+  pays_failed : answer ≡ Err OutOfMemory → PaysNext whole start feed after (Err OutOfMemory)
+  pays_failed e = record {
+    page = new;
+    given = feed.given;
+    lost = cost_of_failure new;
+    counts = counts;
+    failed = omega arith;
+    unfailed = λ other. absurd (other refl);
+    goes_on = λ calls before paid. either _ (λ none.
+        fail_paid answer keeps none (λ any tried. reads any tried none) paid e) (λ end ended_so.
+        absurd (is.page.has_memory (ended_so ∙ ap Some (bad_end end OutOfMemory (sym e ∙ (at_end end ended_so).1)))));
+    stays = λ other. (refl, refl);
+    over = λ f. absurd cc;
+  }
+
+  pub pays_error : (error : DecodeError) → answer ≡ Err error → PaysNext whole start feed after (Err error)
+  pays_error error = by_kind (λ (x : DecodeError). answer ≡ Err x → PaysNext whole start feed after (Err x))
+      (λ x fault e. pays_read (Err x) (λ memory. let same : x ≡ OutOfMemory = let both = sym e ∙ memory in cc in
+      subst IsFault same fault) (λ f. cc)) pays_failed
+      (λ e. pays_read _ (λ memory. let both = sym e ∙ memory in cc) (λ f. cc)) error
+
+  pub pays_end : answer ≡ Ok ReadAll → {last : PageFeeding} (result : Result PageFed DecodeError)
+      → EndsPageHere after last result → PaysNext whole start feed last result
+  pays_end e {last} result ends = record {
+    page = new;
+    given = feed.given;
+    lost = 0;
+    counts = counts;
+    failed = omega arith;
+    unfailed = λ other. refl;
+    goes_on = λ calls before paid.
+        let none : before ≡ before + 0 = omega arith in
+        subst (λ (o : BitOrder). IsPaidPage o (drop start whole) feed.given (calls + 1) (before + 0) new) (sym ends.order)
+        (subst (λ (n : ℕ). IsPaidFrom whole start (calls + 1) n after) none
+        (goes (λ memory. let both = sym e ∙ memory in cc) calls before paid));
+    stays = λ other.
+        let same = unended_is feed new answer keeps reads at_end whole start is e result ends other in
+        (ap (λ (f : PageFeeding). f.page) same, ap (λ (f : PageFeeding). f.given) same);
+    over = λ f.
+        let next = start + size_of new in
+        let fits : BitsFit (drop next whole) = omega (arith, is.fit, length-drop next whole) in (
+          new_ended feed new answer keeps reads at_end whole start is e,
+          count_within feed new answer keeps reads at_end whole start is e,
+          subst (λ (o : BitOrder). IsPaidPage o (drop next whole) last.given 0 0 last.page) (sym ends.order)
+              (subst (λ (n : ℕ). IsPaidPage feed.order (drop next whole) n 0 0 last.page) (sym (ends.back f).1)
+              (ends.paid f (drop next whole) fits)),
+        );
+  }
+
+-- ---- All calls
+
+-- of a page
+page_most : {order : BitOrder} {bytes : List ℕ} {given calls lost : ℕ} {page : Feeding} → IsPaidPage order bytes given calls lost page
+    → page.ctx.ticks ≤ 544 * given + 288 + 32 * calls + lost
+page_most {order} {bytes} {given} {calls} {lost} {page} paid =
+    let all : length (take given bytes ++ []) ≡ given = omega (
+      arith,
+      length-append (take given bytes) [],
+      length-take-le given bytes paid.within,
+    ) in
+    let read = paid.history [] (λ last. refl) (omega (arith, all, paid.fit, paid.within)) in
+    omega (
+      arith,
+      feeds_are_paid paid.made lost read.0 (bits_in order (take given bytes ++ [])) page read.1 read.2,
+      length-bits_in order (take given bytes ++ []),
+      all,
+      paid.most,
+      by_end page.finished,
+    )
+  where
+    by_end : (b : Bool) → ◌≤◌ (cond b 1 0) 1
+    by_end true = omega arith
+    by_end false = omega arith
+
+-- the page that is next or under way is paid, and so are those before it
+record ArePaid (whole : List ℕ) (count : PagesCount) (start : ℕ) (feed : PageFeeding) : Type 0 where
+  calls : ℕ
+  lost : ℕ
+  page : IsPaidFrom whole start calls lost feed
+  sum : count.ticks + 32 * calls + lost ≤ 544 * (start + count.again) + 288 * count.pages + 32 * count.calls + count.lost
+
+history_paid : {whole : List ℕ} {count : PagesCount} {start : ℕ} {feed : PageFeeding} → IsPagesHistory whole count start feed
+    → ArePaid whole count start feed
+history_paid (IsPagesHistory.opens paid) = record { calls = 0; lost = 0; page = paid; sum = omega arith }
+history_paid {whole} (IsPagesHistory.feeds {count} {start} {old} {new} before page order given) =
+    let paid = history_paid before in
+    record {
+      calls = paid.calls;
+      lost = paid.lost;
+      page = subst (λ (o : BitOrder). IsPaidPage o (drop start whole) new.given paid.calls paid.lost new.page) (sym order)
+          (subst (λ (n : ℕ). IsPaidPage old.order (drop start whole) n paid.calls paid.lost new.page) (sym given)
+          (subst (IsPaidPage old.order (drop start whole) old.given paid.calls paid.lost) (sym page) paid.page));
+      sum = paid.sum;
+    }
+history_paid {whole} (IsPagesHistory.reads {count} {start} {old} {new} before next other) =
+    let paid = history_paid before in
+    let same = next.stays other in
+    record {
+      calls = paid.calls + 1;
+      lost = paid.lost + next.lost;
+      page = subst (λ (n : ℕ). IsPaidPage new.order (drop start whole) n (paid.calls + 1) (paid.lost + next.lost) new.page)
+          (sym same.1) (subst (IsPaidPage new.order (drop start whole) next.given (paid.calls + 1) (paid.lost + next.lost))
+          (sym same.0) (next.goes_on paid.calls paid.lost paid.page));
+      sum = omega (arith, paid.sum);
+    }
+history_paid {whole} (IsPagesHistory.ends {count} {start} {old} {new} before next) =
+    let paid = history_paid before in
+    let over = next.over refl in
+    record {
+      calls = 0;
+      lost = 0;
+      page = over.2;
+      sum = omega (arith, paid.sum, over.1, page_most (next.goes_on paid.calls paid.lost paid.page));
+    }
+
+pub pages_are_paid : PagesArePaid
+pages_are_paid whole count start feed history =
+    let paid = history_paid history in
+    omega (arith, paid.sum, page_most paid.page)

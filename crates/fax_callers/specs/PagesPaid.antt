@@ -1,0 +1,71 @@
+-- What all calls of a feed of pages count.
+use Rattle.std.specs.Prelude.{◌≡◌, ◌≢◌, ◌≤◌, ◌+◌, ◌-◌, ◌*◌, ◌/◌, ℕ, List, drop, Some, Result, Ok, Err}
+use Rattle.hayro_ccitt.specs.DecodeError.{DecodeError}
+use Rattle.hayro_ccitt.specs.DecodeError.TheVariants.{OutOfMemory}
+use Rattle.hayro_ccitt.specs.FeedsPaid.{cost_of_failure}
+use Rattle.hayro_ccitt.specs.RowFeeds.{Feeding}
+use Rattle.hayro_ccitt.specs.RowsRead.{ended}
+use Rattle.fax_callers.specs.PageFeeds.{IsPaidFrom, IsPaidPage, PageFeeding, fed_from_start}
+use Rattle.fax_callers.specs.declared.page_feed.PageFed.{PageFed}
+use Rattle.fax_callers.specs.declared.page_feed.PageFed.TheVariants.{PageEnd}
+
+-- ---- auxiliary: what was called
+
+-- how many bytes a page has that has ended, the last one filled up
+abbrev pub size_of : Feeding → ℕ
+size_of page = (page.dropped + page.place + 7) / 8
+
+-- What a call that reads the next row counts: how the reading of the page goes on, which was given so many bytes, and what it
+-- costs more if it fails for memory. Where the page has ended, that reading is over, and the next one begins.
+pub record PaysNext (whole : List ℕ) (start : ℕ) (old new : PageFeeding) (answer : Result PageFed DecodeError) : Type 0 where
+  pub page : Feeding
+  pub given : ℕ
+  pub lost : ℕ
+  pub counts : old.page.ctx.ticks ≤ page.ctx.ticks
+  pub failed : lost ≤ cost_of_failure page
+  pub unfailed : answer ≢ Err OutOfMemory → lost ≡ 0
+  pub goes_on : (calls before : ℕ) → IsPaidFrom whole start calls before old
+      → IsPaidPage new.order (drop start whole) given (calls + 1) (before + lost) page
+  pub stays : answer ≢ Ok PageEnd → (new.page ≡ page) × (new.given ≡ given)
+  pub over : answer ≡ Ok PageEnd → (ended page.rows.stand ≡ Some (Ok tt)) × (size_of page ≤ given)
+      × IsPaidFrom whole (start + size_of page) 0 0 new
+
+-- what was called and counted so far: how many pages have ended, what was counted for them, how many bytes they were given that
+-- are behind their ends, and so are given again, how many calls read the next row, and what those cost more that failed for memory
+pub record PagesCount : Type 0 where
+  pub pages : ℕ
+  pub ticks : ℕ
+  pub again : ℕ
+  pub calls : ℕ
+  pub lost : ℕ
+
+abbrev pub none_counted : PagesCount
+none_counted = record { pages = 0; ticks = 0; again = 0; calls = 0; lost = 0 }
+
+-- What became of a feed of pages: bytes were fed, the data may have been finished, and calls read the next row. The page that is
+-- next or under way begins at this byte offset.
+pub data IsPagesHistory (whole : List ℕ) : PagesCount → ℕ → PageFeeding → Type 0 where
+  opens : {feed : PageFeeding} → IsPaidFrom whole 0 0 0 feed → IsPagesHistory whole none_counted 0 feed
+  feeds : {count : PagesCount} {start : ℕ} {old new : PageFeeding} → IsPagesHistory whole count start old
+      → new.page ≡ old.page → new.order ≡ old.order → new.given ≡ old.given → IsPagesHistory whole count start new
+  reads : {count : PagesCount} {start : ℕ} {old new : PageFeeding} {answer : Result PageFed DecodeError}
+      → IsPagesHistory whole count start old → (next : PaysNext whole start old new answer) → answer ≢ Ok PageEnd
+      → IsPagesHistory whole (record count { calls = count.calls + 1; lost = count.lost + next.lost }) start new
+  ends : {count : PagesCount} {start : ℕ} {old new : PageFeeding} → IsPagesHistory whole count start old
+      → (next : PaysNext whole start old new (Ok PageEnd)) → IsPagesHistory whole (record {
+        pages = count.pages + 1;
+        ticks = count.ticks + next.page.ctx.ticks;
+        again = count.again + (next.given - size_of next.page);
+        calls = count.calls + 1;
+        lost = count.lost + next.lost;
+      }) (start + size_of next.page) new
+
+-- ---- The law
+
+-- In any history of a feed of pages the count of work, of all of them, is at most 544 ticks for each byte that was fed, or given
+-- again to the next page, 288 ticks for each page, and 32 for each call that reads the next row, whatever pieces the data comes in. A
+-- call that fails for memory costs more.
+abbrev pub PagesArePaid : Type 0
+PagesArePaid = (whole : List ℕ) (count : PagesCount) (start : ℕ) (feed : PageFeeding) → IsPagesHistory whole count start feed
+    → count.ticks + feed.page.ctx.ticks
+    ≤ 544 * (start + fed_from_start feed + count.again) + 288 * (count.pages + 1) + 32 * count.calls + count.lost
