@@ -1,7 +1,7 @@
 //! Pages of any encoding, one after another, in data that comes in pieces.
 
 ghost use Rattle.std.specs.Prelude.{◌≡◌, ◌≢◌, ◌≤◌, ◌<◌, ◌+◌, ◌-◌, ◌*◌, ◌/◌, ◌⊎◌, ◌↔◌, ℕ, List, [], true, false, Ok, Err, drop};
-ghost use Rattle.std.specs.Prelude.{length, min, take};
+ghost use Rattle.std.specs.Prelude.{length, max, min, take};
 ghost use Rattle.std.specs.Prelude.{IfOk, IfErr, IfNone, IfSome, IsOkUnless, OnOk, OnErr, Result};
 ghost use Rattle.hayro_ccitt.specs.Bits.{BitsFit, bits_in};
 ghost use Rattle.hayro_ccitt.specs.RowFeeds.{fed_bits};
@@ -33,16 +33,20 @@ pub enum PageFed {
     End,
 }
 
-/// The most bytes that the reading of a page is given at once. What it is given behind its end is given again to that of the
-/// next.
+/// The fewest bytes that the reading of a page is given at once, if as many are there. What it is given behind its end is given
+/// again to that of the next.
+const FEWEST_GIVEN: usize = 64;
+
+/// The most bytes that it is given at once.
 const MOST_GIVEN: usize = 4096;
 
-/// Returns the first bytes, as many as are given at once.
-fn first_piece<'a>(bytes: &'a [u8]) -> &'a [u8]
-    ensures first { result.now ≡ take (min (length bytes.now) 4096) bytes.now }
-    ensures length { length result.now ≡ min (length bytes.now) 4096 }
+/// Returns the first bytes, as many as a page is given at once that was given so many: at first few, then as many as it was given.
+fn first_piece<'a>(bytes: &'a [u8], given: usize) -> &'a [u8]
+    ensures first { result.now ≡ take (min (length bytes.now) (max 64 (min given 4096))) bytes.now }
+    ensures length { length result.now ≡ min (length bytes.now) (max 64 (min given 4096)) }
 {
-    let count = bytes.len().min(MOST_GIVEN);
+    let most = given.min(MOST_GIVEN).max(FEWEST_GIVEN);
+    let count = bytes.len().min(most);
     &bytes[..count]
 }
 
@@ -204,7 +208,7 @@ impl PageFeed {
             self.page.finish();
             return Ok(true);
         }
-        let piece = first_piece(&self.held[self.next..]);
+        let piece = first_piece(&self.held[self.next..], self.given);
         let count = give_piece(&mut self.page, self.order, &mut self.seen, piece)?;
         self.next += count;
         self.given += count;

@@ -1,5 +1,5 @@
 use Rattle.hayro_ccitt.proofs.Names.{◌≡◌, ◌∙◌, ◌++◌, ◌+◌, ◌-◌, ◌<◌, ◌≤◌, List, ℕ, Err, ap, sym, subst, refl, drop, length, take}
-use Rattle.hayro_ccitt.proofs.Names.{arith, rules, min, length-drop, Context, cond}
+use Rattle.hayro_ccitt.proofs.Names.{arith, rules, max, min, length-drop, Context, cond}
 use Rattle.std.proofs.lemmas.List.{take_rest}
 use Rattle.hayro_ccitt.specs.RowFeeds.{Feeding}
 use Rattle.fax_callers.specs.PageFeeds.{IsPageFeedOf, page_feeding_of}
@@ -14,11 +14,11 @@ module _ (c : After-give_piece) where
   waiting = drop c.self.inside.next c.self.inside.held.items
 
   abbrev many : ℕ
-  many = min (length waiting) 4096
+  many = min (length waiting) (max 64 (min c.self.inside.given 4096))
 
   piece_is : c.first_piece-piece.result.now ≡ take many waiting
   piece_is = c.first_piece-piece.ensures.first
-      ∙ ap (λ (l : List ℕ). take (min (length l) 4096) l)
+      ∙ ap (λ (l : List ℕ). take (min (length l) (max 64 (min c.self.inside.given 4096))) l)
       (take_rest c.deref.result.now c.self.inside.next ∙ ap (drop c.self.inside.next) c.deref.ensures.value)
 
   piece_within : c.self.inside.next + length c.first_piece-piece.result.now ≤ length c.self.inside.held.items
