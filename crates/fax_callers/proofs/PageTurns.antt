@@ -156,11 +156,11 @@ module _ (feed : PageFeeding) (new : Feeding) (answer : Result Fed DecodeError) 
         subst (FeedsNext bits (page_reads is.page).0 feed.page new) e
         (reads bits (page_reads is.page).0 unended (page_reads is.page).1)
 
-    new_settings : new.ctx.held.settings ≡ settings_of feed
+    pub new_settings : new.ctx.held.settings ≡ settings_of feed
     new_settings = either_way _ (λ e. (turned answer (next_of refl e)).0)
         (λ end e. ap (λ (f : Feeding). f.ctx.held.settings) (at_end end e).0)
 
-    new_reading : IsPageReading feed.order (drop start whole) feed.given feed.seen new
+    pub new_reading : IsPageReading feed.order (drop start whole) feed.given feed.seen new
     new_reading = either_way _ (λ e.
         kept_page is.page (λ any tried fed. let next = reads any tried e fed in (tried + next.extra, next.stands))
         (turned answer (next_of refl e)).0 keeps.order keeps.finished (omega (arith, keeps.dropped, ap length keeps.kept))
@@ -230,7 +230,7 @@ module _ (feed : PageFeeding) (new : Feeding) (answer : Result Fed DecodeError) 
           same_rows bits feed.page new (ap (λ (f : Feeding). f.ctx) (at_end end some).0)
           (ap (λ (f : Feeding). f.rows) (at_end end some).0))
 
-      has : HasEnded (settings_of feed) bits new.ctx.held.taken (new.dropped + new.place)
+      pub has : HasEnded (settings_of feed) bits new.ctx.held.taken (new.dropped + new.place)
       has = subst (λ (s : DecodeSettings). HasEnded s (bits_in feed.order (page_bytes s feed.order whole start))
           new.ctx.held.taken (new.dropped + new.place)) new_settings (has_ended (page_reads new_reading).1 new_ended)
 

@@ -70,7 +70,7 @@ same_of bits other old new same = record {
 }
 
 module _ {whole : List ℕ} {start : ℕ} {old mid : PageFeeding} (stays : Stays whole start old mid) where
-  at_old : (Q : DecodeSettings → BitOrder → Type 0) → Q (settings_of mid) mid.order → Q (settings_of old) old.order
+  pub at_old : (Q : DecodeSettings → BitOrder → Type 0) → Q (settings_of mid) mid.order → Q (settings_of old) old.order
   at_old Q q = subst (λ (s : DecodeSettings). Q s old.order) stays.rows.settings (subst (Q (settings_of mid)) stays.order q)
 
   same_bits : page_bits whole start mid ≡ page_bits whole start old

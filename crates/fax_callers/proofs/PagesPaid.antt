@@ -2,11 +2,12 @@
 use Rattle.hayro_ccitt.proofs.Names.{◌≡◌, ◌≢◌, ℕ, ◌+◌, ◌-◌, ◌*◌, ◌<◌, ◌≤◌, ◌++◌, ◌∙◌, Bool, true, false, List, []}
 use Rattle.hayro_ccitt.proofs.Names.{None, Some, Result, Ok, Err, refl, sym, ap, subst, arith, length, drop, take, cond}
 use Rattle.hayro_ccitt.proofs.Names.{length-append, length-drop, append_assoc, Bits, AreWholeBytes, bits_in, DecodeError}
-use Rattle.hayro_ccitt.proofs.Names.{OutOfMemory, IsFault, ended, false≢true}
+use Rattle.hayro_ccitt.proofs.Names.{DecodeSettings, Group4, OutOfMemory, IsFault, ended, false≢true, ◌∷◌}
 use Rattle.std.specs.Prelude.{◌^◌}
 use Rattle.std.proofs.lemmas.List.{length-take-le}
 use Rattle.hayro_ccitt.specs.BitOrder.{BitOrder}
 use Rattle.hayro_ccitt.specs.Bits.{BitsFit}
+use Rattle.hayro_ccitt.specs.Laws.{ReadsClosedPictures}
 use Rattle.hayro_ccitt.specs.FeedsPaid.{IsHistory, cost_of_failure}
 use Rattle.hayro_ccitt.specs.RowFeeds.{ComeNext, Feeding, FeedsNext, HoldsMore, IsFeedOf, KeepsBits, fed_bits, fed_end}
 use Rattle.hayro_ccitt.specs.declared.row_feed.Fed.{Fed}
@@ -15,13 +16,19 @@ use Rattle.hayro_ccitt.proofs.BitReading.BitLists.{bits_are_whole, length-bits_i
 use Rattle.hayro_ccitt.proofs.ErrorKinds.{by_kind}
 use Rattle.hayro_ccitt.proofs.Readings.FeedsPaid.{feeds_are_paid}
 use Rattle.fax_callers.specs.PageFeeds.{EndsPageHere, IsPageFeedOf, IsPageReading, IsPaidFrom, IsPaidPage, PageFeeding, Stays}
-use Rattle.fax_callers.specs.PageFeeds.{fed_from_start}
-use Rattle.fax_callers.specs.PagesPaid.{IsPagesHistory, PagesArePaid, PagesCount, PaysNext, size_of}
+use Rattle.fax_callers.specs.PageFeeds.{fed_from_start, settings_of}
+use Rattle.fax_callers.specs.Pages.{PagesStand, ReadsPages, page_by}
+use Rattle.fax_callers.specs.PagesPaid.{EndsPaid, IsPagesHistory, PagesArePaid, PagesCount, PaysNext, size_of}
+use Rattle.fax_callers.specs.Rtc.{page_size}
 use Rattle.fax_callers.specs.declared.page_feed.PageFed.{PageFed}
-use Rattle.fax_callers.specs.declared.page_feed.PageFed.TheVariants.{PageEnd}
+use Rattle.fax_callers.specs.declared.page_feed.PageFed.TheVariants.{Row as OneRow, NeedsMore, End, PageEnd}
 use Rattle.fax_callers.specs.declared.rtc.EolsSeen.{EolsSeen}
 use Rattle.fax_callers.proofs.PageReadings.{comes, counted_all, longer_within, with_more}
-use Rattle.fax_callers.proofs.PageTurns.{bad_end, count_within, either_way, new_ended, unended_is}
+use Rattle.fax_callers.proofs.PageTurns.{bad_end, count_within, either_way, has, new_ended, new_reading, new_settings}
+use Rattle.fax_callers.proofs.PageTurns.{unended_is}
+use Rattle.fax_callers.proofs.PagesFed.{given_within}
+use Rattle.fax_callers.proofs.PagesInTurn.{at_old}
+use Rattle.fax_callers.proofs.PagesRead.{closed_size, pages_read}
 
 -- ---- The reading of a page
 
@@ -154,10 +161,11 @@ module _ {order : BitOrder} {bytes : List ℕ} {given calls lost : ℕ} {old new
 
 -- the page goes on, and nothing was lost
 pub pays_still : {whole : List ℕ} {start : ℕ} {old new : PageFeeding} (answer : Result PageFed DecodeError)
-    → old.page.ctx.ticks ≤ new.page.ctx.ticks → answer ≢ Ok PageEnd
+    → old.page.ctx.ticks ≤ new.page.ctx.ticks → (settings_of new ≡ settings_of old) × (new.order ≡ old.order)
+    → answer ≢ Ok PageEnd
     → ((calls before : ℕ) → IsPaidFrom whole start calls before old → IsPaidFrom whole start (calls + 1) before new)
     → PaysNext whole start old new answer
-pays_still {whole} {start} {old} {new} answer counts other goes = record {
+pays_still {whole} {start} {old} {new} answer counts same other goes = record {
   page = new.page;
   given = new.given;
   lost = 0;
@@ -169,6 +177,7 @@ pays_still {whole} {start} {old} {new} answer counts other goes = record {
       subst (λ (n : ℕ). IsPaidFrom whole start (calls + 1) n new) none (goes calls before paid);
   stays = λ e. (refl, refl);
   over = λ e. absurd (other e);
+  same = same;
 }
 
 -- so it does after a call that didn't fail
@@ -188,7 +197,7 @@ pub pays_later : {whole : List ℕ} {start : ℕ} {old mid new : PageFeeding} {a
     → Stays whole start old mid
     → ((calls before : ℕ) → IsPaidFrom whole start calls before old → IsPaidFrom whole start calls before mid)
     → PaysNext whole start mid new answer → PaysNext whole start old new answer
-pays_later stays goes next = record {
+pays_later {whole} {start} {old} {mid} {new} stays goes next = record {
   page = next.page;
   given = next.given;
   lost = next.lost;
@@ -197,7 +206,17 @@ pays_later stays goes next = record {
   unfailed = next.unfailed;
   goes_on = λ calls before paid. next.goes_on calls before (goes calls before paid);
   stays = next.stays;
-  over = next.over;
+  over = λ e.
+      let over = next.over e in
+      record {
+        is_over = over.is_over;
+        size = at_old stays (λ s o. page_by s o whole start ≡ Ok (size_of next.page)) over.size;
+        some = over.some;
+        within = over.within;
+        most = at_old stays (λ s o. next.given ≤ page_size s.encoding o (drop start whole)) over.most;
+        next = over.next;
+      };
+  same = (next.same.0 ∙ stays.rows.settings, next.same.1 ∙ stays.order);
 }
 
 -- ---- A call of the page's reading
@@ -230,6 +249,9 @@ module _ (feed : PageFeeding) (new : Feeding) (answer : Result Fed DecodeError) 
         is.page.within,
       )
 
+  settings_same : (settings_of after ≡ settings_of feed) × (feed.order ≡ feed.order)
+  settings_same = (new_settings feed new answer keeps reads at_end whole start is, refl)
+
   goes : answer ≢ Err OutOfMemory → (calls before : ℕ) → IsPaidFrom whole start calls before feed
       → IsPaidFrom whole start (calls + 1) before after
   goes other calls before paid = either _ (λ none. read_paid answer keeps none (λ any tried. reads any tried none) paid other)
@@ -238,7 +260,7 @@ module _ (feed : PageFeeding) (new : Feeding) (answer : Result Fed DecodeError) 
 
   pub pays_read : (result : Result PageFed DecodeError) → answer ≢ Err OutOfMemory → result ≢ Ok PageEnd
       → PaysNext whole start feed after result
-  pays_read result other still = pays_still result counts still (goes other)
+  pays_read result other still = pays_still result counts settings_same still (goes other)
 
   pays_failed : answer ≡ Err OutOfMemory → PaysNext whole start feed after (Err OutOfMemory)
   pays_failed e = record {
@@ -253,6 +275,7 @@ module _ (feed : PageFeeding) (new : Feeding) (answer : Result Fed DecodeError) 
         absurd (is.page.has_memory (ended_so ∙ ap Some (bad_end end OutOfMemory (sym e ∙ (at_end end ended_so).1)))));
     stays = λ other. (refl, refl);
     over = λ f. absurd cc;
+    same = settings_same;
   }
 
   pub pays_error : (error : DecodeError) → answer ≡ Err error → PaysNext whole start feed after (Err error)
@@ -280,14 +303,28 @@ module _ (feed : PageFeeding) (new : Feeding) (answer : Result Fed DecodeError) 
         (ap (λ (f : PageFeeding). f.page) same, ap (λ (f : PageFeeding). f.given) same);
     over = λ f.
         let next = start + size_of new in
-        let fits : BitsFit (drop next whole) = omega (arith, is.fit, length-drop next whole) in (
-          new_ended feed new answer keeps reads at_end whole start is e,
-          count_within feed new answer keeps reads at_end whole start is e,
-          subst (λ (o : BitOrder). IsPaidPage o (drop next whole) last.given 0 0 last.page) (sym ends.order)
+        let fits : BitsFit (drop next whole) = omega (arith, is.fit, length-drop next whole) in
+        record {
+          is_over = new_ended feed new answer keeps reads at_end whole start is e;
+          size = (has feed new answer keeps reads at_end whole start is e).count;
+          some = ends.some f;
+          within = count_within feed new answer keeps reads at_end whole start is e;
+          most = subst (λ (s : DecodeSettings). feed.given ≤ page_size s.encoding feed.order (drop start whole))
+              settings_same.0 (given_within (new_reading feed new answer keeps reads at_end whole start is));
+          next = subst (λ (o : BitOrder). IsPaidPage o (drop next whole) last.given 0 0 last.page) (sym ends.order)
               (subst (λ (n : ℕ). IsPaidPage feed.order (drop next whole) n 0 0 last.page) (sym (ends.back f).1)
-              (ends.paid f (drop next whole) fits)),
-        );
+              (ends.paid f (drop next whole) fits));
+        };
+    same = by_end result ends;
   }
+    where
+      by_end : (result : Result PageFed DecodeError) → EndsPageHere after last result
+          → (settings_of last ≡ settings_of feed) × (last.order ≡ feed.order)
+      by_end (Ok OneRow) ends = absurd (ends.only.0 refl)
+      by_end (Ok NeedsMore) ends = absurd (ends.only.1 refl)
+      by_end (Ok PageEnd) ends = ((ends.none_read refl).0 ∙ settings_same.0, ends.order)
+      by_end (Ok End) ends = (ap settings_of (ends.end refl).0 ∙ settings_same.0, ends.order)
+      by_end (Err error) ends = (ap settings_of ends.failed.1 ∙ settings_same.0, ends.order)
 
 -- ---- All calls
 
@@ -351,11 +388,69 @@ history_paid {whole} (IsPagesHistory.ends {count} {start} {old} {new} before nex
     record {
       calls = 0;
       lost = 0;
-      page = over.2;
-      sum = omega (arith, paid.sum, over.1, page_most (next.goes_on paid.calls paid.lost paid.page));
+      page = over.next;
+      sum = omega (arith, paid.sum, over.within, page_most (next.goes_on paid.calls paid.lost paid.page));
     }
 
-pub pages_are_paid : PagesArePaid
-pages_are_paid whole count start feed history =
-    let paid = history_paid history in
-    omega (arith, paid.sum, page_most paid.page)
+-- ---- Pages that are closed
+
+-- the history is one of pages by these settings, which fill the data; no byte was given again so far
+record NoneAgain (settings : DecodeSettings) (order : BitOrder) (whole : List ℕ) (count : PagesCount) (start : ℕ)
+    (feed : PageFeeding) : Type 0 where
+  same : (settings_of feed ≡ settings) × (feed.order ≡ order)
+  stand : (ends : List ℕ) × PagesStand settings order whole start ends
+  none : count.again ≡ 0
+
+module _ (settings : DecodeSettings) (order : BitOrder) (whole ends : List ℕ) (law : ReadsPages settings order)
+    (three : settings.encoding ≢ Group4) (stand : PagesStand settings order whole 0 ends) where
+  -- a page that has ended ends where the next one stands
+  ends_there : {start given : ℕ} {page : Feeding} {old new : PageFeeding} → EndsPaid whole start page given old new
+      → (settings_of old ≡ settings) × (old.order ≡ order) → given ≤ length (drop start whole)
+      → (ends : List ℕ) → PagesStand settings order whole start ends
+      → ((ends : List ℕ) × PagesStand settings order whole (start + size_of page) ends) × (given - size_of page ≡ 0)
+  ends_there {start} {given} {page} {old} over same within [] all =
+      absurd (omega (arith, all, over.some, over.within, within, length-drop start whole))
+  ends_there {start} {given} {page} {old} over same within (end ∷ ends) stands =
+      let closed = stands.2.1 in
+      let at : (Q : DecodeSettings → BitOrder → Type 0) → Q (settings_of old) old.order → Q settings order
+      = λ Q q. subst (λ (s : DecodeSettings). Q s order) same.0 (subst (Q (settings_of old)) same.1 q) in
+      let read : page_by settings order whole start ≡ Ok (size_of page)
+      = at (λ s o. page_by s o whole start ≡ Ok (size_of page)) over.size in
+      let count : end - start ≡ size_of page = let both = sym (law whole start stands.2.0 (end - start) closed).0 ∙ read in cc in
+      let there : end ≡ start + size_of page = omega (arith, count, stands.0) in (
+        (ends, subst (λ (n : ℕ). PagesStand settings order whole n ends) there stands.3),
+        omega (
+          arith,
+          count,
+          at (λ s o. given ≤ page_size s.encoding o (drop start whole)) over.most,
+          closed_size settings order (drop start whole) three closed,
+        ),
+      )
+
+  none_again : {count : PagesCount} {start : ℕ} {feed : PageFeeding} → IsPagesHistory whole count start feed
+      → (settings_of feed ≡ settings) × (feed.order ≡ order) → NoneAgain settings order whole count start feed
+  none_again (IsPagesHistory.opens paid) same = record { same = same; stand = (ends, stand); none = refl }
+  none_again (IsPagesHistory.feeds before page order_is given) same =
+      let was = none_again before (ap (λ (f : Feeding). f.ctx.held.settings) (sym page) ∙ same.0, sym order_is ∙ same.1) in
+      record { same = same; stand = was.stand; none = was.none }
+  none_again (IsPagesHistory.reads before next other) same =
+      let was = none_again before (sym next.same.0 ∙ same.0, sym next.same.1 ∙ same.1) in
+      record { same = same; stand = was.stand; none = was.none }
+  none_again (IsPagesHistory.ends before next) same =
+      let was = none_again before (sym next.same.0 ∙ same.0, sym next.same.1 ∙ same.1) in
+      let paid = history_paid before in
+      let there = ends_there (next.over refl) was.same (next.goes_on paid.calls paid.lost paid.page).within was.stand.0
+      was.stand.1 in
+      record { same = same; stand = there.0; none = omega (arith, was.none, there.1) }
+
+-- ---- The law
+
+pub pages_are_paid : ReadsClosedPictures → PagesArePaid
+pages_are_paid law = record {
+  work = λ whole count start feed history.
+      let paid = history_paid history in
+      omega (arith, paid.sum, page_most paid.page);
+  closed = λ whole ends count start feed history three are stand.
+      (none_again (settings_of feed) feed.order whole ends (pages_read (settings_of feed) feed.order law are) three stand history
+      (refl, refl)).none;
+}

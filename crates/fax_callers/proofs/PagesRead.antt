@@ -109,6 +109,21 @@ size_of_page settings order bytes bits more three split found = by_encoding sett
     by_encoding Group3_1D three found = counted false found
     by_encoding Group3_2D three found = counted true found
 
+rtc_page_size : (settings : DecodeSettings) (order : BitOrder) {rows : List Row} (bytes : List ℕ) (bits : Bits) (count : ℕ)
+    → BeginsWithPageT4 settings rows bits (bits_in order bytes) → count ≡ (length bits + 7) / 8
+    → page_size settings.encoding order bytes ≡ count
+rtc_page_size settings order {rows} bytes bits count begins e =
+    size_of_page settings order bytes bits begins.begins.0 begins.encoding begins.begins.1
+    (behind_page settings.encoding settings.columns rows bits begins.begins.0 begins.encoding begins.picture) ∙ sym e
+
+-- in Group 3 a page may occupy the bytes that it does
+pub closed_size : (settings : DecodeSettings) (order : BitOrder) {rows : List Row} {count : ℕ} (bytes : List ℕ)
+    → settings.encoding ≢ Group4 → IsPage settings rows count (bits_in order bytes)
+    → page_size settings.encoding order bytes ≡ count
+closed_size settings order bytes three (IsPage.by_eofb bits begins e) = absurd (three begins.encoding)
+closed_size settings order {rows} {count} bytes three (IsPage.by_rtc bits begins e) =
+    rtc_page_size settings order bytes bits count begins e
+
 -- the bytes that some bits occupy, the last one filled up, and the bits that fill it
 module _ (order : BitOrder) (bytes : List ℕ) (bits more : Bits) (count : ℕ) (split : bits_in order bytes ≡ bits ++ more)
     (size : count ≡ (length bits + 7) / 8) where
@@ -217,10 +232,7 @@ module _ (settings : DecodeSettings) (order : BitOrder) (law : ReadsClosedPictur
       ap (λ (encoding : EncodingMode). take (page_size encoding order bytes) bytes) begins.encoding ∙ take-length bytes in
       subst (IsRead rows count) (sym all) (closed_is_read rows count bytes (IsClosedPicture.by_eofb bits begins e))
   page_is_read rows count bytes (IsPage.by_rtc bits begins e) =
-      let found = behind_page settings.encoding settings.columns rows bits begins.begins.0 begins.encoding begins.picture in
-      let size : page_size settings.encoding order bytes ≡ count =
-      size_of_page settings order bytes bits begins.begins.0 begins.encoding begins.begins.1 found ∙ sym e in
-      subst (λ (n : ℕ). IsRead rows count (take n bytes)) (sym size)
+      subst (λ (n : ℕ). IsRead rows count (take n bytes)) (sym (rtc_page_size settings order bytes bits count begins e))
       (closed_is_read rows count (take count bytes) (cut_t4 rows count bytes bits begins e))
 
   -- wherever the page begins

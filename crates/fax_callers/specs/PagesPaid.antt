@@ -1,11 +1,15 @@
 -- What all calls of a feed of pages count.
-use Rattle.std.specs.Prelude.{◌≡◌, ◌≢◌, ◌≤◌, ◌+◌, ◌-◌, ◌*◌, ◌/◌, ℕ, List, drop, Some, Result, Ok, Err}
+use Rattle.std.specs.Prelude.{◌≡◌, ◌≢◌, ◌<◌, ◌≤◌, ◌+◌, ◌-◌, ◌*◌, ◌/◌, ℕ, List, drop, Some, Result, Ok, Err}
 use Rattle.hayro_ccitt.specs.DecodeError.{DecodeError}
 use Rattle.hayro_ccitt.specs.DecodeError.TheVariants.{OutOfMemory}
+use Rattle.hayro_ccitt.specs.EncodingMode.TheVariants.{Group4}
 use Rattle.hayro_ccitt.specs.FeedsPaid.{cost_of_failure}
 use Rattle.hayro_ccitt.specs.RowFeeds.{Feeding}
 use Rattle.hayro_ccitt.specs.RowsRead.{ended}
-use Rattle.fax_callers.specs.PageFeeds.{IsPaidFrom, IsPaidPage, PageFeeding, fed_from_start}
+use Rattle.hayro_ccitt.specs.Settings.{AreSettings}
+use Rattle.fax_callers.specs.PageFeeds.{IsPaidFrom, IsPaidPage, PageFeeding, fed_from_start, settings_of}
+use Rattle.fax_callers.specs.Pages.{PagesStand, page_by}
+use Rattle.fax_callers.specs.Rtc.{page_size}
 use Rattle.fax_callers.specs.declared.page_feed.PageFed.{PageFed}
 use Rattle.fax_callers.specs.declared.page_feed.PageFed.TheVariants.{PageEnd}
 
@@ -14,6 +18,16 @@ use Rattle.fax_callers.specs.declared.page_feed.PageFed.TheVariants.{PageEnd}
 -- how many bytes a page has that has ended, the last one filled up
 abbrev pub size_of : Feeding → ℕ
 size_of page = (page.dropped + page.place + 7) / 8
+
+-- A page has ended whose reading was left like this, and was given so many bytes: no more than it may occupy, which are those up
+-- to RTC in Group 3. The next one begins at the byte behind it.
+pub record EndsPaid (whole : List ℕ) (start : ℕ) (page : Feeding) (given : ℕ) (old new : PageFeeding) : Type 0 where
+  pub is_over : ended page.rows.stand ≡ Some (Ok tt)
+  pub size : page_by (settings_of old) old.order whole start ≡ Ok (size_of page)
+  pub some : 0 < size_of page
+  pub within : size_of page ≤ given
+  pub most : given ≤ page_size (settings_of old).encoding old.order (drop start whole)
+  pub next : IsPaidFrom whole (start + size_of page) 0 0 new
 
 -- What a call that reads the next row counts: how the reading of the page goes on, which was given so many bytes, and what it
 -- costs more if it fails for memory. Where the page has ended, that reading is over, and the next one begins.
@@ -27,8 +41,8 @@ pub record PaysNext (whole : List ℕ) (start : ℕ) (old new : PageFeeding) (an
   pub goes_on : (calls before : ℕ) → IsPaidFrom whole start calls before old
       → IsPaidPage new.order (drop start whole) given (calls + 1) (before + lost) page
   pub stays : answer ≢ Ok PageEnd → (new.page ≡ page) × (new.given ≡ given)
-  pub over : answer ≡ Ok PageEnd → (ended page.rows.stand ≡ Some (Ok tt)) × (size_of page ≤ given)
-      × IsPaidFrom whole (start + size_of page) 0 0 new
+  pub over : answer ≡ Ok PageEnd → EndsPaid whole start page given old new
+  pub same : (settings_of new ≡ settings_of old) × (new.order ≡ old.order)
 
 -- what was called and counted so far: how many pages have ended, what was counted for them, how many bytes they were given that
 -- are behind their ends, and so are given again, how many calls read the next row, and what those cost more that failed for memory
@@ -62,10 +76,14 @@ pub data IsPagesHistory (whole : List ℕ) : PagesCount → ℕ → PageFeeding 
 
 -- ---- The law
 
--- In any history of a feed of pages the count of work, of all of them, is at most 544 ticks for each byte that was fed, or given
--- again to the next page, 288 ticks for each page, and 32 for each call that reads the next row, whatever pieces the data comes in. A
--- call that fails for memory costs more.
-abbrev pub PagesArePaid : Type 0
-PagesArePaid = (whole : List ℕ) (count : PagesCount) (start : ℕ) (feed : PageFeeding) → IsPagesHistory whole count start feed
-    → count.ticks + feed.page.ctx.ticks
-    ≤ 544 * (start + fed_from_start feed + count.again) + 288 * (count.pages + 1) + 32 * count.calls + count.lost
+pub record PagesArePaid : Type 0 where
+  -- In any history of a feed of pages the count of work, of all of them, is at most 544 ticks for each byte that was fed, or given
+  -- again to the next page, 288 ticks for each page, and 32 for each call that reads the next row, whatever pieces the data comes
+  -- in. A call that fails for memory costs more.
+  pub work : (whole : List ℕ) (count : PagesCount) (start : ℕ) (feed : PageFeeding) → IsPagesHistory whole count start feed
+      → count.ticks + feed.page.ctx.ticks
+      ≤ 544 * (start + fed_from_start feed + count.again) + 288 * (count.pages + 1) + 32 * count.calls + count.lost
+  -- where pages of Group 3, each closed by RTC, fill the data, no byte is given again (T.4, 4.1.4 and 4.2.4)
+  pub closed : (whole ends : List ℕ) (count : PagesCount) (start : ℕ) (feed : PageFeeding) → IsPagesHistory whole count start feed
+      → (settings_of feed).encoding ≢ Group4 → AreSettings (settings_of feed)
+      → PagesStand (settings_of feed) feed.order whole 0 ends → count.again ≡ 0

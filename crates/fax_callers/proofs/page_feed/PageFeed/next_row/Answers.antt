@@ -1,4 +1,4 @@
-use Rattle.hayro_ccitt.proofs.Names.{◌≡◌, ◌≢◌, ◌+◌, ◌∙◌, true, Result, ℕ, List, Ok, Err, ap, arith, cond, rules, subst, sym, inl, inr, false≢true}
+use Rattle.hayro_ccitt.proofs.Names.{◌≡◌, ◌≢◌, ◌+◌, ◌∙◌, refl, true, Result, ℕ, List, Ok, Err, ap, arith, cond, rules, subst, sym, inl, inr, false≢true}
 use Rattle.hayro_ccitt.proofs.Names.{Bool, length}
 use Rattle.hayro_ccitt.specs.DecodeError.{DecodeError}
 use Rattle.hayro_ccitt.specs.DecodeSettings.{DecodeSettings}
@@ -64,7 +64,8 @@ module _ (c : After-give) where
   pays : (whole : List ℕ) (start : ℕ) → IsPageFeedOf whole start c.args.self.now → c.give.result ≢ Ok true
       → (answer : Result PageFed DecodeError) → answer ≢ Ok PageEnd → PaysNext whole start c.args.self.now c.give.new.self answer
   pays whole start is other answer still =
-      pays_still answer (stays_now whole start is).rows.counts still (λ calls before paid.
+      let stays = stays_now whole start is in
+      pays_still answer stays.rows.counts (stays.rows.settings, stays.order) still (λ calls before paid.
       c.give.ensures.unpaid whole start (calls + 1) before other (paid_before whole start is calls before paid))
 
   -- as much could be given before
@@ -137,7 +138,7 @@ returns-then-not-branch-clause-pages c = λ whole start rows count is page.
 
 pub returns-then-has_no_page-clause-pays : goal.returns-then-has_no_page-clause-pays
 returns-then-has_no_page-clause-pays c = λ whole start is.
-    pays_still _ (omega arith) (λ e. cc) (λ calls before. paid_more (omega arith))
+    pays_still _ (omega arith) (refl, refl) (λ e. cc) (λ calls before. paid_more (omega arith))
 
 pub returns-then-not-needs_more-clause-pays : goal.returns-then-not-needs_more-clause-pays
 returns-then-not-needs_more-clause-pays c = λ whole start is.
