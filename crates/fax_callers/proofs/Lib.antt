@@ -5,6 +5,7 @@ mod PageTurns
 mod PagesCut
 mod PagesFed
 mod PagesInTurn
+mod PagesNeeded
 mod PagesPaid
 mod PagesRead
 mod ReadsOnward

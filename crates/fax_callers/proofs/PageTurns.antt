@@ -2,7 +2,7 @@
 use Rattle.hayro_ccitt.proofs.Names.{◌≡◌, ◌≢◌, ℕ, ◌+◌, ◌≤◌, ◌++◌, ◌∙◌, inr, Bool, true, false, List}
 use Rattle.hayro_ccitt.proofs.Names.{Option, None, Some, Result, Ok, Err, refl, sym, ap, subst, arith, length, drop, length-drop}
 use Rattle.hayro_ccitt.proofs.Names.{Bits, bits_in, DecodeError, DecodeSettings, OutOfMemory, HasEnded, IfErr, IsFault}
-use Rattle.hayro_ccitt.proofs.Names.{MissIsTold, ReadsNext, RowsRead, ended, missed_before}
+use Rattle.hayro_ccitt.proofs.Names.{Group4, MissIsTold, ReadsNext, RowsRead, ended, missed_before, plain, ◌<◌}
 use Rattle.hayro_ccitt.specs.BitOrder.{BitOrder}
 use Rattle.hayro_ccitt.specs.Bits.{BitsFit}
 use Rattle.hayro_ccitt.specs.RowFeeds.{Feeding, FeedsNext, IsFeedOf, KeepsBits, StandsIn, StaysThere, fed_end, fed_over}
@@ -11,17 +11,19 @@ use Rattle.hayro_ccitt.specs.declared.row_feed.Fed.TheVariants.{Row as ReadRow, 
 use Rattle.hayro_ccitt.specs.declared.row_reader.RowState.{RowState}
 use Rattle.hayro_ccitt.specs.declared.row_reader.Stand.{Stand}
 use Rattle.hayro_ccitt.specs.declared.row_reader.Stand.TheVariants.{AtLine, BehindRow, AtEnd, AtFault}
+use Rattle.hayro_ccitt.proofs.BitReading.BitLists.{length-bits_in}
 use Rattle.hayro_ccitt.proofs.ErrorKinds.{by_kind}
 use Rattle.hayro_ccitt.proofs.Readings.RowByRow.{failed_stands}
 use Rattle.fax_callers.specs.PageFeeds.{EndsPage, EndsPageHere, GivesNext, HasNoRow, IsPageFeedOf, IsPageReading, PageFeeding}
 use Rattle.fax_callers.specs.PageFeeds.{SameRows}
 use Rattle.fax_callers.specs.PageFeeds.{bytes_read, page_bits, settings_of}
-use Rattle.fax_callers.specs.Pages.{page_bytes}
+use Rattle.fax_callers.specs.Pages.{page_by, page_bytes}
 use Rattle.fax_callers.specs.declared.page_feed.PageFed.{PageFed}
 use Rattle.fax_callers.specs.declared.page_feed.PageFed.TheVariants.{Row as OneRow, NeedsMore, End, PageEnd}
 use Rattle.fax_callers.specs.Rtc.{none_seen}
 use Rattle.fax_callers.specs.declared.rtc.EolsSeen.{EolsSeen}
 use Rattle.fax_callers.proofs.PageReadings.{kept_page}
+use Rattle.fax_callers.proofs.PagesNeeded.{some_wide, waits_near}
 use Rattle.fax_callers.proofs.PagesFed.{ended_within, has_ended, page_moves, page_reads, same_rows}
 
 -- ---- One call
@@ -202,6 +204,21 @@ module _ (feed : PageFeeding) (new : Feeding) (answer : Result Fed DecodeError) 
 
     pub waits_unfinished : answer ≡ Ok WantsMore → new.finished ≡ false
     waits_unfinished e = ((next_of e (unended_more e)).unsettled refl).0
+
+    -- so all bytes that were given but one are needed
+    pub waits_few : answer ≡ Ok WantsMore → (settings_of feed).encoding ≡ Group4 → (settings_of feed).rows ≡ 0 → (size : ℕ)
+        → 0 < size → page_by (settings_of feed) feed.order whole start ≡ Ok size → feed.given ≤ size + 1
+    waits_few e four unlimited size some outcome =
+        let next = next_of e (unended_more e) in
+        let same = new_settings in
+        let bytes = page_bytes (settings_of feed) feed.order whole start in
+        waits_near new next.stands next.goes_on.within (next.unsettled refl).1
+        (ap (λ (s : DecodeSettings). s.encoding) same ∙ four) (ap (λ (s : DecodeSettings). s.rows) same ∙ unlimited)
+        (some_wide new.ctx.held.settings bits size some there) (length bytes) feed.given size (length-bits_in feed.order bytes)
+        (omega (arith, keeps.dropped, ap length keeps.kept, is.page.counted)) there
+      where
+        there : (plain new.ctx.held.settings bits).outcome ≡ Ok size
+        there = subst (λ (s : DecodeSettings). (plain s bits).outcome ≡ Ok size) (sym new_settings) outcome
 
     -- a fault, or no memory
     pub gives_fault : (error : DecodeError) → answer ≡ Err error → GivesNext whole start feed after (Err error)

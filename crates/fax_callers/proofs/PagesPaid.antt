@@ -16,7 +16,7 @@ use Rattle.hayro_ccitt.proofs.BitReading.BitLists.{bits_are_whole, length-bits_i
 use Rattle.hayro_ccitt.proofs.ErrorKinds.{by_kind}
 use Rattle.hayro_ccitt.proofs.Readings.FeedsPaid.{feeds_are_paid}
 use Rattle.fax_callers.specs.PageFeeds.{EndsPageHere, IsPageFeedOf, IsPageReading, IsPaidFrom, IsPaidPage, PageFeeding, Stays}
-use Rattle.fax_callers.specs.PageFeeds.{fed_from_start, settings_of}
+use Rattle.fax_callers.specs.PageFeeds.{FewGiven, fed_from_start, settings_of}
 use Rattle.fax_callers.specs.Pages.{PagesStand, ReadsPages, page_by}
 use Rattle.fax_callers.specs.PagesPaid.{EndsPaid, IsPagesHistory, PagesArePaid, PagesCount, PaysNext, size_of}
 use Rattle.fax_callers.specs.Rtc.{page_size}
@@ -162,10 +162,11 @@ module _ {order : BitOrder} {bytes : List ℕ} {given calls lost : ℕ} {old new
 -- the page goes on, and nothing was lost
 pub pays_still : {whole : List ℕ} {start : ℕ} {old new : PageFeeding} (answer : Result PageFed DecodeError)
     → old.page.ctx.ticks ≤ new.page.ctx.ticks → (settings_of new ≡ settings_of old) × (new.order ≡ old.order)
+    → (FewGiven (settings_of old) old.order whole start old.given → FewGiven (settings_of old) old.order whole start new.given)
     → answer ≢ Ok PageEnd
     → ((calls before : ℕ) → IsPaidFrom whole start calls before old → IsPaidFrom whole start (calls + 1) before new)
     → PaysNext whole start old new answer
-pays_still {whole} {start} {old} {new} answer counts same other goes = record {
+pays_still {whole} {start} {old} {new} answer counts same few other goes = record {
   page = new.page;
   given = new.given;
   lost = 0;
@@ -175,6 +176,7 @@ pays_still {whole} {start} {old} {new} answer counts same other goes = record {
   goes_on = λ calls before paid.
       let none : before ≡ before + 0 = omega arith in
       subst (λ (n : ℕ). IsPaidFrom whole start (calls + 1) n new) none (goes calls before paid);
+  few = few;
   stays = λ e. (refl, refl);
   over = λ e. absurd (other e);
   same = same;
@@ -195,9 +197,10 @@ pays_here {whole} {start} {old} {new} next other memory calls before paid =
 -- a call that pays after others that are paid
 pub pays_later : {whole : List ℕ} {start : ℕ} {old mid new : PageFeeding} {answer : Result PageFed DecodeError}
     → Stays whole start old mid
+    → (FewGiven (settings_of old) old.order whole start old.given → FewGiven (settings_of old) old.order whole start mid.given)
     → ((calls before : ℕ) → IsPaidFrom whole start calls before old → IsPaidFrom whole start calls before mid)
     → PaysNext whole start mid new answer → PaysNext whole start old new answer
-pays_later {whole} {start} {old} {mid} {new} stays goes next = record {
+pays_later {whole} {start} {old} {mid} {new} stays few goes next = record {
   page = next.page;
   given = next.given;
   lost = next.lost;
@@ -205,6 +208,8 @@ pays_later {whole} {start} {old} {mid} {new} stays goes next = record {
   failed = next.failed;
   unfailed = next.unfailed;
   goes_on = λ calls before paid. next.goes_on calls before (goes calls before paid);
+  few = λ before.
+      at_old stays (λ s o. FewGiven s o whole start mid.given → FewGiven s o whole start next.given) next.few (few before);
   stays = next.stays;
   over = λ e.
       let over = next.over e in
@@ -215,6 +220,7 @@ pays_later {whole} {start} {old} {mid} {new} stays goes next = record {
         within = over.within;
         most = at_old stays (λ s o. next.given ≤ page_size s.encoding o (drop start whole)) over.most;
         next = over.next;
+        none_given = over.none_given;
       };
   same = (next.same.0 ∙ stays.rows.settings, next.same.1 ∙ stays.order);
 }
@@ -260,7 +266,7 @@ module _ (feed : PageFeeding) (new : Feeding) (answer : Result Fed DecodeError) 
 
   pub pays_read : (result : Result PageFed DecodeError) → answer ≢ Err OutOfMemory → result ≢ Ok PageEnd
       → PaysNext whole start feed after result
-  pays_read result other still = pays_still result counts settings_same still (goes other)
+  pays_read result other still = pays_still result counts settings_same (λ few. few) still (goes other)
 
   pays_failed : answer ≡ Err OutOfMemory → PaysNext whole start feed after (Err OutOfMemory)
   pays_failed e = record {
@@ -273,6 +279,7 @@ module _ (feed : PageFeeding) (new : Feeding) (answer : Result Fed DecodeError) 
     goes_on = λ calls before paid. either _ (λ none.
         fail_paid answer keeps none (λ any tried. reads any tried none) paid e) (λ end ended_so.
         absurd (is.page.has_memory (ended_so ∙ ap Some (bad_end end OutOfMemory (sym e ∙ (at_end end ended_so).1)))));
+    few = λ few. few;
     stays = λ other. (refl, refl);
     over = λ f. absurd cc;
     same = settings_same;
@@ -298,6 +305,7 @@ module _ (feed : PageFeeding) (new : Feeding) (answer : Result Fed DecodeError) 
         subst (λ (o : BitOrder). IsPaidPage o (drop start whole) feed.given (calls + 1) (before + 0) new) (sym ends.order)
         (subst (λ (n : ℕ). IsPaidFrom whole start (calls + 1) n after) none
         (goes (λ memory. let both = sym e ∙ memory in cc) calls before paid));
+    few = λ few. few;
     stays = λ other.
         let same = unended_is feed new answer keeps reads at_end whole start is e result ends other in
         (ap (λ (f : PageFeeding). f.page) same, ap (λ (f : PageFeeding). f.given) same);
@@ -314,6 +322,7 @@ module _ (feed : PageFeeding) (new : Feeding) (answer : Result Fed DecodeError) 
           next = subst (λ (o : BitOrder). IsPaidPage o (drop next whole) last.given 0 0 last.page) (sym ends.order)
               (subst (λ (n : ℕ). IsPaidPage feed.order (drop next whole) n 0 0 last.page) (sym (ends.back f).1)
               (ends.paid f (drop next whole) fits));
+          none_given = (ends.back f).1;
         };
     same = by_end result ends;
   }
@@ -360,7 +369,7 @@ record ArePaid (whole : List ℕ) (count : PagesCount) (start : ℕ) (feed : Pag
 
 history_paid : {whole : List ℕ} {count : PagesCount} {start : ℕ} {feed : PageFeeding} → IsPagesHistory whole count start feed
     → ArePaid whole count start feed
-history_paid (IsPagesHistory.opens paid) = record { calls = 0; lost = 0; page = paid; sum = omega arith }
+history_paid (IsPagesHistory.opens paid unfed) = record { calls = 0; lost = 0; page = paid; sum = omega arith }
 history_paid {whole} (IsPagesHistory.feeds {count} {start} {old} {new} before page order given) =
     let paid = history_paid before in
     record {
@@ -429,7 +438,7 @@ module _ (settings : DecodeSettings) (order : BitOrder) (whole ends : List ℕ) 
 
   none_again : {count : PagesCount} {start : ℕ} {feed : PageFeeding} → IsPagesHistory whole count start feed
       → (settings_of feed ≡ settings) × (feed.order ≡ order) → NoneAgain settings order whole count start feed
-  none_again (IsPagesHistory.opens paid) same = record { same = same; stand = (ends, stand); none = refl }
+  none_again (IsPagesHistory.opens paid unfed) same = record { same = same; stand = (ends, stand); none = refl }
   none_again (IsPagesHistory.feeds before page order_is given) same =
       let was = none_again before (ap (λ (f : Feeding). f.ctx.held.settings) (sym page) ∙ same.0, sym order_is ∙ same.1) in
       record { same = same; stand = was.stand; none = was.none }
@@ -443,6 +452,54 @@ module _ (settings : DecodeSettings) (order : BitOrder) (whole ends : List ℕ) 
       was.stand.1 in
       record { same = same; stand = there.0; none = omega (arith, was.none, there.1) }
 
+-- ---- Pages of Group 4 without a row limit
+
+record FewAgain (settings : DecodeSettings) (order : BitOrder) (whole : List ℕ) (count : PagesCount) (start : ℕ)
+    (feed : PageFeeding) : Type 0 where
+  few : FewGiven settings order whole start feed.given
+  again : count.again ≤ start + 66 * count.pages
+
+module _ (settings : DecodeSettings) (order : BitOrder) (whole : List ℕ) (four : settings.encoding ≡ Group4)
+    (unlimited : settings.rows ≡ 0) where
+  few_again : {count : PagesCount} {start : ℕ} {feed : PageFeeding} → IsPagesHistory whole count start feed
+      → (settings_of feed ≡ settings) × (feed.order ≡ order) → FewAgain settings order whole count start feed
+  few_again (IsPagesHistory.opens paid unfed) same = record {
+    few = λ f u size some read. omega (arith, unfed);
+    again = omega arith;
+  }
+  few_again (IsPagesHistory.feeds {count} {start} {old} {new} before page order_is given) same =
+      let was = few_again before (ap (λ (f : Feeding). f.ctx.held.settings) (sym page) ∙ same.0, sym order_is ∙ same.1) in
+      record { few = subst (FewGiven settings order whole start) (sym given) was.few; again = was.again }
+  few_again (IsPagesHistory.reads {count} {start} {old} {new} before next other) same =
+      let (settings_is, order_is) : (settings_of old ≡ settings) × (old.order ≡ order)
+      = (sym next.same.0 ∙ same.0, sym next.same.1 ∙ same.1) in
+      let was = few_again before (settings_is, order_is) in
+      record {
+        few = subst (FewGiven settings order whole start) (sym (next.stays other).1)
+            (few_there settings_is order_is next.few was.few);
+        again = was.again;
+      }
+    where
+      few_there : {s : DecodeSettings} {o : BitOrder} {n m : ℕ} → s ≡ settings → o ≡ order
+          → (FewGiven s o whole start n → FewGiven s o whole start m) → FewGiven settings order whole start n
+          → FewGiven settings order whole start m
+      few_there {s} {o} {n} {m} settings_is order_is few =
+          subst (λ (o : BitOrder). FewGiven settings o whole start n → FewGiven settings o whole start m) order_is
+          (subst (λ (s : DecodeSettings). FewGiven s o whole start n → FewGiven s o whole start m) settings_is few)
+  few_again (IsPagesHistory.ends {count} {start} {old} {new} before next) same =
+      let settings_is = sym next.same.0 ∙ same.0 in
+      let order_is = sym next.same.1 ∙ same.1 in
+      let was = few_again before (settings_is, order_is) in
+      let over = next.over refl in
+      let before_it = subst (λ (o : BitOrder). FewGiven (settings_of old) o whole start old.given) (sym order_is)
+      (subst (λ (s : DecodeSettings). FewGiven s order whole start old.given) (sym settings_is) was.few) in
+      let few = next.few before_it (ap (λ (s : DecodeSettings). s.encoding) settings_is ∙ four)
+      (ap (λ (s : DecodeSettings). s.rows) settings_is ∙ unlimited) (size_of next.page) over.some over.size in
+      record {
+        few = λ f u size some read. omega (arith, over.none_given);
+        again = omega (arith, was.again, few);
+      }
+
 -- ---- The law
 
 pub pages_are_paid : ReadsClosedPictures → PagesArePaid
@@ -453,4 +510,6 @@ pages_are_paid law = record {
   closed = λ whole ends count start feed history three are stand.
       (none_again (settings_of feed) feed.order whole ends (pages_read (settings_of feed) feed.order law are) three stand history
       (refl, refl)).none;
+  group4 = λ whole count start feed history four unlimited.
+      (few_again (settings_of feed) feed.order whole four unlimited history (refl, refl)).again;
 }

@@ -1,5 +1,5 @@
 -- A reading ends no earlier than where it stands.
-use Rattle.hayro_ccitt.proofs.Names.{◌≡◌, ◌≢◌, ℕ, suc, ◌+◌, ◌-◌, ◌*◌, ◌/◌, ◌<◌, ◌≤◌, ◌&&◌, ◌||◌, ◌∙◌, Bool, true, false, []}
+use Rattle.hayro_ccitt.proofs.Names.{◌≡◌, ◌≢◌, ◌⊎◌, inl, inr, ℕ, suc, ◌+◌, ◌-◌, ◌*◌, ◌/◌, ◌<◌, ◌≤◌, ◌&&◌, ◌||◌, ◌∙◌, Bool, true, false, []}
 use Rattle.hayro_ccitt.proofs.Names.{Option, None, Some, Result, Ok, Err, refl, sym, ap, subst, arith, length, drop, cond, not}
 use Rattle.hayro_ccitt.proofs.Names.{min}
 use Rattle.hayro_ccitt.proofs.Names.{length-drop, Bits, Row, Line, DecodeError, DecodeSettings, OutOfMemory, ◌%◌}
@@ -30,9 +30,14 @@ EndsWithin n (Ok rest) = length rest ≤ n
 EndsWithin n (Err error) = Unit {0}
 
 -- nor behind a turn
-abbrev Leaves : ℕ → Move → Type 0
+abbrev pub Leaves : ℕ → Move → Type 0
 Leaves n (Turn.next after) = length after.rest ≤ n
 Leaves n (Turn.done end) = EndsWithin n end.outcome
+
+-- nor behind it or the next one
+abbrev pub Leads : DecodeSettings → ℕ → Move → Type 0
+Leads settings n (Turn.next after) = (length after.rest ≤ n) ⊎ Leaves n (move_on settings after)
+Leads settings n (Turn.done end) = EndsWithin n end.outcome
 
 cond_leaves : (n : ℕ) (b : Bool) (one two : Move) → Leaves n one → Leaves n two → Leaves n (cond b one two)
 cond_leaves n true one two p q = p
@@ -66,10 +71,10 @@ row_leaves settings run n le =
         ends (Ok rest) q = omega (arith, q, le)
         ends (Err error) q = tt
 
-gap_leaves : (settings : DecodeSettings) (run : Progress) (n : ℕ) → length run.rest ≤ n → Leaves n (pass_gap settings run)
+pub gap_leaves : (settings : DecodeSettings) (run : Progress) (n : ℕ) → length run.rest ≤ n → Leaves n (pass_gap settings run)
 gap_leaves settings run n le = subst (Leaves n) (sym (pass_gap-is settings run)) (row_leaves settings run n le)
 
-behind_row_shorter : (settings : DecodeSettings) (has_eols : Bool) (rest : Bits)
+pub behind_row_shorter : (settings : DecodeSettings) (has_eols : Bool) (rest : Bits)
     → length (behind_row settings has_eols rest) ≤ length rest
 behind_row_shorter settings has_eols rest =
     cond_le (settings.rows_are_byte_aligned && not has_eols) (aligned rest) rest (length rest)
@@ -95,33 +100,50 @@ module _ (settings : DecodeSettings) (wide : 0 < settings.columns) where
     abbrev end_from : Progress → Ending
     end_from run = repeated (move_on settings) late (suc (left_to_read run)) run
 
-    -- no more is left at the end than behind the next turn
-    turns_leave : (n : ℕ) (run : Progress) → Leaves n (move_on settings run) → EndsWithin n (end_from run).outcome
-    turns_leave n run p =
+    -- no more is left at the end than there are bits
+    on_within : (n : ℕ) (after : Progress) → length after.rest ≤ n → EndsWithin n (end_from after).outcome
+    on_within n after le =
+        repeated_keeps (move_on settings) late (λ s. length s.rest ≤ n) (λ end. EndsWithin n end.outcome) (is_late n)
+        (λ s t small e. next_small s t small (subst (Leaves (length s.rest)) e (move_leaves s)))
+        (λ s end small e. done_small s end small (subst (Leaves (length s.rest)) e (move_leaves s)))
+        (suc (left_to_read after)) after le
+      where
+        next_small : (s t : Progress) → length s.rest ≤ n → length t.rest ≤ length s.rest → length t.rest ≤ n
+        next_small s t small le = omega (arith, small, le)
+
+        done_small : (s : Progress) (end : Ending) → length s.rest ≤ n → EndsWithin (length s.rest) end.outcome
+            → EndsWithin n end.outcome
+        done_small s end small le = by_outcome end.outcome le
+          where
+            by_outcome : (outcome : Result Bits DecodeError) → EndsWithin (length s.rest) outcome → EndsWithin n outcome
+            by_outcome (Ok rest) q = omega (arith, q, small)
+            by_outcome (Err error) q = tt
+
+    -- nor than behind the next turn
+    by_next_turn : (n : ℕ) (run : Progress) → EndsWithin n (after_turn end_from (move_on settings run)).outcome
+        → EndsWithin n (end_from run).outcome
+    by_next_turn n run =
         subst (λ (end : Ending). EndsWithin n end.outcome)
         (sym (repeated_turn (move_on settings) late left_to_read (move_shrinks settings wide) run))
-        (by_turn (move_on settings run) p)
+
+    turns_leave : (n : ℕ) (run : Progress) → Leaves n (move_on settings run) → EndsWithin n (end_from run).outcome
+    turns_leave n run p = by_next_turn n run (by_turn (move_on settings run) p)
       where
-        on : (after : Progress) → length after.rest ≤ n → EndsWithin n (end_from after).outcome
-        on after le =
-            repeated_keeps (move_on settings) late (λ s. length s.rest ≤ n) (λ end. EndsWithin n end.outcome) (is_late n)
-            (λ s t small e. next_small s t small (subst (Leaves (length s.rest)) e (move_leaves s)))
-            (λ s end small e. done_small s end small (subst (Leaves (length s.rest)) e (move_leaves s)))
-            (suc (left_to_read after)) after le
-          where
-            next_small : (s t : Progress) → length s.rest ≤ n → length t.rest ≤ length s.rest → length t.rest ≤ n
-            next_small s t small le = omega (arith, small, le)
-
-            done_small : (s : Progress) (end : Ending) → length s.rest ≤ n → EndsWithin (length s.rest) end.outcome
-                → EndsWithin n end.outcome
-            done_small s end small le = by_outcome end.outcome le
-              where
-                by_outcome : (outcome : Result Bits DecodeError) → EndsWithin (length s.rest) outcome → EndsWithin n outcome
-                by_outcome (Ok rest) q = omega (arith, q, small)
-                by_outcome (Err error) q = tt
-
         by_turn : (move : Move) → Leaves n move → EndsWithin n (after_turn end_from move).outcome
-        by_turn (Turn.next after) q = on after q
+        by_turn (Turn.next after) q = on_within n after q
+        by_turn (Turn.done end) q = q
+
+    -- nor than behind one of the next two
+    from_lead : (n : ℕ) (after : Progress) → (length after.rest ≤ n) ⊎ Leaves n (move_on settings after)
+        → EndsWithin n (end_from after).outcome
+    from_lead n after (inl le) = on_within n after le
+    from_lead n after (inr leaves) = turns_leave n after leaves
+
+    turns_lead : (n : ℕ) (run : Progress) → Leads settings n (move_on settings run) → EndsWithin n (end_from run).outcome
+    turns_lead n run p = by_next_turn n run (by_turn (move_on settings run) p)
+      where
+        by_turn : (move : Move) → Leads settings n move → EndsWithin n (after_turn end_from move).outcome
+        by_turn (Turn.next after) q = from_lead n after q
         by_turn (Turn.done end) q = q
 
     -- the end is that of each state that is led to
@@ -137,18 +159,45 @@ module _ (settings : DecodeSettings) (bits : Bits) (n : ℕ) (wide : 0 < setting
   abbrev late : Progress → Ending
   late first = record { rows = first.rows; has_eols = first.has_eols; outcome = Err UnexpectedEof }
 
+  first_end : (first : Progress) → repeated (move_on settings) (late first) (suc (left_to_read first)) first
+      ≡ ending_behind settings (Turn.next first)
+  first_end first =
+      repeated_same (move_on settings) (late first) left_to_read (move_shrinks settings wide) (suc (left_to_read first))
+      (suc (suc (length first.rest))) first (omega arith) (left_below first)
+
   -- the end, if no more is left behind a turn that is reached
+  reached_end : (first so_far : Progress) → first_gap settings.encoding settings bits ≡ Turn.next first
+      → Reaches (move_on settings) first so_far
+      → EndsWithin n (repeated (move_on settings) (late first) (suc (left_to_read so_far)) so_far).outcome
+      → EndsWithin n (end_of settings bits).outcome
+  reached_end first so_far begins reaches =
+      subst (λ (end : Ending). EndsWithin n end.outcome)
+      (sym (same_end settings wide (late first) (λ m. tt) first so_far reaches) ∙ first_end first
+      ∙ sym (ap (ending_behind settings) begins))
+
   reached_within : (first so_far : Progress) → first_gap settings.encoding settings bits ≡ Turn.next first
       → Reaches (move_on settings) first so_far → Leaves n (move_on settings so_far) → EndsWithin n (end_of settings bits).outcome
   reached_within first so_far begins reaches leaves =
-      subst (λ (end : Ending). EndsWithin n end.outcome)
-      (sym (same_end settings wide (late first) (λ m. tt) first so_far reaches)
-      ∙ repeated_same (move_on settings) (late first) left_to_read (move_shrinks settings wide) (suc (left_to_read first))
-      (suc (suc (length first.rest))) first (omega arith) (left_below first)
-      ∙ sym (ap (ending_behind settings) begins)) (turns_leave settings wide (late first) (λ m. tt) n so_far leaves)
+      reached_end first so_far begins reaches (turns_leave settings wide (late first) (λ m. tt) n so_far leaves)
+
+  -- or behind the next one
+  pub reached_lead : (first so_far : Progress) → first_gap settings.encoding settings bits ≡ Turn.next first
+      → Reaches (move_on settings) first so_far → Leads settings n (move_on settings so_far)
+      → EndsWithin n (end_of settings bits).outcome
+  reached_lead first so_far begins reaches leads =
+      reached_end first so_far begins reaches (turns_lead settings wide (late first) (λ m. tt) n so_far leads)
+
+  -- or behind the first gap
+  pub gap_lead : (gap : Move) → first_gap settings.encoding settings bits ≡ gap → Leads settings n gap
+      → EndsWithin n (end_of settings bits).outcome
+  gap_lead (Turn.next first) begins lead =
+      subst (λ (end : Ending). EndsWithin n end.outcome) (first_end first ∙ sym (ap (ending_behind settings) begins))
+      (from_lead settings wide (late first) (λ m. tt) n first lead)
+  gap_lead (Turn.done end) begins lead =
+      subst (λ (end : Ending). EndsWithin n end.outcome) (sym (ap (ending_behind settings) begins)) lead
 
 -- the bytes read up to there are no more than those read up to the end
-counted_on : (settings : DecodeSettings) (bits : Bits) (count place size : ℕ) → 0 < settings.columns → length bits ≡ 8 * size
+pub counted_on : (settings : DecodeSettings) (bits : Bits) (count place size : ℕ) → 0 < settings.columns → length bits ≡ 8 * size
     → (plain settings bits).outcome ≡ Ok count → EndsWithin (length bits - place) (end_of settings bits).outcome
     → min size ((place + 7) / 8) ≤ count
 counted_on settings bits count place size wide whole outcome within = by_outcome (end_of settings bits).outcome within

@@ -1,11 +1,12 @@
 -- Pages that follow one another, in data that comes in pieces.
 use Rattle.std.specs.Prelude.{◌≡◌, ◌≢◌, ℕ, ◌+◌, ◌-◌, ◌*◌, ◌/◌, ◌^◌, ◌<◌, ◌≤◌, ◌⊎◌, Bool, true, false, List, [], ◌++◌, drop}
-use Rattle.std.specs.Prelude.{take, length, if◌then◌else◌}
+use Rattle.std.specs.Prelude.{take, length, max, min, if◌then◌else◌}
 use Rattle.std.specs.Prelude.{None, Some, Result, Ok, Err, IfErr, IfOk, OnErr, get_or}
 use Rattle.hayro_ccitt.specs.BitOrder.{BitOrder}
 use Rattle.hayro_ccitt.specs.DecodeError.{DecodeError}
 use Rattle.hayro_ccitt.specs.DecodeError.TheVariants.{OutOfMemory}
 use Rattle.hayro_ccitt.specs.DecodeSettings.{DecodeSettings}
+use Rattle.hayro_ccitt.specs.EncodingMode.TheVariants.{Group4}
 use Rattle.hayro_ccitt.specs.Bits.{Bits, BitsFit, bits_in}
 use Rattle.hayro_ccitt.specs.FeedsPaid.{IsHistory}
 use Rattle.hayro_ccitt.specs.RowFeeds.{Feeding, IsFeedOf, fed_bits, fed_over}
@@ -110,6 +111,12 @@ pub record IsPaidPage (order : BitOrder) (bytes : List ℕ) (given calls lost : 
 -- so has that of the page that is next or under way, and begins at this byte offset
 abbrev pub IsPaidFrom : List ℕ → ℕ → ℕ → ℕ → PageFeeding → Type 0
 IsPaidFrom whole start calls lost feed = IsPaidPage feed.order (drop start whole) feed.given calls lost feed.page
+
+-- The page at this offset was given no more than twice as many bytes as it has, and 66, if it is one of Group 4 without a row
+-- limit.
+abbrev pub FewGiven : DecodeSettings → BitOrder → List ℕ → ℕ → ℕ → Type 0
+FewGiven settings order whole start given = settings.encoding ≡ Group4 → settings.rows ≡ 0 → (size : ℕ) → 0 < size
+    → page_by settings order whole start ≡ Ok size → given ≤ 2 * size + 66
 
 -- ---- What a call leaves
 
@@ -221,6 +228,7 @@ pub record GivesOn (old new : PageFeeding) (answer : Result Bool DecodeError) : 
   pub smaller : answer ≡ Ok true → left_to_give new < left_to_give old
   pub paid : (whole : List ℕ) (start calls lost : ℕ) → answer ≡ Ok true → IsPageFeedOf whole start old
       → IsPaidFrom whole start (calls + 1) lost old → IsPaidFrom whole start calls lost new
+  pub few : new.given ≤ old.given + max 64 (min old.given 4096)
   pub unpaid : (whole : List ℕ) (start calls lost : ℕ) → answer ≢ Ok true → IsPaidFrom whole start calls lost old
       → IsPaidFrom whole start calls lost new
 
@@ -248,6 +256,9 @@ pub record Waits (old new : PageFeeding) : Type 0 where
   pub finished : new.finished ≡ old.finished
   pub unended : (whole : List ℕ) (start : ℕ) → IsPageFeedOf whole start old → ended new.page.rows.stand ≡ None
   pub unfinished : (whole : List ℕ) (start : ℕ) → IsPageFeedOf whole start old → new.page.finished ≡ false
+  pub near : (whole : List ℕ) (start : ℕ) → IsPageFeedOf whole start old → (settings_of old).encoding ≡ Group4
+      → (settings_of old).rows ≡ 0 → (size : ℕ) → 0 < size → page_by (settings_of old) old.order whole start ≡ Ok size
+      → new.given ≤ size + 1
 
 -- the first bytes held, which the page has read, are dropped
 pub record DropsRead (old new : PageFeeding) : Type 0 where

@@ -7,7 +7,7 @@ use Rattle.hayro_ccitt.specs.FeedsPaid.{cost_of_failure}
 use Rattle.hayro_ccitt.specs.RowFeeds.{Feeding}
 use Rattle.hayro_ccitt.specs.RowsRead.{ended}
 use Rattle.hayro_ccitt.specs.Settings.{AreSettings}
-use Rattle.fax_callers.specs.PageFeeds.{IsPaidFrom, IsPaidPage, PageFeeding, fed_from_start, settings_of}
+use Rattle.fax_callers.specs.PageFeeds.{FewGiven, IsPaidFrom, IsPaidPage, PageFeeding, fed_from_start, settings_of}
 use Rattle.fax_callers.specs.Pages.{PagesStand, page_by}
 use Rattle.fax_callers.specs.Rtc.{page_size}
 use Rattle.fax_callers.specs.declared.page_feed.PageFed.{PageFed}
@@ -28,6 +28,7 @@ pub record EndsPaid (whole : List ℕ) (start : ℕ) (page : Feeding) (given : �
   pub within : size_of page ≤ given
   pub most : given ≤ page_size (settings_of old).encoding old.order (drop start whole)
   pub next : IsPaidFrom whole (start + size_of page) 0 0 new
+  pub none_given : new.given ≡ 0
 
 -- What a call that reads the next row counts: how the reading of the page goes on, which was given so many bytes, and what it
 -- costs more if it fails for memory. Where the page has ended, that reading is over, and the next one begins.
@@ -40,6 +41,8 @@ pub record PaysNext (whole : List ℕ) (start : ℕ) (old new : PageFeeding) (an
   pub unfailed : answer ≢ Err OutOfMemory → lost ≡ 0
   pub goes_on : (calls before : ℕ) → IsPaidFrom whole start calls before old
       → IsPaidPage new.order (drop start whole) given (calls + 1) (before + lost) page
+  pub few : FewGiven (settings_of old) old.order whole start old.given
+      → FewGiven (settings_of old) old.order whole start given
   pub stays : answer ≢ Ok PageEnd → (new.page ≡ page) × (new.given ≡ given)
   pub over : answer ≡ Ok PageEnd → EndsPaid whole start page given old new
   pub same : (settings_of new ≡ settings_of old) × (new.order ≡ old.order)
@@ -59,7 +62,7 @@ none_counted = record { pages = 0; ticks = 0; again = 0; calls = 0; lost = 0 }
 -- What became of a feed of pages: bytes were fed, the data may have been finished, and calls read the next row. The page that is
 -- next or under way begins at this byte offset.
 pub data IsPagesHistory (whole : List ℕ) : PagesCount → ℕ → PageFeeding → Type 0 where
-  opens : {feed : PageFeeding} → IsPaidFrom whole 0 0 0 feed → IsPagesHistory whole none_counted 0 feed
+  opens : {feed : PageFeeding} → IsPaidFrom whole 0 0 0 feed → fed_from_start feed ≡ 0 → IsPagesHistory whole none_counted 0 feed
   feeds : {count : PagesCount} {start : ℕ} {old new : PageFeeding} → IsPagesHistory whole count start old
       → new.page ≡ old.page → new.order ≡ old.order → new.given ≡ old.given → IsPagesHistory whole count start new
   reads : {count : PagesCount} {start : ℕ} {old new : PageFeeding} {answer : Result PageFed DecodeError}
@@ -87,3 +90,6 @@ pub record PagesArePaid : Type 0 where
   pub closed : (whole ends : List ℕ) (count : PagesCount) (start : ℕ) (feed : PageFeeding) → IsPagesHistory whole count start feed
       → (settings_of feed).encoding ≢ Group4 → AreSettings (settings_of feed)
       → PagesStand (settings_of feed) feed.order whole 0 ends → count.again ≡ 0
+  -- of pages of Group 4 without a row limit no more bytes are given again than there are up to the last one's end, and 66 a page
+  pub group4 : (whole : List ℕ) (count : PagesCount) (start : ℕ) (feed : PageFeeding) → IsPagesHistory whole count start feed
+      → (settings_of feed).encoding ≡ Group4 → (settings_of feed).rows ≡ 0 → count.again ≤ start + 66 * count.pages

@@ -1,6 +1,7 @@
 -- A gap is looked at no more than twelve bits beyond its end.
 use Rattle.hayro_ccitt.proofs.Names.{common_steps}
-use Rattle.hayro_ccitt.proofs.Names.{◌≡◌, ◌∙◌, ◌+◌, ◌≤◌, ◌∷◌, ◌&&◌, ◌||◌, [], ℕ, zero, suc, Bool, true, false, not, cond, leb}
+use Rattle.hayro_ccitt.proofs.Names.{◌≡◌, ◌∙◌, ◌+◌, ◌≤◌, ◌++◌, ◌∷◌, ◌&&◌, ◌||◌, [], ℕ, zero, suc, Bool, true, false, not, cond}
+use Rattle.hayro_ccitt.proofs.Names.{leb, length-append}
 use Rattle.hayro_ccitt.proofs.Names.{Option, None, Some, Result, Ok, Err, refl, sym, ap, arith, length, and_parts, false≢true}
 use Rattle.hayro_ccitt.proofs.Names.{ne_eqb, eols_here}
 use Rattle.hayro_ccitt.proofs.Names.{Bits, DecodeSettings, EncodingMode, Group4, Group3_1D, Group3_2D}
@@ -8,7 +9,7 @@ use Rattle.hayro_ccitt.proofs.Names.{after_eol, next_eol, at_end, eols_by, limit
 use Rattle.hayro_ccitt.proofs.Names.{DecodeError, OnErr, gap_said}
 use Rattle.hayro_ccitt.specs.EndOfLine.{eols, eols_with_tags, one_more, past_tag}
 use Rattle.hayro_ccitt.specs.GapsContinued.{holds_one, eols_are_settled, next_eols_are_settled, gap_is_settled}
-use Rattle.hayro_ccitt.specs.GapsSeen.{bits_needed, is_settled, one_eol_more, rules_behind_row, stage_after}
+use Rattle.hayro_ccitt.specs.GapsSeen.{bits_needed, is_settled, one_eol_more, rules_behind_row, stage_after, stage_behind}
 use Rattle.hayro_ccitt.specs.PlainReading.{behind_eols, from_next_eol, is_over, missing_eol, misses_eol}
 use Rattle.hayro_ccitt.specs.declared.gap_look.GapRules.{GapRules}
 use Rattle.hayro_ccitt.specs.declared.gap_look.GapStage.{GapStage}
@@ -17,6 +18,7 @@ use Rattle.fax_bits.proofs.BitReading.ConsecutiveEols.{all_eols-some, all_tagged
 use Rattle.fax_bits.proofs.BitReading.ConsecutiveEols.{counts_tagged, eols-none, eols-some, eols_with_tags-none}
 use Rattle.fax_bits.proofs.BitReading.ConsecutiveEols.{eols_with_tags-some, last_tag_shorter, next_eol_found, past_tag_shorter}
 use Rattle.fax_reading.proofs.GapsContinued.ContinuedTags.{behind_first_tag, behind_one, last_tag_tested}
+use Rattle.hayro_ccitt.proofs.Readings.GapsSeen.{gap_seen, settled_stays}
 use Rattle.hayro_ccitt.proofs.Readings.GapsSeen.{after_found, behind_more, behind_next, behind_one_shorter, eol_counts}
 use Rattle.hayro_ccitt.proofs.Readings.GapsSeen.{next_is_found, none_here, none_past, none_settled, one_here, one_is_left}
 use Rattle.hayro_ccitt.proofs.Readings.GapsSeen.{rules_of, some_past}
@@ -401,3 +403,45 @@ settled_sought settings taken here rest still settled = by_missed (misses_eol se
         ≡ Gap.line_at still rest → still ≡ true
     by_missed true is e = by_strict settings.strict is e
     by_missed false is e = flag_behind settings taken true still (eols_here settings here) rest e
+
+-- ---- A gap that bits behind those seen settle
+
+settled_still : (rules : GapRules) (stage : GapStage) (seen : ℕ) (here : Bits) → is_settled stage ≡ true
+    → is_settled (stage_behind rules stage seen here) ≡ true
+settled_still rules Settled seen here e = settled_stays rules seen here
+settled_still rules Start seen here e = absurd (false≢true e)
+settled_still rules Damage seen here e = absurd (false≢true e)
+settled_still rules BehindEol seen here e = absurd (false≢true e)
+settled_still rules BehindTag seen here e = absurd (false≢true e)
+
+-- so it isn't settled before bits that don't settle it
+one_needed : (rules : GapRules) (stage : GapStage) (seen : ℕ) (here : Bits) (needed count : ℕ)
+    → is_settled (stage_behind rules stage seen here) ≡ false → count ≤ needed
+    → suc count ≤ cond (is_settled stage) 0 (suc needed)
+one_needed rules stage seen here needed count unsettled le = by_stage (is_settled stage) refl
+  where
+    by_stage : (b : Bool) → is_settled stage ≡ b → suc count ≤ cond b 0 (suc needed)
+    by_stage true e = absurd (false≢true (sym unsettled ∙ settled_still rules stage seen here e))
+    by_stage false e = omega (arith, le)
+
+-- all bits are needed that don't settle it
+all_needed : (rules : GapRules) (stage : GapStage) (seen : ℕ) (here more : Bits)
+    → is_settled (stage_behind rules stage seen here) ≡ false → length here ≤ bits_needed rules stage seen (here ++ more)
+all_needed rules stage seen [] more unsettled = omega arith
+all_needed rules stage seen (false ∷ here) more unsettled =
+    one_needed rules stage (suc seen) here (bits_needed rules stage (suc seen) (here ++ more)) (length here) unsettled
+    (all_needed rules stage (suc seen) here more unsettled)
+all_needed rules stage seen (true ∷ here) more unsettled =
+    one_needed rules stage seen (true ∷ here) (bits_needed rules (stage_after rules stage seen) 0 (here ++ more)) (length here)
+    unsettled (all_needed rules (stage_after rules stage seen) 0 here more unsettled)
+
+-- it ends no more than twelve bits before them
+pub settled_later : (settings : DecodeSettings) (taken : ℕ) (has_eols : Bool) (seen more : Bits)
+    → gap_is_settled settings taken has_eols seen ≡ false → gap_is_settled settings taken has_eols (seen ++ more) ≡ true
+    → length (left_by (seen ++ more) (gap_behind_row settings taken has_eols (seen ++ more))) ≤ length more + 12
+settled_later settings taken has_eols seen more unsettled settled = omega (
+  arith,
+  gap_near settings taken has_eols (seen ++ more) settled,
+  all_needed (rules_behind_row settings taken has_eols) Start 0 seen more (gap_seen settings taken has_eols seen ∙ unsettled),
+  length-append seen more,
+)

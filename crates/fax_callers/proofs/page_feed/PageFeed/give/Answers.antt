@@ -31,6 +31,9 @@ module _ (c : After-give_piece) where
     c.self.invariant.within,
   )
 
+  few_given : length c.first_piece-piece.result.now ≤ max 64 (min c.self.inside.given 4096)
+  few_given = omega (arith, c.first_piece-piece.ensures.length)
+
   comes : (whole : List ℕ) (start : ℕ) (is : IsPageFeedOf whole start (page_feeding_of c.self.inside))
       → drop c.self.inside.given (drop start whole) ≡ c.first_piece-piece.result.now ++ (drop many waiting ++ is.more)
   comes whole start is =
@@ -54,6 +57,7 @@ returns-then-self-len c =
           subst (λ (f : Feeding). (length c.self.inside.held.items - c.self.inside.next) + cond f.finished 0 1
           < (length c.self.inside.held.items - c.self.inside.next) + cond c.self.inside.page.finished 0 1)
           (sym c.finish.ensures.same) (rw (sym c.if-is_finished.ensures) (omega arith));
+      few = omega arith;
       paid = λ whole start calls lost e is paid.
           paid_more (omega arith) (finished_paid is.page.counted c.finish.ensures.finished c.finish.ensures.same
           (sym c.if-is_finished.ensures) paid);
@@ -76,6 +80,7 @@ returns-in_err-count c =
       finished = refl;
       none = λ e. absurd cc;
       smaller = λ e. absurd cc;
+      few = omega arith;
       paid = λ whole start calls lost e. absurd cc;
       unpaid = λ whole start calls lost other.
           c.in_err-count.ensures.unpaid (drop start whole) c.self.inside.given calls lost;
@@ -100,6 +105,7 @@ returns c =
       smaller = λ e.
           less_to_give (length c.self.inside.held.items) c.self.inside.next c.in_ok-count.count c.self.inside.page.finished
           c.give_piece.new.page.finished (sym c.if-is_finished.ensures) within gives.within.2;
+      few = omega (arith, gives.within.0, few_given at);
       paid = λ whole start calls lost e is.
           gives.paid (drop start whole) _ c.self.inside.given calls lost is.page (comes at whole start is);
       unpaid = λ whole start calls lost other. absurd (other refl);

@@ -2,12 +2,13 @@ use Rattle.hayro_ccitt.proofs.Names.{◌≡◌, ◌≢◌, ◌+◌, ◌∙◌, r
 use Rattle.hayro_ccitt.proofs.Names.{Bool, length}
 use Rattle.hayro_ccitt.specs.DecodeError.{DecodeError}
 use Rattle.hayro_ccitt.specs.DecodeSettings.{DecodeSettings}
-use Rattle.fax_callers.specs.PageFeeds.{GivesNext, HasFailed, IsPageFeedOf, IsPaidFrom, PageFeeding, Stays, left_to_give}
+use Rattle.fax_callers.specs.PageFeeds.{FewGiven, GivesNext, HasFailed, IsPageFeedOf, IsPaidFrom, PageFeeding, Stays, left_to_give}
 use Rattle.fax_callers.specs.PageFeeds.{settings_of}
 use Rattle.fax_callers.specs.Pages.{ReadsPages}
 use Rattle.fax_callers.specs.PagesPaid.{PaysNext}
 use Rattle.fax_callers.specs.declared.page_feed.PageFed.{PageFed}
 use Rattle.fax_callers.specs.declared.page_feed.PageFed.TheVariants.{NeedsMore, PageEnd}
+use Rattle.fax_callers.proofs.PagesInTurn.{at_old}
 use Rattle.fax_callers.proofs.PagesInTurn.{gives_later, given_page, needs_stays, stays_fails, stays_later, stays_needs}
 use Rattle.fax_callers.proofs.PagesPaid.{paid_more, pays_here, pays_later, pays_still}
 use Rattle.fax_callers.proofs.page_feed.PageFeed.next_row.Goals.{After-read_page-answer, After-give}
@@ -60,12 +61,21 @@ module _ (c : After-give) where
       pays_here (c.read_page-answer.ensures.pays whole start stays.is) (λ e. let never = sym more ∙ e in cc)
       (λ e. let never = sym more ∙ e in cc) calls before (c.loop-answer.invariant.paid whole start is calls before paid)
 
+  -- of the bytes that the page has all but one were given before
+  few_now : (whole : List ℕ) (start : ℕ) → IsPageFeedOf whole start c.args.self.now
+      → FewGiven (settings_of c.args.self.now) c.args.self.now.order whole start c.give.new.self.given
+  few_now whole start is =
+      let stays = c.loop-answer.invariant.stays whole start is in
+      at_old stays (λ s o. FewGiven s o whole start c.give.new.self.given) (λ four unlimited size some read.
+      let waits = c.read_page-answer.ensures.waits more in
+      omega (arith, waits.near whole start stays.is four unlimited size some read, c.give.ensures.few))
+
   -- it is still, unless more was given
   pays : (whole : List ℕ) (start : ℕ) → IsPageFeedOf whole start c.args.self.now → c.give.result ≢ Ok true
       → (answer : Result PageFed DecodeError) → answer ≢ Ok PageEnd → PaysNext whole start c.args.self.now c.give.new.self answer
   pays whole start is other answer still =
       let stays = stays_now whole start is in
-      pays_still answer stays.rows.counts (stays.rows.settings, stays.order) still (λ calls before paid.
+      pays_still answer stays.rows.counts (stays.rows.settings, stays.order) (λ before. few_now whole start is) still (λ calls before paid.
       c.give.ensures.unpaid whole start (calls + 1) before other (paid_before whole start is calls before paid))
 
   -- as much could be given before
@@ -138,12 +148,12 @@ returns-then-not-branch-clause-pages c = λ whole start rows count is page.
 
 pub returns-then-has_no_page-clause-pays : goal.returns-then-has_no_page-clause-pays
 returns-then-has_no_page-clause-pays c = λ whole start is.
-    pays_still _ (omega arith) (refl, refl) (λ e. cc) (λ calls before. paid_more (omega arith))
+    pays_still _ (omega arith) (refl, refl) (λ few. few) (λ e. cc) (λ calls before. paid_more (omega arith))
 
 pub returns-then-not-needs_more-clause-pays : goal.returns-then-not-needs_more-clause-pays
 returns-then-not-needs_more-clause-pays c = λ whole start is.
     let stays = c.loop-answer.invariant.stays whole start is in
-    pays_later stays (c.loop-answer.invariant.paid whole start is) (c.read_page-answer.ensures.pays whole start stays.is)
+    pays_later stays (c.loop-answer.invariant.few whole start is) (c.loop-answer.invariant.paid whole start is) (c.read_page-answer.ensures.pays whole start stays.is)
 
 pub returns-in_err-give-clause-pays : goal.returns-in_err-give-clause-pays
 returns-in_err-give-clause-pays c =
@@ -170,6 +180,7 @@ loop-answer-preserved c =
       paid = λ whole start is calls before paid.
           c.give.ensures.paid whole start calls before (c.in_ok-give.was ∙ ap Ok c.if-not-branch.false)
           (stays_before at whole start is).is (paid_before at whole start is calls before paid);
+      few = λ whole start is before. few_now at whole start is;
     }
 
 pub loop-answer-smaller : goal.loop-answer-smaller

@@ -2,7 +2,8 @@ use Rattle.hayro_ccitt.proofs.Names.{◌≡◌, ◌∙◌, Err, Ok, ap, refl, ru
 use Rattle.hayro_ccitt.specs.DecodeError.{DecodeError}
 use Rattle.hayro_ccitt.specs.RowFeeds.{Feeding}
 use Rattle.fax_callers.specs.PageFeeds.{HasFailed, PageFeeding, page_feeding_of}
-use Rattle.fax_callers.proofs.PageTurns.{gives_end, gives_fault, gives_none, gives_row, waits_unended, waits_unfinished}
+use Rattle.fax_callers.proofs.PageTurns.{gives_end, gives_fault, gives_none, gives_row, waits_few, waits_unended}
+use Rattle.fax_callers.proofs.PageTurns.{waits_unfinished}
 use Rattle.fax_callers.proofs.PagesPaid.{pays_end, pays_error, pays_read}
 use Rattle.fax_callers.proofs.page_feed.PageFeed.read_page.Goals.{After-next_row}
 use Rattle.fax_callers.proofs.page_feed.PageFeed.read_page.Goals as goal
@@ -66,6 +67,9 @@ returns-in-NeedsMore-clause-waits c = rw (← c.self.view_is) (λ e. record {
       c.next_row.ensures.reads c.next_row.ensures.ended whole start is (c.in_ok-next_row.was ∙ ap Ok c.in-NeedsMore.is);
   unfinished = λ whole start is.
       waits_unfinished (page_feeding_of c.self.inside) c.next_row.new.self c.next_row.result c.next_row.ensures.keeps
+      c.next_row.ensures.reads c.next_row.ensures.ended whole start is (c.in_ok-next_row.was ∙ ap Ok c.in-NeedsMore.is);
+  near = λ whole start is.
+      waits_few (page_feeding_of c.self.inside) c.next_row.new.self c.next_row.result c.next_row.ensures.keeps
       c.next_row.ensures.reads c.next_row.ensures.ended whole start is (c.in_ok-next_row.was ∙ ap Ok c.in-NeedsMore.is);
 })
 
