@@ -87,8 +87,8 @@ good_end : (end : Result (Unit {0}) DecodeError) → ◌≡◌ {A = Result Fed D
 good_end (Ok x) e = refl
 good_end (Err error) e = absurd cc
 
-pub bad_end : (end : Result (Unit {0}) DecodeError) (error : DecodeError) → ◌≡◌ {A = Result Fed DecodeError} (Err error) (fed_end end)
-    → end ≡ Err error
+pub bad_end : (end : Result (Unit {0}) DecodeError) (error : DecodeError)
+    → ◌≡◌ {A = Result Fed DecodeError} (Err error) (fed_end end) → end ≡ Err error
 bad_end (Ok x) error e = absurd cc
 bad_end (Err other) error e = let same : other ≡ error = cc in ap Err same
 
@@ -251,8 +251,8 @@ module _ (feed : PageFeeding) (new : Feeding) (answer : Result Fed DecodeError) 
       has = subst (λ (s : DecodeSettings). HasEnded s (bits_in feed.order (page_bytes s feed.order whole start))
           new.ctx.held.taken (new.dropped + new.place)) new_settings (has_ended (page_reads new_reading).1 new_ended)
 
-      pub count_within : bytes_read after ≤ feed.given
-      count_within = ended_within new_reading new_ended
+      pub ends_within : bytes_read after ≤ feed.given
+      ends_within = ended_within new_reading new_ended
 
       -- the next one begins behind it
       next_page : {last : PageFeeding} → EndsPageHere after last (Ok PageEnd) → IsPageFeedOf whole (start + bytes_read after) last
@@ -265,7 +265,7 @@ module _ (feed : PageFeeding) (new : Feeding) (answer : Result Fed DecodeError) 
           = ends.begins refl (drop (start + bytes_read after) whole) rest_fits in
           record {
             fit = is.fit;
-            within = omega (arith, is.within, count_within, is.page.within, length-drop start whole);
+            within = omega (arith, is.within, ends_within, is.page.within, length-drop start whole);
             page = subst (λ (n : ℕ). IsPageReading last.order (drop (start + bytes_read after) whole) n last.seen last.page)
                 (sym back.1) (subst (λ (s : EolsSeen). IsPageReading last.order (drop (start + bytes_read after) whole) 0 s
                 last.page) (sym back.2) (subst (λ (o : BitOrder). IsPageReading o (drop
@@ -275,7 +275,7 @@ module _ (feed : PageFeeding) (new : Feeding) (answer : Result Fed DecodeError) 
             more = is.more;
             bytes = is.bytes ∙ ap (λ (l : List ℕ). l ++ is.more) (sym back.0);
             next = omega (arith, is.next, back.3, ap length back.0);
-            place = omega (arith, is.place, back.1, back.3, count_within, least);
+            place = omega (arith, is.place, back.1, back.3, ends_within, least);
             none = λ last_one. is.none (sym ends.finished ∙ last_one);
             unread = λ count read. omega (arith, least);
           }

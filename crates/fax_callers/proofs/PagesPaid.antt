@@ -7,24 +7,24 @@ use Rattle.std.specs.Prelude.{◌^◌}
 use Rattle.std.proofs.lemmas.List.{length-take-le}
 use Rattle.hayro_ccitt.specs.BitOrder.{BitOrder}
 use Rattle.hayro_ccitt.specs.Bits.{BitsFit}
-use Rattle.hayro_ccitt.specs.Laws.{ReadsClosedPictures}
 use Rattle.hayro_ccitt.specs.FeedsPaid.{IsHistory, cost_of_failure}
 use Rattle.hayro_ccitt.specs.RowFeeds.{ComeNext, Feeding, FeedsNext, HoldsMore, IsFeedOf, KeepsBits, fed_bits, fed_end}
 use Rattle.hayro_ccitt.specs.declared.row_feed.Fed.{Fed}
 use Rattle.hayro_ccitt.specs.declared.row_feed.Fed.TheVariants.{End as ReadAll}
 use Rattle.hayro_ccitt.proofs.BitReading.BitLists.{bits_are_whole, length-bits_in}
+use Rattle.hayro_ccitt.proofs.EncodedPictures.PicturesOfEachKind.{closed_pictures}
 use Rattle.hayro_ccitt.proofs.ErrorKinds.{by_kind}
 use Rattle.hayro_ccitt.proofs.Readings.FeedsPaid.{feeds_are_paid}
 use Rattle.fax_callers.specs.PageFeeds.{EndsPageHere, IsPageFeedOf, IsPageReading, IsPaidFrom, IsPaidPage, PageFeeding, Stays}
 use Rattle.fax_callers.specs.PageFeeds.{FewGiven, fed_from_start, settings_of}
 use Rattle.fax_callers.specs.Pages.{PagesStand, ReadsPages, page_by}
-use Rattle.fax_callers.specs.PagesPaid.{EndsPaid, IsPagesHistory, PagesArePaid, PagesCount, PaysNext, size_of}
+use Rattle.fax_callers.specs.PagesPaid.{EndsPaid, IsPagesHistory, PagesArePaid, PagesCount, PaysNext, ended_size}
 use Rattle.fax_callers.specs.Rtc.{page_size}
 use Rattle.fax_callers.specs.declared.page_feed.PageFed.{PageFed}
 use Rattle.fax_callers.specs.declared.page_feed.PageFed.TheVariants.{Row as OneRow, NeedsMore, End, PageEnd}
 use Rattle.fax_callers.specs.declared.rtc.EolsSeen.{EolsSeen}
 use Rattle.fax_callers.proofs.PageReadings.{comes, counted_all, longer_within, with_more}
-use Rattle.fax_callers.proofs.PageTurns.{bad_end, count_within, either_way, has, new_ended, new_reading, new_settings}
+use Rattle.fax_callers.proofs.PageTurns.{bad_end, ends_within, either_way, has, new_ended, new_reading, new_settings}
 use Rattle.fax_callers.proofs.PageTurns.{unended_is}
 use Rattle.fax_callers.proofs.PagesFed.{given_within}
 use Rattle.fax_callers.proofs.PagesInTurn.{at_old}
@@ -153,8 +153,11 @@ module _ {order : BitOrder} {bytes : List ℕ} {given calls lost : ℕ} {old new
     history = λ more none enough.
         let before = paid.history more (λ last. none (keeps.finished ∙ last)) enough in
         let next = subst (FeedsNext (bits_in order (take given bytes ++ more)) before.0 old new) e
-        (reads (bits_in order (take given bytes ++ more)) before.0 before.2) in
-        (before.0 + next.extra, IsHistory.fails (bits_in order (take given bytes ++ more)) before.1 unended keeps next, next.stands);
+        (reads (bits_in order (take given bytes ++ more)) before.0 before.2) in (
+          before.0 + next.extra,
+          IsHistory.fails (bits_in order (take given bytes ++ more)) before.1 unended keeps next,
+          next.stands,
+        );
   }
 
 -- ---- A call of the feed
@@ -215,7 +218,7 @@ pays_later {whole} {start} {old} {mid} {new} stays few goes next = record {
       let over = next.over e in
       record {
         is_over = over.is_over;
-        size = at_old stays (λ s o. page_by s o whole start ≡ Ok (size_of next.page)) over.size;
+        size = at_old stays (λ s o. page_by s o whole start ≡ Ok (ended_size next.page)) over.size;
         some = over.some;
         within = over.within;
         most = at_old stays (λ s o. next.given ≤ page_size s.encoding o (drop start whole)) over.most;
@@ -310,13 +313,13 @@ module _ (feed : PageFeeding) (new : Feeding) (answer : Result Fed DecodeError) 
         let same = unended_is feed new answer keeps reads at_end whole start is e result ends other in
         (ap (λ (f : PageFeeding). f.page) same, ap (λ (f : PageFeeding). f.given) same);
     over = λ f.
-        let next = start + size_of new in
+        let next = start + ended_size new in
         let fits : BitsFit (drop next whole) = omega (arith, is.fit, length-drop next whole) in
         record {
           is_over = new_ended feed new answer keeps reads at_end whole start is e;
           size = (has feed new answer keeps reads at_end whole start is e).count;
           some = ends.some f;
-          within = count_within feed new answer keeps reads at_end whole start is e;
+          within = ends_within feed new answer keeps reads at_end whole start is e;
           most = subst (λ (s : DecodeSettings). feed.given ≤ page_size s.encoding feed.order (drop start whole))
               settings_same.0 (given_within (new_reading feed new answer keeps reads at_end whole start is));
           next = subst (λ (o : BitOrder). IsPaidPage o (drop next whole) last.given 0 0 last.page) (sym ends.order)
@@ -338,8 +341,8 @@ module _ (feed : PageFeeding) (new : Feeding) (answer : Result Fed DecodeError) 
 -- ---- All calls
 
 -- of a page
-page_most : {order : BitOrder} {bytes : List ℕ} {given calls lost : ℕ} {page : Feeding} → IsPaidPage order bytes given calls lost page
-    → page.ctx.ticks ≤ 544 * given + 288 + 32 * calls + lost
+page_most : {order : BitOrder} {bytes : List ℕ} {given calls lost : ℕ} {page : Feeding}
+    → IsPaidPage order bytes given calls lost page → page.ctx.ticks ≤ 544 * given + 288 + 32 * calls + lost
 page_most {order} {bytes} {given} {calls} {lost} {page} paid =
     let all : length (take given bytes ++ []) ≡ given = omega (
       arith,
@@ -416,17 +419,18 @@ module _ (settings : DecodeSettings) (order : BitOrder) (whole ends : List ℕ) 
   ends_there : {start given : ℕ} {page : Feeding} {old new : PageFeeding} → EndsPaid whole start page given old new
       → (settings_of old ≡ settings) × (old.order ≡ order) → given ≤ length (drop start whole)
       → (ends : List ℕ) → PagesStand settings order whole start ends
-      → ((ends : List ℕ) × PagesStand settings order whole (start + size_of page) ends) × (given - size_of page ≡ 0)
+      → ((ends : List ℕ) × PagesStand settings order whole (start + ended_size page) ends) × (given - ended_size page ≡ 0)
   ends_there {start} {given} {page} {old} over same within [] all =
       absurd (omega (arith, all, over.some, over.within, within, length-drop start whole))
   ends_there {start} {given} {page} {old} over same within (end ∷ ends) stands =
       let closed = stands.2.1 in
       let at : (Q : DecodeSettings → BitOrder → Type 0) → Q (settings_of old) old.order → Q settings order
       = λ Q q. subst (λ (s : DecodeSettings). Q s order) same.0 (subst (Q (settings_of old)) same.1 q) in
-      let read : page_by settings order whole start ≡ Ok (size_of page)
-      = at (λ s o. page_by s o whole start ≡ Ok (size_of page)) over.size in
-      let count : end - start ≡ size_of page = let both = sym (law whole start stands.2.0 (end - start) closed).0 ∙ read in cc in
-      let there : end ≡ start + size_of page = omega (arith, count, stands.0) in (
+      let read : page_by settings order whole start ≡ Ok (ended_size page)
+      = at (λ s o. page_by s o whole start ≡ Ok (ended_size page)) over.size in
+      let count : end - start ≡ ended_size page
+      = let both = sym (law whole start stands.2.0 (end - start) closed).0 ∙ read in cc in
+      let there : end ≡ start + ended_size page = omega (arith, count, stands.0) in (
         (ends, subst (λ (n : ℕ). PagesStand settings order whole n ends) there stands.3),
         omega (
           arith,
@@ -494,7 +498,7 @@ module _ (settings : DecodeSettings) (order : BitOrder) (whole : List ℕ) (four
       let before_it = subst (λ (o : BitOrder). FewGiven (settings_of old) o whole start old.given) (sym order_is)
       (subst (λ (s : DecodeSettings). FewGiven s order whole start old.given) (sym settings_is) was.few) in
       let few = next.few before_it (ap (λ (s : DecodeSettings). s.encoding) settings_is ∙ four)
-      (ap (λ (s : DecodeSettings). s.rows) settings_is ∙ unlimited) (size_of next.page) over.some over.size in
+      (ap (λ (s : DecodeSettings). s.rows) settings_is ∙ unlimited) (ended_size next.page) over.some over.size in
       record {
         few = λ f u size some read. omega (arith, over.none_given);
         again = omega (arith, was.again, few);
@@ -502,14 +506,14 @@ module _ (settings : DecodeSettings) (order : BitOrder) (whole : List ℕ) (four
 
 -- ---- The law
 
-pub pages_are_paid : ReadsClosedPictures → PagesArePaid
-pages_are_paid law = record {
+pub pages_are_paid : PagesArePaid
+pages_are_paid = record {
   work = λ whole count start feed history.
       let paid = history_paid history in
       omega (arith, paid.sum, page_most paid.page);
   closed = λ whole ends count start feed history three are stand.
-      (none_again (settings_of feed) feed.order whole ends (pages_read (settings_of feed) feed.order law are) three stand history
-      (refl, refl)).none;
+      (none_again (settings_of feed) feed.order whole ends (pages_read (settings_of feed) feed.order closed_pictures are)
+      three stand history (refl, refl)).none;
   group4 = λ whole count start feed history four unlimited.
       (few_again (settings_of feed) feed.order whole four unlimited history (refl, refl)).again;
 }

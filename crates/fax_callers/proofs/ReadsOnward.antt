@@ -1,5 +1,6 @@
 -- A reading ends no earlier than where it stands.
-use Rattle.hayro_ccitt.proofs.Names.{◌≡◌, ◌≢◌, ◌⊎◌, inl, inr, ℕ, suc, ◌+◌, ◌-◌, ◌*◌, ◌/◌, ◌<◌, ◌≤◌, ◌&&◌, ◌||◌, ◌∙◌, Bool, true, false, []}
+use Rattle.hayro_ccitt.proofs.Names.{◌≡◌, ◌≢◌, ◌⊎◌, inl, inr, ℕ, suc, ◌+◌, ◌-◌, ◌*◌, ◌/◌, ◌<◌, ◌≤◌, ◌&&◌, ◌||◌, ◌∙◌, Bool, true}
+use Rattle.hayro_ccitt.proofs.Names.{false, []}
 use Rattle.hayro_ccitt.proofs.Names.{Option, None, Some, Result, Ok, Err, refl, sym, ap, subst, arith, length, drop, cond, not}
 use Rattle.hayro_ccitt.proofs.Names.{min}
 use Rattle.hayro_ccitt.proofs.Names.{length-drop, Bits, Row, Line, DecodeError, DecodeSettings, OutOfMemory, ◌%◌}

@@ -98,8 +98,8 @@ BytesComeNext whole start feed bytes = (rest : List ℕ) × (drop (start + fed_f
 
 -- ---- What was called
 
--- The reading of the page that begins these bytes, of which it was given so many, has a history with this cost of calls that failed
--- for memory: no more calls than these, and one for each byte that it was given and for the end of its data.
+-- The reading of the page that begins these bytes, of which it was given so many, has a history with this cost of calls that
+-- failed for memory: no more calls than these, and one for each byte that it was given and for the end of its data.
 pub record IsPaidPage (order : BitOrder) (bytes : List ℕ) (given calls lost : ℕ) (page : Feeding) : Type 0 where
   pub fit : BitsFit bytes
   pub within : given ≤ length bytes

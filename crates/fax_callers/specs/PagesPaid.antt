@@ -16,18 +16,18 @@ use Rattle.fax_callers.specs.declared.page_feed.PageFed.TheVariants.{PageEnd}
 -- ---- auxiliary: what was called
 
 -- how many bytes a page has that has ended, the last one filled up
-abbrev pub size_of : Feeding → ℕ
-size_of page = (page.dropped + page.place + 7) / 8
+abbrev pub ended_size : Feeding → ℕ
+ended_size page = (page.dropped + page.place + 7) / 8
 
 -- A page has ended whose reading was left like this, and was given so many bytes: no more than it may occupy, which are those up
 -- to RTC in Group 3. The next one begins at the byte behind it.
 pub record EndsPaid (whole : List ℕ) (start : ℕ) (page : Feeding) (given : ℕ) (old new : PageFeeding) : Type 0 where
   pub is_over : ended page.rows.stand ≡ Some (Ok tt)
-  pub size : page_by (settings_of old) old.order whole start ≡ Ok (size_of page)
-  pub some : 0 < size_of page
-  pub within : size_of page ≤ given
+  pub size : page_by (settings_of old) old.order whole start ≡ Ok (ended_size page)
+  pub some : 0 < ended_size page
+  pub within : ended_size page ≤ given
   pub most : given ≤ page_size (settings_of old).encoding old.order (drop start whole)
-  pub next : IsPaidFrom whole (start + size_of page) 0 0 new
+  pub next : IsPaidFrom whole (start + ended_size page) 0 0 new
   pub none_given : new.given ≡ 0
 
 -- What a call that reads the next row counts: how the reading of the page goes on, which was given so many bytes, and what it
@@ -48,7 +48,8 @@ pub record PaysNext (whole : List ℕ) (start : ℕ) (old new : PageFeeding) (an
   pub same : (settings_of new ≡ settings_of old) × (new.order ≡ old.order)
 
 -- what was called and counted so far: how many pages have ended, what was counted for them, how many bytes they were given that
--- are behind their ends, and so are given again, how many calls read the next row, and what those cost more that failed for memory
+-- are behind their ends, and so are given again, how many calls read the next row, and what those cost more that failed for
+-- memory
 pub record PagesCount : Type 0 where
   pub pages : ℕ
   pub ticks : ℕ
@@ -56,13 +57,14 @@ pub record PagesCount : Type 0 where
   pub calls : ℕ
   pub lost : ℕ
 
-abbrev pub none_counted : PagesCount
-none_counted = record { pages = 0; ticks = 0; again = 0; calls = 0; lost = 0 }
+abbrev pub nothing_counted : PagesCount
+nothing_counted = record { pages = 0; ticks = 0; again = 0; calls = 0; lost = 0 }
 
 -- What became of a feed of pages: bytes were fed, the data may have been finished, and calls read the next row. The page that is
 -- next or under way begins at this byte offset.
 pub data IsPagesHistory (whole : List ℕ) : PagesCount → ℕ → PageFeeding → Type 0 where
-  opens : {feed : PageFeeding} → IsPaidFrom whole 0 0 0 feed → fed_from_start feed ≡ 0 → IsPagesHistory whole none_counted 0 feed
+  opens : {feed : PageFeeding} → IsPaidFrom whole 0 0 0 feed → fed_from_start feed ≡ 0
+      → IsPagesHistory whole nothing_counted 0 feed
   feeds : {count : PagesCount} {start : ℕ} {old new : PageFeeding} → IsPagesHistory whole count start old
       → new.page ≡ old.page → new.order ≡ old.order → new.given ≡ old.given → IsPagesHistory whole count start new
   reads : {count : PagesCount} {start : ℕ} {old new : PageFeeding} {answer : Result PageFed DecodeError}
@@ -72,17 +74,17 @@ pub data IsPagesHistory (whole : List ℕ) : PagesCount → ℕ → PageFeeding 
       → (next : PaysNext whole start old new (Ok PageEnd)) → IsPagesHistory whole (record {
         pages = count.pages + 1;
         ticks = count.ticks + next.page.ctx.ticks;
-        again = count.again + (next.given - size_of next.page);
+        again = count.again + (next.given - ended_size next.page);
         calls = count.calls + 1;
         lost = count.lost + next.lost;
-      }) (start + size_of next.page) new
+      }) (start + ended_size next.page) new
 
 -- ---- The law
 
 pub record PagesArePaid : Type 0 where
-  -- In any history of a feed of pages the count of work, of all of them, is at most 544 ticks for each byte that was fed, or given
-  -- again to the next page, 288 ticks for each page, and 32 for each call that reads the next row, whatever pieces the data comes
-  -- in. A call that fails for memory costs more.
+  -- In any history of a feed of pages the count of work, of all of them, is at most 544 ticks for each byte that was fed, or
+  -- given again to the next page, 288 ticks for each page, and 32 for each call that reads the next row, whatever pieces the data
+  -- comes in. A call that fails for memory costs more.
   pub work : (whole : List ℕ) (count : PagesCount) (start : ℕ) (feed : PageFeeding) → IsPagesHistory whole count start feed
       → count.ticks + feed.page.ctx.ticks
       ≤ 544 * (start + fed_from_start feed + count.again) + 288 * (count.pages + 1) + 32 * count.calls + count.lost

@@ -40,7 +40,8 @@ const FEWEST_GIVEN: usize = 64;
 /// The most bytes that it is given at once.
 const MOST_GIVEN: usize = 4096;
 
-/// Returns the first bytes, as many as a page is given at once that was given so many: at first few, then as many as it was given.
+/// Returns the first bytes, as many as a page is given at once that was given so many: at first few, then as many as it was
+/// given.
 fn first_piece<'a>(bytes: &'a [u8], given: usize) -> &'a [u8]
     ensures first { result.now ≡ take (min (length bytes.now) (max 64 (min given 4096))) bytes.now }
     ensures length { length result.now ≡ min (length bytes.now) (max 64 (min given 4096)) }

@@ -415,10 +415,10 @@ settled_still rules BehindEol seen here e = absurd (false≢true e)
 settled_still rules BehindTag seen here e = absurd (false≢true e)
 
 -- so it isn't settled before bits that don't settle it
-one_needed : (rules : GapRules) (stage : GapStage) (seen : ℕ) (here : Bits) (needed count : ℕ)
+bit_needed : (rules : GapRules) (stage : GapStage) (seen : ℕ) (here : Bits) (needed count : ℕ)
     → is_settled (stage_behind rules stage seen here) ≡ false → count ≤ needed
     → suc count ≤ cond (is_settled stage) 0 (suc needed)
-one_needed rules stage seen here needed count unsettled le = by_stage (is_settled stage) refl
+bit_needed rules stage seen here needed count unsettled le = by_stage (is_settled stage) refl
   where
     by_stage : (b : Bool) → is_settled stage ≡ b → suc count ≤ cond b 0 (suc needed)
     by_stage true e = absurd (false≢true (sym unsettled ∙ settled_still rules stage seen here e))
@@ -429,10 +429,10 @@ all_needed : (rules : GapRules) (stage : GapStage) (seen : ℕ) (here more : Bit
     → is_settled (stage_behind rules stage seen here) ≡ false → length here ≤ bits_needed rules stage seen (here ++ more)
 all_needed rules stage seen [] more unsettled = omega arith
 all_needed rules stage seen (false ∷ here) more unsettled =
-    one_needed rules stage (suc seen) here (bits_needed rules stage (suc seen) (here ++ more)) (length here) unsettled
+    bit_needed rules stage (suc seen) here (bits_needed rules stage (suc seen) (here ++ more)) (length here) unsettled
     (all_needed rules stage (suc seen) here more unsettled)
 all_needed rules stage seen (true ∷ here) more unsettled =
-    one_needed rules stage seen (true ∷ here) (bits_needed rules (stage_after rules stage seen) 0 (here ++ more)) (length here)
+    bit_needed rules stage seen (true ∷ here) (bits_needed rules (stage_after rules stage seen) 0 (here ++ more)) (length here)
     unsettled (all_needed rules (stage_after rules stage seen) 0 here more unsettled)
 
 -- it ends no more than twelve bits before them

@@ -1,8 +1,10 @@
-use Rattle.hayro_ccitt.proofs.Names.{◌≡◌, ◌≢◌, ◌+◌, ◌∙◌, refl, true, Result, ℕ, List, Ok, Err, ap, arith, cond, rules, subst, sym, inl, inr, false≢true}
+use Rattle.hayro_ccitt.proofs.Names.{◌≡◌, ◌≢◌, ◌+◌, ◌∙◌, refl, true, Result, ℕ, List, Ok, Err, ap, arith, cond, rules, subst}
+use Rattle.hayro_ccitt.proofs.Names.{sym, inl, inr, false≢true}
 use Rattle.hayro_ccitt.proofs.Names.{Bool, length}
 use Rattle.hayro_ccitt.specs.DecodeError.{DecodeError}
 use Rattle.hayro_ccitt.specs.DecodeSettings.{DecodeSettings}
-use Rattle.fax_callers.specs.PageFeeds.{FewGiven, GivesNext, HasFailed, IsPageFeedOf, IsPaidFrom, PageFeeding, Stays, left_to_give}
+use Rattle.fax_callers.specs.PageFeeds.{FewGiven, GivesNext, HasFailed, IsPageFeedOf, IsPaidFrom, PageFeeding, Stays}
+use Rattle.fax_callers.specs.PageFeeds.{left_to_give}
 use Rattle.fax_callers.specs.PageFeeds.{settings_of}
 use Rattle.fax_callers.specs.Pages.{ReadsPages}
 use Rattle.fax_callers.specs.PagesPaid.{PaysNext}
@@ -55,7 +57,8 @@ module _ (c : After-give) where
 
   -- one call is to be paid
   paid_before : (whole : List ℕ) (start : ℕ) → IsPageFeedOf whole start c.args.self.now → (calls before : ℕ)
-      → IsPaidFrom whole start calls before c.args.self.now → IsPaidFrom whole start (calls + 1) before c.read_page-answer.new.self
+      → IsPaidFrom whole start calls before c.args.self.now
+      → IsPaidFrom whole start (calls + 1) before c.read_page-answer.new.self
   paid_before whole start is calls before paid =
       let stays = c.loop-answer.invariant.stays whole start is in
       pays_here (c.read_page-answer.ensures.pays whole start stays.is) (λ e. let never = sym more ∙ e in cc)
@@ -75,7 +78,8 @@ module _ (c : After-give) where
       → (answer : Result PageFed DecodeError) → answer ≢ Ok PageEnd → PaysNext whole start c.args.self.now c.give.new.self answer
   pays whole start is other answer still =
       let stays = stays_now whole start is in
-      pays_still answer stays.rows.counts (stays.rows.settings, stays.order) (λ before. few_now whole start is) still (λ calls before paid.
+      pays_still answer stays.rows.counts (stays.rows.settings, stays.order) (λ before. few_now whole start is) still
+      (λ calls before paid.
       c.give.ensures.unpaid whole start (calls + 1) before other (paid_before whole start is calls before paid))
 
   -- as much could be given before
@@ -153,7 +157,8 @@ returns-then-has_no_page-clause-pays c = λ whole start is.
 pub returns-then-not-needs_more-clause-pays : goal.returns-then-not-needs_more-clause-pays
 returns-then-not-needs_more-clause-pays c = λ whole start is.
     let stays = c.loop-answer.invariant.stays whole start is in
-    pays_later stays (c.loop-answer.invariant.few whole start is) (c.loop-answer.invariant.paid whole start is) (c.read_page-answer.ensures.pays whole start stays.is)
+    pays_later stays (c.loop-answer.invariant.few whole start is) (c.loop-answer.invariant.paid whole start is)
+    (c.read_page-answer.ensures.pays whole start stays.is)
 
 pub returns-in_err-give-clause-pays : goal.returns-in_err-give-clause-pays
 returns-in_err-give-clause-pays c =
