@@ -1,6 +1,6 @@
 //! Groups of modes: the vertical modes that ten bits begin with, four at most, by those bits (T.4, table 4).
 
-ghost use Rattle.std.specs.Prelude.{◌≡◌, ◌-◌, ◌^◌, ◌+◌, ◌<◌, ◌≤◌, ℕ, Some, true, Ok, length, get_or, take};
+ghost use Rattle.std.specs.Prelude.{◌≡◌, ◌-◌, ◌%◌, ◌^◌, ◌+◌, ◌<◌, ◌≤◌, ℕ, Some, true, Ok, length, get_or, take};
 ghost use Rattle.fax_bits.specs.Bits.{here};
 ghost use Rattle.fax_bits.specs.CodeLists.{mode_codes};
 ghost use Rattle.fax_bits.specs.CodeReading.{read_code};
@@ -81,13 +81,13 @@ impl ModeGroup {
         usize::from(row_of(self.bits)[6])
     }
 
-    /// Returns a number of four bits, from the lowest: a one for each vertical mode.
+    /// Returns a number whose lowest four bits have a one for each vertical mode, from the lowest; those above may be any.
     #[inline(always)]
     pub fn used(self) -> u64
-        ensures value { result ≡ 2 ^ length (words_of self) - 1 }
-        ensures few { result < 16 }
+        ensures value { result % 16 ≡ 2 ^ length (words_of self) - 1 }
+        ensures few { result < 256 }
     {
-        u64::from(row_of(self.bits)[4] % 16)
+        u64::from(row_of(self.bits)[4])
     }
 
     /// Returns the offsets of the vertical modes, each the mode's distance from b1 and three more. The first four are those of
@@ -131,8 +131,8 @@ impl ModeGroup {
     }
 }
 
-/// The rows of the look-up, one for each ten bits, the first bit highest: the offsets of four modes, 3 where there is none; a one
-/// in each of the lowest four bits whose mode there is, and in four bits each the numbers of bits of the first one, two, three and
+/// The rows of the look-up, one for each ten bits, the first bit highest: the offsets of four modes, 3 where there is none; then,
+/// four bits each from the lowest on, a one for each mode that there is, and the numbers of bits of the first one, two, three and
 /// four, of all if there are fewer; and in the last byte how many modes there are.
 #[rattlefmt::skip]
 const GROUPS: [[u8; 8]; 1024] = [
