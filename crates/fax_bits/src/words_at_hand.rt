@@ -13,12 +13,7 @@ use crate::tables::LOOKUP_INVALID;
 /// Returns the run and the number of bits of the code word at an offset in the window; the run is `LOOKUP_INVALID` if there
 /// is none.
 #[inline(always)]
-pub fn word_at_hand(
-    hand: &BitsAtHand<'_>,
-    skip: usize,
-    color: Color,
-    words: &[u16],
-) -> (u32, usize)
+pub fn word_at_hand(hand: &BitsAtHand<'_>, skip: usize, color: Color, words: &[u16]) -> (u32, usize)
     requires within { skip + 13 ≤ hand.now.left }
     requires entries { AreEntriesOf color words.now }
     ensures word { result.0 ≢ 4095 → IsWordHere color (moved skip hand.now.at) result.0 result.1 }

@@ -1,6 +1,7 @@
 -- The highest bits of a word that contains the bits from here on.
 use Rattle.fax_bits.proofs.Names.{◌≡◌, ℕ, zero, suc, ◌+◌, ◌-◌, ◌/◌, ◌^◌, ◌<◌, ◌≤◌, false, [], ◌∷◌, get_or, refl, sym, ap, ◌∙◌}
-use Rattle.fax_bits.proofs.Names.{div_below, pow-add, pow_pos, arith, get_or-drop, shr-shr, Bits, BitsAt, bit_of, low_bits, here, padded, common_steps}
+use Rattle.fax_bits.proofs.Names.{div_below, pow-add, pow_pos, arith, get_or-drop, shr-shr, Bits, BitsAt, bit_of, low_bits}
+use Rattle.fax_bits.proofs.Names.{here, padded, common_steps}
 use Rattle.fax_bits.specs.LookUps.{index_bits, seven_bits, twelve_bits}
 use Rattle.fax_bits.specs.ModeGroups.{ten_bits}
 

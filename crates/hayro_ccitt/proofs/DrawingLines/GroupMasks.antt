@@ -28,8 +28,8 @@ lowest_only mask used few fits =
     let m : (256 * mask + used) / 256 ≡ mask = omega (arith, fits) in
     let n : (256 * mask + used) % 256 ≡ used = omega (arith, fits) in
     eqb-true _ _ (rw (m, n) at (agree_below_at
-    (λ b. eqb (bit_and (15 - b / 256) (b % 256)) (bit_and (15 - b / 256) (b % 256 % 16))) (λ b. true) 4096 (256 * mask + used) refl
-    (omega (arith, few, fits))))
+    (λ b. eqb (bit_and (15 - b / 256) (b % 256)) (bit_and (15 - b / 256) (b % 256 % 16))) (λ b. true) 4096
+    (256 * mask + used) refl (omega (arith, few, fits))))
 
 -- if none of the bits before the count is clear, they are set
 pub set_before_count : (mask used count : ℕ) → mask < 16 → used < 256 → count ≤ 4 → used % 16 ≡ 2 ^ count - 1
@@ -46,5 +46,6 @@ pub first_before_count : (mask used count : ℕ) → mask < 16 → used < 256 �
 first_before_count mask used count few fits le is some = elim (cases_lt (trailing_ones w64 mask) count) [
   | inl before ↦ before
   | inr behind ↦
-      absurd (some (lowest_only mask used few fits ∙ ap (bit_and (15 - mask)) is ∙ eqb-true _ 0 (none_clear mask count few le ∙ le-leb count _ behind)))
+      absurd (some (lowest_only mask used few fits ∙ ap (bit_and (15 - mask)) is
+      ∙ eqb-true _ 0 (none_clear mask count few le ∙ le-leb count _ behind)))
 ]

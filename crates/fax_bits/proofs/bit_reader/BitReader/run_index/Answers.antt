@@ -11,8 +11,8 @@ returns-clause-bits c =
     let few : count ≤ 13 = few_bits c.args.color in
     let bits : Bits = bits_in r.order r.«data».now in
     let filled = c.self.invariant in
-    rw (← c.self.view_is, c.lookup_bits.ensures.value) (first_index (moved n (bits_at bits r.place)) (r.window * 2 ^ n % 2 ^ 64) count
-    (omega (arith, few)) (λ k h.
+    rw (← c.self.view_is, c.lookup_bits.ensures.value) (first_index (moved n (bits_at bits r.place))
+    (r.window * 2 ^ n % 2 ^ 64) count (omega (arith, few)) (λ k h.
     holds_on bits r.place n 33 r.window (omega arith) (λ j lt. filled.held j (omega (arith, lt, filled.within))) k
     (omega (arith, h, few, c.requires.near))))
 

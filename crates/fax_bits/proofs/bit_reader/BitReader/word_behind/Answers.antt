@@ -29,5 +29,6 @@ returns-clause-cut c = λ cut.
     let is : entry ≡ entry_of (codes_of color) (padded (lookup_bits color) (here at)) =
     c.lookup.ensures.entries.each index c.run_index.ensures.few ∙ ap (entry_of (codes_of color)) c.run_index.ensures.bits in
     let width = c.from-2.ensures ∙ high_bits color (padded (lookup_bits color) (here at)) entry is in
-    looked_up_cut color (here at) (bits_missing at c.from-2.result (telling_bits (codes_of color) (padded (lookup_bits color) (here at))) width
+    looked_up_cut color (here at) (bits_missing at c.from-2.result
+    (telling_bits (codes_of color) (padded (lookup_bits color) (here at))) width
     (some_bits_tell color (here at)) cut)

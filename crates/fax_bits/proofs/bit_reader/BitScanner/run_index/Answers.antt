@@ -9,8 +9,9 @@ returns-clause-bits c =
     let r = c.self.inside in
     let count : ℕ = lookup_bits c.args.color in
     let few : count ≤ 13 = few_bits c.args.color in
-    rw (← c.self.view_is, c.lookup_bits.ensures.value) (first_index (bits_at (bits_in r.order r.«data».now) (r.limit - r.left)) r.window
-    count (omega (arith, few)) (λ k h. scanned r k c.self.invariant (omega (arith, h, few))))
+    rw (← c.self.view_is, c.lookup_bits.ensures.value) (first_index
+    (bits_at (bits_in r.order r.«data».now) (r.limit - r.left)) r.window count (omega (arith, few))
+    (λ k h. scanned r k c.self.invariant (omega (arith, h, few))))
 
 pub returns-clause-few : goal.returns-clause-few
 returns-clause-few c =
