@@ -39,7 +39,7 @@ KEPT = {
 
 
 # What reads bits, or moves among them, without a count.
-READS = re.compile(r"(?:\.|\b(?=go_to|pass_v0))(read_bit|peek_u32|consume|align|go_to|pass_v0|refill\w*|pass|thirteen|twelve|seven|skip_to_eol|holds_one)\(")
+READS = re.compile(r"(?:\.|\b(?=go_to|pass_v0))(read_bit|peek_u32|consume|align|go_to|pass_v0|refill\w*|pass|run_index|twelve|seven|skip_to_eol|holds_one)\(")
 LOOP = re.compile(r"(?:'\w+: )?\b(?:while\b[^;{]*|loop\s*|for\b[^;{]*\bin\b[^;{]*)\{")
 ITERATORS = re.compile(r"\.(?:iter|chunks\w*|windows|split\w*|fold|all|any|position|find|contains|count)\(")
 

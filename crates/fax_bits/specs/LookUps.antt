@@ -39,14 +39,23 @@ run_or_none list here = elim (word_at list here) [
 abbrev pub entry_of : List (Code ℕ) → Bits → ℕ
 entry_of list here = telling_bits list here * 4096 + run_or_none list here
 
--- auxiliary: the thirteen bits of an index, the highest first
-unfoldable pub thirteen_bits : ℕ → Bits
-thirteen_bits index = low_bits 13 index
+-- auxiliary: the bits of an index, so many, the highest first
+unfoldable pub index_bits : ℕ → ℕ → Bits
+index_bits bits index = low_bits bits index
 
--- the entries of a list, one for each value of thirteen bits (T.4, 4.1.1)
-pub record AreEntries (list : List (Code ℕ)) (entries : List ℕ) : Type 0 where
-  pub count : length entries ≡ 8192
-  pub each : (index : ℕ) → index < 8192 → get_or entries index 0 ≡ entry_of list (thirteen_bits index)
+-- the entries of a list, one for each value of so many bits (T.4, 4.1.1)
+pub record AreEntries (bits : ℕ) (list : List (Code ℕ)) (entries : List ℕ) : Type 0 where
+  pub count : length entries ≡ 2 ^ bits
+  pub each : (index : ℕ) → index < 2 ^ bits → get_or entries index 0 ≡ entry_of list (index_bits bits index)
+
+-- the number of bits by which runs of a colour are looked up, those of its longest word (T.4, tables 2, 3a and 3b)
+abbrev pub lookup_bits : Color → ℕ
+lookup_bits White = 12
+lookup_bits Black = 13
+
+-- the entries of a colour, one for each value of these bits (T.4, 4.1.1)
+abbrev pub AreEntriesOf : Color → List ℕ → Type 0
+AreEntriesOf color entries = AreEntries (lookup_bits color) (codes_of color) entries
 
 -- auxiliary: the twelve bits of an index, the highest first
 unfoldable pub twelve_bits : ℕ → Bits
@@ -111,4 +120,4 @@ entries_of Black both = both.black
 
 -- the table's entries are those of its list (T.4, 4.1.1)
 abbrev pub AreOfColors : ColorEntries → Type 0
-AreOfColors both = (color : Color) → AreEntries (codes_of color) (entries_of color both)
+AreOfColors both = (color : Color) → AreEntriesOf color (entries_of color both)

@@ -1,6 +1,6 @@
 -- Vertical modes that are next to each other, and what ten bits say of them. This is not part of the trusted specification: no
 -- contract of a public call cites it.
-use Rattle.std.specs.Prelude.{◌≡◌, ℕ, zero, suc, ◌+◌, ◌-◌, ◌^◌, ◌<◌, ◌≤◌, ℤ, pos, negsuc, ◌+ℤ◌, ⊤, List, [], ◌∷◌, map, take}
+use Rattle.std.specs.Prelude.{◌≡◌, ℕ, zero, suc, ◌+◌, ◌-◌, ◌*◌, ◌^◌, ◌<◌, ◌≤◌, ℤ, pos, negsuc, ◌+ℤ◌, ⊤, List, [], ◌∷◌, map, take}
 use Rattle.std.specs.Prelude.{Option, Some, None, option_map, Ok, length, get_or}
 use Rattle.fax_bits.specs.Bits.{Bits, BitsAt, here, low_bits}
 use Rattle.fax_bits.specs.CodeLists.{mode_codes}
@@ -71,23 +71,16 @@ words_of number = vertical_words 4 (ten_bits number)
 unfoldable pub first_mode : ℕ → Option Mode
 first_mode number = option_map (λ found. found.0) (word_at mode_codes (ten_bits number))
 
--- auxiliary: the number of a mode that isn't vertical
-abbrev pub mode_number : Option Mode → ℕ
-mode_number None = 0
-mode_number (Some Horizontal) = 1
-mode_number (Some Pass) = 2
-mode_number (Some (Vertical distance)) = 0
-
--- auxiliary: the row of a look-up for these modes, of which the first is this one
-abbrev pub row_for : List VerticalWord → Option Mode → List ℕ
-row_for words first =
+-- auxiliary: the row of a look-up for these modes
+abbrev pub row_for : List VerticalWord → List ℕ
+row_for words =
     offset_at words 0 ∷ offset_at words 1 ∷ offset_at words 2 ∷ offset_at words 3
-    ∷ width_of (take 1 words) ∷ width_of (take 2 words) ∷ width_of (take 3 words) ∷ width_of (take 4 words)
-    ∷ length words ∷ (16 - 2 ^ length words) ∷ mode_number first ∷ (4 - length words) ∷ 0 ∷ 0 ∷ 0 ∷ 0 ∷ []
+    ∷ (2 ^ length words - 1 + 16 * width_of (take 1 words))
+    ∷ (width_of (take 2 words) + 16 * width_of (take 3 words)) ∷ width_of (take 4 words) ∷ length words ∷ []
 
 -- auxiliary: that for ten bits
 unfoldable pub group_row : ℕ → List ℕ
-group_row number = row_for (words_of number) (first_mode number)
+group_row number = row_for (words_of number)
 
 -- the rows of a look-up, one for each value of ten bits
 pub record AreRows (rows : List (List ℕ)) : Type 0 where

@@ -6,9 +6,10 @@ ghost use Rattle.std.specs.Prelude.{IsOkUnless, ◌⊎◌};
 ghost use Rattle.fax_bits.specs.Bits.{AreWholeBytes, BitsAt, BitsFit, bits_of, low_first_bits_of, bits_in, bit_of, here};
 ghost use Rattle.fax_bits.specs.Bits.{at_end, aligned, low_bits};
 ghost use Rattle.fax_bits.specs.Window.{place_in_word, ArePlaced, AtHand, HoldsNext, PassesPlaced, WordsAt, moved};
-ghost use Rattle.fax_bits.specs.LookUps.{padded, seven_bits, thirteen_bits, twelve_bits};
+ghost use Rattle.fax_bits.specs.LookUps.{index_bits, lookup_bits, padded, seven_bits, twelve_bits};
 ghost use Rattle.fax_bits.specs.ModeGroups.{ten_bits};
 
+use crate::codes::Color;
 use crate::{DecodeError, Result};
 use std::marker::Model;
 use std::simd::prelude::*;
@@ -197,14 +198,14 @@ impl<'a> BitReader<'a> {
         (self.window >> 32) as u32
     }
 
-    /// Returns the thirteen bits after the next `skip`, padded with zeros, as a number.
+    /// Returns the bits after the next `skip` by which a run of a colour is looked up, padded with zeros, as a number.
     #[inline(always)]
-    pub(crate) fn thirteen(&self, skip: usize) -> usize
+    pub(crate) fn run_index(&self, skip: usize, color: Color) -> usize
         requires near { skip ≤ 20 }
-        ensures few { result < 8192 }
-        ensures bits { thirteen_bits result ≡ padded 13 (here (moved skip self.now)) }
+        ensures few { result < 2 ^ lookup_bits color }
+        ensures bits { index_bits (lookup_bits color) result ≡ padded (lookup_bits color) (here (moved skip self.now)) }
     {
-        (self.window << skip >> 51) as usize
+        (self.window << skip >> (64 - color.lookup_bits())) as usize
     }
 
     /// Consumes `n` bits, at most 32.
@@ -728,15 +729,15 @@ impl<'a> BitsAtHand<'a> {
         self.left -= n;
     }
 
-    /// Returns the thirteen bits after the next `skip`, as a number.
+    /// Returns the bits after the next `skip` by which a run of a colour is looked up, as a number.
     #[inline(always)]
-    pub(crate) fn thirteen(&self, skip: usize) -> usize
+    pub(crate) fn run_index(&self, skip: usize, color: Color) -> usize
         requires within { skip + 13 ≤ self.now.left }
-        ensures few { result < 8192 }
+        ensures few { result < 2 ^ lookup_bits color }
         ensures there { self.now.at.place + self.now.left ≤ length self.now.at.bits }
-        ensures bits { thirteen_bits result ≡ padded 13 (here (moved skip self.now.at)) }
+        ensures bits { index_bits (lookup_bits color) result ≡ padded (lookup_bits color) (here (moved skip self.now.at)) }
     {
-        (self.window << skip >> 51) as usize
+        (self.window << skip >> (64 - color.lookup_bits())) as usize
     }
 
     /// Returns the twelve bits after the next `skip`, as a number.
@@ -894,13 +895,13 @@ fn later_word(data: &[u8], order: BitOrder, byte: usize) -> u64
 }
 
 impl<'a> BitScanner<'a> {
-    /// Returns the next thirteen bits, padded with zeros, as a number.
+    /// Returns the next bits, by which a run of a colour is looked up, padded with zeros, as a number.
     #[inline(always)]
-    pub(crate) fn thirteen(&self) -> usize
-        ensures few { result < 8192 }
-        ensures bits { thirteen_bits result ≡ padded 13 (here self.now) }
+    pub(crate) fn run_index(&self, color: Color) -> usize
+        ensures few { result < 2 ^ lookup_bits color }
+        ensures bits { index_bits (lookup_bits color) result ≡ padded (lookup_bits color) (here self.now) }
     {
-        (self.window >> 51) as usize
+        (self.window >> (64 - color.lookup_bits())) as usize
     }
 
     /// Returns the next seven bits, padded with zeros, as a number.

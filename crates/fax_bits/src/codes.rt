@@ -12,14 +12,14 @@ ghost use Rattle.fax_bits.specs.CodeReading.{read_code, leading_zeros};
 ghost use Rattle.fax_bits.specs.EndOfLine.{after_eol, eols, all_eols, next_eol, past_tag, eols_with_tags, pass_last_tag};
 ghost use Rattle.fax_bits.specs.EndOfLine.{tagged_eols};
 ghost use Rattle.fax_bits.specs.Ones.{holds_one};
-ghost use Rattle.fax_bits.specs.LookUps.{entry_of, mode_told, padded, seven_bits};
+ghost use Rattle.fax_bits.specs.LookUps.{entry_of, lookup_bits, mode_told, padded, seven_bits};
 ghost use Rattle.fax_bits.specs.Runs.{codes_of, opposite, read_run, run_from};
 ghost use Rattle.fax_bits.specs.WordsHere.{IsWordHere, RunGoesOn};
 ghost use Rattle.fax_bits.specs.Window.{moved};
 ghost use Rattle.fax_bits.specs.Ticks.{run_found, missed, looked, looked_at_tag};
 
 use crate::bit_reader::{BitReader, BitScanner, at_bit, copy, go_to, none_at_hand};
-use crate::tables::{LOOKUP_BITS, LOOKUP_INVALID, Tables};
+use crate::tables::{LOOKUP_INVALID, Tables};
 use crate::words_at_hand::pass_makeup_words;
 use crate::{DecodeError, Result};
 use std::marker::Model;
@@ -49,6 +49,19 @@ impl Color {
         ensures { IsTrue result ↔ (self ≡ Color.White) }
     {
         matches!(self, Color::White)
+    }
+
+    /// Returns the number of bits by which runs of this colour are looked up: those of its longest word.
+    #[inline(always)]
+    pub(crate) fn lookup_bits(self) -> usize
+        ensures value { result ≡ lookup_bits self }
+        ensures some { 0 < result }
+        ensures few { result ≤ 13 }
+    {
+        match self {
+            Color::White => 12,
+            Color::Black => 13,
+        }
     }
 }
 
@@ -162,12 +175,12 @@ fn is_v0(mode: Option<Mode>) -> bool
 }
 
 impl<'a> BitReader<'a> {
-    /// Returns the entry of the next thirteen bits, padded with zeros, in the lookup table of a colour.
+    /// Returns the entry of the next bits, padded with zeros, in the lookup table of a colour.
     #[inline(always)]
     fn look_up(&self, color: Color, tables: &Tables) -> u16
-        ensures { result ≡ entry_of (codes_of color) (padded 13 (here self.now)) }
+        ensures { result ≡ entry_of (codes_of color) (padded (lookup_bits color) (here self.now)) }
     {
-        let index = self.peek_u32() >> (32 - LOOKUP_BITS);
+        let index = self.peek_u32() >> (32 - color.lookup_bits());
         tables.lookup(color)[index as usize]
     }
 
@@ -254,7 +267,7 @@ impl<'a> BitReader<'a> {
         ensures below { result.0 ≤ 4095 }
         ensures narrow { result.1 ≤ 15 }
     {
-        let entry = tables.lookup(color)[self.thirteen(skip)];
+        let entry = tables.lookup(color)[self.run_index(skip, color)];
         (u32::from(entry & LOOKUP_INVALID), usize::from(entry >> 12))
     }
 
@@ -735,12 +748,12 @@ impl<'a> BitReader<'a> {
 }
 
 impl<'a> BitScanner<'a> {
-    /// Returns the entry of the next thirteen bits, padded with zeros, in the lookup table of a colour.
+    /// Returns the entry of the next bits, padded with zeros, in the lookup table of a colour.
     #[inline(always)]
     fn entry_here(&self, color: Color, tables: &Tables) -> u16
-        ensures { result ≡ entry_of (codes_of color) (padded 13 (here self.now)) }
+        ensures { result ≡ entry_of (codes_of color) (padded (lookup_bits color) (here self.now)) }
     {
-        tables.lookup(color)[self.thirteen()]
+        tables.lookup(color)[self.run_index(color)]
     }
 
     /// Reads a word of a run of a colour, a make-up word or a terminating one (T.4, 4.1.1), which is one tick.

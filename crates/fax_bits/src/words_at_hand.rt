@@ -2,8 +2,7 @@
 
 ghost use Rattle.std.specs.Prelude.{◌≡◌, ◌≢◌, ◌+◌, ◌<◌, ◌≤◌, IfSome, IfNone, true, length};
 ghost use Rattle.fax_bits.specs.Bits.{here};
-ghost use Rattle.fax_bits.specs.LookUps.{AreEntries};
-ghost use Rattle.fax_bits.specs.Runs.{codes_of};
+ghost use Rattle.fax_bits.specs.LookUps.{AreEntriesOf};
 ghost use Rattle.fax_bits.specs.WordsHere.{IsWordHere, RunGoesOn};
 ghost use Rattle.fax_bits.specs.Window.{moved};
 
@@ -14,19 +13,14 @@ use crate::tables::LOOKUP_INVALID;
 /// Returns the run and the number of bits of the code word at an offset in the window; the run is `LOOKUP_INVALID` if there
 /// is none.
 #[inline(always)]
-pub fn word_at_hand(
-    hand: &BitsAtHand<'_>,
-    skip: usize,
-    _color: Color,
-    words: &[u16],
-) -> (u32, usize)
+pub fn word_at_hand(hand: &BitsAtHand<'_>, skip: usize, color: Color, words: &[u16]) -> (u32, usize)
     requires within { skip + 13 ≤ hand.now.left }
-    requires entries { AreEntries (codes_of _color) words.now }
-    ensures word { result.0 ≢ 4095 → IsWordHere _color (moved skip hand.now.at) result.0 result.1 }
+    requires entries { AreEntriesOf color words.now }
+    ensures word { result.0 ≢ 4095 → IsWordHere color (moved skip hand.now.at) result.0 result.1 }
     ensures below { result.0 ≤ 4095 }
     ensures narrow { result.1 ≤ 15 }
 {
-    let entry = words[hand.thirteen(skip)];
+    let entry = words[hand.run_index(skip, color)];
     (u32::from(entry & LOOKUP_INVALID), usize::from(entry >> 12))
 }
 
@@ -52,7 +46,7 @@ fn pass_makeup_word(
     total: u32,
     ticks: &mut Ticks,
 ) -> Option<u32>
-    requires entries { AreEntries (codes_of color) words.now }
+    requires entries { AreEntriesOf color words.now }
     ensures on { IfSome result (λ sum. RunGoesOn color total (here hand.old.at) sum (here hand.new.at) ticks.old ticks.new) }
     ensures shorter { IfSome result (λ sum. length (here hand.new.at) < length (here hand.old.at)) }
     ensures same_bits { hand.new.at.bits ≡ hand.old.at.bits }
@@ -85,7 +79,7 @@ pub fn pass_makeup_words(
     start: u32,
     ticks: &mut Ticks,
 ) -> u32
-    requires entries { AreEntries (codes_of color) words.now }
+    requires entries { AreEntriesOf color words.now }
     ensures on { RunGoesOn color start (here hand.old.at) result (here hand.new.at) ticks.old ticks.new }
     ensures same_bits { hand.new.at.bits ≡ hand.old.at.bits }
 {

@@ -731,7 +731,7 @@ fn are_regular(modes: &ModesHere) -> bool
     ensures all { result ≡ true → AreSet modes.now.regular (length (words_of modes.now.group)) }
     ensures some { result ≡ false → first_clear modes.now < length (words_of modes.now.group) }
 {
-    modes.regular | modes.group.unused() == 15
+    (15 - modes.regular) & modes.group.used() == 0
 }
 
 /// Stores four places behind a row's changes.
@@ -748,35 +748,18 @@ fn push_places(row: &mut Vec<u32>, places: [u32; 4])
     turn_at(row, places[3]);
 }
 
-/// Removes the last changes of a row, three at most. The compiler makes one subtraction of it.
+/// Stores the first of four places behind a row's changes, as many as are counted.
 #[inline(always)]
-fn drop_last(row: &mut Vec<u32>, count: usize)
-    requires few { count ≤ 3 }
-    requires within { count ≤ vec_len row.old }
-    ensures items { row.new.items ≡ take (vec_len row.old - count) row.old.items }
-    ensures count { vec_len row.new + count ≡ vec_len row.old }
-    ensures room { vec_capacity row.new ≡ vec_capacity row.old }
-{
-    if count % 2 == 1 {
-        let _last = row.take_last();
-    }
-    if count / 2 % 2 == 1 {
-        let _last = row.take_last();
-        let _before = row.take_last();
-    }
-}
-
-/// Stores four places behind a row's changes, but the last ones of them, as many as are missing.
-#[inline(always)]
-fn turn_at_places(row: &mut Vec<u32>, places: [u32; 4], missing: usize)
-    requires few { missing ≤ 3 }
+fn turn_at_places(row: &mut Vec<u32>, places: [u32; 4], count: usize)
+    requires few { count ≤ 4 }
     requires room { vec_len row.old + 4 ≤ vec_capacity row.old }
-    ensures items { row.new.items ≡ row.old.items ++ take (4 - missing) places }
-    ensures count { vec_len row.new + missing ≡ vec_len row.old + 4 }
+    ensures items { row.new.items ≡ row.old.items ++ take count places }
+    ensures count { vec_len row.new ≡ vec_len row.old + count }
     ensures room { vec_capacity row.new ≡ vec_capacity row.old }
 {
+    let before = row.len();
     push_places(row, places);
-    drop_last(row, missing);
+    row.truncate(before + count);
 }
 
 /// Draws the modes of a group, which are all regular.
@@ -797,7 +780,7 @@ fn draw_regular(
     ensures kept { KeepsRoom hand.old row.old hand.new row.new }
 {
     let count = ModeGroup::count(modes.group);
-    turn_at_places(row, modes.places, modes.group.missing());
+    turn_at_places(row, modes.places, count);
     hand.pass(modes.group.width());
     tick_times(ticks, 2 * count);
     Stroke {

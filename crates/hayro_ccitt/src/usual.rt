@@ -5,11 +5,10 @@ ghost use Rattle.std.specs.Prelude.{vec_len, vec_capacity, get_or, ◌≡◌, �
 ghost use Rattle.std.specs.Prelude.{IfNone};
 ghost use Rattle.std.specs.Prelude.{min, true, false, length, ◌++◌, ◌∷◌, []};
 ghost use Rattle.hayro_ccitt.specs.Bits.{here};
-ghost use Rattle.hayro_ccitt.specs.LookUps.{AreEntries};
+ghost use Rattle.hayro_ccitt.specs.LookUps.{AreEntriesOf};
 ghost use Rattle.hayro_ccitt.specs.DrawnModes.{DrawsNothing};
 ghost use Rattle.hayro_ccitt.specs.Rows.{AreChanges, pixels, opposite};
 ghost use Rattle.hayro_ccitt.specs.UsualModes.{AreEnded, changes_in, IsNear, IsB1};
-ghost use Rattle.hayro_ccitt.specs.Runs.{codes_of};
 ghost use Rattle.hayro_ccitt.specs.UsualRuns.{IsWordHere, IsRunHere, IsShort, IsOpen, IsReached};
 ghost use Rattle.hayro_ccitt.specs.TwoRunsHere.{AreTwoRunsHere, CanFollow, DrawsRuns, MovesOn};
 ghost use Rattle.hayro_ccitt.specs.UsualRuns.{GoesOn, pen_at};
@@ -34,7 +33,7 @@ pub(crate) fn run_at_hand(
 ) -> Option<(u32, usize, usize)>
     requires within { skip + 26 ≤ hand.now.left }
     requires near { skip ≤ 29 }
-    requires entries { AreEntries (codes_of color) words.now }
+    requires entries { AreEntriesOf color words.now }
     ensures run { IfSome result (λ run. IsRunHere color (moved skip hand.now.at) run.0 run.1 run.2) }
     ensures below { IfSome result (λ run. (run.0 ≤ 4158) × (run.2 ≤ 2)) }
 {
@@ -156,7 +155,7 @@ fn run_in_window(
     words: &[u16],
 ) -> Option<(u32, usize, usize)>
     requires near { skip ≤ 29 }
-    requires entries { AreEntries (codes_of color) words.now }
+    requires entries { AreEntriesOf color words.now }
     ensures run { IfSome result (λ run. IsRunHere color (moved skip hand.now.at) run.0 run.1 run.2) }
     ensures below { IfSome result (λ run. (run.0 ≤ 4158) × (run.2 ≤ 2)) }
     ensures within { IfSome result (λ run. skip + run.1 ≤ hand.now.left) }
@@ -365,7 +364,7 @@ pub(crate) fn pass_white_row(
 ) -> bool
     requires open { 0 < columns }
     requires within { 32 ≤ hand.old.left }
-    requires white { AreEntries (codes_of Color.White) white.now }
+    requires white { AreEntriesOf Color.White white.now }
     ensures drawn { result ≡ true → (strict : Bool) → GoesOn strict columns (pen_at 0 [] Color.White hand.old.at)
         (pen_at columns [] Color.Black hand.new.at) ticks.old ticks.new }
     ensures same_bits { hand.new.at.bits ≡ hand.old.at.bits }

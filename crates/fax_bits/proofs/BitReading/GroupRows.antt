@@ -1,36 +1,16 @@
 -- What the row of ten bits says of their modes.
-use Rattle.fax_bits.proofs.Names.{◌≡◌, ℕ, suc, zero, ◌+◌, ◌^◌, ◌-◌, ◌<◌, ◌≤◌, get_or, length, ap, refl, arith, take, take_all}
+use Rattle.fax_bits.proofs.Names.{◌≡◌, ℕ, suc, zero, ◌+◌, ◌*◌, ◌^◌, ◌-◌, ◌/◌, ◌%◌, ◌<◌, ◌≤◌, get_or, length, ap, refl, arith}
+use Rattle.fax_bits.proofs.Names.{take, take_all, pow_pos, eqb, eqb-true, true}
+use Rattle.std.proofs.lemmas.Bool.{agree_below_at}
 use Rattle.fax_bits.proofs.Names.{Some, Horizontal, Pass, Vertical, Mode, Option, None}
 use Rattle.fax_bits.proofs.BitReading.BitLists.{length-low_bits}
 use Rattle.fax_bits.proofs.CodeWords.VerticalWords.{words_few, words_within, words_have_bits, words_near, words_part}
-use Rattle.fax_bits.specs.ModeGroups.{first_mode, group_row, mode_number, offset_at, ten_bits, width_of, words_of}
+use Rattle.fax_bits.specs.ModeGroups.{first_mode, group_row, offset_at, ten_bits, width_of, words_of}
 
 -- ---- The items of the row
-pub row_first_width : (number count : ℕ) → 0 < count → count ≤ 4
-    → get_or (group_row number) (3 + count) 0 ≡ width_of (take count (words_of number))
-unfolding group_row
-row_first_width number zero some few = absurd (omega arith)
-row_first_width number (suc zero) some few = refl
-row_first_width number (suc (suc zero)) some few = refl
-row_first_width number (suc (suc (suc zero))) some few = refl
-row_first_width number (suc (suc (suc (suc zero)))) some few = refl
-row_first_width number (suc (suc (suc (suc (suc k))))) some few = absurd (omega arith)
-
-pub row_count : (number : ℕ) → get_or (group_row number) 8 0 ≡ length (words_of number)
+pub row_count : (number : ℕ) → get_or (group_row number) 7 0 ≡ length (words_of number)
 unfolding group_row
 row_count number = refl
-
-pub row_unused : (number : ℕ) → get_or (group_row number) 9 0 ≡ 16 - 2 ^ length (words_of number)
-unfolding group_row
-row_unused number = refl
-
-pub row_first : (number : ℕ) → get_or (group_row number) 10 0 ≡ mode_number (first_mode number)
-unfolding group_row
-row_first number = refl
-
-pub row_missing : (number : ℕ) → get_or (group_row number) 11 0 ≡ 4 - length (words_of number)
-unfolding group_row
-row_missing number = refl
 
 pub row_offset : (number k d : ℕ) → k < 4 → get_or (group_row number) k d ≡ offset_at (words_of number) k
 unfolding group_row
@@ -45,7 +25,7 @@ pub four_words : (number : ℕ) → length (words_of number) ≤ 4
 unfolding words_of
 four_words number = words_few 4 (ten_bits number)
 
-pub row_width : (number : ℕ) → get_or (group_row number) 7 0 ≡ width_of (words_of number)
+pub row_width : (number : ℕ) → get_or (group_row number) 6 0 ≡ width_of (words_of number)
 unfolding group_row
 row_width number = ap width_of (take_all 4 (words_of number) (four_words number))
 
@@ -74,9 +54,52 @@ pub offset_near : (number k : ℕ) → offset_at (words_of number) k ≤ 6
 unfolding words_of
 offset_near number k = words_near 4 (ten_bits number) k
 
+-- ---- The items that hold two numbers
+below_sixteen : (count : ℕ) → count ≤ 4 → 2 ^ count ≤ 16
+below_sixteen zero few = omega arith
+below_sixteen (suc zero) few = omega arith
+below_sixteen (suc (suc zero)) few = omega arith
+below_sixteen (suc (suc (suc zero))) few = omega arith
+below_sixteen (suc (suc (suc (suc zero)))) few = omega arith
+below_sixteen (suc (suc (suc (suc (suc n))))) few = absurd (omega (arith, few))
+
+pub row_used : (number : ℕ) → get_or (group_row number) 4 0 % 16 ≡ 2 ^ length (words_of number) - 1
+unfolding group_row
+row_used number = omega (
+  arith,
+  below_sixteen (length (words_of number)) (four_words number),
+  pow_pos (length (words_of number)),
+)
+
+pub row_first_width : (number count : ℕ) → 0 < count → count ≤ 4
+    → get_or (group_row number) (4 + count / 2) 0 / 2 ^ (4 * (count % 2)) % 16 ≡ width_of (take count (words_of number))
+unfolding group_row
+row_first_width number zero some few = absurd (omega (arith, some))
+row_first_width number (suc zero) some few = omega (
+  arith,
+  below_sixteen (length (words_of number)) (four_words number),
+  pow_pos (length (words_of number)),
+  few_in_part number 1,
+)
+row_first_width number (suc (suc zero)) some few = omega (arith, few_in_part number 2)
+row_first_width number (suc (suc (suc zero))) some few = omega (arith, few_in_part number 2, few_in_part number 3)
+row_first_width number (suc (suc (suc (suc zero)))) some few = omega (arith, few_in_part number 4)
+row_first_width number (suc (suc (suc (suc (suc n))))) some few = absurd (omega (arith, few))
+
 -- ---- The mode that is first
-pub first_horizontal : (number : ℕ) → mode_number (first_mode number) ≡ 1 → first_mode number ≡ Some Horizontal
-first_horizontal number e = by_mode (first_mode number) e
+-- the number of a mode that isn't vertical
+abbrev mode_number : Option Mode → ℕ
+mode_number None = 0
+mode_number (Some Horizontal) = 1
+mode_number (Some Pass) = 2
+mode_number (Some (Vertical distance)) = 0
+
+pub first_horizontal : (number : ℕ) → number / 128 ≡ 1 → first_mode number ≡ Some Horizontal
+unfolding first_mode ten_bits
+first_horizontal number e =
+    let at : 128 + number % 128 ≡ number = omega (arith, e) in
+    by_mode (first_mode number) (rw at at (eqb-true _ 1
+    (agree_below_at (λ k. eqb (mode_number (first_mode (128 + k))) 1) (λ k. true) 128 (number % 128) refl (omega arith))))
   where
     by_mode : (mode : Option Mode) → mode_number mode ≡ 1 → mode ≡ Some Horizontal
     by_mode None e = absurd (omega (arith, e))
@@ -84,8 +107,12 @@ first_horizontal number e = by_mode (first_mode number) e
     by_mode (Some Pass) e = absurd (omega (arith, e))
     by_mode (Some (Vertical distance)) e = absurd (omega (arith, e))
 
-pub first_pass : (number : ℕ) → mode_number (first_mode number) ≡ 2 → first_mode number ≡ Some Pass
-first_pass number e = by_mode (first_mode number) e
+pub first_pass : (number : ℕ) → number / 64 ≡ 1 → first_mode number ≡ Some Pass
+unfolding first_mode ten_bits
+first_pass number e =
+    let at : 64 + number % 64 ≡ number = omega (arith, e) in
+    by_mode (first_mode number) (rw at at (eqb-true _ 2
+    (agree_below_at (λ k. eqb (mode_number (first_mode (64 + k))) 2) (λ k. true) 64 (number % 64) refl (omega arith))))
   where
     by_mode : (mode : Option Mode) → mode_number mode ≡ 2 → mode ≡ Some Pass
     by_mode None e = absurd (omega (arith, e))

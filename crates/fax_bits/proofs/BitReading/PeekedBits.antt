@@ -1,7 +1,8 @@
 -- The highest bits of a word that contains the bits from here on.
 use Rattle.fax_bits.proofs.Names.{◌≡◌, ℕ, zero, suc, ◌+◌, ◌-◌, ◌/◌, ◌^◌, ◌<◌, ◌≤◌, false, [], ◌∷◌, get_or, refl, sym, ap, ◌∙◌}
-use Rattle.fax_bits.proofs.Names.{arith, get_or-drop, shr-shr, Bits, BitsAt, bit_of, low_bits, here, padded, common_steps}
-use Rattle.fax_bits.specs.LookUps.{seven_bits, thirteen_bits, twelve_bits}
+use Rattle.fax_bits.proofs.Names.{div_below, pow-add, pow_pos, arith, get_or-drop, shr-shr, Bits, BitsAt, bit_of, low_bits}
+use Rattle.fax_bits.proofs.Names.{here, padded, common_steps}
+use Rattle.fax_bits.specs.LookUps.{index_bits, seven_bits, twelve_bits}
 use Rattle.fax_bits.specs.ModeGroups.{ten_bits}
 
 -- the low bits of a number, if they are the first ones here
@@ -30,10 +31,11 @@ highest_bits wide at word n le h = low_bits-padded n (word / 2 ^ (wide - n)) (he
     each k lt = grind (arith, common_steps, get_or-drop at.place at.bits k false, shr-shr word (wide - n) (n - 1 - k))
 
 -- of what is peeked
-pub peeked_thirteen : (at : BitsAt) (word : ℕ) → ((k : ℕ) → k < 32 → bit_of word (31 - k) ≡ get_or at.bits (at.place + k) false)
-    → thirteen_bits (word / 524288) ≡ padded 13 (here at)
-unfolding thirteen_bits
-peeked_thirteen at word h = highest_bits 32 at word 13 (omega arith) (λ k lt. h k (omega arith))
+pub peeked_index : (at : BitsAt) (word n : ℕ) → n ≤ 32
+    → ((k : ℕ) → k < 32 → bit_of word (31 - k) ≡ get_or at.bits (at.place + k) false)
+    → index_bits n (word / 2 ^ (32 - n)) ≡ padded n (here at)
+unfolding index_bits
+peeked_index at word n le h = highest_bits 32 at word n le (λ k lt. h k (omega (arith, le, lt)))
 
 pub peeked_seven : (at : BitsAt) (word : ℕ) → ((k : ℕ) → k < 32 → bit_of word (31 - k) ≡ get_or at.bits (at.place + k) false)
     → seven_bits (word / 33554432) ≡ padded 7 (here at)
@@ -41,10 +43,17 @@ unfolding seven_bits
 peeked_seven at word h = highest_bits 32 at word 7 (omega arith) (λ k lt. h k (omega arith))
 
 -- of a window that contains them
-pub first_thirteen : (at : BitsAt) (word : ℕ) → ((k : ℕ) → k < 13 → bit_of word (63 - k) ≡ get_or at.bits (at.place + k) false)
-    → thirteen_bits (word / 2251799813685248) ≡ padded 13 (here at)
-unfolding thirteen_bits
-first_thirteen at word h = highest_bits 64 at word 13 (omega arith) h
+pub first_index : (at : BitsAt) (word n : ℕ) → n ≤ 64
+    → ((k : ℕ) → k < n → bit_of word (63 - k) ≡ get_or at.bits (at.place + k) false)
+    → index_bits n (word / 2 ^ (64 - n)) ≡ padded n (here at)
+unfolding index_bits
+first_index at word n le h = highest_bits 64 at word n le h
+
+-- they are a number below the number of entries
+pub index_below : (wide n word : ℕ) → n ≤ wide → word < 2 ^ wide → word / 2 ^ (wide - n) < 2 ^ n
+index_below wide n word le lt =
+    let e : n + (wide - n) ≡ wide = omega (arith, le) in
+    div_below word (2 ^ (wide - n)) (2 ^ n) (pow_pos (wide - n)) (rw (sym (pow-add 2 n (wide - n)), e) lt)
 
 pub first_seven : (at : BitsAt) (word : ℕ) → ((k : ℕ) → k < 7 → bit_of word (63 - k) ≡ get_or at.bits (at.place + k) false)
     → seven_bits (word / 144115188075855872) ≡ padded 7 (here at)

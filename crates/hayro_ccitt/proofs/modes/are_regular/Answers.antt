@@ -4,9 +4,10 @@ use Rattle.hayro_ccitt.proofs.modes.are_regular.Goals as goal
 
 pub returns-clause-all : goal.returns-clause-all
 returns-clause-all c e =
-    set_before_count c.args.modes.now.regular c.unused.result _ c.requires.few c.unused.ensures.value (eqb-true _ 15 e)
+    set_before_count c.args.modes.now.regular c.used.result _ c.requires.mask c.used.ensures.few c.requires.few
+    c.used.ensures.value (eqb-true _ 0 e)
 
 pub returns-clause-some : goal.returns-clause-some
 returns-clause-some c e =
-    first_before_count c.args.modes.now.regular c.unused.result _ c.requires.mask c.requires.few c.unused.ensures.value
-    (eqb-false _ 15 e)
+    first_before_count c.args.modes.now.regular c.used.result _ c.requires.mask c.used.ensures.few c.requires.few
+    c.used.ensures.value (eqb-false _ 0 e)

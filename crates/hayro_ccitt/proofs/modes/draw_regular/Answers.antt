@@ -9,13 +9,7 @@ use Rattle.hayro_ccitt.proofs.modes.draw_regular.Goals as goal
 -- what is stored
 stored : (c : goal.After-next_color) → c.turn_at_places.new.row.items ≡ c.args.row.now.items ++ take c.count-count.result
     c.args.modes.now.places
-stored c =
-    let same : 4 - c.missing.result ≡ c.count-count.result = omega (
-      arith,
-      c.missing.ensures.value,
-      c.count-count.ensures.value,
-    ) in
-    rw same at c.turn_at_places.ensures.items
+stored c = c.turn_at_places.ensures.items
 
 -- the last place that is stored
 last : (c : goal.After-next_color) → c.index.result.now ≡ get_or (c.args.stroke.painted ∷ c.args.modes.now.places)
@@ -29,7 +23,7 @@ last c =
     c.index.ensures ∙ ap (λ xs. get_or xs (c.len.result - 1) c.index.result.now) (stored c)
     ∙ stored_at c.args.row.now.items (take n places) (c.len.result - 1) (n - 1) c.index.result.now
     (omega (arith, all, here.some, length-take-le n places (omega (arith, all, here.few, here.lead.four))))
-    (omega (arith, c.len.ensures, turned.count, c.args.row.now.ok.0, all, here.some, c.missing.ensures.value))
+    (omega (arith, c.len.ensures, turned.count, c.args.row.now.ok.0, all, here.some))
     ∙ get_or-take n places (n - 1) 0 (omega (arith, all, here.some)) ∙ after_first c.args.stroke.painted places n (omega
     (arith, all, here.some))
 
@@ -52,7 +46,6 @@ returns-clause-drawn c =
       c.pass.ensures.left,
       c.width.ensures.some,
       all,
-      c.missing.ensures.value,
     ))
     (omega (arith, all, c.requires.here.some)) (last c) refl c.next_color.ensures.turns (stored c)
     (rw width at c.pass.ensures.moved) (omega (arith, c.tick_times.ensures))

@@ -1,5 +1,5 @@
 use Rattle.fax_bits.proofs.Names.{rules, ◌≡◌, ◌<◌, length, bit_and, Err, refl, sym, ap, ◌∙◌, err_from_is_err_and, false≢true}
-use Rattle.fax_bits.proofs.Names.{and_mask, here, padded, telling_bits, run_or_none, codes_of}
+use Rattle.fax_bits.proofs.Names.{and_mask, here, padded, telling_bits, run_or_none, codes_of, lookup_bits}
 use Rattle.fax_bits.proofs.BitReading.BitPlaces.{passed_on, bits_enough, bits_missing}
 use Rattle.fax_bits.proofs.CodeWords.LookedUp.{high_bits, low_twelve, looked_up_cut, looked_up_wrong, looked_up_found}
 use Rattle.fax_bits.proofs.CodeWords.LookedUp.{some_bits_tell}
@@ -9,7 +9,7 @@ pub returns-in_err-consume-clause-word : goal.returns-in_err-consume-clause-word
 returns-in_err-consume-clause-word c =
     let color = c.args.color in
     let at = c.args.self.now in
-    let seen = padded 13 (here at) in
+    let seen = padded (lookup_bits color) (here at) in
     let width = high_bits color seen c.entry_here-entry.result c.entry_here-entry.ensures in
     let missing : length (here at) < telling_bits (codes_of color) seen = bits_missing at c.from.result (telling_bits
     (codes_of color) seen) (c.from.ensures ∙ width) (some_bits_tell color (here at)) (c.in_err-consume.ensures.end.0 refl) in
@@ -20,7 +20,7 @@ pub returns-then-run-eq-LOOKUP_INVALID-clause-word : goal.returns-then-run-eq-LO
 returns-then-run-eq-LOOKUP_INVALID-clause-word c =
     let color = c.args.color in
     let at = c.args.self.now in
-    let seen = padded 13 (here at) in
+    let seen = padded (lookup_bits color) (here at) in
     let entry = c.entry_here-entry.result in
     let width = high_bits color seen entry c.entry_here-entry.ensures in
     let run = low_twelve color seen entry c.entry_here-entry.ensures in
@@ -32,7 +32,7 @@ pub returns-clause-word : goal.returns-clause-word
 returns-clause-word c =
     let color = c.args.color in
     let at = c.args.self.now in
-    let seen = padded 13 (here at) in
+    let seen = padded (lookup_bits color) (here at) in
     let entry = c.entry_here-entry.result in
     let width = high_bits color seen entry c.entry_here-entry.ensures in
     let run : bit_and entry 4095 ≡ run_or_none (codes_of color) seen =

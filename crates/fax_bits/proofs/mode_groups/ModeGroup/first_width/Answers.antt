@@ -1,19 +1,17 @@
-use Rattle.fax_bits.proofs.Names.{◌∙◌, ◌≤◌, ◌+◌, ℕ, List, ap, arith, get_or, take}
+use Rattle.fax_bits.proofs.Names.{◌∙◌, ◌≤◌, ◌+◌, ◌*◌, ◌/◌, ◌%◌, ◌^◌, ℕ, List, ap, arith, and_mask, get_or, take}
 use Rattle.fax_bits.proofs.BitReading.GroupRows.{row_first_width, bits_for_each, few_in_part, four_words}
 use Rattle.fax_bits.proofs.mode_groups.ModeGroup.first_width.Goals as goal
 use Rattle.fax_bits.specs.ModeGroups.{width_of, words_of}
-
-pub overflow_add-count : goal.overflow_add-count
-overflow_add-count c = omega (arith, c.requires.within, four_words c.args.self)
 
 pub bounds-row_of-count : goal.bounds-row_of-count
 bounds-row_of-count c = omega (arith, c.requires.within, four_words c.args.self)
 
 pub returns-clause-value : goal.returns-clause-value
 returns-clause-value c =
-    let count = c.args.count in
+    let count : ℕ = c.args.count in
     let few : count ≤ 4 = omega (arith, c.requires.within, four_words c.args.self) in
-    c.from.ensures ∙ ap (λ (row : List ℕ). get_or row (3 + count) 0) c.row_of.ensures
+    c.from.ensures ∙ and_mask _ 4
+    ∙ ap (λ (row : List ℕ). get_or row (4 + count / 2) 0 / 2 ^ (4 * (count % 2)) % 16) c.row_of.ensures
     ∙ row_first_width c.self.inside.bits count c.requires.some few
     ∙ ap (λ (n : ℕ). width_of (take count (words_of n))) c.self.view_is
 
