@@ -815,6 +815,8 @@ pub struct BitScanner<'a> {
     left: usize,
     /// The offset where they end.
     limit: usize,
+    /// Whether they are all that are left.
+    are_all: bool,
     order: BitOrder,
 }
 
@@ -838,34 +840,39 @@ fn scanner_over<'a>(data: &'a [u8], order: BitOrder, place: usize, word: u64) ->
     requires word { (k : ℕ) → k < 64 → bit_of word (63 - k) ≡ get_or (bits_in order «data».now) (8 * (place / 8) + k) false }
     ensures { result ≡ record { bits = bits_in order «data».now; place = place } }
 {
-    let limit = (place / 8 * 8 + 64).min(data.len() * 8);
+    let end = data.len() * 8;
+    let limit = (place / 8 * 8 + 64).min(end);
     BitScanner {
         data,
         window: word << (place % 8),
         left: limit - place,
         limit,
+        are_all: limit == end,
         order,
     }
 }
 
-/// Creates a scanner at one of the last 64 bits, of eight bytes at least. All that are left are in its window.
+/// Creates a scanner at one of the last 64 bits, of eight bytes at least, or returns `None` if there is none. All bits that are left
+/// are in its window.
 #[inline(always)]
-fn scanner_near_end<'a>(data: &'a [u8], order: BitOrder, place: usize) -> BitScanner<'a>
+pub fn scanner_near_end<'a>(data: &'a [u8], order: BitOrder, place: usize) -> Option<BitScanner<'a>>
     requires fit { BitsFit «data».now }
-    requires whole { 8 ≤ length «data».now }
-    requires near { 8 * length «data».now ≤ place + 64 }
-    requires within { place < 8 * length «data».now }
-    ensures { result ≡ record { bits = bits_in order «data».now; place = place } }
+    requires within { place ≤ 8 * length «data».now }
+    ensures same { IfSome result (λ scanner. scanner ≡ record { bits = bits_in order «data».now; place = place }) }
 {
-    let start = data.len() - 8;
     let end = data.len() * 8;
-    BitScanner {
-        data,
-        window: whole_word(&data[start..], order) << (place - start * 8),
-        left: end - place,
-        limit: end,
-        order,
+    let left = end - place;
+    if end < 64 || left == 0 || left > 64 {
+        return None;
     }
+    Some(BitScanner {
+        data,
+        window: whole_word(&data[data.len() - 8..], order) << (64 - left),
+        left,
+        limit: end,
+        are_all: true,
+        order,
+    })
 }
 
 /// Creates a scanner at a bit offset.
@@ -875,9 +882,8 @@ pub fn scanner_at<'a>(data: &'a [u8], order: BitOrder, place: usize) -> BitScann
     requires within { place ≤ 8 * length «data».now }
     ensures { result ≡ record { bits = bits_in order «data».now; place = place } }
 {
-    let bytes = data.len();
-    if bytes >= 8 && place >= (bytes - 8) * 8 && place < bytes * 8 {
-        return scanner_near_end(data, order, place);
+    if let Some(scanner) = scanner_near_end(data, order, place) {
+        return scanner;
     }
     let word = later_word(data, order, place / 8);
     scanner_over(data, order, place, word)
@@ -931,7 +937,7 @@ impl<'a> BitScanner<'a> {
         }
         let window = self.window << n;
         let left = self.left - n;
-        if left < 16 && self.limit < self.data.len() * 8 {
+        if left < 16 && !self.are_all {
             let place = self.limit - left;
             let word = later_word(self.data, self.order, place / 8);
             *self = scanner_over(self.data, self.order, place, word);
