@@ -852,8 +852,23 @@ fn scanner_over<'a>(data: &'a [u8], order: BitOrder, place: usize, word: u64) ->
     }
 }
 
-/// Creates a scanner at one of the last 64 bits, of eight bytes at least, or returns `None` if there is none. All bits that are left
-/// are in its window.
+/// Returns the last `left` bits, the first in the highest position, with zeros after them.
+#[inline(always)]
+fn last_bits(data: &[u8], order: BitOrder, left: usize) -> u64
+    requires some { 0 < left }
+    requires few { left ≤ 64 }
+    requires within { left ≤ 8 * length «data».now }
+    requires fit { BitsFit «data».now }
+    ensures { (k : ℕ) → k < 64
+        → bit_of result (63 - k) ≡ get_or (bits_in order «data».now) (8 * length «data».now - left + k) false }
+{
+    if data.len() < 8 {
+        return later_word(data, order, 0) << (data.len() * 8 - left);
+    }
+    whole_word(&data[data.len() - 8..], order) << (64 - left)
+}
+
+/// Creates a scanner at one of the last 64 bits, or returns `None` if it is none of them. All bits that are left are in its window.
 #[inline(always)]
 pub fn scanner_near_end<'a>(data: &'a [u8], order: BitOrder, place: usize) -> Option<BitScanner<'a>>
     requires fit { BitsFit «data».now }
@@ -862,12 +877,12 @@ pub fn scanner_near_end<'a>(data: &'a [u8], order: BitOrder, place: usize) -> Op
 {
     let end = data.len() * 8;
     let left = end - place;
-    if end < 64 || left == 0 || left > 64 {
+    if left == 0 || left > 64 {
         return None;
     }
     Some(BitScanner {
         data,
-        window: whole_word(&data[data.len() - 8..], order) << (64 - left),
+        window: last_bits(data, order, left),
         left,
         limit: end,
         are_all: true,

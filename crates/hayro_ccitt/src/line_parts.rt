@@ -226,9 +226,12 @@ fn add_word(part: &mut KeptPart, settings: DecodeSettings, n: u32) -> Word
         return Word::Ends;
     }
     part.color = part.color.opposite();
-    part.in_run = part.another;
-    part.another = false;
-    part.total = 0;
+    if part.another {
+        part.another = false;
+        part.total = 0;
+    } else {
+        part.in_run = false;
+    }
     Word::GoesOn
 }
 

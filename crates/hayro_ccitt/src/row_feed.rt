@@ -25,9 +25,7 @@ use crate::row_reader::{RowState, Stand, first_stand, has_ended, is_at_line};
 use crate::rows::try_row;
 use crate::{DecodeError, Decoder, EncodingMode, Result};
 use fax_bits::DecodeSettings;
-use fax_bits::bit_reader::{
-    BitOrder, BitReader, at_bit, placed_at, scanner_at, scanner_near_end,
-};
+use fax_bits::bit_reader::{BitOrder, BitReader, at_bit, placed_at, scanner_at, scanner_near_end};
 use fax_bits::codes::Color;
 use std::alloc::Global;
 use std::marker::Model;
@@ -501,22 +499,20 @@ impl RowFeed {
         }
     }
 
-    /// Reads the line here, if no data that follows can change it, and returns whether it was read. A line that is short goes on
-    /// from where it was short in the call before.
-    #[inline(always)]
+    /// Reads the line here from its start, if no data that follows can change it, and returns whether it was read. Of a line that is
+    /// short the part is kept from which it goes on.
+    #[inline(never)]
     fn read_line(&mut self) -> Result<bool>
         requires begun { self.old.begun ≡ true }
         requires rows { self.old.ctx.held.taken + 1 < 2 ^ 64 }
         requires damaged { self.old.ctx.held.repairs.rows ≤ self.old.ctx.held.taken }
         requires line { is_at_line self.old.rows.stand ≡ true }
+        requires none_kept { self.old.part ≡ None }
         ensures reads { ReadsInFeed self.old self.new result }
-        ensures unread { result ≡ Ok false → self.old.part ≡ None → self.new.part ≡ None
+        ensures unread { result ≡ Ok false → self.new.part ≡ None
             → (self.new.ctx.ticks ≡ self.old.ctx.ticks) ⊎ ((self.old.tried_at ≢ self.new.dropped + self.new.place)
             × (self.new.tried_at ≡ self.new.dropped + self.new.place)) }
     {
-        if self.is_still_short() {
-            return Ok(false);
-        }
         let row = self.read_whole_line();
         if is_unsettled(&row) {
             self.keep_part();
@@ -524,7 +520,7 @@ impl RowFeed {
         row
     }
 
-    /// Reads the row of the line here.
+    /// Reads the row of the line here. A line that is short goes on from where it was short in the call before.
     #[inline(always)]
     fn read_here(&mut self) -> Result<Fed>
         requires begun { self.old.begun ≡ true }
@@ -534,6 +530,9 @@ impl RowFeed {
         ensures keeps { KeepsBits self.old self.new }
         ensures counts { CountsRow self.old self.new result }
     {
+        if self.is_still_short() {
+            return Ok(Fed::NeedsMore);
+        }
         if !can_take_row(&self.ctx) {
             return Err(DecodeError::UnexpectedEof);
         }

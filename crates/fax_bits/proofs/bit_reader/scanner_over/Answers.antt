@@ -1,4 +1,5 @@
-use Rattle.fax_bits.proofs.Names.{eqb-true, length, ◌≡◌, ℕ, ◌+◌, ◌-◌, ◌*◌, ◌/◌, ◌%◌, ◌≤◌, sym, false, get_or, ap, ◌∙◌, arith, Bits, bits_in}
+use Rattle.fax_bits.proofs.Names.{eqb-true, length}
+use Rattle.fax_bits.proofs.Names.{◌≡◌, ℕ, ◌+◌, ◌-◌, ◌*◌, ◌/◌, ◌%◌, ◌≤◌, sym, false, get_or, ap, ◌∙◌, arith, Bits, bits_in}
 use Rattle.fax_bits.proofs.BitReading.BitLists.{length-bits_in}
 use Rattle.fax_bits.proofs.BitReading.FilledWindows.{all_behind}
 use Rattle.fax_bits.proofs.BitReading.WindowWords.{filled}

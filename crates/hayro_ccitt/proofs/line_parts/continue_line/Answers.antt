@@ -8,9 +8,9 @@ use Rattle.hayro_ccitt.proofs.line_parts.continue_line.Goals.{After-read_run, Af
 use Rattle.hayro_ccitt.proofs.line_parts.continue_line.Goals as goal
 
 -- what was read before a word, in a context with other ticks
-so_far : (old part : KeptPart) (ctx now : Context) (before at : BitsAt) → WentOn old part ctx now before at
+went_to_word : (old part : KeptPart) (ctx now : Context) (before at : BitsAt) → WentOn old part ctx now before at
     → WentOn old part ctx (record ctx { ticks = now.ticks }) before at
-so_far old part ctx now before at went = subst (λ (x : Context). WentOn old part ctx x before at) went.frame went
+went_to_word old part ctx now before at went = subst (λ (x : Context). WentOn old part ctx x before at) went.frame went
 
 -- and the word, in the same context
 word_read : (part new : KeptPart) (ctx now next : Context) (at after : BitsAt) (found word : Word)
@@ -56,7 +56,7 @@ run-preserved c =
     record {
       went_on = went_on c.args.part.now c.run.part c.read_run.new.part c.args.ctx.now c.run.ctx.ticks c.read_run.new.ctx
           c.args.reader.now c.run.reader c.read_run.new.reader
-          (so_far c.args.part.now c.run.part c.args.ctx.now c.run.ctx c.args.reader.now c.run.reader went)
+          (went_to_word c.args.part.now c.run.part c.args.ctx.now c.run.ctx c.args.reader.now c.run.reader went)
           (run_read at Word.GoesOn c.in-GoesOn.is);
       no_more = omega (arith, c.run.invariant.no_more, run_smaller at c.in-GoesOn.is);
     }
@@ -67,7 +67,7 @@ returns-in-Missing-clause-goes_on c =
     let went = c.run.invariant.went_on in
     lacks_word c.args.part.now c.run.part c.read_run.new.part c.args.ctx.now c.run.ctx.ticks c.read_run.new.ctx
     c.args.reader.now c.run.reader c.read_run.new.reader
-    (so_far c.args.part.now c.run.part c.args.ctx.now c.run.ctx c.args.reader.now c.run.reader went)
+    (went_to_word c.args.part.now c.run.part c.args.ctx.now c.run.ctx c.args.reader.now c.run.reader went)
     (record c.args.reader.now { place = c.offset-word_start.result })
     (put_back c.args.part.now c.run.part c.args.ctx.now c.run.ctx c.args.reader.now c.run.reader c.offset-word_start.result went
     c.offset-word_start.ensures.place)
@@ -81,7 +81,7 @@ returns-in-Ends-clause-goes_on c =
     let went = c.run.invariant.went_on in
     ends_with_word c.args.part.now c.run.part c.read_run.new.part c.args.ctx.now c.run.ctx.ticks c.read_run.new.ctx
     c.args.reader.now c.run.reader c.read_run.new.reader
-    (so_far c.args.part.now c.run.part c.args.ctx.now c.run.ctx c.args.reader.now c.run.reader went)
+    (went_to_word c.args.part.now c.run.part c.args.ctx.now c.run.ctx c.args.reader.now c.run.reader went)
     (record c.args.reader.now { place = c.offset-word_start.result })
     (put_back c.args.part.now c.run.part c.args.ctx.now c.run.ctx c.args.reader.now c.run.reader c.offset-word_start.result went
     c.offset-word_start.ensures.place)
@@ -95,7 +95,7 @@ steps-preserved c =
     let went = c.run.invariant.went_on in
     went_on c.args.part.now c.run.part c.read_step.new.part c.args.ctx.now c.run.ctx.ticks c.read_step.new.ctx
     c.args.reader.now c.run.reader c.read_step.new.reader
-    (so_far c.args.part.now c.run.part c.args.ctx.now c.run.ctx c.args.reader.now c.run.reader went)
+    (went_to_word c.args.part.now c.run.part c.args.ctx.now c.run.ctx c.args.reader.now c.run.reader went)
     (step_read at Word.GoesOn c.in-GoesOn-read_step.is)
 
 pub returns-in-Missing-read_step-clause-goes_on : goal.returns-in-Missing-read_step-clause-goes_on
@@ -104,7 +104,7 @@ returns-in-Missing-read_step-clause-goes_on c =
     let went = c.run.invariant.went_on in
     lacks_word c.args.part.now c.run.part c.read_step.new.part c.args.ctx.now c.run.ctx.ticks c.read_step.new.ctx
     c.args.reader.now c.run.reader c.read_step.new.reader
-    (so_far c.args.part.now c.run.part c.args.ctx.now c.run.ctx c.args.reader.now c.run.reader went)
+    (went_to_word c.args.part.now c.run.part c.args.ctx.now c.run.ctx c.args.reader.now c.run.reader went)
     (record c.args.reader.now { place = c.offset-step_start.result })
     (put_back c.args.part.now c.run.part c.args.ctx.now c.run.ctx c.args.reader.now c.run.reader c.offset-step_start.result went
     c.offset-step_start.ensures.place)
@@ -118,7 +118,7 @@ returns-in-Ends-read_step-clause-goes_on c =
     let went = c.run.invariant.went_on in
     ends_with_word c.args.part.now c.run.part c.read_step.new.part c.args.ctx.now c.run.ctx.ticks c.read_step.new.ctx
     c.args.reader.now c.run.reader c.read_step.new.reader
-    (so_far c.args.part.now c.run.part c.args.ctx.now c.run.ctx c.args.reader.now c.run.reader went)
+    (went_to_word c.args.part.now c.run.part c.args.ctx.now c.run.ctx c.args.reader.now c.run.reader went)
     (record c.args.reader.now { place = c.offset-step_start.result })
     (put_back c.args.part.now c.run.part c.args.ctx.now c.run.ctx c.args.reader.now c.run.reader c.offset-step_start.result went
     c.offset-step_start.ensures.place)

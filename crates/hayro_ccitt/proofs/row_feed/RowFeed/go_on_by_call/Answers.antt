@@ -6,16 +6,16 @@ use Rattle.hayro_ccitt.proofs.row_feed.RowFeed.go_on_by_call.Goals.{In-Some}
 use Rattle.hayro_ccitt.proofs.row_feed.RowFeed.go_on_by_call.Goals as goal
 
 -- the part that is kept, by what is seen
-kept : (c : In-Some) → LineGoesOn c.args.self.now.begun c.args.self.now.rows.stand c.args.self.now.ctx.held
+part_kept : (c : In-Some) → LineGoesOn c.args.self.now.begun c.args.self.now.rows.stand c.args.self.now.ctx.held
     (drop c.args.self.now.place c.args.self.now.kept) c.self.inside.line_read c.in-Some.part
-kept c = subst (λ (f : Feeding). LineGoesOn f.begun f.rows.stand f.ctx.held (drop f.place f.kept) c.self.inside.line_read
+part_kept c = subst (λ (f : Feeding). LineGoesOn f.begun f.rows.stand f.ctx.held (drop f.place f.kept) c.self.inside.line_read
     c.in-Some.part) c.self.view_is
     (subst (λ (p : Option KeptPart). PartIsKept p c.self.inside.begun c.self.inside.rows.stand c.self.inside.ctx.held
     (drop c.self.inside.place (bits_in c.self.inside.order c.self.inside.«data».items)) c.self.inside.line_read)
     c.in-Some.is c.self.invariant.part)
 
 pub go_on_from-requires : goal.go_on_from-requires
-go_on_from-requires c = record { part = kept (goal.at.go_on_from-requires c).In-Some }
+go_on_from-requires c = record { part = part_kept (goal.at.go_on_from-requires c).In-Some }
 
 pub returns : goal.returns
 returns c =
@@ -25,5 +25,5 @@ returns c =
     stays_by old c.go_on_from.new.self part c.go_on_from.result
     (ap (λ (f : Feeding). f.part) (sym c.self.view_is) ∙ c.in-Some.is)
     c.requires.more
-    (kept (goal.at.returns c).In-Some).none_drawn
+    (part_kept (goal.at.returns c).In-Some).none_drawn
     (subst (λ (n : _). ScansLine part.passed n old c.go_on_from.new.self c.go_on_from.result) read c.go_on_from.ensures.scans)
