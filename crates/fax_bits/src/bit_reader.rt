@@ -816,6 +816,8 @@ pub struct BitScanner<'a> {
     left: usize,
     /// The offset where they end.
     limit: usize,
+    /// Whether they are all that are left.
+    are_all: bool,
     order: BitOrder,
 }
 
@@ -839,34 +841,54 @@ fn scanner_over<'a>(data: &'a [u8], order: BitOrder, place: usize, word: u64) ->
     requires word { (k : ℕ) → k < 64 → bit_of word (63 - k) ≡ get_or (bits_in order «data».now) (8 * (place / 8) + k) false }
     ensures { result ≡ record { bits = bits_in order «data».now; place = place } }
 {
-    let limit = (place / 8 * 8 + 64).min(data.len() * 8);
+    let end = data.len() * 8;
+    let limit = (place / 8 * 8 + 64).min(end);
     BitScanner {
         data,
         window: word << (place % 8),
         left: limit - place,
         limit,
+        are_all: limit == end,
         order,
     }
 }
 
-/// Creates a scanner at one of the last 64 bits, of eight bytes at least. All that are left are in its window.
+/// Returns the last `left` bits, the first in the highest position, with zeros after them.
 #[inline(always)]
-fn scanner_near_end<'a>(data: &'a [u8], order: BitOrder, place: usize) -> BitScanner<'a>
+fn last_bits(data: &[u8], order: BitOrder, left: usize) -> u64
+    requires some { 0 < left }
+    requires few { left ≤ 64 }
+    requires within { left ≤ 8 * length «data».now }
     requires fit { BitsFit «data».now }
-    requires whole { 8 ≤ length «data».now }
-    requires near { 8 * length «data».now ≤ place + 64 }
-    requires within { place < 8 * length «data».now }
-    ensures { result ≡ record { bits = bits_in order «data».now; place = place } }
+    ensures { (k : ℕ) → k < 64
+        → bit_of result (63 - k) ≡ get_or (bits_in order «data».now) (8 * length «data».now - left + k) false }
 {
-    let start = data.len() - 8;
-    let end = data.len() * 8;
-    BitScanner {
-        data,
-        window: whole_word(&data[start..], order) << (place - start * 8),
-        left: end - place,
-        limit: end,
-        order,
+    if data.len() < 8 {
+        return later_word(data, order, 0) << (data.len() * 8 - left);
     }
+    whole_word(&data[data.len() - 8..], order) << (64 - left)
+}
+
+/// Creates a scanner at one of the last 64 bits, or returns `None` if it is none of them. All bits that are left are in its window.
+#[inline(always)]
+pub fn scanner_near_end<'a>(data: &'a [u8], order: BitOrder, place: usize) -> Option<BitScanner<'a>>
+    requires fit { BitsFit «data».now }
+    requires within { place ≤ 8 * length «data».now }
+    ensures same { IfSome result (λ scanner. scanner ≡ record { bits = bits_in order «data».now; place = place }) }
+{
+    let end = data.len() * 8;
+    let left = end - place;
+    if left == 0 || left > 64 {
+        return None;
+    }
+    Some(BitScanner {
+        data,
+        window: last_bits(data, order, left),
+        left,
+        limit: end,
+        are_all: true,
+        order,
+    })
 }
 
 /// Creates a scanner at a bit offset.
@@ -876,9 +898,8 @@ pub fn scanner_at<'a>(data: &'a [u8], order: BitOrder, place: usize) -> BitScann
     requires within { place ≤ 8 * length «data».now }
     ensures { result ≡ record { bits = bits_in order «data».now; place = place } }
 {
-    let bytes = data.len();
-    if bytes >= 8 && place >= (bytes - 8) * 8 && place < bytes * 8 {
-        return scanner_near_end(data, order, place);
+    if let Some(scanner) = scanner_near_end(data, order, place) {
+        return scanner;
     }
     let word = later_word(data, order, place / 8);
     scanner_over(data, order, place, word)
@@ -932,7 +953,7 @@ impl<'a> BitScanner<'a> {
         }
         let window = self.window << n;
         let left = self.left - n;
-        if left < 16 && self.limit < self.data.len() * 8 {
+        if left < 16 && !self.are_all {
             let place = self.limit - left;
             let word = later_word(self.data, self.order, place / 8);
             *self = scanner_over(self.data, self.order, place, word);

@@ -1,5 +1,5 @@
 -- A line that is read a word at a time and not drawn, in data of which more may come: what is kept of it.
-use Rattle.std.specs.Prelude.{◌≡◌, ◌≤◌, ◌+◌, ◌*◌, ◌⊎◌, ℕ, Bool, true, false, ◌++◌, length}
+use Rattle.std.specs.Prelude.{◌≡◌, ◌≤◌, ◌+◌, ◌*◌, ℕ, Bool, true, false, ◌++◌, length}
 use Rattle.fax_bits.specs.declared.settings.DecodeSettings.{DecodeSettings}
 use Rattle.fax_bits.specs.declared.codes.Color.{Color}
 use Rattle.std.specs.Prelude.{Ok}
@@ -97,12 +97,6 @@ pub record ReadsWord (old new : KeptPart) (ctx now : Context) (before after : Bi
   pub work : now.ticks + old.passed ≤ ctx.ticks + new.passed + 2
   pub paid : word ≡ Word.GoesOn
       → now.ticks + old.passed + 2 * length (here after) ≤ ctx.ticks + new.passed + 2 * length (here before)
-
--- What a call leaves that reads a word behind the start of a run, if one is begun first, which reads nothing (T.4, 4.1.1).
-pub record ReadsNextWord (old new : KeptPart) (ctx now : Context) (before after : BitsAt) (word : Word) : Type 0 where
-  pub begun : KeptPart
-  pub begins : (begun ≡ old) ⊎ ReadsWord old begun ctx ctx before before Word.GoesOn
-  pub reads : ReadsWord begun new ctx now before after word
 
 -- What a call leaves that reads words from a part of a line on: whether the line is short, and the part from which it then goes
 -- on; whatever bits the line begins (T.4, 4.1 and 4.2; T.6, 2.2).

@@ -6,7 +6,7 @@ ghost use Rattle.hayro_ccitt.specs.Bits.{Bits, here};
 ghost use Rattle.hayro_ccitt.specs.Context.{right_of_painted};
 ghost use Rattle.hayro_ccitt.specs.Continuations.{is_short, misses_end};
 ghost use Rattle.hayro_ccitt.specs.LineParts.{ContinuesLine, GoesOnBy, IsLawfulPart, IsPartOf, Leads, PaintsTo};
-ghost use Rattle.hayro_ccitt.specs.LineParts.{ReadsNextWord, ReadsWord, first_kept, is_missing, left_to_read, pen_of_part};
+ghost use Rattle.hayro_ccitt.specs.LineParts.{ReadsWord, first_kept, is_missing, left_to_read, pen_of_part};
 ghost use Rattle.hayro_ccitt.specs.LineParts.{run_of_part};
 ghost use Rattle.hayro_ccitt.specs.Lines.{place_from};
 ghost use Rattle.hayro_ccitt.specs.LinesGoOn.{OpenRun, mode_added, word_added};
@@ -78,21 +78,11 @@ fn vertical_place(b1: u32, painted: u32, offset: i8) -> Option<u32>
     ensures none { IfNone result (place_from painted (pos b1 +ℤ offset) ≡ Err DecodeError.Overflow) }
     ensures right { IfSome result (λ place. painted ≤ place) }
 {
-    if offset == 0 {
-        if b1 < painted {
-            return None;
-        }
-        return Some(b1);
+    let place = i64::from(b1) + i64::from(offset);
+    if place < i64::from(painted) || place > i64::from(u32::MAX) {
+        return None;
     }
-    match b1.checked_add_signed(i32::from(offset)) {
-        None => None,
-        Some(place) => {
-            if place < painted {
-                return None;
-            }
-            Some(place)
-        }
-    }
+    Some(place as u32)
 }
 
 /// Returns what a word leads to that is read with this error.
@@ -236,9 +226,12 @@ fn add_word(part: &mut KeptPart, settings: DecodeSettings, n: u32) -> Word
         return Word::Ends;
     }
     part.color = part.color.opposite();
-    part.in_run = part.another;
-    part.another = false;
-    part.total = 0;
+    if part.another {
+        part.another = false;
+        part.total = 0;
+    } else {
+        part.in_run = false;
+    }
     Word::GoesOn
 }
 
@@ -270,18 +263,16 @@ fn begin_run(_ctx: &DecoderContext, _reader: &BitScanner<'_>, part: &mut KeptPar
     part.total = 0;
 }
 
-/// Goes on behind the word that is next, unless the row is full. Behind a run of a one-dimensional line the next one is begun
-/// first, which reads nothing.
+/// Goes on behind the step that is next, unless the row is full: behind a mode, or to the start of a run of a one-dimensional
+/// line, which reads nothing.
 #[inline(always)]
-fn read_on(ctx: &mut DecoderContext, reader: &mut BitScanner<'_>, part: &mut KeptPart) -> Word
+fn read_step(ctx: &mut DecoderContext, reader: &mut BitScanner<'_>, part: &mut KeptPart) -> Word
     requires lawful { IsLawfulPart ctx.old.held.settings ctx.old.held.reference part.old }
-    ensures reads { ReadsNextWord part.old part.new ctx.old ctx.new reader.old reader.new result }
+    requires run { part.old.in_run ≡ false }
+    ensures reads { ReadsWord part.old part.new ctx.old ctx.new reader.old reader.new result }
     ensures smaller { result ≡ Word.GoesOn
         → left_to_read part.new.in_run (here reader.new) < left_to_read part.old.in_run (here reader.old) }
 {
-    if part.in_run {
-        return read_run(ctx, reader, part);
-    }
     if part.painted == ctx.settings().columns {
         return Word::Ends;
     }
@@ -289,7 +280,7 @@ fn read_on(ctx: &mut DecoderContext, reader: &mut BitScanner<'_>, part: &mut Kep
         return read_mode(ctx, reader, part);
     }
     begin_run(ctx, reader, part);
-    read_run(ctx, reader, part)
+    Word::GoesOn
 }
 
 /// Returns the part with which the words of a line begin.
@@ -345,12 +336,20 @@ pub(crate) fn continue_line(
 {
     // An offset is known to be within the data once it is read.
     let _start = reader.offset();
-    'words: loop {
-        let word_start = reader.offset();
-        match read_on(ctx, reader, part) {
+    'steps: loop {
+        'run: while part.in_run {
+            let word_start = reader.offset();
+            match read_run(ctx, reader, part) {
+                Word::GoesOn => {}
+                Word::Missing => return (true, word_start),
+                Word::Ends => return (false, word_start),
+            }
+        }
+        let step_start = reader.offset();
+        match read_step(ctx, reader, part) {
             Word::GoesOn => {}
-            Word::Missing => return (true, word_start),
-            Word::Ends => return (false, word_start),
+            Word::Missing => return (true, step_start),
+            Word::Ends => return (false, step_start),
         }
     }
 }

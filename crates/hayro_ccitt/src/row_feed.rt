@@ -25,7 +25,7 @@ use crate::row_reader::{RowState, Stand, first_stand, has_ended, is_at_line};
 use crate::rows::try_row;
 use crate::{DecodeError, Decoder, EncodingMode, Result};
 use fax_bits::DecodeSettings;
-use fax_bits::bit_reader::{BitOrder, BitReader, at_bit, placed_at, scanner_at};
+use fax_bits::bit_reader::{BitOrder, BitReader, at_bit, placed_at, scanner_at, scanner_near_end};
 use fax_bits::codes::Color;
 use std::alloc::Global;
 use std::marker::Model;
@@ -432,6 +432,20 @@ impl RowFeed {
         false
     }
 
+    /// Reads on from the part of the line here that is kept, by a call, and returns whether the line is still short.
+    #[cold]
+    #[inline(never)]
+    fn go_on_by_call(&mut self) -> bool
+        requires more { self.old.finished ≡ false }
+        ensures { StaysShort self.old self.new result }
+    {
+        let Some(part) = self.part else {
+            return false;
+        };
+        let read = self.line_read;
+        self.go_on_from(part, read)
+    }
+
     /// Returns whether the line here is known to be short: whether it goes on from a part that was kept, and still is short.
     #[inline(always)]
     fn is_still_short(&mut self) -> bool
@@ -446,7 +460,9 @@ impl RowFeed {
             return false;
         }
         let place = self.place + self.line_read;
-        let mut reader = scanner_at(&self.data, self.order, place);
+        let Some(mut reader) = scanner_near_end(&self.data, self.order, place) else {
+            return self.go_on_by_call();
+        };
         let Some(part) = &mut self.part else {
             return false;
         };
@@ -483,22 +499,20 @@ impl RowFeed {
         }
     }
 
-    /// Reads the line here, if no data that follows can change it, and returns whether it was read. A line that is short goes on
-    /// from where it was short in the call before.
-    #[inline(always)]
+    /// Reads the line here from its start, if no data that follows can change it, and returns whether it was read. Of a line that is
+    /// short the part is kept from which it goes on.
+    #[inline(never)]
     fn read_line(&mut self) -> Result<bool>
         requires begun { self.old.begun ≡ true }
         requires rows { self.old.ctx.held.taken + 1 < 2 ^ 64 }
         requires damaged { self.old.ctx.held.repairs.rows ≤ self.old.ctx.held.taken }
         requires line { is_at_line self.old.rows.stand ≡ true }
+        requires none_kept { self.old.part ≡ None }
         ensures reads { ReadsInFeed self.old self.new result }
-        ensures unread { result ≡ Ok false → self.old.part ≡ None → self.new.part ≡ None
+        ensures unread { result ≡ Ok false → self.new.part ≡ None
             → (self.new.ctx.ticks ≡ self.old.ctx.ticks) ⊎ ((self.old.tried_at ≢ self.new.dropped + self.new.place)
             × (self.new.tried_at ≡ self.new.dropped + self.new.place)) }
     {
-        if self.is_still_short() {
-            return Ok(false);
-        }
         let row = self.read_whole_line();
         if is_unsettled(&row) {
             self.keep_part();
@@ -506,7 +520,7 @@ impl RowFeed {
         row
     }
 
-    /// Reads the row of the line here.
+    /// Reads the row of the line here. A line that is short goes on from where it was short in the call before.
     #[inline(always)]
     fn read_here(&mut self) -> Result<Fed>
         requires begun { self.old.begun ≡ true }
@@ -516,6 +530,9 @@ impl RowFeed {
         ensures keeps { KeepsBits self.old self.new }
         ensures counts { CountsRow self.old self.new result }
     {
+        if self.is_still_short() {
+            return Ok(Fed::NeedsMore);
+        }
         if !can_take_row(&self.ctx) {
             return Err(DecodeError::UnexpectedEof);
         }
@@ -563,22 +580,6 @@ impl RowFeed {
         fed_row(row)
     }
 
-    /// Reads the next row behind the first line's start.
-    #[inline(always)]
-    fn read_on(&mut self) -> Result<Fed>
-        requires begun { self.old.begun ≡ true }
-        requires unended { ended self.old.rows.stand ≡ None }
-        ensures reads { (whole : Bits) (tried : ℕ) → IsFeedOf whole tried self.old
-            → FeedsNext whole tried self.old self.new result }
-        ensures keeps { KeepsBits self.old self.new }
-        ensures counts { CountsRow self.old self.new result }
-    {
-        if self.part.is_some() {
-            return self.read_here();
-        }
-        self.read_from_gap()
-    }
-
     /// Reads the first row, behind what is before it.
     #[cold]
     #[inline(never)]
@@ -595,7 +596,7 @@ impl RowFeed {
         if has_ended(self.rows.stand) {
             return Ok(Fed::End);
         }
-        self.read_on()
+        self.read_from_gap()
     }
 
     /// Reads the next row, if no data that follows can change it. After [`Fed::NeedsMore`] feed more, or finish the data. At
@@ -615,12 +616,15 @@ impl RowFeed {
         ensures ended { (end : Result (Unit {0}) DecodeError) → ended self.old.rows.stand ≡ Some end
             → (self.new ≡ self.old) × (result ≡ fed_end end) }
     {
+        if self.part.is_some() {
+            return self.read_here();
+        }
         match self.rows.stand {
             Stand::AtEnd => Ok(Fed::End),
             Stand::AtFault(error) => Err(error),
             Stand::AtLine | Stand::BehindRow => {
                 if self.begun {
-                    self.read_on()
+                    self.read_from_gap()
                 } else {
                     self.read_first()
                 }
@@ -944,7 +948,7 @@ impl RowFeed {
     pub fn bytes_read(&self) -> usize
         ensures { result ≡ (self.now.dropped + self.now.place + 7) / 8 }
     {
-        (self.dropped + self.place).div_ceil(8)
+        (self.dropped + self.place + 7) / 8
     }
 
     /// Returns the bytes that were fed and aren't consumed; of a byte that is partly read nothing is left. At the end of the

@@ -1,3 +1,4 @@
+use Rattle.fax_bits.proofs.Names.{eqb-true, length}
 use Rattle.fax_bits.proofs.Names.{◌≡◌, ℕ, ◌+◌, ◌-◌, ◌*◌, ◌/◌, ◌%◌, ◌≤◌, sym, false, get_or, ap, ◌∙◌, arith, Bits, bits_in}
 use Rattle.fax_bits.proofs.BitReading.BitLists.{length-bits_in}
 use Rattle.fax_bits.proofs.BitReading.FilledWindows.{all_behind}
@@ -27,4 +28,5 @@ invariant_of-result c =
           let at : 8 * (place / 8) + place % 8 + k ≡ limit - (limit - place) + k = omega (arith, back) in
           all_behind bits (8 * (place / 8)) (place % 8) word (omega (arith, h, c.min-limit.ensures, size))
           c.requires.word k lt ∙ ap (λ (i : ℕ). get_or bits i false) at;
+      are_all = λ e. omega (arith, eqb-true limit (length bytes * 8) e);
     }

@@ -1,75 +1,127 @@
 use Rattle.hayro_ccitt.specs.declared.line_parts.KeptPart.{KeptPart}
-use Rattle.hayro_ccitt.proofs.Names.{inl, inr, ◌≡◌, ◌∙◌, ap, sym, subst, arith, Context, Bits, ℕ}
+use Rattle.hayro_ccitt.proofs.Names.{◌≡◌, ◌∙◌, ◌<◌, ap, sym, subst, arith, here, Context, Bits, BitsAt, ℕ}
 use Rattle.hayro_ccitt.specs.declared.line_parts.Word.{Word}
-use Rattle.hayro_ccitt.specs.LineParts.{ReadsWord}
-use Rattle.hayro_ccitt.proofs.DrawingLines.PartsOfLines.{WentOn, ends_with_word, lacks_word, went_on}
-use Rattle.hayro_ccitt.proofs.line_parts.continue_line.Goals.{After-read_on}
+use Rattle.hayro_ccitt.specs.LineParts.{GoesOnBy, ReadsWord, left_to_read, part_at}
+use Rattle.hayro_ccitt.specs.LinesGoOn.{read_on}
+use Rattle.hayro_ccitt.proofs.DrawingLines.PartsOfLines.{WentOn, ends_with_word, lacks_word, reads_some, went_on}
+use Rattle.hayro_ccitt.proofs.line_parts.continue_line.Goals.{After-read_run, After-read_step}
 use Rattle.hayro_ccitt.proofs.line_parts.continue_line.Goals as goal
 
--- what was read before the word
-words_so_far : (c : After-read_on) → WentOn c.args.part.now c.words.part c.args.ctx.now
-    (record c.args.ctx.now { ticks = c.words.ctx.ticks }) c.args.reader.now c.words.reader
-words_so_far c = subst (λ (x : Context). WentOn c.args.part.now c.words.part c.args.ctx.now x c.args.reader.now c.words.reader)
-    c.words.invariant.frame c.words.invariant
+-- what was read before a word, in a context with other ticks
+went_to_word : (old part : KeptPart) (ctx now : Context) (before at : BitsAt) → WentOn old part ctx now before at
+    → WentOn old part ctx (record ctx { ticks = now.ticks }) before at
+went_to_word old part ctx now before at went = subst (λ (x : Context). WentOn old part ctx x before at) went.frame went
 
--- the same context
-same_context : (c : After-read_on) → c.words.ctx ≡ record c.args.ctx.now { ticks = c.words.ctx.ticks }
-same_context c = c.words.invariant.frame
+-- and the word, in the same context
+word_read : (part new : KeptPart) (ctx now next : Context) (at after : BitsAt) (found word : Word)
+    → now ≡ record ctx { ticks = now.ticks } → found ≡ word → ReadsWord part new now next at after found
+    → ReadsWord part new (record ctx { ticks = now.ticks }) next at after word
+word_read part new ctx now next at after found word same is reads =
+    subst (ReadsWord part new (record ctx { ticks = now.ticks }) next at after) is
+    (subst (λ (x : Context). ReadsWord part new x next at after found) same reads)
 
--- and the start of a run, if one is begun before the word
-begun_so_far : (c : After-read_on) → WentOn c.args.part.now c.read_on.ensures.reads.begun c.args.ctx.now
-    (record c.args.ctx.now { ticks = c.words.ctx.ticks }) c.args.reader.now c.words.reader
-begun_so_far c =
-    let reads = c.read_on.ensures.reads in
-    elim reads.begins [
-      | inl same ↦ subst (λ (p : KeptPart). WentOn c.args.part.now p c.args.ctx.now
-          (record c.args.ctx.now { ticks = c.words.ctx.ticks }) c.args.reader.now c.words.reader) (sym same) (words_so_far c)
-      | inr step ↦ went_on c.args.part.now c.words.part reads.begun c.args.ctx.now c.words.ctx.ticks
-          (record c.args.ctx.now { ticks = c.words.ctx.ticks }) c.args.reader.now c.words.reader c.words.reader (words_so_far c)
-          (subst (λ (x : Context). ReadsWord c.words.part reads.begun x x c.words.reader c.words.reader Word.GoesOn)
-          (same_context c) step)
-    ]
+put_back : (old part : KeptPart) (ctx now : Context) (before at : BitsAt) (place : ℕ) → WentOn old part ctx now before at
+    → place ≡ at.place → record before { place = place } ≡ at
+put_back old part ctx now before at place went is =
+    ap (λ (n : ℕ). record before { place = n }) is ∙ ap (λ (b : Bits). record at { bits = b }) (sym went.same_bits)
 
--- and the word
-word_read : (c : After-read_on) (word : Word) → c.read_on.result ≡ word → ReadsWord c.read_on.ensures.reads.begun
-    c.read_on.new.part (record c.args.ctx.now { ticks = c.words.ctx.ticks }) c.read_on.new.ctx c.words.reader
-    c.read_on.new.reader word
-word_read c word is =
-    let reads = c.read_on.ensures.reads in
-    subst (λ (x : Context). ReadsWord reads.begun c.read_on.new.part x c.read_on.new.ctx c.words.reader
-    c.read_on.new.reader word) (same_context c)
-    (subst (ReadsWord reads.begun c.read_on.new.part c.words.ctx c.read_on.new.ctx c.words.reader c.read_on.new.reader) is
-    reads.reads)
+run_read : (c : After-read_run) (word : Word) → c.read_run.result ≡ word → ReadsWord c.run.part c.read_run.new.part
+    (record c.args.ctx.now { ticks = c.run.ctx.ticks }) c.read_run.new.ctx c.run.reader c.read_run.new.reader word
+run_read c word is = word_read c.run.part c.read_run.new.part c.args.ctx.now c.run.ctx c.read_run.new.ctx c.run.reader
+    c.read_run.new.reader c.read_run.result word c.run.invariant.went_on.frame is c.read_run.ensures.reads
 
-put_back : (c : After-read_on) → (record c.args.reader.now { place = c.offset-word_start.result }) ≡ c.words.reader
-put_back c = ap (λ (n : ℕ). record c.args.reader.now { place = n }) c.offset-word_start.ensures.place
-    ∙ ap (λ (b : Bits). record c.words.reader { bits = b }) (sym (words_so_far c).same_bits)
+step_read : (c : After-read_step) (word : Word) → c.read_step.result ≡ word → ReadsWord c.run.part c.read_step.new.part
+    (record c.args.ctx.now { ticks = c.run.ctx.ticks }) c.read_step.new.ctx c.run.reader c.read_step.new.reader word
+step_read c word is = word_read c.run.part c.read_step.new.part c.args.ctx.now c.run.ctx c.read_step.new.ctx c.run.reader
+    c.read_step.new.reader c.read_step.result word c.run.invariant.went_on.frame is c.read_step.ensures.reads
 
-pub words-preserved : goal.words-preserved
-words-preserved c =
-    let at = (goal.at.words-preserved c).After-read_on in
-    went_on c.args.part.now c.read_on.ensures.reads.begun c.read_on.new.part c.args.ctx.now c.words.ctx.ticks
-    c.read_on.new.ctx c.args.reader.now
-    c.words.reader c.read_on.new.reader (begun_so_far at) (word_read at Word.GoesOn c.in-GoesOn.is)
+-- a word of a run leaves less to read
+run_smaller : (c : After-read_run) → c.read_run.result ≡ Word.GoesOn
+    → left_to_read c.read_run.new.part.in_run (here c.read_run.new.reader) < left_to_read c.run.part.in_run (here c.run.reader)
+run_smaller c is =
+    let held = c.run.ctx.held in
+    let new = c.read_run.new.part in
+    let after = here c.read_run.new.reader in
+    reads_some held.settings held.reference c.run.part new (here c.run.reader) after
+    (subst (GoesOnBy held.settings held.reference (λ front. (read_on held.settings held.reference
+    (part_at c.run.part front (here c.run.reader))).turn) c.run.part new after) is c.read_run.ensures.reads.goes)
+
+pub run-smaller : goal.run-smaller
+run-smaller c = run_smaller (goal.at.run-smaller c).After-read_run c.in-GoesOn.is
+
+pub run-preserved : goal.run-preserved
+run-preserved c =
+    let at = (goal.at.run-preserved c).After-read_run in
+    let went = c.run.invariant.went_on in
+    record {
+      went_on = went_on c.args.part.now c.run.part c.read_run.new.part c.args.ctx.now c.run.ctx.ticks c.read_run.new.ctx
+          c.args.reader.now c.run.reader c.read_run.new.reader
+          (went_to_word c.args.part.now c.run.part c.args.ctx.now c.run.ctx c.args.reader.now c.run.reader went)
+          (run_read at Word.GoesOn c.in-GoesOn.is);
+      no_more = omega (arith, c.run.invariant.no_more, run_smaller at c.in-GoesOn.is);
+    }
 
 pub returns-in-Missing-clause-goes_on : goal.returns-in-Missing-clause-goes_on
 returns-in-Missing-clause-goes_on c =
-    let at = (goal.at.returns-in-Missing-clause-goes_on c).After-read_on in
-    lacks_word c.args.part.now c.read_on.ensures.reads.begun c.read_on.new.part c.args.ctx.now c.words.ctx.ticks
-    c.read_on.new.ctx
-    c.args.reader.now c.words.reader c.read_on.new.reader (begun_so_far at)
-    (record c.args.reader.now { place = c.offset-word_start.result }) (put_back at)
+    let at = (goal.at.returns-in-Missing-clause-goes_on c).After-read_run in
+    let went = c.run.invariant.went_on in
+    lacks_word c.args.part.now c.run.part c.read_run.new.part c.args.ctx.now c.run.ctx.ticks c.read_run.new.ctx
+    c.args.reader.now c.run.reader c.read_run.new.reader
+    (went_to_word c.args.part.now c.run.part c.args.ctx.now c.run.ctx c.args.reader.now c.run.reader went)
+    (record c.args.reader.now { place = c.offset-word_start.result })
+    (put_back c.args.part.now c.run.part c.args.ctx.now c.run.ctx c.args.reader.now c.run.reader c.offset-word_start.result went
+    c.offset-word_start.ensures.place)
     (omega (arith, c.offset-start.ensures.place, c.offset-start.ensures.within))
     (omega (arith, c.offset-word_start.ensures.place, c.offset-word_start.ensures.within))
-    (word_read at Word.Missing c.in-Missing.is)
+    (run_read at Word.Missing c.in-Missing.is)
 
 pub returns-in-Ends-clause-goes_on : goal.returns-in-Ends-clause-goes_on
 returns-in-Ends-clause-goes_on c =
-    let at = (goal.at.returns-in-Ends-clause-goes_on c).After-read_on in
-    ends_with_word c.args.part.now c.read_on.ensures.reads.begun c.read_on.new.part c.args.ctx.now c.words.ctx.ticks
-    c.read_on.new.ctx
-    c.args.reader.now c.words.reader c.read_on.new.reader (begun_so_far at)
-    (record c.args.reader.now { place = c.offset-word_start.result }) (put_back at)
+    let at = (goal.at.returns-in-Ends-clause-goes_on c).After-read_run in
+    let went = c.run.invariant.went_on in
+    ends_with_word c.args.part.now c.run.part c.read_run.new.part c.args.ctx.now c.run.ctx.ticks c.read_run.new.ctx
+    c.args.reader.now c.run.reader c.read_run.new.reader
+    (went_to_word c.args.part.now c.run.part c.args.ctx.now c.run.ctx c.args.reader.now c.run.reader went)
+    (record c.args.reader.now { place = c.offset-word_start.result })
+    (put_back c.args.part.now c.run.part c.args.ctx.now c.run.ctx c.args.reader.now c.run.reader c.offset-word_start.result went
+    c.offset-word_start.ensures.place)
     (omega (arith, c.offset-start.ensures.place, c.offset-start.ensures.within))
     (omega (arith, c.offset-word_start.ensures.place, c.offset-word_start.ensures.within))
-    (word_read at Word.Ends c.in-Ends.is)
+    (run_read at Word.Ends c.in-Ends.is)
+
+pub steps-preserved : goal.steps-preserved
+steps-preserved c =
+    let at = (goal.at.steps-preserved c).After-read_step in
+    let went = c.run.invariant.went_on in
+    went_on c.args.part.now c.run.part c.read_step.new.part c.args.ctx.now c.run.ctx.ticks c.read_step.new.ctx
+    c.args.reader.now c.run.reader c.read_step.new.reader
+    (went_to_word c.args.part.now c.run.part c.args.ctx.now c.run.ctx c.args.reader.now c.run.reader went)
+    (step_read at Word.GoesOn c.in-GoesOn-read_step.is)
+
+pub returns-in-Missing-read_step-clause-goes_on : goal.returns-in-Missing-read_step-clause-goes_on
+returns-in-Missing-read_step-clause-goes_on c =
+    let at = (goal.at.returns-in-Missing-read_step-clause-goes_on c).After-read_step in
+    let went = c.run.invariant.went_on in
+    lacks_word c.args.part.now c.run.part c.read_step.new.part c.args.ctx.now c.run.ctx.ticks c.read_step.new.ctx
+    c.args.reader.now c.run.reader c.read_step.new.reader
+    (went_to_word c.args.part.now c.run.part c.args.ctx.now c.run.ctx c.args.reader.now c.run.reader went)
+    (record c.args.reader.now { place = c.offset-step_start.result })
+    (put_back c.args.part.now c.run.part c.args.ctx.now c.run.ctx c.args.reader.now c.run.reader c.offset-step_start.result went
+    c.offset-step_start.ensures.place)
+    (omega (arith, c.offset-start.ensures.place, c.offset-start.ensures.within))
+    (omega (arith, c.offset-step_start.ensures.place, c.offset-step_start.ensures.within))
+    (step_read at Word.Missing c.in-Missing-read_step.is)
+
+pub returns-in-Ends-read_step-clause-goes_on : goal.returns-in-Ends-read_step-clause-goes_on
+returns-in-Ends-read_step-clause-goes_on c =
+    let at = (goal.at.returns-in-Ends-read_step-clause-goes_on c).After-read_step in
+    let went = c.run.invariant.went_on in
+    ends_with_word c.args.part.now c.run.part c.read_step.new.part c.args.ctx.now c.run.ctx.ticks c.read_step.new.ctx
+    c.args.reader.now c.run.reader c.read_step.new.reader
+    (went_to_word c.args.part.now c.run.part c.args.ctx.now c.run.ctx c.args.reader.now c.run.reader went)
+    (record c.args.reader.now { place = c.offset-step_start.result })
+    (put_back c.args.part.now c.run.part c.args.ctx.now c.run.ctx c.args.reader.now c.run.reader c.offset-step_start.result went
+    c.offset-step_start.ensures.place)
+    (omega (arith, c.offset-start.ensures.place, c.offset-start.ensures.within))
+    (omega (arith, c.offset-step_start.ensures.place, c.offset-step_start.ensures.within))
+    (step_read at Word.Ends c.in-Ends-read_step.is)

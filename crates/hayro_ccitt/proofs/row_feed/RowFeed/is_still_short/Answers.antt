@@ -29,8 +29,8 @@ overflow_add-place c =
       length-drop inside.place bits,
     )
 
-pub scanner_at-reader-requires-clause-within : goal.scanner_at-reader-requires-clause-within
-scanner_at-reader-requires-clause-within c =
+pub scanner_near_end-requires-clause-within : goal.scanner_near_end-requires-clause-within
+scanner_near_end-requires-clause-within c =
     let inside = c.self.inside in
     let bits = bits_in inside.order inside.«data».items in
     omega (
@@ -52,15 +52,15 @@ module _ (c : After-continue_line-is_short) where
   scanned = record old { ctx = c.continue_line-is_short.new.ctx }
 
   abbrev reached : BitsAt
-  reached = record c.scanner_at-reader.result { place = c.continue_line-is_short.result.1 }
+  reached = record c.in-Some.reader { place = c.continue_line-is_short.result.1 }
 
-  kept : LineGoesOn old.begun old.rows.stand old.ctx.held (drop old.place old.kept) old.line_read c.in-Some.part
+  kept : LineGoesOn old.begun old.rows.stand old.ctx.held (drop old.place old.kept) old.line_read c.in-Some-part.part
   kept = subst (λ (p : Option KeptPart). PartIsKept p old.begun old.rows.stand old.ctx.held (drop old.place old.kept)
       old.line_read)
-      c.in-Some.is c.self.invariant.part
+      c.in-Some-part.is c.self.invariant.part
 
-  starts_at : c.scanner_at-reader.result ≡ record { bits = old.kept; place = old.place + old.line_read }
-  starts_at = c.scanner_at-reader.ensures ∙ ap (λ (items : List ℕ). record {
+  starts_at : c.in-Some.reader ≡ record { bits = old.kept; place = old.place + old.line_read }
+  starts_at = c.in-Some.ensures.same ∙ ap (λ (items : List ℕ). record {
     bits = bits_in c.self.inside.order items;
     place = old.place + old.line_read;
   }) c.deref.ensures.value
@@ -83,8 +83,8 @@ invariant_of-self-then-is_short c =
           (drop c.self.inside.place (bits_in c.self.inside.order c.self.inside.«data».items)))
           (sym (ap (λ (x : Context). x.held) c.continue_line-is_short.ensures.goes_on.frame)) c.self.invariant.seen;
       line = c.self.invariant.line;
-      part = part_reached (old at) (scanned at) c.in-Some.part c.continue_line-is_short.new.part c.self.inside.line_read
-          c.scanner_at-reader.result (reached at) c.continue_line-is_short.result.0 (starts_at at) (within at)
+      part = part_reached (old at) (scanned at) c.in-Some-part.part c.continue_line-is_short.new.part c.self.inside.line_read
+          c.in-Some.reader (reached at) c.continue_line-is_short.result.0 (starts_at at) (within at)
           c.continue_line-is_short.ensures.goes_on was c.continue_line-is_short.ensures.within c.if-is_short.true;
     }
 
@@ -93,8 +93,8 @@ returns-then-is_short c =
     let at = (goal.at.returns-then-is_short c).After-continue_line-is_short in
     let was = kept at in
     let on = c.continue_line-is_short in
-    rw (← c.self.view_is) (stays_by (old at) _ c.in-Some.part true c.in-Some.is c.if-self.false was.none_drawn
-    (scans_short (old at) (scanned at) c.in-Some.part on.new.part c.self.inside.line_read c.scanner_at-reader.result (reached at)
+    rw (← c.self.view_is) (stays_by (old at) _ c.in-Some-part.part true c.in-Some-part.is c.if-self.false was.none_drawn
+    (scans_short (old at) (scanned at) c.in-Some-part.part on.new.part c.self.inside.line_read c.in-Some.reader (reached at)
     on.result.0 (starts_at at) (within at) on.ensures.goes_on was on.ensures.within c.if-is_short.true))
 
 pub returns : goal.returns
@@ -102,6 +102,6 @@ returns c =
     let at = (goal.at.returns c).After-continue_line-is_short in
     let was = kept at in
     let on = c.continue_line-is_short in
-    rw (← c.self.view_is) (stays_by (old at) _ c.in-Some.part false c.in-Some.is c.if-self.false was.none_drawn
-    (scans_whole (old at) (scanned at) c.in-Some.part on.new.part c.self.inside.line_read c.scanner_at-reader.result (reached at)
+    rw (← c.self.view_is) (stays_by (old at) _ c.in-Some-part.part false c.in-Some-part.is c.if-self.false was.none_drawn
+    (scans_whole (old at) (scanned at) c.in-Some-part.part on.new.part c.self.inside.line_read c.in-Some.reader (reached at)
     on.result.0 (starts_at at) (within at) on.ensures.goes_on was c.if-is_short.false))
