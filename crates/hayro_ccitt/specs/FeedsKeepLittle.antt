@@ -1,5 +1,5 @@
--- How few bits of the data a feed keeps.
-use Rattle.std.specs.Prelude.{◌≡◌, ◌≤◌, ◌<◌, ◌+◌, ℕ, Bool, true, false, [], ◌∷◌, ◌++◌, drop, length, replicate}
+-- How few bits of the data a feed keeps, and for how few bytes it has room.
+use Rattle.std.specs.Prelude.{◌≡◌, ◌≤◌, ◌<◌, ◌+◌, ◌*◌, ℕ, Bool, true, false, [], ◌∷◌, ◌++◌, drop, length, replicate}
 use Rattle.std.specs.Prelude.{Result, Ok, Err}
 use Rattle.fax_bits.specs.declared.settings.DecodeSettings.{DecodeSettings}
 use Rattle.fax_bits.specs.declared.error.DecodeError.{DecodeError}
@@ -82,7 +82,8 @@ StaysReading whole old new = (tried : ℕ) → IsFeedOf whole tried old → IsFe
 -- What became of a feed of some data: pieces of at most so many bits were fed, the first at the start, and each other one after a
 -- call that needs more; rows were read; and the data may have been finished.
 pub data IsFedInTurn (whole : Bits) (piece : ℕ) : Feeding → Type 0 where
-  opens : {feed : Feeding} (tried : ℕ) → IsFeedOf whole tried feed → feed.kept ≡ [] → IsFedInTurn whole piece feed
+  opens : {feed : Feeding} (tried : ℕ) → IsFeedOf whole tried feed → feed.kept ≡ [] → feed.room ≡ 0
+      → IsFedInTurn whole piece feed
   begins : {old new : Feeding} (next : Bits) → IsFedInTurn whole piece old → old.kept ≡ [] → HoldsMore next old new
       → StaysReading whole old new → length next ≤ piece → IsFedInTurn whole piece new
   reads : {old new : Feeding} (answer : Result Fed DecodeError) → IsFedInTurn whole piece old → FeedsRow old new answer
@@ -96,10 +97,12 @@ pub data IsFedInTurn (whole : Bits) (piece : ℕ) : Feeding → Type 0 where
 
 -- After a call that needs more, each bit that is kept from the next one on is needed for the line or the gap that is next. Of
 -- such bits few aren't part of it. So where each piece is fed after such a call, a feed keeps no more bits than those for which
--- the longest line or gap so far, or the one that is next, is open, those of a piece, and seven.
+-- the longest line or gap so far, or the one that is next, is open, those of a piece, and seven; and it has room for no more than
+-- twice as many.
 pub record FeedsKeepLittle : Type 0 where
   pub needed : (whole : Bits) (tried : ℕ) (old new : Feeding) → FeedsNext whole tried old new (Ok Fed.NeedsMore)
       → AreNeeded new.begun new.rows.stand new.ctx (drop new.place new.kept)
   pub read : OpenBitsAreRead
   pub kept : (whole : Bits) (most piece : ℕ) (feed : Feeding) → IsFedInTurn whole piece feed
-      → AreOpenFor most feed.ctx.held.taken feed.ctx.held.settings whole → length feed.kept ≤ most + piece + 7
+      → AreOpenFor most feed.ctx.held.taken feed.ctx.held.settings whole
+      → (length feed.kept ≤ most + piece + 7) × (8 * feed.room ≤ 2 * (most + piece + 7))

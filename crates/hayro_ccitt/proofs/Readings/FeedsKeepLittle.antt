@@ -1,5 +1,5 @@
 -- What a feed keeps of the data is needed, and no more than a line or a gap needs, a piece, and seven bits.
-use Rattle.hayro_ccitt.proofs.Names.{◌≡◌, ◌∙◌, ◌+◌, ◌≤◌, ◌++◌, ◌∷◌, [], ℕ, Bool, true, false, Option, None, Some}
+use Rattle.hayro_ccitt.proofs.Names.{◌≡◌, ◌∙◌, ◌+◌, ◌*◌, ◌≤◌, ◌++◌, ◌∷◌, [], ℕ, Bool, true, false, Option, None, Some}
 use Rattle.hayro_ccitt.proofs.Names.{Result, Ok, Err, refl, sym, ap, subst, arith, drop, length, length-append, length-drop}
 use Rattle.hayro_ccitt.proofs.Names.{false≢true, Bits, Context, DecodeError, DecodeSettings, Held, Row}
 use Rattle.hayro_ccitt.proofs.Names.{Stand, AtLine, BehindRow, AtEnd, AtFault, ReaderStands, StandsAtLine, StandsBehindRow, ended}
@@ -156,11 +156,28 @@ module _ (whole : Bits) (most piece : ℕ) where
   abbrev KnownFor : ℕ → DecodeSettings → Type 0
   KnownFor taken settings = AreOpenFor most taken settings whole
 
-  -- what is known of a feed: of the data, and how many bits are kept
+  -- the bound of what is kept, and of the room for it
+  abbrev limit : ℕ
+  limit = most + piece + 7
+
+  abbrev AreWithin : Bits → ℕ → Type 0
+  AreWithin kept room = (length kept ≤ limit) × (8 * room ≤ 2 * limit)
+
+  -- what is known of a feed: of the data, and that it keeps few bits
   record KeepsFew (feed : Feeding) : Type 0 where
     pub tried : ℕ
     pub stands : IsFeedOf whole tried feed
-    pub few : KnownFor feed.ctx.held.taken feed.ctx.held.settings → length feed.kept ≤ most + piece + 7
+    pub few : KnownFor feed.ctx.held.taken feed.ctx.held.settings → AreWithin feed.kept feed.room
+
+  -- bits are fed, of which no more are held then
+  holds_within : {next : Bits} {old new : Feeding} → HoldsMore next old new → AreWithin old.kept old.room
+      → length new.kept ≤ limit → AreWithin new.kept new.room
+  holds_within holds before few = (few, omega (arith, few, holds.room, before.1))
+
+  -- the same bits are held
+  same_within : {was kept : Bits} {before room : ℕ} → kept ≡ was → room ≡ before → AreWithin was before
+      → AreWithin kept room
+  same_within same still within = (omega (arith, within.0, ap length same), omega (arith, within.1, still))
 
   -- what is known of later lines is of those before
   known_before : {m n : ℕ} {s t : DecodeSettings} → m ≤ n → s ≡ t → KnownFor n s → KnownFor m t
@@ -171,14 +188,16 @@ module _ (whole : Bits) (most piece : ℕ) where
   })
 
   keeps_few : (feed : Feeding) → IsFedInTurn whole piece feed → KeepsFew feed
-  keeps_few feed (IsFedInTurn.opens tried stands none) =
-      record { tried = tried; stands = stands; few = λ known. omega (arith, ap length none) }
+  keeps_few feed (IsFedInTurn.opens tried stands none no_room) =
+      record { tried = tried; stands = stands; few = λ known. (omega (arith, ap length none), omega (arith, no_room)) }
   keeps_few feed (IsFedInTurn.begins {old = old} next was none holds stays short) =
       let before = keeps_few old was in
       record {
         tried = before.tried;
         stands = stays before.tried before.stands;
-        few = λ known. omega (arith, short, fed_most holds, length-drop old.place old.kept, ap length none);
+        few = λ known. holds_within holds
+            (before.few (subst (λ (c : Context). KnownFor c.held.taken c.held.settings) holds.reading.0 known))
+            (omega (arith, short, fed_most holds, length-drop old.place old.kept, ap length none));
       }
   keeps_few feed (IsFedInTurn.reads {old = old} answer was call) =
       let before = keeps_few old was in
@@ -186,11 +205,8 @@ module _ (whole : Bits) (most piece : ℕ) where
       record {
         tried = goes.tried;
         stands = goes.stands;
-        few = λ known. omega (
-          arith,
-          ap length call.keeps.kept,
-          before.few (known_before goes.onward call.counts.settings known),
-        );
+        few = λ known. same_within call.keeps.kept call.keeps.room
+            (before.few (known_before goes.onward call.counts.settings known));
       }
   keeps_few feed (IsFedInTurn.feeds {old = old} {mid = mid} next was call holds stays short) =
       let before = keeps_few old was in
@@ -198,24 +214,20 @@ module _ (whole : Bits) (most piece : ℕ) where
       record {
         tried = before.tried + needs.extra;
         stands = stays (before.tried + needs.extra) needs.stands;
-        few = λ known. omega (
-          arith,
-          short,
-          fed_most holds,
-          open_most needs.stands (subst (λ (c : Context). KnownFor c.held.taken c.held.settings) holds.reading.0 known)
-              holds.within (needs.unsettled refl).1,
-        );
+        few = λ known.
+            let known_mid = subst (λ (c : Context). KnownFor c.held.taken c.held.settings) holds.reading.0 known in
+            holds_within holds
+            (same_within call.keeps.kept call.keeps.room (before.few (known_before
+            (rows_onward (Ok Fed.NeedsMore) needs call.counts) call.counts.settings known_mid)))
+            (omega (arith, short, fed_most holds, open_most needs.stands known_mid holds.within (needs.unsettled refl).1));
       }
   keeps_few feed (IsFedInTurn.finishes {old = old} was is stays) =
       let before = keeps_few old was in
       record {
         tried = before.tried;
         stands = stays before.tried before.stands;
-        few = λ known. omega (
-          arith,
-          ap (λ (f : Feeding). length f.kept) is,
-          before.few (subst (λ (c : Context). KnownFor c.held.taken c.held.settings) (ap (λ (f : Feeding). f.ctx) is) known),
-        );
+        few = λ known. same_within (ap (λ (f : Feeding). f.kept) is) (ap (λ (f : Feeding). f.room) is)
+            (before.few (subst (λ (c : Context). KnownFor c.held.taken c.held.settings) (ap (λ (f : Feeding). f.ctx) is) known));
       }
 
 -- the law
