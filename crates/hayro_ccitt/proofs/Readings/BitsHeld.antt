@@ -14,7 +14,8 @@ behind_dropped kept next dropped offset within = grind (arith, common_steps, dro
 pub holds_more : {old mid new : Feeding} (next : Bits) (room bytes : ℕ) → DropsRead old mid → length mid.kept ≡ 8 * bytes
     → new ≡ record mid { kept = mid.kept ++ next; room = room }
     → 8 * room ≤ max (8 * mid.room) (2 * length (mid.kept ++ next)) → HoldsMore next old new
-holds_more {old} {mid} {new} next room bytes drops whole is most = grind (arith, common_steps, behind_dropped, length-append, length-drop)
+holds_more {old} {mid} {new} next room bytes drops whole is most =
+    grind (arith, common_steps, behind_dropped, length-append, length-drop)
 
 -- the same without more bits
 pub holds_none : {old mid new : Feeding} (bytes : ℕ) → DropsRead old mid → length mid.kept ≡ 8 * bytes → new ≡ mid

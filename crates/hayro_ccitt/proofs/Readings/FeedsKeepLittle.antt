@@ -130,16 +130,16 @@ call_goes_on {whole} {tried} {old} {new} answer call stands = by_end (ended old.
           onward = omega (arith, ap (λ (f : Feeding). f.ctx.held.taken) same);
         }
 
-needs_more : (end : Result (Unit {0}) DecodeError) → Ok Fed.NeedsMore ≡ fed_end end → ⊥
-needs_more (Ok x) e = cc
-needs_more (Err error) e = cc
+never_ended : (end : Result (Unit {0}) DecodeError) → Ok Fed.NeedsMore ≡ fed_end end → ⊥
+never_ended (Ok x) e = cc
+never_ended (Err error) e = cc
 
 unended : {old new : Feeding} → FeedsRow old new (Ok Fed.NeedsMore) → ended old.rows.stand ≡ None
 unended {old} {new} call = by_end (ended old.rows.stand) refl
   where
     by_end : (end : Option (Result (Unit {0}) DecodeError)) → ended old.rows.stand ≡ end → end ≡ None
     by_end None is = refl
-    by_end (Some end) over = absurd (needs_more end (call.over end over).1)
+    by_end (Some end) over = absurd (never_ended end (call.over end over).1)
 
 -- what is kept behind a piece
 fed_most : {next : Bits} {old new : Feeding} → HoldsMore next old new

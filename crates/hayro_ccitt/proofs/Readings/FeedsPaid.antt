@@ -20,7 +20,7 @@ use Rattle.hayro_ccitt.proofs.Readings.FeedAccount.{FeedIsPaid, FirstsPaid, Gaps
 use Rattle.hayro_ccitt.proofs.Readings.FeedAccount.{SeeksEol, WasShort, WasTried, offset}
 use Rattle.hayro_ccitt.specs.FeedsPaid.{FeedsArePaid, IsHistory, changes_of, cost_of_failure}
 use Rattle.hayro_ccitt.proofs.Readings.FeedsOn.{none_paid}
-use Rattle.hayro_ccitt.proofs.Readings.OpenBits.{open_before_eol, open_line}
+use Rattle.hayro_ccitt.proofs.Readings.OpenBits.{open_before_eol, open_bits_of_line}
 use Rattle.fax_reading.proofs.Work.TurnsPaid.{behind_shorter, broken_row}
 use Rattle.hayro_ccitt.proofs.Work.ChangesStored.{changes_white}
 use Rattle.hayro_ccitt.proofs.Work.CallsPaid.{within_most}
@@ -52,7 +52,7 @@ short_row settings has_eols reference seen more rest row short is =
           arith,
           ap length same,
           behind_shorter settings has_eols behind,
-          open_line settings reference whole seen more behind short e,
+          open_bits_of_line settings reference whole seen more behind short e,
         ))
 
 -- ---- By the part that is kept

@@ -30,10 +30,10 @@ open_before_eol settings reference first more fill behind short e =
     grind (arith, common_steps, cases_lt, eol_among, false≢true, eol_ends_line)
 
 -- where it is whole, they are all of it that came
-pub open_line : (settings : DecodeSettings) (reference row : Row) (first more rest : Bits)
+pub open_bits_of_line : (settings : DecodeSettings) (reference row : Row) (first more rest : Bits)
     → is_short (line_here settings reference first) ≡ true
     → line_here settings reference (first ++ more) ≡ Line.whole row rest → length rest < length more
-open_line settings reference row first more rest short e =
+open_bits_of_line settings reference row first more rest short e =
     let again = line_again settings.encoding settings.strict settings.columns reference (first ++ more) row rest e in
     elim (cases_lt (length rest) (length more)) [
       | inl lt ↦ lt
@@ -100,10 +100,10 @@ module _ (settings : DecodeSettings) (taken : ℕ) (has_eols : Bool) (first more
       ∙ gap_seen settings taken has_eols (first ++ more) ∙ waits)
 
   -- all but eleven are passed
-  pub open_gap : gap_is_settled settings taken has_eols first ≡ false
+  pub open_bits_of_gap : gap_is_settled settings taken has_eols first ≡ false
       → gap_is_settled settings taken has_eols (first ++ more) ≡ true
       → length (left_by (first ++ more) (gap_behind_row settings taken has_eols (first ++ more))) ≤ length more + 11
-  open_gap waits settled =
+  open_bits_of_gap waits settled =
       let unsettled : is_settled (stage_behind rules_there Start 0 first) ≡ false =
       gap_seen settings taken has_eols first ∙ waits in
       let later : is_settled (stage_behind rules_there (stage_behind rules_there Start 0 first) (zeros_behind 0 first) more)
@@ -158,18 +158,18 @@ left_at_front : (here : Bits) (so_far : Progress) (gap : Gap) → left_by_first 
 left_at_front here so_far (Gap.line_at has_eols rest) = refl
 left_at_front here so_far (Gap.over outcome) = refl
 
-pub open_first_gap : (settings : DecodeSettings) (first more : Bits)
+pub open_bits_of_first_gap : (settings : DecodeSettings) (first more : Bits)
     → first_gap_is_settled settings.encoding settings first ≡ false
     → first_gap_is_settled settings.encoding settings (first ++ more) ≡ true
     → length (left_by_first (first ++ more) (first_gap settings.encoding settings (first ++ more))) ≤ length more + 11
-open_first_gap settings first more = by_encoding settings.encoding
+open_bits_of_first_gap settings first more = by_encoding settings.encoding
   where
     without_tags : holds_one (all_eols first).1 ≡ false → holds_one (all_eols (first ++ more)).1 ≡ true
         → length (all_eols (first ++ more)).1 ≤ length more + 11
     without_tags waits settled = omega (
       arith,
       ap length (plain_left settings (first ++ more)),
-      open_gap (plainly settings) 0 false first more (plain_settled settings first ∙ waits)
+      open_bits_of_gap (plainly settings) 0 false first more (plain_settled settings first ∙ waits)
           (plain_settled settings (first ++ more) ∙ settled),
     )
 
@@ -179,7 +179,7 @@ open_first_gap settings first more = by_encoding settings.encoding
     by_encoding Group4 waits settled = omega (
       arith,
       ap length (left_at_front (first ++ more) (at_front (first ++ more)) (gap_behind_row settings 0 false (first ++ more))),
-      open_gap settings 0 false first more waits settled,
+      open_bits_of_gap settings 0 false first more waits settled,
     )
     by_encoding Group3_1D waits settled = without_tags waits settled
     by_encoding Group3_2D waits settled = without_tags waits settled
@@ -187,8 +187,8 @@ open_first_gap settings first more = by_encoding settings.encoding
 -- Few bits that leave open what a line or a gap is aren't part of it.
 pub open_bits_are_read : OpenBitsAreRead
 open_bits_are_read = record {
-  line = open_line;
+  line = open_bits_of_line;
   eol = open_before_eol;
-  gap = open_gap;
-  first_gap = open_first_gap;
+  gap = open_bits_of_gap;
+  first_gap = open_bits_of_first_gap;
 }

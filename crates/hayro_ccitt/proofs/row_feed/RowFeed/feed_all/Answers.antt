@@ -21,9 +21,9 @@ use Rattle.hayro_ccitt.proofs.row_feed.RowFeed.feed_all.Goals.{After-append}
 use Rattle.hayro_ccitt.proofs.row_feed.RowFeed.feed_all.Goals as goal
 
 -- the same bytes, and room for as many
-unchanged : (view : Feeding) (order : BitOrder) {now was : List ℕ} {room : ℕ} → now ≡ was → room ≡ view.room
+same_bytes_and_room : (view : Feeding) (order : BitOrder) {now was : List ℕ} {room : ℕ} → now ≡ was → room ≡ view.room
     → record view { kept = bits_in order now; room = room } ≡ record view { kept = bits_in order was }
-unchanged view order {was = was} {room = room} items same =
+same_bytes_and_room view order {was = was} {room = room} items same =
     ap (λ (l : List ℕ). record view { kept = bits_in order l; room = room }) items
     ∙ ap (λ (n : ℕ). record view { kept = bits_in order was; room = n }) same
 
@@ -35,7 +35,7 @@ pub returns-in_err-append-clause-refused :
 returns-in_err-append-clause-refused c =
     let answer = err_from_is_err_and c.from_residual.result c.from_residual.ensures.1 in
     let inside = c.self.inside in
-    let same = unchanged (feeding_of inside) inside.order c.in_err-append.ensures.items c.in_err-append.ensures.left
+    let same = same_bytes_and_room (feeding_of inside) inside.order c.in_err-append.ensures.items c.in_err-append.ensures.left
     ∙ c.self.view_is in
     rw answer.1 (λ whole tried feed. subst (IsFeedOf whole tried) (sym same) (drops_read c.drop_read.ensures feed))
 
@@ -71,7 +71,7 @@ pub returns-in_err-append-clause-kept : goal.returns-in_err-append-clause-kept
 returns-in_err-append-clause-kept c =
     let answer = err_from_is_err_and c.from_residual.result c.from_residual.ensures.1 in
     let inside = c.self.inside in
-    let same = unchanged (feeding_of inside) inside.order c.in_err-append.ensures.items c.in_err-append.ensures.left
+    let same = same_bytes_and_room (feeding_of inside) inside.order c.in_err-append.ensures.items c.in_err-append.ensures.left
     ∙ c.self.view_is in
     let kept = ap (λ (f : Feeding). f.kept) (sym c.self.view_is) in
     rw answer.1 (holds_none (length inside.«data».items) c.drop_read.ensures
