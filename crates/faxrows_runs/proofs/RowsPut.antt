@@ -107,6 +107,7 @@ bits_kept before after = record {
   finished = after.finished ∙ before.finished;
   kept = after.kept ∙ before.kept;
   dropped = after.dropped ∙ before.dropped;
+  room = after.room ∙ before.room;
 }
 
 -- a reading that has ended is the plain reading to its end

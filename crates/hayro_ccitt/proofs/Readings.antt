@@ -3,6 +3,7 @@ pub mod BlackGoesOn
 pub mod FeedAccount
 pub mod FeedTurns
 pub mod FeedWhite
+pub mod FeedsKeepLittle
 pub mod FeedsOn
 pub mod FeedsPaid
 pub mod FirstGaps
@@ -11,6 +12,7 @@ pub mod GapsPassed
 pub mod GapsSeen
 pub mod LinesRead
 pub mod LooksKept
+pub mod OpenBits
 pub mod PartsFed
 pub mod RowByRow
 pub mod RowsAgain

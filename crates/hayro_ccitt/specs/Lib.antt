@@ -2,6 +2,7 @@ pub mod ContextView
 pub mod Contract
 pub mod Counting
 pub mod DrawnModes
+pub mod FeedsKeepLittle
 pub mod FeedsPaid
 pub mod GapsSeen
 pub mod Lending

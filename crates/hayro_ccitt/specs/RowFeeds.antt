@@ -1,6 +1,6 @@
 -- Rows from data that comes in pieces: what is kept of it, what is seen of a reading, and which data it is a reading of.
 use Rattle.std.specs.Prelude.{◌≡◌, ◌≢◌, ◌≤◌, ◌<◌, ◌+◌, ◌*◌, ◌/◌, ◌^◌, ℕ, Bool, true, false, ◌++◌, [], not, ◌&&◌, ◌⊎◌}
-use Rattle.std.specs.Prelude.{List, max, drop, length, replicate, ◌∷◌, Option, None, Some, Result, Ok, Err, IfErr}
+use Rattle.std.specs.Prelude.{vec_capacity, List, max, drop, length, replicate, ◌∷◌, Option, None, Some, Result, Ok, Err, IfErr}
 use Rattle.fax_bits.specs.declared.bit_reader.BitOrder.{BitOrder}
 use Rattle.fax_bits.specs.declared.codes.Color.TheVariants.{White}
 use Rattle.fax_bits.specs.declared.settings.EncodingMode.TheVariants.{Group3_2D}
@@ -36,7 +36,7 @@ use Rattle.hayro_ccitt.specs.RowsTried.{CanCome, IsLeft, TriesRow, no_memory}
 -- whether the
 -- data is finished, the bits kept of it, how many bits came before them, the offset of the next bit among those kept, how many
 -- bits from there on were looked at since the gap before the next line is sought, the part of the line there from which it goes
--- on, if it was found to be short, and how many of its bits were read
+-- on, if it was found to be short, how many of its bits were read, and for how many bytes there is room
 pub record Feeding : Type 0 where
   pub ctx : Context
   pub rows : RowState
@@ -50,6 +50,7 @@ pub record Feeding : Type 0 where
   pub part : Option KeptPart
   pub line_read : ℕ
   pub tried_at : ℕ
+  pub room : ℕ
 
 abbrev pub feeding_of : Inside → Feeding
 feeding_of f = record {
@@ -65,6 +66,7 @@ feeding_of f = record {
   part = f.part;
   line_read = f.line_read;
   tried_at = f.tried;
+  room = vec_capacity f.«data»;
 }
 
 -- the line that begins these bits is short, and goes on from this part of it, of which so many bits were read
@@ -365,12 +367,14 @@ abbrev pub line_answer : Result Bool DecodeError → Result (Unit {0}) DecodeErr
 line_answer (Ok read) = Ok tt
 line_answer (Err error) = Err error
 
--- what no step changes: the order and the bits kept, how many came before them, and whether the data is finished
+-- what no step changes: the order and the bits kept, how many came before them, for how many bytes there is room, and whether
+-- the data is finished
 pub record KeepsBits (old new : Feeding) : Type 0 where
   pub order : new.order ≡ old.order
   pub finished : new.finished ≡ old.finished
   pub kept : new.kept ≡ old.kept
   pub dropped : new.dropped ≡ old.dropped
+  pub room : new.room ≡ old.room
 
 -- What a call that reads the next row leaves, whatever the data is: the settings; and of a row that it is counted, has as many
 -- pixels as there are columns, and a gap is next.
@@ -617,6 +621,7 @@ abbrev pub unused : Feeding → Bits
 unused feed = drop (8 * ((feed.place + 7) / 8)) feed.kept
 
 -- These bits are held behind those that were, and the reading is at the same offset. Before it fewer than eight bits are held.
+-- There is room for no more bits than before, or than twice those held.
 pub record HoldsMore (next : Bits) (old new : Feeding) : Type 0 where
   pub unread : drop new.place new.kept ≡ drop old.place old.kept ++ next
   pub left : unused new ≡ unused old ++ next
@@ -628,6 +633,7 @@ pub record HoldsMore (next : Bits) (old new : Feeding) : Type 0 where
   pub part : new.part ≡ old.part
   pub line_read : new.line_read ≡ old.line_read
   pub tried_at : new.tried_at ≡ old.tried_at
+  pub room : 8 * new.room ≤ max (8 * old.room) (2 * length new.kept)
   pub within : old.place ≤ length old.kept
   pub reading : (new.ctx ≡ old.ctx) × (new.rows ≡ old.rows) × (new.finished ≡ old.finished)
   pub order : new.order ≡ old.order
@@ -656,3 +662,4 @@ pub record DropsRead (old new : Feeding) : Type 0 where
   pub part : new.part ≡ old.part
   pub line_read : new.line_read ≡ old.line_read
   pub tried_at : new.tried_at ≡ old.tried_at
+  pub room : new.room ≡ old.room

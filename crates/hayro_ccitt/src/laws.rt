@@ -1,6 +1,7 @@
 //! Laws of CCITT data, whatever program reads it: each is the contract of a function that does nothing. Those about definitions
 //! alone are `fax_reading`'s.
 
+ghost use Rattle.hayro_ccitt.specs.FeedsKeepLittle.{FeedsKeepLittle};
 ghost use Rattle.hayro_ccitt.specs.FeedsPaid.{FeedsArePaid};
 ghost use Rattle.hayro_ccitt.specs.Laws.{StepsOnRows};
 ghost use Rattle.hayro_ccitt.specs.RowsOfFeeds.{PassesPlainRows};
@@ -23,6 +24,14 @@ pub fn steps_on_rows<D: Decoder>()
 /// `next_row`, whatever pieces the data comes in. A call that fails for memory costs more.
 pub fn feeds_paid()
     ensures { FeedsArePaid }
+{}
+
+/// How little of the data a [`RowFeed`](crate::RowFeed) keeps. After a call that needs more, each bit that is kept from the next
+/// one on is needed for the line or the gap that is next, and all but eleven are part of it. Where each piece is fed after such a
+/// call, no more bits are kept than the longest line or gap so far needs, a piece has, and seven; and there is room for no more
+/// than twice as many (T.4, 4; T.6, 2).
+pub fn feeds_keep_little()
+    ensures { FeedsKeepLittle }
 {}
 
 /// The rows that a call of [`RowFeed::push_rows`](crate::RowFeed::push_rows) passes to its sink: those that the plain reading has

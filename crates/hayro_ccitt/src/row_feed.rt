@@ -1,7 +1,7 @@
 //! Rows from data that comes in pieces.
 
 ghost use Rattle.std.specs.Prelude.{◌≡◌, ◌≢◌, ◌≤◌, ◌<◌, ◌+◌, ◌*◌, ◌/◌, ◌^◌, ◌&&◌, not, ℕ, Bool, true, false, [], ◌++◌, None};
-ghost use Rattle.std.specs.Prelude.{Some, Ok, Err, ◌⊎◌, ◌↔◌, ◌-◌};
+ghost use Rattle.std.specs.Prelude.{Some, Ok, Err, ◌⊎◌, ◌↔◌, ◌-◌, vec_capacity, vec_len};
 ghost use Rattle.std.specs.Prelude.{IfOk, IfErr, OnErr, OnOk, IsOkUnless, Result, is_ok, if◌then◌else◌, length, max, drop};
 ghost use Rattle.hayro_ccitt.specs.Bits.{AreWholeBytes, Bits, bits_in, here};
 ghost use Rattle.hayro_ccitt.specs.Context.{fresh, redrawn};
@@ -29,6 +29,7 @@ use fax_bits::bit_reader::{BitOrder, BitReader, at_bit, placed_at, scanner_at, s
 use fax_bits::codes::Color;
 use std::alloc::Global;
 use std::marker::Model;
+use std::mem;
 
 /// What a call of [`RowFeed::next_row`] came to.
 #[derive(Copy, Clone, Debug, PartialEq, Eq)]
@@ -201,12 +202,60 @@ fn is_row(fed: &Result<Fed>) -> bool
     matches!(fed, Ok(Fed::Row))
 }
 
+/// Makes room for so many bytes more, and for as many in all as there was room for twice, if there isn't any.
+fn reserve_twice(data: &mut Vec<u8>, more: usize) -> Result<()>
+    ensures items { «data».new.items ≡ «data».old.items }
+    ensures room { OnOk result (vec_len «data».new + more ≤ vec_capacity «data».new) }
+    ensures only { IsOkUnless result DecodeError.OutOfMemory }
+    ensures most { vec_capacity «data».new ≤ max (vec_capacity «data».old) (2 * (vec_len «data».old + more)) }
+    ensures left { OnErr result (vec_capacity «data».new ≡ vec_capacity «data».old) }
+{
+    let room = data.capacity();
+    let left = room - data.len();
+    if more <= left {
+        return Ok(());
+    }
+    data.reserve_exact(more.max(room.saturating_add(left)))?;
+    Ok(())
+}
+
+/// Appends bytes, for which there is room.
+#[inline(always)]
+fn append_reserved(data: &mut Vec<u8>, bytes: &[u8])
+    requires room { vec_len «data».old + length bytes.now ≤ vec_capacity «data».old }
+    ensures items { «data».new.items ≡ «data».old.items ++ bytes.now }
+    ensures room { vec_capacity «data».new ≡ vec_capacity «data».old }
+{
+    let mut index = 0;
+    'bytes: while index < bytes.len() {
+        data.push_reserved(bytes[index]);
+        index += 1;
+    }
+}
+
+/// The same with a list of its own meanwhile, so that the list's fields are values of this call.
+#[inline(never)]
+fn append_own(data: &mut Vec<u8>, bytes: &[u8])
+    requires room { vec_len «data».old + length bytes.now ≤ vec_capacity «data».old }
+    ensures items { «data».new.items ≡ «data».old.items ++ bytes.now }
+    ensures room { vec_capacity «data».new ≡ vec_capacity «data».old }
+{
+    let mut own = Vec::new(*data.allocator());
+    mem::swap(data, &mut own);
+    append_reserved(&mut own, bytes);
+    mem::swap(data, &mut own);
+}
+
 /// Appends bytes.
 fn append(data: &mut Vec<u8>, bytes: &[u8]) -> Result<()>
     ensures items { «data».new.items ≡ (if is_ok result then «data».old.items ++ bytes.now else «data».old.items) }
     ensures only { IsOkUnless result DecodeError.OutOfMemory }
+    ensures most { vec_capacity «data».new
+        ≤ max (vec_capacity «data».old) (2 * (length «data».old.items + length bytes.now)) }
+    ensures left { OnErr result (vec_capacity «data».new ≡ vec_capacity «data».old) }
 {
-    data.extend_from_slice(bytes)?;
+    reserve_twice(data, bytes.len())?;
+    append_own(data, bytes);
     Ok(())
 }
 
@@ -286,7 +335,8 @@ impl RowState {
 ///
 /// It keeps the bits that weren't read, and after [`feed`](RowFeed::feed) fewer than eight before them. After
 /// [`Fed::NeedsMore`] they are those of the line that is next, as far as it came, or of the gap before it. So where each piece is
-/// fed after `NeedsMore`, no more is kept than the longest line or gap, and a piece.
+/// fed after `NeedsMore`, no more is kept than the longest line or gap, and a piece, and there is room for at most twice as much:
+/// [`feeds_keep_little`](crate::laws::feeds_keep_little).
 ///
 /// # Example
 ///
@@ -350,6 +400,7 @@ impl RowFeed {
         ensures settings { IfOk result (λ feed. feed.ctx.held.settings ≡ settings) }
         ensures order { IfOk result (λ feed. feed.order ≡ order) }
         ensures none_fed { IfOk result (λ feed. (feed.kept ≡ []) × (feed.dropped ≡ 0) × (feed.finished ≡ false)) }
+        ensures no_room { IfOk result (λ feed. feed.room ≡ 0) }
         ensures none_read { IfOk result (λ feed. (feed.ctx.held.taken ≡ 0) × (feed.begun ≡ false) × (feed.looked ≡ 0)
             × (feed.part ≡ None)) }
         ensures only_memory { IsOkUnless result DecodeError.OutOfMemory }

@@ -1,6 +1,6 @@
 -- Rows from data that comes in pieces: the bits that a feed holds once more bytes are fed.
 use Rattle.hayro_ccitt.proofs.Names.{common_steps}
-use Rattle.hayro_ccitt.proofs.Names.{◌≡◌, ◌++◌, ◌+◌, ◌*◌, ◌≤◌, ℕ, [], arith, length, drop, drop-drop, Bits}
+use Rattle.hayro_ccitt.proofs.Names.{◌≡◌, ◌++◌, ◌+◌, ◌*◌, ◌≤◌, ℕ, [], arith, length, max, drop, drop-drop, Bits}
 use Rattle.hayro_ccitt.proofs.Names.{length-append, length-drop}
 use Rattle.std.proofs.lemmas.List.{append-nil}
 use Rattle.hayro_ccitt.specs.RowFeeds.{DropsRead, Feeding, HoldsMore}
@@ -11,9 +11,11 @@ behind_dropped : (kept next : Bits) (dropped offset : ℕ) → offset ≤ length
 behind_dropped kept next dropped offset within = grind (arith, common_steps, drop-drop)
 
 -- bytes that were read are dropped, and bits are appended to the whole bytes that are left
-pub holds_more : {old mid new : Feeding} (next : Bits) (bytes : ℕ) → DropsRead old mid → length mid.kept ≡ 8 * bytes
-    → new ≡ record mid { kept = mid.kept ++ next } → HoldsMore next old new
-holds_more {old} {mid} {new} next bytes drops whole is = grind (arith, common_steps, behind_dropped, length-append, length-drop)
+pub holds_more : {old mid new : Feeding} (next : Bits) (room bytes : ℕ) → DropsRead old mid → length mid.kept ≡ 8 * bytes
+    → new ≡ record mid { kept = mid.kept ++ next; room = room }
+    → 8 * room ≤ max (8 * mid.room) (2 * length (mid.kept ++ next)) → HoldsMore next old new
+holds_more {old} {mid} {new} next room bytes drops whole is most =
+    grind (arith, common_steps, behind_dropped, length-append, length-drop)
 
 -- the same without more bits
 pub holds_none : {old mid new : Feeding} (bytes : ℕ) → DropsRead old mid → length mid.kept ≡ 8 * bytes → new ≡ mid

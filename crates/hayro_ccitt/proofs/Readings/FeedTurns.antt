@@ -88,14 +88,14 @@ module _ {f : Inside} {before after : BitsAt} {rows : RowState} {ctx : Context} 
     (on : ComesOn f.is_last (f.dropped + f.place) f.rows rows f.look look f.ctx ctx before after line) where
   pub turn_comes : ComesInFeed (feeding_of f) (feeding_of (past_gap f ctx rows place look)) line
   turn_comes =
-      feed_comes _ _ before after by.is (record { order = refl; finished = refl; kept = refl; dropped = refl }) there
+      feed_comes _ _ before after by.is (record { order = refl; finished = refl; kept = refl; dropped = refl; room = refl }) there
       by.begun by.begun refl f.look look refl refl line on
 
   pub gap_read_by : IsReadBy (past_gap f ctx rows place look) after
   gap_read_by = read_on_by by there on.same_bits (omega (arith, there, on.within)) (kept_seen line on) (kept_line line on)
 
   keeps_gap : KeepsBits (feeding_of f) (feeding_of (past_gap f ctx rows place look))
-  keeps_gap = record { order = refl; finished = refl; kept = refl; dropped = refl }
+  keeps_gap = record { order = refl; finished = refl; kept = refl; dropped = refl; room = refl }
 
   -- no line is reached
   pub gap_row : ended f.rows.stand ≡ None → line ≢ Ok (Some true)
@@ -139,6 +139,7 @@ module _ {f : Inside} {before after : BitsAt} {rows : RowState} {ctx : Context} 
       finished = reads.keeps.finished;
       kept = reads.keeps.kept;
       dropped = reads.keeps.dropped;
+      room = reads.keeps.room;
     };
     over = λ end e. let never = sym unended ∙ e in absurd cc;
     counts = counts_row answer (ap (λ (h : Held). h.settings) on.frame) (ap (λ (h : Held). h.taken) on.frame) room reads;
@@ -158,7 +159,7 @@ module _ {f : Inside} {before after : BitsAt} {begin ctx : Context} {rows : RowS
   pub turn_reads : length f.ctx.held.reference ≡ f.ctx.held.settings.columns
       → ReadsInFeed (feeding_of f) (feeding_of (past_line f ctx rows place)) answer
   turn_reads width =
-      feed_reads _ _ before after by.is (record { order = refl; finished = refl; kept = refl; dropped = refl }) there
+      feed_reads _ _ before after by.is (record { order = refl; finished = refl; kept = refl; dropped = refl; room = refl }) there
       by.begun by.begun begin frame width line by.none refl refl by.none
       (omega (arith, by.kept.within, length-bits_in f.order f.«data».items)) answer tries
 

@@ -203,7 +203,7 @@ module _ {f : Inside} {before after : BitsAt} {rows : RowState} {ctx : Context} 
   pub white_row : FeedsRow (feeding_of f) (feeding_of (past_line f ctx rows place)) (Ok Fed.Row)
   white_row = record {
     reads = λ whole tried unended feed. white_feeds feed;
-    keeps = record { order = refl; finished = refl; kept = refl; dropped = refl };
+    keeps = record { order = refl; finished = refl; kept = refl; dropped = refl; room = refl };
     over = λ end e. let never = sym (ap ended behind) ∙ e in absurd cc;
     counts = record {
       settings = ap (λ (x : Context). x.held.settings) takes.new_is;

@@ -1257,10 +1257,10 @@ drops_read {whole} {tried} {old} {new} drops feed =
     }
 
 -- more bits are kept
-pub feeds_more : {whole : Bits} {tried : ℕ} {old new : Feeding} (next : Bits)
-    → new ≡ record old { kept = old.kept ++ next } → old.finished ≡ false → IsFeedOf whole tried old → ComeNext whole old next
-    → IsFeedOf whole tried new
-feeds_more {whole} {tried} {old} {new} next is unfinished feed come = subst (IsFeedOf whole tried) (sym is) (record {
+pub feeds_more : {whole : Bits} {tried : ℕ} {old new : Feeding} (next : Bits) (room : ℕ)
+    → new ≡ record old { kept = old.kept ++ next; room = room } → old.finished ≡ false → IsFeedOf whole tried old
+    → ComeNext whole old next → IsFeedOf whole tried new
+feeds_more {whole} {tried} {old} {new} next room is unfinished feed come = subst (IsFeedOf whole tried) (sym is) (record {
   fit = feed.fit;
   lie = record {
     within = feed.lie.within;

@@ -1,7 +1,7 @@
 -- What all calls of a feed count is paid.
 use Rattle.hayro_ccitt.proofs.Names.{common_steps}
-use Rattle.hayro_ccitt.proofs.Names.{◌≡◌, ◌≢◌, ◌∙◌, ◌+◌, ◌-◌, ◌*◌, ◌≤◌, ◌<◌, ◌++◌, ◌∷◌, ◌⊎◌, ◌&&◌, [], ℕ, Bool, true, false}
-use Rattle.hayro_ccitt.proofs.Names.{Result, Ok, Err, None, Some, Option, refl, sym, ap, subst, arith, length, drop, replicate}
+use Rattle.hayro_ccitt.proofs.Names.{◌≡◌, ◌≢◌, ◌∙◌, ◌+◌, ◌-◌, ◌*◌, ◌≤◌, ◌<◌, ◌++◌, ◌⊎◌, ◌&&◌, [], ℕ, Bool, true, false}
+use Rattle.hayro_ccitt.proofs.Names.{Result, Ok, Err, None, Some, Option, refl, sym, ap, subst, arith, length, drop}
 use Rattle.hayro_ccitt.proofs.Names.{inl, inr, cases_lt, false≢true, length-append, length-drop, append_assoc, append-nil}
 use Rattle.hayro_ccitt.proofs.Names.{Bits, Context, Held, DecodeError, DecodeSettings, Row, Stand, AtLine, BehindRow, AtEnd}
 use Rattle.hayro_ccitt.proofs.Names.{AtFault}
@@ -20,24 +20,15 @@ use Rattle.hayro_ccitt.proofs.Readings.FeedAccount.{FeedIsPaid, FirstsPaid, Gaps
 use Rattle.hayro_ccitt.proofs.Readings.FeedAccount.{SeeksEol, WasShort, WasTried, offset}
 use Rattle.hayro_ccitt.specs.FeedsPaid.{FeedsArePaid, IsHistory, changes_of, cost_of_failure}
 use Rattle.hayro_ccitt.proofs.Readings.FeedsOn.{none_paid}
-use Rattle.hayro_ccitt.proofs.Readings.RowsDrawn.{eol_among, prefix_more}
-use Rattle.fax_reading.proofs.KeptRows.LinesAgain.{line_again}
+use Rattle.hayro_ccitt.proofs.Readings.OpenBits.{open_before_eol, open_bits_of_line}
 use Rattle.fax_reading.proofs.Work.TurnsPaid.{behind_shorter, broken_row}
 use Rattle.hayro_ccitt.proofs.Work.ChangesStored.{changes_white}
 use Rattle.hayro_ccitt.proofs.Work.CallsPaid.{within_most}
 use Rattle.hayro_ccitt.proofs.Names.{EncodingMode, Group4, Group3_1D, Group3_2D, most_counted}
 use Rattle.hayro_ccitt.specs.RowsRead.{ReadsNext}
 use Rattle.fax_bits.specs.declared.error.DecodeError.TheVariants.{OutOfMemory}
-use Rattle.fax_reading.proofs.Continuations.ShortLines.{eol_ends_line}
 
 -- ---- Where a line ends that was short
-
--- no EOL ends among the bits of a line that was short
-pub short_before_eol : (settings : DecodeSettings) (reference : Row) (seen more fill behind : Bits)
-    → is_short (line_here settings reference seen) ≡ true → seen ++ more ≡ fill ++ replicate 11 false ++ true ∷ behind
-    → length seen ≤ length fill + 12
-short_before_eol settings reference seen more fill behind short e =
-    grind (arith, common_steps, cases_lt, eol_among, false≢true, eol_ends_line)
 
 -- its row ends no sooner, unless it is repaired
 pub short_row : (settings : DecodeSettings) (has_eols : Bool) (reference : Row) (seen more rest : Bits) (row : Row)
@@ -56,22 +47,13 @@ short_row settings has_eols reference seen more rest row short is =
         → (length rest ≤ length more) ⊎ ((has_eols ≡ true) × (rest ≡ seen ++ more))
     by_line (Line.broken front fault) e given = inr (broken_row settings has_eols (seen ++ more) rest front row fault given)
     by_line (Line.whole whole behind) e given =
-        let again = line_again settings.encoding settings.strict settings.columns reference (seen ++ more) whole behind e in
         let same : behind_row settings has_eols behind ≡ rest = ap rest_of given in
-        elim (cases_lt (length behind) (length more)) [
-          | inl lt ↦ inl (omega (arith, lt, ap length same, behind_shorter settings has_eols behind))
-          | inr ge ↦
-              let long : length again.0 ≤ length seen = omega (
-                arith,
-                ge,
-                ap length again.1,
-                length-append seen more,
-                length-append again.0 behind,
-              ) in
-              let (others, there) = prefix_more again.0 behind seen more (sym again.1) long in
-              absurd (false≢true (sym (ap is_short (again.2 others))
-              ∙ ap (λ (b : Bits). is_short (line_here settings reference b)) (sym there) ∙ short))
-        ]
+        inl (omega (
+          arith,
+          ap length same,
+          behind_shorter settings has_eols behind,
+          open_bits_of_line settings reference whole seen more behind short e,
+        ))
 
 -- ---- By the part that is kept
 
@@ -492,7 +474,7 @@ module _ {whole : Bits} {calls lost tried : ℕ} {old new : Feeding} {answer : R
               arith,
               short.known_is,
               goes.onward still,
-              short_before_eol old.ctx.held.settings old.ctx.held.reference short.seen (short.more ++ more) fill behind
+              open_before_eol old.ctx.held.settings old.ctx.held.reference short.seen (short.more ++ more) fill behind
                   short.short (sym (append_assoc short.seen short.more more)
                   ∙ ap (λ (b : Bits). b ++ more) (sym repaired.1) ∙ is),
             );

@@ -8,6 +8,7 @@ use Rattle.hayro_ccitt.proofs.Names.{Bits, DecodeSettings, EncodingMode, Group4,
 use Rattle.hayro_ccitt.proofs.Names.{after_eol, next_eol, at_end, eols_by, limit_met, Gap, gap_behind_row, InvalidCode}
 use Rattle.hayro_ccitt.proofs.Names.{DecodeError, OnErr, gap_said}
 use Rattle.hayro_ccitt.specs.EndOfLine.{eols, eols_with_tags, one_more, past_tag}
+use Rattle.hayro_ccitt.specs.FeedsKeepLittle.{left_by}
 use Rattle.hayro_ccitt.specs.GapsContinued.{holds_one, eols_are_settled, next_eols_are_settled, gap_is_settled}
 use Rattle.hayro_ccitt.specs.GapsSeen.{bits_needed, is_settled, one_eol_more, rules_behind_row, stage_after, stage_behind}
 use Rattle.hayro_ccitt.specs.PlainReading.{behind_eols, from_next_eol, is_over, missing_eol, misses_eol}
@@ -35,11 +36,11 @@ none_needed rules stage seen (false ∷ here) is = grind (arith, common_steps)
 none_needed rules stage seen (true ∷ here) is = grind (arith, common_steps)
 
 -- what isn't needs the bits up to the next one
-one_more_needed : (rules : GapRules) (stage : GapStage) (seen : ℕ) (here : Bits) → is_settled stage ≡ false
+pub one_more_needed : (rules : GapRules) (stage : GapStage) (seen : ℕ) (here : Bits) → is_settled stage ≡ false
     → bits_needed rules stage seen (true ∷ here) ≡ suc (bits_needed rules (stage_after rules stage seen) 0 here)
 one_more_needed rules stage seen here is = grind (arith, common_steps)
 
-zero_more_needed : (rules : GapRules) (stage : GapStage) (seen : ℕ) (here : Bits) → is_settled stage ≡ false
+pub zero_more_needed : (rules : GapRules) (stage : GapStage) (seen : ℕ) (here : Bits) → is_settled stage ≡ false
     → bits_needed rules stage seen (false ∷ here) ≡ suc (bits_needed rules stage (suc seen) here)
 zero_more_needed rules stage seen here is = grind (arith, common_steps)
 
@@ -207,13 +208,7 @@ start_needs rules seen (true ∷ here) sought e = grind (arith, common_steps)
 
 -- ---- The gap
 
--- the bits behind a gap; none are passed where it is faulty
-abbrev pub left_by : Bits → Gap → Bits
-left_by here (Gap.line_at has_eols rest) = rest
-left_by here (Gap.over (Ok rest)) = rest
-left_by here (Gap.over (Err fault)) = here
-
-left_by_eols : (settings : DecodeSettings) (taken : ℕ) (has_eols : Bool) (here : Bits) (found : ℕ × Bits)
+pub left_by_eols : (settings : DecodeSettings) (taken : ℕ) (has_eols : Bool) (here : Bits) (found : ℕ × Bits)
     → left_by here (behind_eols settings taken has_eols found) ≡ found.1
 left_by_eols settings taken has_eols here (count, rest) = grind (arith, common_steps)
 

@@ -531,7 +531,7 @@ seen_longer more (rest, looks) = (
 pub none_seen : (rules : GapRules) (here : Bits) → IsSeen rules nothing_seen here
 none_seen rules here = (here, nothing_looked rules nothing_seen here)
 
-only_settled : (stage : GapStage) → is_settled stage ≡ true → stage ≡ Settled
+pub only_settled : (stage : GapStage) → is_settled stage ≡ true → stage ≡ Settled
 only_settled Start is = absurd cc
 only_settled Damage is = absurd cc
 only_settled BehindEol is = absurd cc

@@ -164,6 +164,7 @@ scanned_before {old} {mid} {new} answer stays begun reads =
         finished = reads.keeps.finished ∙ ap (λ (f : Feeding). f.finished) frame;
         kept = reads.keeps.kept ∙ ap (λ (f : Feeding). f.kept) frame;
         dropped = reads.keeps.dropped ∙ ap (λ (f : Feeding). f.dropped) frame;
+        room = reads.keeps.room ∙ ap (λ (f : Feeding). f.room) frame;
       };
       begun = reads.begun;
       counts = omega (arith, reads.counts, scans.counts);
@@ -259,6 +260,7 @@ scanned_after {old} {mid} {new} reads none unkept keeps_part =
         finished = ap (λ (f : Feeding). f.finished) frame ∙ reads.keeps.finished;
         kept = ap (λ (f : Feeding). f.kept) frame ∙ reads.keeps.kept;
         dropped = ap (λ (f : Feeding). f.dropped) frame ∙ reads.keeps.dropped;
+        room = ap (λ (f : Feeding). f.room) frame ∙ reads.keeps.room;
       };
       begun = ap (λ (f : Feeding). f.begun) frame ∙ reads.begun;
       counts = omega (arith, reads.counts, scans.counts);
@@ -338,6 +340,7 @@ stays_short {old} {new} stays begun =
         finished = ap (λ (f : Feeding). f.finished) frame;
         kept = ap (λ (f : Feeding). f.kept) frame;
         dropped = ap (λ (f : Feeding). f.dropped) frame;
+        room = ap (λ (f : Feeding). f.room) frame;
       };
       begun = ap (λ (f : Feeding). f.begun) frame ∙ begun;
       counts = stays.scans.counts;

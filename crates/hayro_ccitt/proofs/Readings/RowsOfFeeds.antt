@@ -67,7 +67,7 @@ module _ {whole : Bits} {tried : ℕ} {old new : Feeding} where
   never_refused : (answer : Result Fed DecodeError) → FeedsNext whole tried old new answer → answer ≢ Err Refused
   never_refused answer next is = grind (arith, common_steps)
 
-  none_taken : (answer : Result Fed DecodeError) → answer ≢ Ok Fed.Row → FeedsNext whole tried old new answer
+  pub none_taken : (answer : Result Fed DecodeError) → answer ≢ Ok Fed.Row → FeedsNext whole tried old new answer
       → new.ctx.held.taken ≡ old.ctx.held.taken
   none_taken (Ok Fed.Row) no_row next = absurd (no_row refl)
   none_taken (Ok Fed.NeedsMore) no_row next = (next.none refl).taken

@@ -42,7 +42,7 @@ pub passes_none : {M : Type 0} {step : M → List ℕ → M} {before after : M} 
 passes_none same = record { rows = []; reads = tt; last = refl; meaning = same }
 
 pub keeps_all : {feed : Feeding} → KeepsBits feed feed
-keeps_all = record { order = refl; finished = refl; kept = refl; dropped = refl }
+keeps_all = record { order = refl; finished = refl; kept = refl; dropped = refl; room = refl }
 
 -- and passed
 pub passes_more : {M : Type 0} {step : M → List ℕ → M} {before mid after : M} {old last new : Feeding}

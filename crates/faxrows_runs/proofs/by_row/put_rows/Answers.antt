@@ -7,7 +7,7 @@ use Rattle.faxrows_runs.proofs.by_row.put_rows.Goals as goal
 pub loop-rows-init : goal.loop-rows-init
 loop-rows-init g c = record {
   so_far = record {
-    keeps = record { order = refl; finished = refl; kept = refl; dropped = refl };
+    keeps = record { order = refl; finished = refl; kept = refl; dropped = refl; room = refl };
     settings = refl;
     some = c.requires.some;
     put = λ start whole put. put;

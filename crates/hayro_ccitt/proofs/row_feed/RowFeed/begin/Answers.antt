@@ -1,3 +1,4 @@
+use Rattle.std.specs.Prelude.{vec_capacity}
 use Rattle.hayro_ccitt.proofs.Names.{◌≡◌, ◌∙◌, ◌+◌, ◌-◌, ◌⊎◌, ap, sym, subst, refl, arith, length, true, false, Bool, ℕ, BitsAt}
 use Rattle.hayro_ccitt.proofs.Names.{Bits, bits_in, List, None, and_parts, is_at_line}
 use Rattle.hayro_ccitt.proofs.Names.{Held, here, drop, false≢true, fresh}
@@ -55,7 +56,7 @@ returns-then-front_waits-clause-begins c =
         within = λ some. front_within at;
       };
       looked = λ e. omega (arith, c.front_waits.ensures.looked, c.front_waits.ensures.onward);
-      keeps = record { order = refl; finished = refl; kept = refl; dropped = refl };
+      keeps = record { order = refl; finished = refl; kept = refl; dropped = refl; room = refl };
       begun = begun_not at;
       within = omega (
         arith,
@@ -150,6 +151,7 @@ returns-clause-begins c =
       part = inside.part;
       line_read = inside.line_read;
       tried_at = inside.tried;
+      room = vec_capacity inside.«data»;
     } in
     rw (← c.self.view_is) (record {
       extra = more;
@@ -159,7 +161,7 @@ returns-clause-begins c =
         within = λ some. front_within at;
       };
       looked = λ e. cc;
-      keeps = record { order = refl; finished = refl; kept = refl; dropped = refl };
+      keeps = record { order = refl; finished = refl; kept = refl; dropped = refl; room = refl };
       begun = refl;
       within = omega (
         arith,
@@ -186,14 +188,14 @@ returns-clause-begins c =
       };
       passes = λ whole tried e feed. front_reaches (feeding_of inside) now mid c.placed_at-reader.result
           stood.new.reader stood.result more
-          (front_is at) (record { order = refl; finished = refl; kept = refl; dropped = refl })
+          (front_is at) (record { order = refl; finished = refl; kept = refl; dropped = refl; room = refl })
           c.bit_pos-self-inside.ensures.place
           refl refl same ticks stood.ensures.first stood.ensures.none_taken settings_are stood.ensures.first.counts
           stood.ensures.unfailed
           stood.ensures.at_line settled feed (at_front inside.begun tried inside.rows inside.ctx
           (record { bits = whole; place = inside.dropped + inside.place }) (begun_not at) feed.stands);
       stands = λ whole tried feed. front_fed _ _ mid c.placed_at-reader.result stood.new.reader stood.result more
-          (front_is at) (record { order = refl; finished = refl; kept = refl; dropped = refl })
+          (front_is at) (record { order = refl; finished = refl; kept = refl; dropped = refl; room = refl })
           c.bit_pos-self-inside.ensures.place
           refl refl same ticks stood.ensures.first stood.ensures.none_taken settings_are stood.ensures.first.counts
           stood.ensures.unfailed

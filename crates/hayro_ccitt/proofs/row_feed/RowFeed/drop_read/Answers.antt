@@ -82,6 +82,7 @@ returns-then-bytes-eq0 c =
       part = refl;
       line_read = refl;
       tried_at = refl;
+      room = refl;
     })
 
 pub returns : goal.returns
@@ -104,4 +105,5 @@ returns c =
       part = refl;
       line_read = refl;
       tried_at = refl;
+      room = at.truncate.ensures.capacity ∙ at.copy_within.ensures.capacity;
     })

@@ -24,19 +24,20 @@ drops_none feed few within = record {
   part = refl;
   line_read = refl;
   tried_at = refl;
+  room = refl;
 }
 
 pub returns-then-take_byte-clause-fed : goal.returns-then-take_byte-clause-fed
 returns-then-take_byte-clause-fed c whole tried feed come =
-    feeds_more (bits_in c.args.self.now.order c.args.bytes.now)
+    feeds_more (bits_in c.args.self.now.order c.args.bytes.now) c.args.self.now.room
     (c.take_byte.ensures.fed c.if-take_byte.true) c.requires.unfinished
     feed come
 
 pub returns-then-take_byte-clause-held : goal.returns-then-take_byte-clause-held
 returns-then-take_byte-clause-held c =
     let few = c.take_byte.ensures.few_read c.if-take_byte.true in
-    holds_more (bits_in c.args.self.now.order c.args.bytes.now) few.2 (drops_none c.args.self.now few.0 few.1) few.3
-    (c.take_byte.ensures.fed c.if-take_byte.true)
+    holds_more (bits_in c.args.self.now.order c.args.bytes.now) c.args.self.now.room few.2
+    (drops_none c.args.self.now few.0 few.1) few.3 (c.take_byte.ensures.fed c.if-take_byte.true) (omega arith)
 
 pub returns-then-take_byte-clause-too_long : goal.returns-then-take_byte-clause-too_long
 returns-then-take_byte-clause-too_long c = (

@@ -1,3 +1,4 @@
+use Rattle.std.specs.Prelude.{vec_capacity}
 use Rattle.hayro_ccitt.proofs.Names.{◌≡◌, ◌∙◌, ◌++◌, ◌*◌, ap, sym, subst, bits_in, Bits, List, ℕ, err_from_is_err_and}
 use Rattle.fax_bits.specs.declared.error.DecodeError.{DecodeError}
 use Rattle.fax_bits.specs.declared.error.DecodeError.TheVariants.{OutOfMemory, Overflow}
@@ -19,6 +20,13 @@ use Rattle.hayro_ccitt.proofs.row_feed.RowFeed.feed_all.Goals.{then-bytes-kept-v
 use Rattle.hayro_ccitt.proofs.row_feed.RowFeed.feed_all.Goals.{After-append}
 use Rattle.hayro_ccitt.proofs.row_feed.RowFeed.feed_all.Goals as goal
 
+-- the same bytes, and room for as many
+same_bytes_and_room : (view : Feeding) (order : BitOrder) {now was : List ℕ} {room : ℕ} → now ≡ was → room ≡ view.room
+    → record view { kept = bits_in order now; room = room } ≡ record view { kept = bits_in order was }
+same_bytes_and_room view order {was = was} {room = room} items same =
+    ap (λ (l : List ℕ). record view { kept = bits_in order l; room = room }) items
+    ∙ ap (λ (n : ℕ). record view { kept = bits_in order was; room = n }) same
+
 pub returns-then-bytes-kept-clause-refused : goal.returns-then-bytes-kept-clause-refused
 returns-then-bytes-kept-clause-refused c whole tried feed = drops_read c.drop_read.ensures feed
 
@@ -27,9 +35,7 @@ pub returns-in_err-append-clause-refused :
 returns-in_err-append-clause-refused c =
     let answer = err_from_is_err_and c.from_residual.result c.from_residual.ensures.1 in
     let inside = c.self.inside in
-    let view = feeding_of inside in
-    let same = ap (λ (items : List ℕ). record view { kept = bits_in inside.order items })
-    c.in_err-append.ensures.items
+    let same = same_bytes_and_room (feeding_of inside) inside.order c.in_err-append.ensures.items c.in_err-append.ensures.left
     ∙ c.self.view_is in
     rw answer.1 (λ whole tried feed. subst (IsFeedOf whole tried) (sym same) (drops_read c.drop_read.ensures feed))
 
@@ -44,9 +50,10 @@ returns-clause-fed c whole tried feed come =
     let longer = ap (bits_in inside.order) c.in_ok-append.ensures.items
     ∙ flat_map-append (bits_of_byte inside.order) inside.«data».items c.args.bytes.now
     ∙ ap (λ (o : BitOrder). bits_in inside.order inside.«data».items ++ bits_in o c.args.bytes.now) (sym order) in
-    let is = ap (λ (b : Bits). record view { kept = b }) longer
-    ∙ ap (λ (f : Feeding). record f { kept = f.kept ++ next }) c.self.view_is in
-    feeds_more next is (c.drop_read.ensures.finished ∙ c.requires.unfinished) (drops_read c.drop_read.ensures feed)
+    let room = vec_capacity c.append.new.«data» in
+    let is = ap (λ (b : Bits). record view { kept = b; room = room }) longer
+    ∙ ap (λ (f : Feeding). record f { kept = f.kept ++ next; room = room }) c.self.view_is in
+    feeds_more next room is (c.drop_read.ensures.finished ∙ c.requires.unfinished) (drops_read c.drop_read.ensures feed)
     (come_next c.drop_read.ensures come)
 
 -- the bits that are kept once bytes are dropped are whole bytes
@@ -64,9 +71,7 @@ pub returns-in_err-append-clause-kept : goal.returns-in_err-append-clause-kept
 returns-in_err-append-clause-kept c =
     let answer = err_from_is_err_and c.from_residual.result c.from_residual.ensures.1 in
     let inside = c.self.inside in
-    let view = feeding_of inside in
-    let same = ap (λ (items : List ℕ). record view { kept = bits_in inside.order items })
-    c.in_err-append.ensures.items
+    let same = same_bytes_and_room (feeding_of inside) inside.order c.in_err-append.ensures.items c.in_err-append.ensures.left
     ∙ c.self.view_is in
     let kept = ap (λ (f : Feeding). f.kept) (sym c.self.view_is) in
     rw answer.1 (holds_none (length inside.«data».items) c.drop_read.ensures
@@ -75,6 +80,7 @@ returns-in_err-append-clause-kept c =
 pub returns-clause-held : goal.returns-clause-held
 returns-clause-held c =
     let inside = c.self.inside in
+    let mid = c.drop_read.new.self in
     let view = feeding_of inside in
     let order : c.args.self.now.order ≡ inside.order
     = sym c.drop_read.ensures.order ∙ ap (λ (f : Feeding). f.order) (sym c.self.view_is) in
@@ -82,11 +88,19 @@ returns-clause-held c =
     let longer = ap (bits_in inside.order) c.in_ok-append.ensures.items
     ∙ flat_map-append (bits_of_byte inside.order) inside.«data».items c.args.bytes.now
     ∙ ap (λ (o : BitOrder). bits_in inside.order inside.«data».items ++ bits_in o c.args.bytes.now) (sym order) in
-    let is = ap (λ (b : Bits). record view { kept = b }) longer
-    ∙ ap (λ (f : Feeding). record f { kept = f.kept ++ next }) c.self.view_is in
+    let room = vec_capacity c.append.new.«data» in
+    let is = ap (λ (b : Bits). record view { kept = b; room = room }) longer
+    ∙ ap (λ (f : Feeding). record f { kept = f.kept ++ next; room = room }) c.self.view_is in
     let kept = ap (λ (f : Feeding). f.kept) (sym c.self.view_is) in
-    holds_more next (length inside.«data».items) c.drop_read.ensures
-    (are_whole c.drop_read.new.self inside.order inside.«data».items kept) is
+    holds_more next room (length inside.«data».items) c.drop_read.ensures
+    (are_whole mid inside.order inside.«data».items kept) is (omega (
+      arith,
+      c.in_ok-append.ensures.most,
+      ap (λ (f : Feeding). f.room) c.self.view_is,
+      are_whole mid inside.order inside.«data».items kept,
+      length-append mid.kept next,
+      length-bits_in c.args.self.now.order c.args.bytes.now,
+    ))
 
 pub returns-then-bytes-kept-clause-too_long : goal.returns-then-bytes-kept-clause-too_long
 returns-then-bytes-kept-clause-too_long c =

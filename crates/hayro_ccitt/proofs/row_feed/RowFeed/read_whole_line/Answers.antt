@@ -51,7 +51,7 @@ pub returns-clause-reads : goal.returns-clause-reads
 returns-clause-reads c =
     let at = (goal.at.returns-clause-reads c).After-try_line-row in
     rw (← c.self.view_is) (feed_reads _ _ c.placed_at-reader.result c.try_line-row.new.reader (line_is_at at)
-    (record { order = refl; finished = refl; kept = refl; dropped = refl }) c.bit_pos-self-inside.ensures.place
+    (record { order = refl; finished = refl; kept = refl; dropped = refl; room = refl }) c.bit_pos-self-inside.ensures.place
     (line_begun at) (line_begun at) c.begin_line.new.self c.begin_line.ensures.frame c.begin_line.ensures.width
     (ap (λ (f : Feeding). is_at_line f.rows.stand) c.self.view_is ∙ c.requires.line)
     (ap (λ (f : Feeding). f.part) c.self.view_is ∙ c.requires.none_kept) refl refl
