@@ -1,18 +1,18 @@
 -- A page of Group 4 without a row limit is given but a few bits beyond its end before it is known.
-use Rattle.hayro_ccitt.proofs.Names.{◌≡◌, ◌≢◌, ◌⊎◌, ℕ, suc, ◌+◌, ◌-◌, ◌*◌, ◌/◌, ◌<◌, ◌≤◌, ◌&&◌, ◌||◌, ◌∙◌, Bool, true, false, []}
+use Rattle.hayro_ccitt.proofs.Names.{◌≡◌, ℕ, suc, ◌+◌, ◌-◌, ◌*◌, ◌<◌, ◌≤◌, ◌&&◌, ◌||◌, ◌∙◌, Bool, true, false, []}
 use Rattle.hayro_ccitt.proofs.Names.{◌∷◌, ◌++◌, inl, inr, Result, Ok, Err, refl, sym, ap, subst, arith, length, drop, cond, not}
-use Rattle.hayro_ccitt.proofs.Names.{common_steps, leb, eqb, cases_lt, false≢true, length-append, drop-drop, length-drop}
+use Rattle.hayro_ccitt.proofs.Names.{leb, eqb, cases_lt, false≢true, length-append, drop-drop, length-drop}
 use Rattle.hayro_ccitt.proofs.Names.{zero, whole_reading, Bits, Row, Line, Context, Held, DecodeError, DecodeSettings}
-use Rattle.hayro_ccitt.proofs.Names.{EncodingMode, Group4, Group3_1D}
-use Rattle.hayro_ccitt.proofs.Names.{Group3_2D, Gap, Progress, Turn, Reaches, ReaderStands}
-use Rattle.hayro_ccitt.proofs.Names.{add_row, at_end, at_front, at_gap, end_of, eols_here, first_gap, gap_behind_row, is_over}
+use Rattle.hayro_ccitt.proofs.Names.{EncodingMode, Group4}
+use Rattle.hayro_ccitt.proofs.Names.{Gap, Progress, Turn, Reaches, ReaderStands}
+use Rattle.hayro_ccitt.proofs.Names.{add_row, at_front, at_gap, end_of, eols_here, first_gap, gap_behind_row, is_over}
 use Rattle.hayro_ccitt.proofs.Names.{limit_met}
-use Rattle.hayro_ccitt.proofs.Names.{line_by, line_here, move_on, plain, row_before, row_of_line, with_row, misses_eol, repaired}
+use Rattle.hayro_ccitt.proofs.Names.{line_here, move_on, plain, row_before, row_of_line, with_row, misses_eol, repaired}
 use Rattle.std.proofs.lemmas.List.{drop-append-le}
 use Rattle.hayro_ccitt.specs.Continuations.{is_short}
-use Rattle.hayro_ccitt.specs.GapsContinued.{eols_are_settled, eols_here_are_settled, gap_is_settled, first_gap_is_settled}
+use Rattle.hayro_ccitt.specs.GapsContinued.{eols_are_settled, gap_is_settled, first_gap_is_settled}
 use Rattle.hayro_ccitt.specs.GapsContinued.{holds_one}
-use Rattle.hayro_ccitt.specs.PlainReading.{Move, after_line, behind_row, ends_with, eols_of_end, is_end_of_block, nothing_read}
+use Rattle.hayro_ccitt.specs.PlainReading.{Move, after_line, behind_row, eols_of_end, is_end_of_block, nothing_read}
 use Rattle.hayro_ccitt.specs.PlainReading.{pass_gap}
 use Rattle.hayro_ccitt.specs.RowFeeds.{Feeding, IsFeedOf, IsOpenAt, StandsIn, fed_bits}
 use Rattle.hayro_ccitt.specs.declared.row_reader.Stand.{Stand}

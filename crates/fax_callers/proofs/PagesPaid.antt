@@ -1,7 +1,7 @@
 -- What all calls of a feed of pages count is paid.
 use Rattle.hayro_ccitt.proofs.Names.{◌≡◌, ◌≢◌, ℕ, ◌+◌, ◌-◌, ◌*◌, ◌<◌, ◌≤◌, ◌++◌, ◌∙◌, Bool, true, false, List, []}
 use Rattle.hayro_ccitt.proofs.Names.{None, Some, Result, Ok, Err, refl, sym, ap, subst, arith, length, drop, take, cond}
-use Rattle.hayro_ccitt.proofs.Names.{length-append, length-drop, append_assoc, Bits, AreWholeBytes, bits_in, DecodeError}
+use Rattle.hayro_ccitt.proofs.Names.{length-append, length-drop, Bits, AreWholeBytes, bits_in, DecodeError}
 use Rattle.hayro_ccitt.proofs.Names.{DecodeSettings, Group4, OutOfMemory, IsFault, ended, false≢true, ◌∷◌}
 use Rattle.std.specs.Prelude.{◌^◌}
 use Rattle.std.proofs.lemmas.List.{length-take-le}
@@ -16,7 +16,7 @@ use Rattle.hayro_ccitt.proofs.EncodedPictures.PicturesOfEachKind.{closed_picture
 use Rattle.hayro_ccitt.proofs.ErrorKinds.{by_kind}
 use Rattle.hayro_ccitt.proofs.Readings.FeedsPaid.{feeds_are_paid}
 use Rattle.fax_callers.specs.PageFeeds.{EndsPageHere, IsPageFeedOf, IsPageReading, IsPaidFrom, IsPaidPage, PageFeeding, Stays}
-use Rattle.fax_callers.specs.PageFeeds.{FewGiven, fed_from_start, settings_of}
+use Rattle.fax_callers.specs.PageFeeds.{FewGiven, settings_of}
 use Rattle.fax_callers.specs.Pages.{PagesStand, ReadsPages, page_by}
 use Rattle.fax_callers.specs.PagesPaid.{EndsPaid, IsPagesHistory, PagesArePaid, PagesCount, PaysNext, ended_size}
 use Rattle.fax_callers.specs.Rtc.{page_size}
