@@ -23,14 +23,15 @@ ghost use Rattle.hayro_ccitt.specs.Space.{room_for, most_stored};
 
 use crate::changes::{append_pixels, b1_index, change_or_end};
 use crate::modes::{
-    CodingLine, draw_modes, has_mode, has_no_room, is_white_row, lay_down_row, put_ends, take_ends,
+    CodingLine, draw_modes, has_mode, has_no_room, is_white_row, lay_down_row, next_color, put_ends,
+    repeat_changes, take_ends,
 };
 use crate::usual::{draw_runs, draw_two_runs, lay_down, pass_white_row, take_up};
 use crate::white_lines::{WhiteLines, none_known, white_lines};
 use crate::{DecodeError, Decoder, Result};
 use fax_bits::bit_reader::{
     BitOrder, BitReader, BitScanner, BitsAtHand, at_hand, go_to, may_be_next, none_at_hand,
-    window_at_hand,
+    pass_bits, window_at_hand,
 };
 use fax_bits::codes::{Color, Mode, Ticks, is_long_pair, pass_v0, tick_times};
 use fax_bits::tables::Tables;
@@ -1170,6 +1171,44 @@ impl DecoderContext {
         true
     }
 
+    /// Draws a line of V0 alone from the reader's own window, which repeats the row above it, and returns whether there is one here;
+    /// otherwise nothing changes.
+    #[inline(always)]
+    fn draw_same_line(&mut self, reader: &mut BitReader<'_>) -> bool
+        requires begins { self.old.held.front ≡ [] }
+        requires white { self.old.held.color ≡ Color.White }
+        requires none { self.old.passed ≡ 0 }
+        ensures drawn { result ≡ true → GoesOn2d self.old.held.settings.strict self.old.held.settings.columns self.old.held.reference
+            (pen_of self.old.held (here reader.old)) (pen_of self.new.held (here reader.new)) self.old.ticks self.new.ticks
+            self.old.passed self.new.passed }
+        ensures held { self.new.held ≡ redrawn self.old.held self.new.held.front self.new.held.color }
+        ensures cut { self.new.cut ≡ self.old.cut }
+        ensures within { self.new.passed ≤ length (changes self.old.held.reference) }
+        ensures same_bits { reader.new.bits ≡ reader.old.bits }
+        ensures unchanged { result ≡ false → (self.new ≡ self.old) × (reader.new ≡ reader.old) }
+        ensures space { self.new.space ≡ self.old.space }
+    {
+        // Most lines that begin otherwise aren't looked at further.
+        if reader.peek_u32() >> 31 == 0 {
+            return false;
+        }
+        let count = self.ref_changes.len();
+        if count == 0 || count > 31 || self.coding_changes.capacity() < count {
+            return false;
+        }
+        let ones = (1 << (count + 1)) - 1;
+        if !pass_bits(reader, ones, count + 1) {
+            return false;
+        }
+        // Of each mode one tick is its own, and one that of b1.
+        tick_times(&mut self.ticks, 2 * (count + 1));
+        repeat_changes(self.ref_changes.as_slice(), &mut self.coding_changes);
+        self.pixels_decoded = self.settings.columns;
+        self.color = next_color(&self.coding_changes).opposite();
+        self.passed = count - 1;
+        true
+    }
+
     /// Draws modes from the start of a line as long as they are usual: a white line at once.
     #[inline(always)]
     fn draw_usual_modes(&mut self, reader: &mut BitReader<'_>)
@@ -1187,6 +1226,9 @@ impl DecoderContext {
             (max (length (changes self.old.held.reference)) (suc (length (changes self.new.held.front))))) }
     {
         if self.draw_white_line(reader) {
+            return;
+        }
+        if self.draw_same_line(reader) {
             return;
         }
         // The first row with changes is drawn by calls that ask for the room that it needs.
