@@ -1225,14 +1225,15 @@ impl DecoderContext {
         ensures space { self.new.space ≤ max self.old.space (room_for
             (max (length (changes self.old.held.reference)) (suc (length (changes self.new.held.front))))) }
     {
-        if self.draw_white_line(reader) {
-            return;
-        }
-        if self.draw_same_line(reader) {
-            return;
-        }
-        // The first row with changes is drawn by calls that ask for the room that it needs.
-        if is_white_row(&self.ref_changes) && has_no_room(&self.coding_changes) {
+        if is_white_row(&self.ref_changes) {
+            if self.draw_white_line(reader) {
+                return;
+            }
+            // The first row with changes is drawn by calls that ask for the room that it needs.
+            if has_no_room(&self.coding_changes) {
+                return;
+            }
+        } else if self.draw_same_line(reader) {
             return;
         }
         if self.begins_with_long_runs(reader) {
