@@ -693,7 +693,7 @@ fn go_far(reader: &mut BitReader<'_>, place: usize)
         let _ = reader.consume(place - before - 32);
         return;
     }
-    *reader = at_bit(reader, place);
+    *reader = placed_at(reader.data, reader.order, place);
 }
 
 /// Moves to where the same bits at hand are.

@@ -23,8 +23,8 @@ ghost use Rattle.hayro_ccitt.specs.Space.{room_for, most_stored};
 
 use crate::changes::{append_pixels, b1_index, change_or_end};
 use crate::modes::{
-    CodingLine, draw_modes, has_mode, has_no_room, is_white_row, lay_down_row, next_color, put_ends,
-    repeat_changes, take_ends,
+    CodingLine, draw_modes, has_mode, has_no_room, is_white_row, lay_down_row, next_color,
+    put_ends, repeat_changes, take_ends,
 };
 use crate::usual::{draw_runs, draw_two_runs, lay_down, pass_white_row, take_up};
 use crate::white_lines::{WhiteLines, none_known, white_lines};
@@ -880,7 +880,7 @@ impl DecoderContext {
         if before <= stored + 5 && stored <= before + 1 {
             return true;
         }
-        is_long_pair(reader, 0, &self.tables)
+        is_long_pair(reader, 0, Color::White, &self.tables)
     }
 
     /// The same, without a call where the row is full or black is next.
@@ -1058,12 +1058,24 @@ impl DecoderContext {
         self.draw_usual_runs(reader);
     }
 
-    /// Returns whether a row as wide as to have runs of three words or more is likely to begin with them: plain calls draw them.
+    /// Returns whether a row as wide as to have runs of three words or more is likely to begin with them, or, below a row of few
+    /// changes, to have them behind V0, VR1 or VL1: plain calls draw them.
     #[inline(always)]
     fn begins_with_long_runs(&self, reader: &BitReader<'_>) -> bool {
-        self.settings.columns > 2623
-            && may_be_next(reader, 0b001, 3)
-            && is_long_pair(reader, 3, &self.tables)
+        if self.settings.columns <= 2623 {
+            return false;
+        }
+        if may_be_next(reader, 0b001, 3) {
+            return is_long_pair(reader, 3, Color::White, &self.tables);
+        }
+        if self.ref_changes.len() > 7 {
+            return false;
+        }
+        if may_be_next(reader, 0b1001, 4) {
+            return is_long_pair(reader, 4, Color::Black, &self.tables);
+        }
+        let is_behind_one = may_be_next(reader, 0b011001, 6) || may_be_next(reader, 0b010001, 6);
+        is_behind_one && is_long_pair(reader, 6, Color::Black, &self.tables)
     }
 
     /// Draws modes from the start of a line as long as they are usual.

@@ -80,8 +80,17 @@ returns-clause-drawn c =
     let s = c.self.inside in
     let none = painted_nothing at in
     let white : s.color ≡ White = rw (← c.self.view_is) at c.requires.white in
-    λ e. rw (← c.self.view_is, none.painted, white, none.passed, none.row, same_changes at, c.opposite-self-inside.ensures,
-    c.if-not-pass_bits.ensures.moved refl, c.tick_times.ensures) (drawn at).0
+    λ e. rw (
+      ← c.self.view_is,
+      none.painted,
+      white,
+      none.passed,
+      none.row,
+      same_changes at,
+      c.opposite-self-inside.ensures,
+      c.if-not-pass_bits.ensures.moved refl,
+      c.tick_times.ensures,
+    ) (drawn at).0
 
 pub returns-clause-within : goal.returns-clause-within
 returns-clause-within c =
