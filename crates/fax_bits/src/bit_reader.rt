@@ -680,22 +680,6 @@ pub fn pass_more_bits(reader: &mut BitReader<'_>, bits: u64, count: usize) -> bo
     true
 }
 
-/// Moves to an offset that isn't near. This is a call, so that lines of few bits cost nothing for it.
-#[inline(never)]
-fn go_far(reader: &mut BitReader<'_>, place: usize)
-    requires { place ≤ length reader.old.bits }
-    ensures { reader.new ≡ record reader.old { place = place } }
-{
-    let before = reader.bit_pos();
-    if place >= before + 32 && place - before <= 64 {
-        // The offset is within the data.
-        let _ = reader.consume(32);
-        let _ = reader.consume(place - before - 32);
-        return;
-    }
-    *reader = placed_at(reader.data, reader.order, place);
-}
-
 /// Moves to where the same bits at hand are.
 #[inline(always)]
 pub fn go_to(reader: &mut BitReader<'_>, hand: &BitsAtHand<'_>)
@@ -708,7 +692,7 @@ pub fn go_to(reader: &mut BitReader<'_>, hand: &BitsAtHand<'_>)
         let _ = reader.consume(place - reader.place);
         return;
     }
-    go_far(reader, place);
+    *reader = at_place(reader.data, reader.order, place);
 }
 
 impl<'a> BitsAtHand<'a> {

@@ -1058,8 +1058,19 @@ impl DecoderContext {
         self.draw_usual_runs(reader);
     }
 
+    /// Returns whether a line is likely to have runs of three words or more behind V0, VR1 or VL1. It is a call, so that narrow rows
+    /// cost nothing for it.
+    #[inline(never)]
+    fn has_long_runs_behind_one(&self, reader: &BitReader<'_>) -> bool {
+        if may_be_next(reader, 0b1001, 4) {
+            return is_long_pair(reader, 4, Color::Black, &self.tables);
+        }
+        let is_behind_one = may_be_next(reader, 0b011001, 6) || may_be_next(reader, 0b010001, 6);
+        is_behind_one && is_long_pair(reader, 6, Color::Black, &self.tables)
+    }
+
     /// Returns whether a row as wide as to have runs of three words or more is likely to begin with them, or, below a row of few
-    /// changes, to have them behind V0, VR1 or VL1: plain calls draw them.
+    /// changes, to have them behind a vertical mode: plain calls draw them.
     #[inline(always)]
     fn begins_with_long_runs(&self, reader: &BitReader<'_>) -> bool {
         if self.settings.columns <= 2623 {
@@ -1068,14 +1079,7 @@ impl DecoderContext {
         if may_be_next(reader, 0b001, 3) {
             return is_long_pair(reader, 3, Color::White, &self.tables);
         }
-        if self.ref_changes.len() > 7 {
-            return false;
-        }
-        if may_be_next(reader, 0b1001, 4) {
-            return is_long_pair(reader, 4, Color::Black, &self.tables);
-        }
-        let is_behind_one = may_be_next(reader, 0b011001, 6) || may_be_next(reader, 0b010001, 6);
-        is_behind_one && is_long_pair(reader, 6, Color::Black, &self.tables)
+        self.ref_changes.len() < 8 && self.has_long_runs_behind_one(reader)
     }
 
     /// Draws modes from the start of a line as long as they are usual.

@@ -1,8 +1,9 @@
 -- A line of V0 alone draws the changes of the reference row once more.
-use Rattle.hayro_ccitt.proofs.Names.{◌≡◌, ℕ, zero, suc, ◌+◌, ◌-◌, ◌*◌, ◌<◌, ◌≤◌, ◌++◌, ◌∷◌, [], Bool, true, List, length, replicate}
+use Rattle.hayro_ccitt.proofs.Names.{◌≡◌, ℕ, zero, suc, ◌+◌, ◌-◌, ◌*◌, ◌<◌, ◌≤◌, ◌++◌, ◌∷◌, [], Bool, true, List, length}
 use Rattle.hayro_ccitt.proofs.Names.{get_or, drop, Ok, pos, refl, sym, ap, subst, ◌∙◌, arith, append-nil, append_assoc, drop-drop}
-use Rattle.hayro_ccitt.proofs.Names.{length-append, Bits, BitsAt, here, moved, Color, White, mode_codes, read_code, Vertical, eq-eqb, ◌%◌, ◌/◌}
-use Rattle.hayro_ccitt.proofs.Names.{AreChanges, AscendFrom, pixels, opposite, TurnsFrom, GoesOn2d, IsStroke, pen_at}
+use Rattle.hayro_ccitt.proofs.Names.{length-append, Bits, BitsAt, here, moved, Color, White, mode_codes, read_code, Vertical}
+use Rattle.hayro_ccitt.proofs.Names.{replicate, eq-eqb, ◌%◌, ◌/◌, AreChanges, AscendFrom, pixels, opposite, TurnsFrom, GoesOn2d}
+use Rattle.hayro_ccitt.proofs.Names.{IsStroke, pen_at}
 use Rattle.hayro_ccitt.proofs.DrawingLines.RegularModes.{one_color}
 use Rattle.hayro_ccitt.proofs.DrawingLines.UsualModes.{twice_2d, vertical_on, v0_stroke, full_stroke, named_right, b1_onward}
 use Rattle.hayro_ccitt.proofs.DrawingLines.UsualModes.{start_stroke}

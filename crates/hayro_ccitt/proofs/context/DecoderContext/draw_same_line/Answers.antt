@@ -1,5 +1,5 @@
 use Rattle.std.specs.Prelude.{vec_len}
-use Rattle.hayro_ccitt.proofs.Names.{◌≡◌, ◌<◌, ◌+◌, ◌-◌, ◌*◌, [], refl, subst, ap, arith, length, ◌∙◌, White, pixels, moved, here, List, ℕ}
+use Rattle.hayro_ccitt.proofs.Names.{◌≡◌, ◌<◌, ◌+◌, ◌-◌, ◌*◌, [], refl, subst, ap, arith, length, White, pixels, moved, ℕ}
 use Rattle.hayro_ccitt.proofs.Names.{GoesOn2d, IsStroke, TurnsFrom, pen_at, opposite}
 use Rattle.hayro_ccitt.proofs.DrawingLines.SameLines.{same_line, some_columns}
 use Rattle.hayro_ccitt.proofs.DrawingLines.UsualModes.{are_passed}
@@ -55,8 +55,8 @@ module _ (c : After-opposite-self-inside) where
       c.self.inside.ref_changes.items
   drawn =
       let s = c.self.inside in
-      same_line s.settings.strict s.settings.columns s.ref_changes.items c.next_color.result c.args.reader.now c.len-count.result _
-      s.ticks c.self.invariant.reference (omega arith) count_is
+      same_line s.settings.strict s.settings.columns s.ref_changes.items c.next_color.result c.args.reader.now
+      c.len-count.result _ s.ticks c.self.invariant.reference (omega arith) count_is
       (omega (arith, c.if-count-eq0.false)) (omega (arith, c.if-count-gt31.false))
       turns refl (c.if-not-pass_bits.ensures.there refl)
 
