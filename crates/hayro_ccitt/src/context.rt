@@ -23,14 +23,15 @@ ghost use Rattle.hayro_ccitt.specs.Space.{room_for, most_stored};
 
 use crate::changes::{append_pixels, b1_index, change_or_end};
 use crate::modes::{
-    CodingLine, draw_modes, has_mode, has_no_room, is_white_row, lay_down_row, put_ends, take_ends,
+    CodingLine, draw_modes, has_mode, has_no_room, is_white_row, lay_down_row, next_color,
+    put_ends, repeat_changes, take_ends,
 };
 use crate::usual::{draw_runs, draw_two_runs, lay_down, pass_white_row, take_up};
 use crate::white_lines::{WhiteLines, none_known, white_lines};
 use crate::{DecodeError, Decoder, Result};
 use fax_bits::bit_reader::{
     BitOrder, BitReader, BitScanner, BitsAtHand, at_hand, go_to, may_be_next, none_at_hand,
-    window_at_hand,
+    pass_bits, window_at_hand,
 };
 use fax_bits::codes::{Color, Mode, Ticks, is_long_pair, pass_v0, tick_times};
 use fax_bits::tables::Tables;
@@ -879,7 +880,7 @@ impl DecoderContext {
         if before <= stored + 5 && stored <= before + 1 {
             return true;
         }
-        is_long_pair(reader, 0, &self.tables)
+        is_long_pair(reader, 0, Color::White, &self.tables)
     }
 
     /// The same, without a call where the row is full or black is next.
@@ -1057,12 +1058,28 @@ impl DecoderContext {
         self.draw_usual_runs(reader);
     }
 
-    /// Returns whether a row as wide as to have runs of three words or more is likely to begin with them: plain calls draw them.
+    /// Returns whether a line is likely to have runs of three words or more behind V0, VR1 or VL1. It is a call, so that narrow rows
+    /// cost nothing for it.
+    #[inline(never)]
+    fn has_long_runs_behind_one(&self, reader: &BitReader<'_>) -> bool {
+        if may_be_next(reader, 0b1001, 4) {
+            return is_long_pair(reader, 4, Color::Black, &self.tables);
+        }
+        let is_behind_one = may_be_next(reader, 0b011001, 6) || may_be_next(reader, 0b010001, 6);
+        is_behind_one && is_long_pair(reader, 6, Color::Black, &self.tables)
+    }
+
+    /// Returns whether a row as wide as to have runs of three words or more is likely to begin with them, or, below a row of few
+    /// changes, to have them behind a vertical mode: plain calls draw them.
     #[inline(always)]
     fn begins_with_long_runs(&self, reader: &BitReader<'_>) -> bool {
-        self.settings.columns > 2623
-            && may_be_next(reader, 0b001, 3)
-            && is_long_pair(reader, 3, &self.tables)
+        if self.settings.columns <= 2623 {
+            return false;
+        }
+        if may_be_next(reader, 0b001, 3) {
+            return is_long_pair(reader, 3, Color::White, &self.tables);
+        }
+        self.ref_changes.len() < 8 && self.has_long_runs_behind_one(reader)
     }
 
     /// Draws modes from the start of a line as long as they are usual.
@@ -1170,6 +1187,44 @@ impl DecoderContext {
         true
     }
 
+    /// Draws a line of V0 alone from the reader's own window, which repeats the row above it, and returns whether there is one here;
+    /// otherwise nothing changes.
+    #[inline(always)]
+    fn draw_same_line(&mut self, reader: &mut BitReader<'_>) -> bool
+        requires begins { self.old.held.front ≡ [] }
+        requires white { self.old.held.color ≡ Color.White }
+        requires none { self.old.passed ≡ 0 }
+        ensures drawn { result ≡ true → GoesOn2d self.old.held.settings.strict self.old.held.settings.columns self.old.held.reference
+            (pen_of self.old.held (here reader.old)) (pen_of self.new.held (here reader.new)) self.old.ticks self.new.ticks
+            self.old.passed self.new.passed }
+        ensures held { self.new.held ≡ redrawn self.old.held self.new.held.front self.new.held.color }
+        ensures cut { self.new.cut ≡ self.old.cut }
+        ensures within { self.new.passed ≤ length (changes self.old.held.reference) }
+        ensures same_bits { reader.new.bits ≡ reader.old.bits }
+        ensures unchanged { result ≡ false → (self.new ≡ self.old) × (reader.new ≡ reader.old) }
+        ensures space { self.new.space ≡ self.old.space }
+    {
+        // Most lines that begin otherwise aren't looked at further.
+        if reader.peek_u32() >> 31 == 0 {
+            return false;
+        }
+        let count = self.ref_changes.len();
+        if count == 0 || count > 31 || self.coding_changes.capacity() < count {
+            return false;
+        }
+        let ones = (1 << (count + 1)) - 1;
+        if !pass_bits(reader, ones, count + 1) {
+            return false;
+        }
+        // Of each mode one tick is its own, and one that of b1.
+        tick_times(&mut self.ticks, 2 * (count + 1));
+        repeat_changes(self.ref_changes.as_slice(), &mut self.coding_changes);
+        self.pixels_decoded = self.settings.columns;
+        self.color = next_color(&self.coding_changes).opposite();
+        self.passed = count - 1;
+        true
+    }
+
     /// Draws modes from the start of a line as long as they are usual: a white line at once.
     #[inline(always)]
     fn draw_usual_modes(&mut self, reader: &mut BitReader<'_>)
@@ -1186,11 +1241,15 @@ impl DecoderContext {
         ensures space { self.new.space ≤ max self.old.space (room_for
             (max (length (changes self.old.held.reference)) (suc (length (changes self.new.held.front))))) }
     {
-        if self.draw_white_line(reader) {
-            return;
-        }
-        // The first row with changes is drawn by calls that ask for the room that it needs.
-        if is_white_row(&self.ref_changes) && has_no_room(&self.coding_changes) {
+        if is_white_row(&self.ref_changes) {
+            if self.draw_white_line(reader) {
+                return;
+            }
+            // The first row with changes is drawn by calls that ask for the room that it needs.
+            if has_no_room(&self.coding_changes) {
+                return;
+            }
+        } else if self.draw_same_line(reader) {
             return;
         }
         if self.begins_with_long_runs(reader) {

@@ -667,7 +667,7 @@ fn draw_vertical(
 
 /// Returns the colour of the next pixels: white behind an even number of changes.
 #[inline(always)]
-fn next_color(row: &Vec<u32>) -> Color
+pub(crate) fn next_color(row: &Vec<u32>) -> Color
     ensures turns { TurnsFrom (vec_len row.now) result }
 {
     if row.len().is_multiple_of(2) {
@@ -1345,6 +1345,20 @@ pub(crate) fn take_ends(changes: &mut Vec<u32>)
     let _third = changes.take_last();
     let _second = changes.take_last();
     let _first = changes.take_last();
+}
+
+/// Stores the changes of a row behind those of another one.
+#[inline(always)]
+pub(crate) fn repeat_changes(changes: &[u32], row: &mut Vec<u32>)
+    requires room { vec_len row.old + length changes.now ≤ vec_capacity row.old }
+    ensures items { row.new.items ≡ row.old.items ++ changes.now }
+    ensures room { vec_capacity row.new ≡ vec_capacity row.old }
+{
+    let mut done = 0;
+    'changes: while done < changes.len() {
+        turn_at(row, changes[done]);
+        done += 1;
+    }
 }
 
 /// Returns whether the row of a list of changes is white.

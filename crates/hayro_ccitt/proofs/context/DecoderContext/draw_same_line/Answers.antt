@@ -1,0 +1,99 @@
+use Rattle.std.specs.Prelude.{vec_len}
+use Rattle.hayro_ccitt.proofs.Names.{◌≡◌, ◌<◌, ◌+◌, ◌-◌, ◌*◌, [], refl, subst, ap, arith, length, White, pixels, moved, ℕ}
+use Rattle.hayro_ccitt.proofs.Names.{GoesOn2d, IsStroke, TurnsFrom, pen_at, opposite}
+use Rattle.hayro_ccitt.proofs.DrawingLines.SameLines.{same_line, some_columns}
+use Rattle.hayro_ccitt.proofs.DrawingLines.UsualModes.{are_passed}
+use Rattle.hayro_ccitt.proofs.DrawingLines.WhiteRows.{HasPaintedNothing, nothing_painted}
+use Rattle.hayro_ccitt.proofs.PixelRows.ChangesAndPixels.{changes-pixels}
+use Rattle.hayro_ccitt.proofs.context.DecoderContext.draw_same_line.Goals.{After-opposite-self-inside}
+use Rattle.hayro_ccitt.proofs.context.DecoderContext.draw_same_line.Goals as goal
+
+pub repeat_changes-requires : goal.repeat_changes-requires
+repeat_changes-requires c =
+    let s = c.self.inside in
+    let front : pixels s.pixels_decoded s.coding_changes.items ≡ [] = rw (← c.self.view_is) at c.requires.begins in
+    let none = nothing_painted s c.self.invariant front in
+    record {
+      room = omega (
+        arith,
+        ap length none.row,
+        s.coding_changes.ok.0,
+        s.ref_changes.ok.0,
+        ap length c.as_slice.ensures.value,
+        c.if-capacity-count.false,
+        c.len-count.ensures,
+        c.capacity.ensures,
+      );
+    }
+
+-- the changes are those of the row above, and the line draws them
+module _ (c : After-opposite-self-inside) where
+  painted_nothing : HasPaintedNothing c.self.inside
+  painted_nothing =
+      let s = c.self.inside in
+      let front : pixels s.pixels_decoded s.coding_changes.items ≡ [] = rw (← c.self.view_is) at c.requires.begins in
+      nothing_painted s c.self.invariant front
+
+  same_changes : c.repeat_changes.new.row.items ≡ c.self.inside.ref_changes.items
+  same_changes = rw (painted_nothing.row, c.as_slice.ensures.value) at c.repeat_changes.ensures.items
+
+  count_is : c.len-count.result ≡ length c.self.inside.ref_changes.items
+  count_is = omega (arith, c.len-count.ensures, c.self.inside.ref_changes.ok.0)
+
+  turns : TurnsFrom c.len-count.result c.next_color.result
+  turns =
+      let long : vec_len c.repeat_changes.new.row ≡ c.len-count.result =
+      omega (arith, c.repeat_changes.new.row.ok.0, ap length same_changes, count_is) in
+      subst (λ (n : ℕ). TurnsFrom n c.next_color.result) long c.next_color.ensures.turns
+
+  drawn : GoesOn2d c.self.inside.settings.strict c.self.inside.settings.columns
+      (pixels c.self.inside.settings.columns c.self.inside.ref_changes.items) (pen_at 0 [] White c.args.reader.now)
+      (pen_at c.self.inside.settings.columns c.self.inside.ref_changes.items (opposite c.next_color.result)
+      (moved (c.len-count.result + 1) c.args.reader.now)) c.self.inside.ticks
+      (c.self.inside.ticks + 2 * (c.len-count.result + 1)) 0 (c.len-count.result - 1) × IsStroke c.self.inside.settings.columns
+      c.self.inside.ref_changes.items c.self.inside.settings.columns c.len-count.result (opposite c.next_color.result)
+      c.self.inside.ref_changes.items
+  drawn =
+      let s = c.self.inside in
+      same_line s.settings.strict s.settings.columns s.ref_changes.items c.next_color.result c.args.reader.now
+      c.len-count.result _ s.ticks c.self.invariant.reference (omega arith) count_is
+      (omega (arith, c.if-count-eq0.false)) (omega (arith, c.if-count-gt31.false))
+      turns refl (c.if-not-pass_bits.ensures.there refl)
+
+pub invariant_of-self : goal.invariant_of-self
+invariant_of-self c =
+    let at = (goal.at.invariant_of-self c).After-opposite-self-inside in
+    let stroke = (drawn at).1 in
+    let some : 0 < c.self.inside.settings.columns =
+    some_columns c.self.inside.settings.columns c.self.inside.ref_changes.items c.self.invariant.reference
+    (omega (arith, count_is at, c.if-count-eq0.false)) in
+    record {
+      reference = c.self.invariant.reference;
+      front = rw (same_changes at) (stroke.whole (omega arith));
+      within = omega arith;
+      passed = are_passed some c.self.invariant.reference stroke;
+    }
+
+pub returns-clause-drawn : goal.returns-clause-drawn
+returns-clause-drawn c =
+    let at = (goal.at.returns-clause-drawn c).After-opposite-self-inside in
+    let s = c.self.inside in
+    let none = painted_nothing at in
+    let white : s.color ≡ White = rw (← c.self.view_is) at c.requires.white in
+    λ e. rw (
+      ← c.self.view_is,
+      none.painted,
+      white,
+      none.passed,
+      none.row,
+      same_changes at,
+      c.opposite-self-inside.ensures,
+      c.if-not-pass_bits.ensures.moved refl,
+      c.tick_times.ensures,
+    ) (drawn at).0
+
+pub returns-clause-within : goal.returns-clause-within
+returns-clause-within c =
+    let s = c.self.inside in
+    let listed = changes-pixels s.settings.columns s.ref_changes.items c.self.invariant.reference in
+    rw (← c.self.view_is, listed) (omega (arith, c.len-count.ensures, s.ref_changes.ok.0))
