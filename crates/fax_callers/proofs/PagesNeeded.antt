@@ -22,7 +22,8 @@ use Rattle.hayro_ccitt.proofs.KeptRows.EqualFronts.{one_in_bits}
 use Rattle.hayro_ccitt.proofs.KeptRows.LinesAgain.{line_again, one_in_whole, one_stays}
 use Rattle.hayro_ccitt.proofs.Readings.FeedsPaid.{short_row}
 use Rattle.hayro_ccitt.proofs.Readings.GapsAndRows.{gap_unsought}
-use Rattle.hayro_ccitt.proofs.Readings.GapsNear.{left_by, settled_later}
+use Rattle.hayro_ccitt.specs.FeedsKeepLittle.{left_by}
+use Rattle.hayro_ccitt.proofs.Readings.OpenBits.{open_bits_of_gap}
 use Rattle.hayro_ccitt.proofs.Readings.Repeated.{not_next}
 use Rattle.hayro_ccitt.proofs.Readings.RowsAndGaps.{after_damage-is, unless_over, unmissed}
 use Rattle.hayro_ccitt.proofs.Readings.TurnsMoveOn.{unless_over_next}
@@ -129,8 +130,11 @@ module _ (settings : DecodeSettings) (wide : 0 < settings.columns) (four : setti
           subst (λ (has : Bool). Leads settings (length more + 12) (at_gap run (gap_behind_row settings taken has run.rest)))
           (sym unsought) (short_gap settings (length more + 12) run (gap_behind_row settings taken false run.rest)
           (subst (λ (b : Bits). length (left_by b (gap_behind_row settings taken false b)) ≤ length more + 12) (sym split)
-          (settled_later settings taken false seen more e
-          (subst (λ (b : Bits). gap_is_settled settings taken false b ≡ true) split settled))))
+          (omega (
+            arith,
+            open_bits_of_gap settings taken false seen more e
+                (subst (λ (b : Bits). gap_is_settled settings taken false b ≡ true) split settled),
+          ))))
       by_settled false unsettled =
           subst (Leads settings (length more + 12)) (sym (gap_unsought settings run unsought))
           (open_lead (length more + 12) run (eols_here settings run.rest) unsought (first_of _ _ _ unsettled))
