@@ -823,19 +823,16 @@ impl<'a> BitScanner<'a> {
     }
 }
 
-/// Returns whether a run of this colour and one of the other, after the next `skip` bits, are likely not to have one or two words
-/// each: one of them begins with the longest make-up word and another one, or the second one with the longest.
+/// Returns whether a white run and a black one, after the next `skip` bits, are likely not to have one or two words each: one of
+/// them begins with the longest make-up word and another one, or the black one with the longest.
 #[inline(always)]
-pub fn is_long_pair(reader: &BitReader<'_>, skip: usize, color: Color, tables: &Tables) -> bool
-    requires near { skip ≤ 9 }
+pub fn is_long_pair(reader: &BitReader<'_>, skip: usize, tables: &Tables) -> bool
+    requires near { skip ≤ 5 }
 {
-    let (first, width) = reader.word_behind(skip, color, tables);
+    let (first, width) = reader.word_behind(skip, Color::White, tables);
     let mut behind = skip + width;
-    if behind > 20 {
-        return false;
-    }
     if first >= 64 {
-        let (second, more) = reader.word_behind(behind, color, tables);
+        let (second, more) = reader.word_behind(behind, Color::White, tables);
         if second >= 64 {
             return true;
         }
@@ -844,8 +841,8 @@ pub fn is_long_pair(reader: &BitReader<'_>, skip: usize, color: Color, tables: &
             return false;
         }
     }
-    let (next, _) = reader.word_behind(behind, color.opposite(), tables);
-    next == 2560
+    let (black, _) = reader.word_behind(behind, Color::Black, tables);
+    black == 2560
 }
 
 /// Consumes V0 if it is here, and returns whether it is; otherwise nothing changes.

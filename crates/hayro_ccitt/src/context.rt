@@ -880,7 +880,7 @@ impl DecoderContext {
         if before <= stored + 5 && stored <= before + 1 {
             return true;
         }
-        is_long_pair(reader, 0, Color::White, &self.tables)
+        is_long_pair(reader, 0, &self.tables)
     }
 
     /// The same, without a call where the row is full or black is next.
@@ -1058,28 +1058,12 @@ impl DecoderContext {
         self.draw_usual_runs(reader);
     }
 
-    /// Returns whether a line is likely to have runs of three words or more behind V0, VR1 or VL1. It is a call, so that narrow rows
-    /// cost nothing for it.
-    #[inline(never)]
-    fn has_long_runs_behind_one(&self, reader: &BitReader<'_>) -> bool {
-        if may_be_next(reader, 0b1001, 4) {
-            return is_long_pair(reader, 4, Color::Black, &self.tables);
-        }
-        let is_behind_one = may_be_next(reader, 0b011001, 6) || may_be_next(reader, 0b010001, 6);
-        is_behind_one && is_long_pair(reader, 6, Color::Black, &self.tables)
-    }
-
-    /// Returns whether a row as wide as to have runs of three words or more is likely to begin with them, or, below a row of few
-    /// changes, to have them behind a vertical mode: plain calls draw them.
+    /// Returns whether a row as wide as to have runs of three words or more is likely to begin with them: plain calls draw them.
     #[inline(always)]
     fn begins_with_long_runs(&self, reader: &BitReader<'_>) -> bool {
-        if self.settings.columns <= 2623 {
-            return false;
-        }
-        if may_be_next(reader, 0b001, 3) {
-            return is_long_pair(reader, 3, Color::White, &self.tables);
-        }
-        self.ref_changes.len() < 8 && self.has_long_runs_behind_one(reader)
+        self.settings.columns > 2623
+            && may_be_next(reader, 0b001, 3)
+            && is_long_pair(reader, 3, &self.tables)
     }
 
     /// Draws modes from the start of a line as long as they are usual.
@@ -1241,15 +1225,14 @@ impl DecoderContext {
         ensures space { self.new.space ≤ max self.old.space (room_for
             (max (length (changes self.old.held.reference)) (suc (length (changes self.new.held.front))))) }
     {
-        if is_white_row(&self.ref_changes) {
-            if self.draw_white_line(reader) {
-                return;
-            }
-            // The first row with changes is drawn by calls that ask for the room that it needs.
-            if has_no_room(&self.coding_changes) {
-                return;
-            }
-        } else if self.draw_same_line(reader) {
+        if self.draw_white_line(reader) {
+            return;
+        }
+        if self.draw_same_line(reader) {
+            return;
+        }
+        // The first row with changes is drawn by calls that ask for the room that it needs.
+        if is_white_row(&self.ref_changes) && has_no_room(&self.coding_changes) {
             return;
         }
         if self.begins_with_long_runs(reader) {
