@@ -326,6 +326,23 @@ impl<'a> BitReader<'a> {
         ensures same_bits { self.new.bits ≡ self.old.bits }
         ensures ticks { ticks.new ≡ ticks.old + length (run_found color (0, here self.old)) + missed result }
     {
+        // In each case the colour is a value that the compiler knows.
+        match color {
+            Color::White => self.decode_words(Color::White, tables, ticks),
+            Color::Black => self.decode_words(Color::Black, tables, ticks),
+        }
+    }
+
+    /// The same, with the colour's look-up in the place of the call.
+    #[inline(always)]
+    fn decode_words(&mut self, color: Color, tables: &Tables, ticks: &mut Ticks) -> Result<u32>
+        ensures run { MatchResult result
+            (λ n. read_run color (here self.old) ≡ Ok (n, here self.new))
+            (λ e. read_run color (here self.old) ≡ Err e) }
+        ensures fault { IfErr result IsFault }
+        ensures same_bits { self.new.bits ≡ self.old.bits }
+        ensures ticks { ticks.new ≡ ticks.old + length (run_found color (0, here self.old)) + missed result }
+    {
         let mut total: u32 = 0;
         'words: loop {
             let (last, taken) = self.word_behind(0, color, tables);

@@ -6,8 +6,9 @@ use Rattle.fax_bits.proofs.CodeWords.ReadCodes.{read_code_missed}
 use Rattle.fax_bits.proofs.CodeWords.ReadRuns.{read_code_shorter, words_not_empty, run_fails, run_goes_on}
 use Rattle.fax_bits.proofs.CodeWords.RunWords.{run_found_on, run_found_missed}
 use Rattle.fax_bits.proofs.CodeWords.ReadRuns.{some_where}
-use Rattle.fax_bits.proofs.bit_reader.BitReader.decode_run.Goals.{in-Some+else-is_whole, in-None+in_ok-run-in-None+else-run-lt64}
-use Rattle.fax_bits.proofs.bit_reader.BitReader.decode_run.Goals as goal
+use Rattle.fax_bits.proofs.bit_reader.BitReader.decode_words.Goals.{in-Some+else-is_whole}
+use Rattle.fax_bits.proofs.bit_reader.BitReader.decode_words.Goals.{in-None+in_ok-run-in-None+else-run-lt64}
+use Rattle.fax_bits.proofs.bit_reader.BitReader.decode_words.Goals as goal
 
 pub words-smaller : goal.words-smaller
 words-smaller c = elim c.match-read_two_words.branch [
