@@ -1275,7 +1275,8 @@ pub(crate) fn draw_modes(
         if reached.painted == line.columns {
             return reached;
         }
-        if hand.left() >= 16 {
+        // A window has at most 64 bits.
+        if hand.left() > 64 {
             return reached;
         }
         if has_room_for_window(row) {

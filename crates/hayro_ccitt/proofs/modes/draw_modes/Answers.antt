@@ -17,7 +17,7 @@ rooms-preserved c =
         fits = c.requires.can.fits;
         inside = omega (arith, on.reached.within, c.if-reached-line.false);
         reached = on.reached;
-        room = omega (arith, len, made.room);
+        room = omega (arith, len, made.room, c.if-left-gt64.false, c.left.ensures);
       };
       same_bits = own.ensures.same_bits ∙ c.rooms.invariant.same_bits;
       space = omega (arith, len, made.space, own.ensures.space, own.ensures.longer, c.rooms.invariant.space);
@@ -26,8 +26,8 @@ rooms-preserved c =
 pub returns-then-reached-line-clause-drawn : goal.returns-then-reached-line-clause-drawn
 returns-then-reached-line-clause-drawn c = draws_on c.rooms.invariant.drawn refl refl c.draw_own_row-reached.ensures.drawn
 
-pub returns-then-left-ge16-clause-drawn : goal.returns-then-left-ge16-clause-drawn
-returns-then-left-ge16-clause-drawn c = draws_on c.rooms.invariant.drawn refl refl c.draw_own_row-reached.ensures.drawn
+pub returns-then-left-gt64-clause-drawn : goal.returns-then-left-gt64-clause-drawn
+returns-then-left-gt64-clause-drawn c = draws_on c.rooms.invariant.drawn refl refl c.draw_own_row-reached.ensures.drawn
 
 pub returns-then-has_room_for_window-clause-drawn : goal.returns-then-has_room_for_window-clause-drawn
 returns-then-has_room_for_window-clause-drawn c = draws_on c.rooms.invariant.drawn refl refl c.draw_own_row-reached.ensures.drawn
