@@ -12,7 +12,7 @@ NAMED = {
     "encoder_tests": {
         "callers_tests::refused_memory": (17, 12),
         "conforms_tests::refused_memory": (6, 4),
-        "page_feed_tests::refused_memory": (19, 17),
+        "page_feed_tests::refused_memory": (21, 19),
         "settings_tests::refused_memory": (10, 8),
         "settings_tests::refused_memory_row_by_row": (11, 9),
         "settings_tests::wanting_memory_stays": (1, 1),
